@@ -1,0 +1,22 @@
+/// A unit attention condition, by its additional sense code and qualifier (SPC-4, "Unit attention
+/// condition").
+#[derive(Clone, Copy, Debug, Default, PartialEq, Eq)]
+pub enum Kind {
+    /// 29h/00h POWER ON, RESET, OR BUS DEVICE RESET OCCURRED: the first contact of a nexus.
+    #[default]
+    PowerOn,
+    /// 29h/03h BUS DEVICE RESET FUNCTION OCCURRED.
+    BusDeviceReset,
+    /// 29h/07h I_T NEXUS LOSS OCCURRED.
+    NexusLoss,
+    /// 28h/00h NOT READY TO READY CHANGE, MEDIUM MAY HAVE CHANGED.
+    MediumChanged,
+    /// 2Ah/01h MODE PARAMETERS CHANGED.
+    ModeParametersChanged,
+    /// 2Ah/03h RESERVATIONS PREEMPTED.
+    ReservationsPreempted,
+    /// 2Ah/04h RESERVATIONS RELEASED.
+    ReservationsReleased,
+    /// 2Ah/05h REGISTRATIONS PREEMPTED.
+    RegistrationsPreempted,
+}
