@@ -1,10 +1,26 @@
-//! Command descriptor blocks: bytes to requests and back, and each request's class in the permission table.
+//! Command descriptor blocks: bytes to requests and back, and each request's class of permission.
 #![tactic(auto)]
 
 mod action;
 mod classes;
+mod classify;
+mod decoding;
+mod encoding;
+mod fault;
+mod fields;
 mod kind;
+mod laws;
+mod layout;
+mod request;
+#[cfg(test)]
+mod tests;
 
 pub use action::{InServiceAction, OutServiceAction};
 pub use classes::Class;
+pub use classify::class;
+pub use decoding::decode;
+pub use encoding::encode;
+pub use fault::CdbFault;
 pub use kind::Kind;
+pub use laws::{request_reads_back, worked_rows};
+pub use request::Request;

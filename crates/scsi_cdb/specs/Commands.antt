@@ -1,0 +1,109 @@
+-- The commands (SPC-4, SSC-4, SMC-3): for each its operation code, the length of its CDB, the units that
+-- have it, and its fields.
+use Rattle.std.specs.Prelude.{ℕ, ◌-◌, ◌==◌, nat_lt, Bool, true, false, List, [], ◌∷◌, length, Option, Some, None, Result, Ok, Err, if◌then◌else◌, find}
+use Rattle.scsi_cdb.specs.Bits.{bit, bits, byte, two_bytes, four_bytes}
+use Rattle.scsi_cdb.specs.declared.action.InServiceAction.{InServiceAction}
+use Rattle.scsi_cdb.specs.declared.action.InServiceAction.TheVariants as in_act
+use Rattle.scsi_cdb.specs.declared.action.OutServiceAction.{OutServiceAction}
+use Rattle.scsi_cdb.specs.declared.action.OutServiceAction.TheVariants as out_act
+use Rattle.scsi_cdb.specs.declared.fault.CdbFault.{CdbFault}
+use Rattle.scsi_cdb.specs.declared.fault.CdbFault.TheVariants.{Opcode, ShortCdb, ServiceAction, Naca}
+use Rattle.scsi_cdb.specs.declared.kind.Kind.{Kind}
+use Rattle.scsi_cdb.specs.declared.kind.Kind.TheVariants.{Drive, Changer}
+use Rattle.scsi_cdb.specs.declared.request.Request.{Request}
+use Rattle.scsi_cdb.specs.declared.request.Request.TheVariants.{TestUnitReady, RequestSense, Inquiry, ReportLuns, PersistentReserveIn, PersistentReserveOut}
+
+-- which kinds of unit have a command: both, the drives, the changer
+pub data Units : Type 0 where
+  Both : Units
+  Drives : Units
+  Changers : Units
+
+abbrev pub has : Units → Kind → Bool
+has Both kind = true
+has Drives Drive = true
+has Drives Changer = false
+has Changers Drive = false
+has Changers Changer = true
+
+-- a command, and what a CDB of it says: nothing where the service action isn't one of the command's own
+pub record Row : Type 0 where
+  pub opcode : ℕ
+  pub length : ℕ
+  pub units : Units
+  pub fields : List ℕ → Option Request
+
+abbrev pub row : ℕ → ℕ → Units → (List ℕ → Option Request) → Row
+row opcode length units fields = record { opcode = opcode; length = length; units = units; fields = fields }
+
+-- the service actions of PERSISTENT RESERVE IN and OUT
+abbrev pub in_service_action : ℕ → Option InServiceAction
+in_service_action code =
+    if code == 0x00 then Some in_act.ReadKeys
+    else if code == 0x01 then Some in_act.ReadReservation
+    else if code == 0x02 then Some in_act.ReportCapabilities
+    else if code == 0x03 then Some in_act.ReadFullStatus
+    else None
+
+abbrev pub out_service_action : ℕ → Option OutServiceAction
+out_service_action code =
+    if code == 0x00 then Some out_act.Register
+    else if code == 0x01 then Some out_act.Reserve
+    else if code == 0x02 then Some out_act.Release
+    else if code == 0x03 then Some out_act.Clear
+    else if code == 0x04 then Some out_act.Preempt
+    else if code == 0x05 then Some out_act.PreemptAndAbort
+    else if code == 0x06 then Some out_act.RegisterAndIgnoreExistingKey
+    else if code == 0x07 then Some out_act.RegisterAndMove
+    else None
+
+abbrev pub reserve_in : Option InServiceAction → ℕ → Option Request
+reserve_in None allocation_length = None
+reserve_in (Some action) allocation_length = Some (PersistentReserveIn action allocation_length)
+
+abbrev pub reserve_out : Option OutServiceAction → ℕ → ℕ → Option Request
+reserve_out None scope_type list_length = None
+reserve_out (Some action) scope_type list_length = Some (PersistentReserveOut action scope_type list_length)
+
+-- the commands in order of their operation codes; a CDB is c
+abbrev pub table : List Row
+table =
+    row 0x00 6 Both (λ c. Some TestUnitReady)
+    ∷ row 0x03 6 Both (λ c. Some (RequestSense (bit c 1 0) (byte c 4)))
+    ∷ row 0x12 6 Both (λ c. Some (Inquiry (bit c 1 0) (byte c 2) (two_bytes c 3)))
+    ∷ row 0x5E 10 Both (λ c. reserve_in (in_service_action (bits c 1 4 0)) (two_bytes c 7))
+    ∷ row 0x5F 10 Both (λ c. reserve_out (out_service_action (bits c 1 4 0)) (byte c 2) (four_bytes c 5))
+    ∷ row 0xA0 12 Both (λ c. Some (ReportLuns (byte c 2) (four_bytes c 6)))
+    ∷ []
+
+-- the command of an operation code, and that command where units of the kind have it
+unfoldable pub command_of : ℕ → Option Row
+command_of opcode = find (λ (r : Row). r.opcode == opcode) table
+
+abbrev pub where_had : Kind → Option Row → Option Row
+where_had kind None = None
+where_had kind (Some r) = if has r.units kind then Some r else None
+
+abbrev pub row_of : Kind → ℕ → Option Row
+row_of kind opcode = where_had kind (command_of opcode)
+
+abbrev pub fields_in : Option Row → List ℕ → Option Request
+fields_in None cdb = None
+fields_in (Some r) cdb = r.fields cdb
+
+-- NACA is bit 2 of the CONTROL byte, the last of the command's length
+abbrev pub naca : Row → List ℕ → Bool
+naca r cdb = bit cdb (r.length - 1) 2
+
+abbrev pub checked : Bool → Option Request → Result Request CdbFault
+checked naca None = Err ServiceAction
+checked true (Some r) = Err Naca
+checked false (Some r) = Ok r
+
+abbrev pub read_as : Option Row → List ℕ → Result Request CdbFault
+read_as None cdb = Err Opcode
+read_as (Some r) cdb = if nat_lt (length cdb) r.length then Err ShortCdb else checked (naca r cdb) (r.fields cdb)
+
+-- the request that a CDB spells for a kind of unit, or the first fault in order
+abbrev pub reading : Kind → List ℕ → Result Request CdbFault
+reading kind cdb = if length cdb == 0 then Err ShortCdb else read_as (row_of kind (byte cdb 0)) cdb

@@ -1,0 +1,40 @@
+ghost use Rattle.std.specs.Prelude.{◌≡◌};
+ghost use Rattle.scsi_cdb.specs.Classes.{class_of};
+
+use crate::classes::Class;
+use crate::request::Request;
+
+/// The class of a request: the row of the permission table that it is judged by.
+pub fn class(request: &Request) -> Class
+    ensures { result ≡ class_of request.now }
+{
+    match request {
+        Request::TestUnitReady => Class::TestUnitReady,
+        Request::Rewind => Class::Rewind,
+        Request::RequestSense { .. } => Class::RequestSense,
+        Request::ReadBlockLimits => Class::ReadBlockLimits,
+        Request::InitializeElementStatus => Class::InitializeElementStatus,
+        Request::Read { .. } => Class::Read,
+        Request::Write { .. } => Class::Write,
+        Request::WriteFilemarks { .. } => Class::WriteFilemarks,
+        Request::Space { .. } => Class::Space,
+        Request::Inquiry { .. } => Class::Inquiry,
+        Request::ModeSelect { .. } => Class::ModeSelect,
+        Request::Erase => Class::Erase,
+        Request::ModeSense { .. } => Class::ModeSense,
+        Request::LoadUnload { .. } => Class::LoadUnload,
+        Request::PreventAllowMediumRemoval { prevent: 0 } => Class::AllowRemoval,
+        Request::PreventAllowMediumRemoval { .. } => Class::PreventRemoval,
+        Request::Locate { .. } => Class::Locate,
+        Request::ReadPosition => Class::ReadPosition,
+        Request::PersistentReserveIn { .. } => Class::PersistentReserveIn,
+        Request::PersistentReserveOut { service_action, .. } => service_action.class(),
+        Request::ReportLuns { .. } => Class::ReportLuns,
+        Request::MoveMedium { .. } => Class::MoveMedium,
+        Request::ReadElementStatus {
+            current_data: true,
+            ..
+        } => Class::ReadElementStatusCurdata,
+        Request::ReadElementStatus { .. } => Class::ReadElementStatus,
+    }
+}

@@ -1,0 +1,52 @@
+ghost use Rattle.std.specs.Prelude.{◌≡◌, Ok, Err, [], ◌∷◌, negsuc, true, false};
+ghost use Rattle.scsi_cdb.specs.Commands.{reading};
+ghost use Rattle.scsi_cdb.specs.Spelling.{ReadsBack, spelling, padded};
+ghost use Rattle.scsi_cdb.specs.declared.action.InServiceAction.TheVariants.{ReadKeys, ReadFullStatus};
+ghost use Rattle.scsi_cdb.specs.declared.action.OutServiceAction.TheVariants.{RegisterAndMove};
+ghost use Rattle.scsi_cdb.specs.declared.fault.CdbFault.TheVariants.{Opcode, ShortCdb, ServiceAction, Naca};
+ghost use Rattle.scsi_cdb.specs.declared.kind.Kind.TheVariants.{Drive, Changer};
+ghost use Rattle.scsi_cdb.specs.declared.request.Request.TheVariants.{TestUnitReady, RequestSense, Inquiry, ReportLuns, PersistentReserveIn, PersistentReserveOut, Space, ModeSense, MoveMedium, ReadElementStatus};
+
+/// Law: a unit that has the command decodes what was encoded, where the fields fit their bits.
+#[tactic(auto, unfolding(crate::specs::Commands::command_of))]
+pub fn request_reads_back()
+    ensures { ReadsBack }
+{}
+
+/// Worked rows of the table of commands, of the order of the faults, and of bytes to be written.
+#[tactic(auto, unfolding(crate::specs::Commands::command_of))]
+pub fn worked_rows()
+    ensures test_unit_ready { reading Changer (0 ∷ 0 ∷ 0 ∷ 0 ∷ 0 ∷ 0 ∷ []) ≡ Ok TestUnitReady }
+    ensures read_keys { reading Changer (0x5E ∷ 0 ∷ 0 ∷ 0 ∷ 0 ∷ 0 ∷ 0 ∷ 0 ∷ 0xFF ∷ 0 ∷ [])
+        ≡ Ok (PersistentReserveIn ReadKeys 255) }
+    ensures read_full_status { reading Drive (0x5E ∷ 0xE3 ∷ 9 ∷ 9 ∷ 9 ∷ 9 ∷ 9 ∷ 1 ∷ 2 ∷ 0 ∷ [])
+        ≡ Ok (PersistentReserveIn ReadFullStatus 258) }
+    ensures register_and_move { reading Drive (0x5F ∷ 7 ∷ 0x15 ∷ 0 ∷ 0 ∷ 0 ∷ 0 ∷ 0 ∷ 0x30 ∷ 0 ∷ [])
+        ≡ Ok (PersistentReserveOut RegisterAndMove 0x15 48) }
+    ensures longest_list { reading Drive (0x5F ∷ 7 ∷ 0 ∷ 0 ∷ 0 ∷ 0xFF ∷ 0xFF ∷ 0xFF ∷ 0xFF ∷ 0 ∷ 4 ∷ [])
+        ≡ Ok (PersistentReserveOut RegisterAndMove 0 0xFFFFFFFF) }
+    ensures request_sense { reading Changer (0x03 ∷ 1 ∷ 0 ∷ 0 ∷ 0x12 ∷ 0 ∷ []) ≡ Ok (RequestSense true 18) }
+    ensures inquiry { reading Drive (0x12 ∷ 1 ∷ 0x80 ∷ 1 ∷ 2 ∷ 0 ∷ []) ≡ Ok (Inquiry true 0x80 258) }
+    ensures report_luns { reading Drive (0xA0 ∷ 0 ∷ 2 ∷ 0 ∷ 0 ∷ 0 ∷ 0 ∷ 0 ∷ 1 ∷ 0 ∷ 0 ∷ 0 ∷ [])
+        ≡ Ok (ReportLuns 2 256) }
+    ensures short_report_luns { reading Drive (0xA0 ∷ 0 ∷ 2 ∷ 0 ∷ 0 ∷ 0 ∷ 0 ∷ 0 ∷ 1 ∷ 0 ∷ 0 ∷ [])
+        ≡ Err ShortCdb }
+    ensures empty { reading Drive [] ≡ Err ShortCdb }
+    ensures unknown_and_short { reading Drive (0x16 ∷ []) ≡ Err Opcode }
+    ensures short_before_service_action { reading Drive (0x5E ∷ 4 ∷ 0 ∷ 0 ∷ 0 ∷ 0 ∷ 0 ∷ 0 ∷ 0 ∷ [])
+        ≡ Err ShortCdb }
+    ensures service_action_before_naca { reading Drive (0x5E ∷ 4 ∷ 0 ∷ 0 ∷ 0 ∷ 0 ∷ 0 ∷ 0 ∷ 0 ∷ 4 ∷ [])
+        ≡ Err ServiceAction }
+    ensures no_eighth_act { reading Changer (0x5F ∷ 8 ∷ 0 ∷ 0 ∷ 0 ∷ 0 ∷ 0 ∷ 0 ∷ 24 ∷ 0 ∷ [])
+        ≡ Err ServiceAction }
+    ensures naca { reading Changer (0x5E ∷ 3 ∷ 0 ∷ 0 ∷ 0 ∷ 0 ∷ 0 ∷ 0 ∷ 0 ∷ 4 ∷ 0 ∷ []) ≡ Err Naca }
+    ensures naca_of_six_bytes { reading Changer (0 ∷ 0 ∷ 0 ∷ 0 ∷ 0 ∷ 4 ∷ []) ≡ Err Naca }
+    ensures space_two_filemarks_back { spelling (Space 1 (negsuc 1))
+        ≡ padded (0x11 ∷ 1 ∷ 0xFF ∷ 0xFF ∷ 0xFE ∷ []) }
+    ensures saved_values_of_all_pages { spelling (ModeSense true 3 0x3F 0 255)
+        ≡ padded (0x1A ∷ 8 ∷ 0xFF ∷ 0 ∷ 0xFF ∷ []) }
+    ensures storage_to_drive { spelling (MoveMedium 0 0x400 0x100 false)
+        ≡ padded (0xA5 ∷ 0 ∷ 0 ∷ 0 ∷ 4 ∷ 0 ∷ 1 ∷ 0 ∷ []) }
+    ensures all_elements { spelling (ReadElementStatus false 0 0 0xFFFF false false 0x1000)
+        ≡ padded (0xB8 ∷ 0 ∷ 0 ∷ 0 ∷ 0xFF ∷ 0xFF ∷ 0 ∷ 0 ∷ 0x10 ∷ 0 ∷ []) }
+{}

@@ -1,0 +1,168 @@
+//! Operation codes, service action codes, lengths and places of the commands (SPC-4, SSC-4, SMC-3).
+
+/// The longest CDB that is written: 12 bytes of command and four of zero.
+pub const CDB_LENGTH: usize = 16;
+
+// Operation codes.
+pub const TEST_UNIT_READY: u8 = 0x00;
+
+pub const REWIND: u8 = 0x01;
+
+pub const REQUEST_SENSE: u8 = 0x03;
+
+pub const READ_BLOCK_LIMITS: u8 = 0x05;
+
+pub const INITIALIZE_ELEMENT_STATUS: u8 = 0x07;
+
+pub const READ_6: u8 = 0x08;
+
+pub const WRITE_6: u8 = 0x0A;
+
+pub const WRITE_FILEMARKS_6: u8 = 0x10;
+
+pub const SPACE_6: u8 = 0x11;
+
+pub const INQUIRY: u8 = 0x12;
+
+pub const MODE_SELECT_6: u8 = 0x15;
+
+pub const ERASE_6: u8 = 0x19;
+
+pub const MODE_SENSE_6: u8 = 0x1A;
+
+pub const LOAD_UNLOAD: u8 = 0x1B;
+
+pub const PREVENT_ALLOW_MEDIUM_REMOVAL: u8 = 0x1E;
+
+pub const LOCATE_10: u8 = 0x2B;
+
+pub const READ_POSITION: u8 = 0x34;
+
+pub const PERSISTENT_RESERVE_IN: u8 = 0x5E;
+
+pub const PERSISTENT_RESERVE_OUT: u8 = 0x5F;
+
+pub const REPORT_LUNS: u8 = 0xA0;
+
+pub const MOVE_MEDIUM: u8 = 0xA5;
+
+pub const READ_ELEMENT_STATUS: u8 = 0xB8;
+
+// Service actions of PERSISTENT RESERVE IN.
+pub const READ_KEYS: u8 = 0x00;
+
+pub const READ_RESERVATION: u8 = 0x01;
+
+pub const REPORT_CAPABILITIES: u8 = 0x02;
+
+pub const READ_FULL_STATUS: u8 = 0x03;
+
+// Service actions of PERSISTENT RESERVE OUT.
+pub const REGISTER: u8 = 0x00;
+
+pub const RESERVE: u8 = 0x01;
+
+pub const RELEASE: u8 = 0x02;
+
+pub const CLEAR: u8 = 0x03;
+
+pub const PREEMPT: u8 = 0x04;
+
+pub const PREEMPT_AND_ABORT: u8 = 0x05;
+
+pub const REGISTER_AND_IGNORE_EXISTING_KEY: u8 = 0x06;
+
+pub const REGISTER_AND_MOVE: u8 = 0x07;
+
+// Lengths of CDBs.
+pub const SIX_BYTES: usize = 6;
+
+pub const TEN_BYTES: usize = 10;
+
+pub const TWELVE_BYTES: usize = 12;
+
+/// The byte of flags of most commands.
+pub const FLAGS: usize = 1;
+
+/// NACA in the CONTROL byte, the last of the command.
+pub const NACA_BIT: u8 = 2;
+
+// REQUEST SENSE, byte 1, and a place.
+pub const DESC_BIT: u8 = 0;
+
+pub const REQUEST_SENSE_ALLOCATION_LENGTH: usize = 4;
+
+// READ(6) and WRITE(6), byte 1.
+pub const SILI_BIT: u8 = 1;
+
+pub const FIXED_BIT: u8 = 0;
+
+// WRITE FILEMARKS(6), byte 1.
+pub const WSMK_BIT: u8 = 1;
+
+// SPACE(6), byte 1.
+pub const SPACE_CODE_BITS: u8 = 0x0F;
+
+// INQUIRY, byte 1, and places.
+pub const EVPD_BIT: u8 = 0;
+
+pub const INQUIRY_PAGE_CODE: usize = 2;
+
+pub const INQUIRY_ALLOCATION_LENGTH: usize = 3;
+
+// REPORT LUNS.
+pub const SELECT_REPORT: usize = 2;
+
+pub const REPORT_LUNS_ALLOCATION_LENGTH: usize = 6;
+
+// MODE SELECT(6), byte 1.
+pub const SP_BIT: u8 = 0;
+
+// MODE SENSE(6), byte 1, then byte 2.
+pub const DBD_BIT: u8 = 3;
+
+pub const PAGE_CONTROL_BITS: u8 = 0x03;
+
+pub const PAGE_CONTROL_PLACE: u8 = 6;
+
+pub const PAGE_CODE_BITS: u8 = 0x3F;
+
+// LOAD UNLOAD, byte 4.
+pub const HOLD_BIT: u8 = 3;
+
+pub const EOT_BIT: u8 = 2;
+
+pub const LOAD_BIT: u8 = 0;
+
+// PREVENT ALLOW MEDIUM REMOVAL, byte 4.
+pub const PREVENT_BITS: u8 = 0x03;
+
+// LOCATE(10), byte 1.
+pub const BT_BIT: u8 = 2;
+
+pub const CP_BIT: u8 = 1;
+
+// PERSISTENT RESERVE IN and OUT: the byte of the service action, and its bits.
+pub const SERVICE_ACTION: usize = 1;
+
+pub const SERVICE_ACTION_BITS: u8 = 0x1F;
+
+// PERSISTENT RESERVE IN.
+pub const RESERVE_IN_ALLOCATION_LENGTH: usize = 7;
+
+// PERSISTENT RESERVE OUT.
+pub const RESERVE_OUT_SCOPE_TYPE: usize = 2;
+
+pub const RESERVE_OUT_PARAMETER_LIST_LENGTH: usize = 5;
+
+// MOVE MEDIUM, byte 10.
+pub const INVERT_BIT: u8 = 0;
+
+// READ ELEMENT STATUS, byte 1, then byte 6.
+pub const VOLTAG_BIT: u8 = 4;
+
+pub const ELEMENT_TYPE_BITS: u8 = 0x0F;
+
+pub const CURDATA_BIT: u8 = 1;
+
+pub const DVCID_BIT: u8 = 0;

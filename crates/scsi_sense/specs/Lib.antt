@@ -1,0 +1,4 @@
+pub mod Bits
+pub mod FixedSense
+pub mod Conditions
+pub mod Status

@@ -1,0 +1,8 @@
+/// Why bytes are no fixed format sense data, in the order of the tests.
+#[derive(Clone, Copy, Debug, PartialEq, Eq)]
+pub enum SenseFault {
+    /// Fewer than 18 bytes.
+    Short,
+    /// RESPONSE CODE other than 70h.
+    NotFixed,
+}

@@ -1,0 +1,150 @@
+ghost use Rattle.std.specs.Prelude.{◌≡◌, ◌<◌};
+ghost use Rattle.scsi_sense.specs.Bits.{bit, flag};
+
+use crate::condition::Condition;
+use crate::fault::SenseFault;
+use crate::layout::*;
+
+/// What CHECK CONDITION and REQUEST SENSE report (SPC-4, "Fixed format sense data").
+#[derive(Clone, Copy, Debug, PartialEq, Eq)]
+pub struct Sense {
+    /// INFORMATION is defined.
+    pub valid: bool,
+    pub filemark: bool,
+    /// EOM, end of medium.
+    pub eom: bool,
+    /// ILI, incorrect length indicator.
+    pub ili: bool,
+    /// SENSE KEY: 4 bits.
+    pub key: u8,
+    pub information: u32,
+    /// ADDITIONAL SENSE CODE.
+    pub asc: u8,
+    /// ADDITIONAL SENSE CODE QUALIFIER.
+    pub ascq: u8,
+}
+
+impl Sense {
+    ghost use Rattle.scsi_sense.specs.FixedSense.{fixed_sense, reading};
+    ghost use Rattle.scsi_sense.specs.Conditions.{reports, sense_for};
+    ghost use Rattle.scsi_sense.specs.declared.condition.Condition.TheVariants.{NoAdditionalSenseInformation};
+
+    /// The sense data of a condition, with VALID, FILEMARK, EOM and ILI off and INFORMATION 0.
+    pub fn of(condition: Condition) -> Sense
+        ensures { result ≡ sense_for condition }
+    {
+        match condition {
+            Condition::NoAdditionalSenseInformation => Sense::with(NO_SENSE, 0x00, 0x00),
+            Condition::FilemarkDetected => Sense::with(NO_SENSE, 0x00, 0x01),
+            Condition::BeginningOfMediumDetected => Sense::with(NO_SENSE, 0x00, 0x04),
+            Condition::InitializingCommandRequired => Sense::with(NOT_READY, 0x04, 0x02),
+            Condition::MediumNotPresent => Sense::with(NOT_READY, 0x3A, 0x00),
+            Condition::InternalTargetFailure => Sense::with(HARDWARE_ERROR, 0x44, 0x00),
+            Condition::ParameterListLengthError => Sense::with(ILLEGAL_REQUEST, 0x1A, 0x00),
+            Condition::InvalidCommandOperationCode => Sense::with(ILLEGAL_REQUEST, 0x20, 0x00),
+            Condition::InvalidElementAddress => Sense::with(ILLEGAL_REQUEST, 0x21, 0x01),
+            Condition::InvalidFieldInCdb => Sense::with(ILLEGAL_REQUEST, 0x24, 0x00),
+            Condition::LogicalUnitNotSupported => Sense::with(ILLEGAL_REQUEST, 0x25, 0x00),
+            Condition::InvalidFieldInParameterList => Sense::with(ILLEGAL_REQUEST, 0x26, 0x00),
+            Condition::InvalidReleaseOfPersistentReservation => {
+                Sense::with(ILLEGAL_REQUEST, 0x26, 0x04)
+            }
+            Condition::SavingParametersNotSupported => Sense::with(ILLEGAL_REQUEST, 0x39, 0x00),
+            Condition::MediumDestinationElementFull => Sense::with(ILLEGAL_REQUEST, 0x3B, 0x0D),
+            Condition::MediumSourceElementEmpty => Sense::with(ILLEGAL_REQUEST, 0x3B, 0x0E),
+            Condition::MediumRemovalPrevented => Sense::with(ILLEGAL_REQUEST, 0x53, 0x02),
+            Condition::InsufficientRegistrationResources => {
+                Sense::with(ILLEGAL_REQUEST, 0x55, 0x04)
+            }
+            Condition::NotReadyToReadyChange => Sense::with(UNIT_ATTENTION, 0x28, 0x00),
+            Condition::PowerOnOrResetOccurred => Sense::with(UNIT_ATTENTION, 0x29, 0x00),
+            Condition::BusDeviceResetFunctionOccurred => Sense::with(UNIT_ATTENTION, 0x29, 0x03),
+            Condition::NexusLossOccurred => Sense::with(UNIT_ATTENTION, 0x29, 0x07),
+            Condition::ModeParametersChanged => Sense::with(UNIT_ATTENTION, 0x2A, 0x01),
+            Condition::ReservationsPreempted => Sense::with(UNIT_ATTENTION, 0x2A, 0x03),
+            Condition::ReservationsReleased => Sense::with(UNIT_ATTENTION, 0x2A, 0x04),
+            Condition::RegistrationsPreempted => Sense::with(UNIT_ATTENTION, 0x2A, 0x05),
+            Condition::WriteProtected => Sense::with(DATA_PROTECT, 0x27, 0x00),
+            Condition::EndOfDataDetected => Sense::with(BLANK_CHECK, 0x00, 0x05),
+            Condition::EndOfMediumDetected => Sense::with(VOLUME_OVERFLOW, 0x00, 0x02),
+        }
+    }
+
+    /// The sense data where there is nothing to report.
+    pub fn none() -> Sense
+        ensures { result ≡ sense_for NoAdditionalSenseInformation }
+    {
+        Sense::of(Condition::NoAdditionalSenseInformation)
+    }
+
+    /// The 18 bytes. Of the key only the low four bits are written, and INFORMATION only with
+    /// VALID.
+    pub fn to_bytes(&self) -> [u8; SENSE_LENGTH]
+        ensures { result ≡ fixed_sense self.now }
+    {
+        let code = flag_at(VALID_BIT, self.valid) + CURRENT_FIXED;
+        let marks = flag_at(FILEMARK_BIT, self.filemark)
+            + flag_at(EOM_BIT, self.eom)
+            + flag_at(ILI_BIT, self.ili)
+            + (self.key & SENSE_KEY_BITS);
+        let information = if self.valid { self.information } else { 0 };
+        let [i3, i2, i1, i0] = information.to_be_bytes();
+        let (length, asc, ascq) = (ADDITIONAL_SENSE_LENGTH, self.asc, self.ascq);
+        [
+            code, 0, marks, i3, i2, i1, i0, length, 0, 0, 0, 0, asc, ascq, 0, 0, 0, 0,
+        ]
+    }
+
+    /// The sense that the bytes spell, with or without VALID. What follows the 18 bytes, and each
+    /// bit that is no field, is ignored.
+    pub fn from_bytes(bytes: &[u8]) -> Result<Sense, SenseFault>
+        ensures { result ≡ reading bytes.now }
+    {
+        if bytes.len() < SENSE_LENGTH {
+            return Err(SenseFault::Short);
+        }
+        if bytes[0] & RESPONSE_CODE_BITS != CURRENT_FIXED {
+            return Err(SenseFault::NotFixed);
+        }
+        Ok(Sense {
+            valid: is_set(bytes[0], VALID_BIT),
+            filemark: is_set(bytes[2], FILEMARK_BIT),
+            eom: is_set(bytes[2], EOM_BIT),
+            ili: is_set(bytes[2], ILI_BIT),
+            key: bytes[2] & SENSE_KEY_BITS,
+            information: u32::from_be_bytes([bytes[3], bytes[4], bytes[5], bytes[6]]),
+            asc: bytes[12],
+            ascq: bytes[13],
+        })
+    }
+
+    fn with(key: u8, asc: u8, ascq: u8) -> Sense
+        ensures { result ≡ reports key asc ascq }
+    {
+        Sense {
+            valid: false,
+            filemark: false,
+            eom: false,
+            ili: false,
+            key,
+            information: 0,
+            asc,
+            ascq,
+        }
+    }
+}
+
+fn is_set(byte: u8, number: u8) -> bool
+    requires { number < 8 }
+    ensures { result ≡ bit byte number }
+{
+    byte >> number & 1 == 1
+}
+
+/// A field of one bit.
+fn flag_at(number: u8, is_set: bool) -> u8
+    requires { number < 8 }
+    ensures { result ≡ flag number is_set }
+{
+    if is_set { 1 << number } else { 0 }
+}
