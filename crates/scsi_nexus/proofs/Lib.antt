@@ -1,0 +1,2 @@
+pub mod NexusLaws
+pub mod PlaceLemmas

@@ -1,0 +1,3 @@
+pub mod Order
+pub mod TransportId
+pub mod Place

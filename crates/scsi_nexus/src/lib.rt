@@ -1,0 +1,20 @@
+//! The ends that speak to a unit: an initiator's SAS address with the target port that it comes by,
+//! lists of such nexuses, and the TransportIDs that name the addresses in parameter data.
+#![tactic(auto)]
+
+mod id_fault;
+mod layout;
+mod nexus;
+mod nexus_list;
+mod place;
+mod transport_id;
+
+pub use id_fault::IdFault;
+pub use layout::TRANSPORT_ID_LENGTH;
+pub use nexus::Nexus;
+pub use nexus_list::{LIST_CAPACITY, NexusList};
+pub use place::place_of;
+pub use transport_id::{TransportId, transport_id_reads_back};
+
+#[cfg(test)]
+mod tests;

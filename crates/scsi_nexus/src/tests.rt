@@ -1,0 +1,47 @@
+use super::*;
+use std::test::Fail;
+
+#[test]
+fn reads_a_written_transport_id(rt: HostRuntime) -> Result<(), Fail> {
+    let bytes = TransportId::write(0x5000_0000_0000_000b);
+    let expected = [
+        0x06, 0, 0, 0, 0x50, 0, 0, 0, 0, 0, 0, 0x0b, 0, 0, 0, 0, 0, 0, 0, 0, 0, 0, 0, 0,
+    ];
+    assert_eq!(rt; bytes.as_slice(), expected.as_slice());
+    assert_eq!(rt;
+        TransportId::read(bytes.as_slice()),
+        Ok(0x5000_0000_0000_000b)
+    );
+    Ok(())
+}
+
+#[test]
+fn refuses_other_lengths_before_other_formats(rt: HostRuntime) {
+    let rows = [
+        ("short and not SAS", &[5; 23][..], Err(IdFault::Length)),
+        ("not SAS", &[0x46; 24][..], Err(IdFault::Format)),
+        ("long", &[6; 25][..], Err(IdFault::Length)),
+        ("reserved bytes", &[6; 24][..], Ok(0x0606_0606_0606_0606)),
+    ];
+    for (text, bytes, expected) in rows {
+        assert_eq!(rt; TransportId::read(bytes), expected, "{text}");
+    }
+}
+
+#[test]
+fn keeps_nexuses_in_the_order_of_their_coming(rt: HostRuntime) {
+    let mut list = NexusList::new();
+    for port in 0..64u16 {
+        assert_eq!(rt;
+            list.push(Nexus {
+                sas: 1,
+                port: 63 - port
+            }),
+            Ok(())
+        );
+    }
+    assert_eq!(rt; list.push(Nexus { sas: 2, port: 1 }), Err(IdFault::Full));
+    assert_eq!(rt; list.items().len(), 64);
+    assert_eq!(rt; list.items().first(), Some(&Nexus { sas: 1, port: 63 }));
+    assert!(rt; Nexus { sas: 1, port: 2 } < Nexus { sas: 2, port: 1 });
+}
