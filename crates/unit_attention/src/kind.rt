@@ -20,3 +20,22 @@ pub enum Kind {
     /// 2Ah/05h REGISTRATIONS PREEMPTED.
     RegistrationsPreempted,
 }
+
+impl Kind {
+    ghost use Rattle.std.specs.Prelude.{◌≡◌};
+    ghost use Rattle.unit_attention.specs.Pending.{is_reset};
+
+    /// Whether the ADDITIONAL SENSE CODE is 29h: a power on, a reset or a nexus loss.
+    pub fn is_reset(self) -> bool
+        ensures { result ≡ is_reset self }
+    {
+        match self {
+            Kind::PowerOn | Kind::BusDeviceReset | Kind::NexusLoss => true,
+            Kind::MediumChanged
+            | Kind::ModeParametersChanged
+            | Kind::ReservationsPreempted
+            | Kind::ReservationsReleased
+            | Kind::RegistrationsPreempted => false,
+        }
+    }
+}

@@ -2,5 +2,8 @@
 #![tactic(auto)]
 
 mod kind;
+mod pending;
+mod queues;
 
 pub use kind::Kind;
+pub use queues::{NoSlot, Queues, SLOTS};

@@ -1,0 +1,2 @@
+pub mod PendingLemmas
+pub mod SlotLemmas

@@ -1,0 +1,155 @@
+use crate::kind::Kind;
+use crate::pending::Pending;
+use arrayvec::ArrayVec;
+use scsi_nexus::{Nexus, place_of};
+use std::marker::Model;
+
+/// How many nexuses a unit has slots for.
+pub const SLOTS: usize = 128;
+
+/// Every slot is used.
+#[derive(Clone, Copy, Debug, PartialEq, Eq)]
+pub struct NoSlot;
+
+/// What waits for each nexus that had contact with a unit.
+#[derive(Drop)]
+pub struct Queues {
+    slots: ArrayVec<(Nexus, Pending), SLOTS>,
+}
+
+impl Model for Queues {
+    ghost use Rattle.std.specs.Prelude.{List, T};
+    ghost use Rattle.std.specs.FinMap.{is_sorted};
+    ghost use Rattle.scsi_nexus.specs.Order.{nexus_cmp};
+    ghost use Rattle.unit_attention.specs.Queues.{Slots};
+
+    ghost Value = { Slots };
+
+    ghost view = { λ q. q.slots.items };
+
+    ghost invariant = { λ q. T (is_sorted nexus_cmp q.slots.items) };
+}
+
+impl Queues {
+    ghost use Rattle.std.specs.Prelude.{◌≡◌, ◌==◌, ◌↔◌, false, [], map, length, OnOk, OnErr, IsErr, IfOk, None};
+    ghost use Rattle.std.specs.Option.{option_copied};
+    ghost use Rattle.scsi_nexus.specs.Place.{IsPlaceOf};
+    ghost use Rattle.unit_attention.specs.Queues.{IsSlotAt, slot_of, has_slot, contacted, raised, cleared, lost, was_reset, first_reset_of, first_other_of};
+
+    /// No slot is used.
+    pub fn new() -> Queues
+        ensures { result ≡ [] }
+    {
+        Queues {
+            slots: ArrayVec::new(),
+        }
+    }
+
+    fn place(&self, nexus: Nexus) -> Result<usize, usize>
+        ensures place { IsPlaceOf nexus self.now result }
+        ensures found { IfOk result (λ place. IsSlotAt self.now nexus place) }
+        ensures absent { OnErr result (slot_of self.now nexus ≡ None) }
+    {
+        place_of(self.slots.as_slice(), nexus)
+    }
+
+    fn pending(&self, nexus: Nexus) -> Option<&Pending>
+        ensures { option_copied result ≡ slot_of self.now nexus }
+    {
+        let place = self.place(nexus).ok()?;
+        Some(&self.slots.as_slice()[place].1)
+    }
+
+    /// Whether a nexus has a slot.
+    pub fn has(&self, nexus: Nexus) -> bool
+        ensures { result ≡ has_slot self.now nexus }
+    {
+        self.pending(nexus).is_some()
+    }
+
+    /// Whether all slots are used.
+    pub fn is_full(&self) -> bool
+        ensures { result ≡ (length self.now == SLOTS) }
+    {
+        self.slots.is_full()
+    }
+
+    /// Gives a nexus without a slot one, where 29h/00h waits. Nothing changes where it has one, nor
+    /// where all slots are used.
+    pub fn contact(&mut self, nexus: Nexus) -> Result<(), NoSlot>
+        ensures ok { OnOk result (self.new ≡ contacted self.old nexus) }
+        ensures no_slot { IsErr result ↔ ((has_slot self.old nexus ≡ false) × (length self.old ≡ SLOTS)) }
+        ensures err { OnErr result (self.new ≡ self.old) }
+    {
+        match self.place(nexus) {
+            Ok(_) => Ok(()),
+            Err(place) => {
+                if self.slots.is_full() {
+                    return Err(NoSlot);
+                }
+                self.slots.insert(place, (nexus, Pending::after_contact()));
+                Ok(())
+            }
+        }
+    }
+
+    /// Raises a condition for a nexus: at the end of its list, unless it waits already; 29h/00h
+    /// empties the list first. Nothing changes where the nexus has no slot.
+    pub fn raise(&mut self, nexus: Nexus, kind: Kind)
+        ensures { self.new ≡ raised self.old nexus kind }
+    {
+        if let Ok(place) = self.place(nexus) {
+            self.slots.as_mut_slice()[place].1.raise(kind);
+        }
+    }
+
+    /// Takes a reported condition off a nexus's list.
+    pub fn clear(&mut self, nexus: Nexus, kind: Kind)
+        ensures { self.new ≡ cleared self.old nexus kind }
+    {
+        if let Ok(place) = self.place(nexus) {
+            self.slots.as_mut_slice()[place].1.clear(kind);
+        }
+    }
+
+    /// The oldest condition of ASC 29h that waits for a nexus.
+    pub fn first_reset(&self, nexus: Nexus) -> Option<Kind>
+        ensures { result ≡ first_reset_of self.now nexus }
+    {
+        self.pending(nexus)?.first_reset()
+    }
+
+    /// The oldest condition of another ASC that waits for a nexus.
+    pub fn first_other(&self, nexus: Nexus) -> Option<Kind>
+        ensures { result ≡ first_other_of self.now nexus }
+    {
+        self.pending(nexus)?.first_other()
+    }
+
+    /// An I_T nexus loss: 29h/07h for that nexus.
+    pub fn lose(&mut self, nexus: Nexus)
+        ensures { self.new ≡ lost self.old nexus }
+    {
+        self.raise(nexus, Kind::NexusLoss);
+    }
+
+    /// A reset of the unit: 29h/03h for every slot.
+    pub fn reset(&mut self)
+        ensures { self.new ≡ was_reset self.old }
+    {
+        for (_, pending) in self.slots.as_mut_slice() {
+            pending.raise(Kind::BusDeviceReset);
+        }
+    }
+
+    /// The nexuses with a slot, ascending.
+    pub fn slots(&self) -> ArrayVec<Nexus, SLOTS>
+        ensures { result.items ≡ map (λ e. e.0) self.now }
+    {
+        let mut nexuses = ArrayVec::new();
+        for (nexus, _) in self.slots.as_slice() {
+            nexuses.push(*nexus);
+        }
+        nexuses
+    }
+}
