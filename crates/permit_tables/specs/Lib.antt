@@ -1,0 +1,4 @@
+pub mod Types
+pub mod Permission
+pub mod Words
+pub mod Text

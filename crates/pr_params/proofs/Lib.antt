@@ -1,0 +1,3 @@
+pub mod DescriptorLaws
+pub mod ListLaws
+pub mod PairLaws

@@ -1,0 +1,21 @@
+-- What is no SAS TransportID.
+use Rattle.std.proofs.Common.{◌≡◌, ◌-◌, ◌==◌, ◌&&◌, ℕ, Bool, true, false, cond, List, length, take, drop, length-drop, slice_index, subst, refl, arith, Some, None}
+use Rattle.std.proofs.lemmas.Grind.{common_steps}
+use Rattle.std.proofs.lemmas.List.{take_all}
+use Rattle.scsi_nexus.specs.TransportId.{IsSas, sas_format}
+use Rattle.pr_params.specs.Lists.{is_sas, moved_to}
+
+tested : (n b f : ℕ) → ((n ≡ 24) × (b ≡ f) → ⊥) → (n == 24 && b == f) ≡ false
+tested n b f other = grind (arith, common_steps)
+
+none_given : {X : Type 0} (b : Bool) (x : X) → b ≡ false → cond b (Some x) None ≡ None
+none_given true x h = cc
+none_given false x h = refl
+
+whole_rest : (bytes : List ℕ) → take (length bytes - 24) (drop 24 bytes) ≡ drop 24 bytes
+whole_rest bytes = take_all (length bytes - 24) (drop 24 bytes) (omega (arith, length-drop 24 bytes))
+
+-- a list that names no SAS initiator port names nobody
+pub names_nobody : (bytes : List ℕ) → (IsSas (take (length bytes - 24) (drop 24 bytes)) → ⊥) → moved_to bytes ≡ None
+names_nobody bytes other =
+    none_given (is_sas (drop 24 bytes)) _ (tested (length (drop 24 bytes)) (slice_index (drop 24 bytes) 0) sas_format (subst (λ id. IsSas id → ⊥) (whole_rest bytes) other))

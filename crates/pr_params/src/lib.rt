@@ -1,0 +1,21 @@
+//! What PERSISTENT RESERVE OUT asks by its parameter list, and the data that PERSISTENT RESERVE IN
+//! answers.
+#![tactic(auto)]
+
+mod full_status;
+mod layout;
+mod out_params;
+mod param_fault;
+mod parameter_list;
+mod rows;
+mod status_data;
+
+pub use full_status::write_full_status;
+pub use out_params::OutParams;
+pub use param_fault::ParamFault;
+pub use parameter_list::read_out;
+pub use rows::{parameter_list_rows, status_data_rows};
+pub use status_data::{PAIRS, key_of, write_capabilities, write_keys, write_reservation};
+
+#[cfg(test)]
+mod tests;
