@@ -1,0 +1,8 @@
+pub mod KeyLaws
+pub mod TableLaws
+pub mod PutLaws
+pub mod Steps
+pub mod RaisedLaws
+pub mod Room
+pub mod RowLaws
+pub mod CommandLaws

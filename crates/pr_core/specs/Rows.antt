@@ -1,0 +1,125 @@
+-- Worked cases of reservations: A, B and C at port 1, from power on.
+use Rattle.std.specs.Prelude.{◌≡◌, ℕ, Bool, true, false, List, [], ◌∷◌, None, Some}
+use Rattle.scsi_cdb.specs.declared.classes.Class.TheVariants as class
+use Rattle.scsi_cdb.specs.declared.action.OutServiceAction.{OutServiceAction}
+use Rattle.scsi_cdb.specs.declared.action.OutServiceAction.TheVariants as out
+use Rattle.scsi_nexus.specs.declared.nexus.Nexus.{Nexus}
+use Rattle.permit_tables.specs.declared.res_type.ResType.TheVariants.{We, Ea, Wero, Wear, Eaar}
+use Rattle.permit_tables.specs.declared.role.Role.TheVariants.{Holder, Registered, Other}
+use Rattle.unit_attention.specs.declared.kind.Kind.TheVariants.{ReservationsPreempted, ReservationsReleased, RegistrationsPreempted}
+use Rattle.pr_params.specs.declared.out_params.OutParams.{OutParams}
+use Rattle.pr_core.specs.declared.act.ReservationAct.{ReservationAct}
+use Rattle.pr_core.specs.declared.act.ReservationAct.TheVariants.{Register, Reserve, Release, Clear, Preempt}
+use Rattle.pr_core.specs.declared.key_rule.KeyRule.TheVariants.{K1, K2, K4, K5, K6}
+use Rattle.pr_core.specs.declared.pr_fault.PrFault.TheVariants.{InvalidField, InvalidParam, InvalidRelease}
+use Rattle.pr_core.specs.declared.verdict.Verdict.TheVariants.{Allowed, Denied, Rule}
+use Rattle.pr_core.specs.State.{State, power_on, role, after, after_all}
+use Rattle.pr_core.specs.Judge.{verdict}
+use Rattle.pr_core.specs.Outcome.{refusal, act_of, applied, raised, removed}
+
+abbrev pub a : Nexus
+a = record { sas = 0x500000000000000A; port = 1 }
+
+abbrev pub b : Nexus
+b = record { sas = 0x500000000000000B; port = 1 }
+
+abbrev pub c : Nexus
+c = record { sas = 0x500000000000000C; port = 1 }
+
+abbrev pub history : List (Nexus × ReservationAct) → State
+history = after_all power_on
+
+-- a command with nothing but an act, its keys and a byte of scope and type
+abbrev pub command : OutServiceAction → (rk sark code : ℕ) → OutParams
+command act rk sark code = record { act = act; rk = rk; sark = sark; scope_type = code; dest = None; unreg = false; defect = None }
+
+-- REGISTER AND MOVE
+abbrev pub moving : (rk sark : ℕ) → Nexus → Bool → OutParams
+moving rk sark d unreg = record { act = out.RegisterAndMove; rk = rk; sark = sark; scope_type = 0; dest = Some d; unreg = unreg; defect = None }
+
+-- A and B share key 7, and A holds EA
+abbrev pub shared : State
+shared = history ((a, Register 7) ∷ (b, Register 7) ∷ (a, Reserve Ea) ∷ [])
+
+-- A made WEAR and is unregistered
+abbrev pub outlived : State
+outlived = history ((a, Register 1) ∷ (b, Register 2) ∷ (a, Reserve Wear) ∷ (a, Register 0) ∷ [])
+
+-- A, B and C hold EAAR
+abbrev pub three_hold : State
+three_hold = history ((a, Register 1) ∷ (b, Register 2) ∷ (c, Register 3) ∷ (a, Reserve Eaar) ∷ [])
+
+-- A alone is registered
+abbrev pub alone : State
+alone = history ((a, Register 1) ∷ [])
+
+-- A holds WE
+abbrev pub held : State
+held = history ((a, Register 1) ∷ (a, Reserve We) ∷ [])
+
+-- A holds WERO beside B
+abbrev pub registrants_only : State
+registrants_only = history ((a, Register 1) ∷ (b, Register 2) ∷ (a, Reserve Wero) ∷ [])
+
+-- A and B hold WEAR
+abbrev pub two_hold : State
+two_hold = history ((a, Register 1) ∷ (b, Register 2) ∷ (a, Reserve Wear) ∷ [])
+
+-- A holds WERO, B and C share key 2
+abbrev pub not_taken : State
+not_taken = history ((a, Register 1) ∷ (b, Register 2) ∷ (c, Register 2) ∷ (a, Reserve Wero) ∷ [])
+
+pub record WorkedRows : Type 0 where
+  -- two registrations, in order whoever came first
+  pub in_order : (history ((b, Register 2) ∷ (a, Register 1) ∷ [])).keys ≡ (a, 1) ∷ (b, 2) ∷ []
+  -- REGISTER with 0 and 0 by an unregistered nexus is allowed and no act; with a wrong key it breaks K1, and then K2
+  pub register_zero : verdict power_on a (command out.Register 0 0 0) ≡ Allowed
+  pub register_zero_is_no_act : act_of power_on a (command out.Register 0 0 0) ≡ None
+  pub register_wrong_key : verdict power_on a (command out.Register 5 6 0) ≡ Rule K1
+  pub register_other_key : verdict alone a (command out.Register 5 6 0) ≡ Rule K2
+  -- under WE a registered nexus may not reserve; an outsider may not clear
+  pub reserve_denied : verdict (after held b (Register 2)) b (command out.Reserve 2 0 1) ≡ Denied (record { class = class.Reserve; res_type = We; role = Registered })
+  pub clear_denied : verdict held b (command out.Clear 0 0 0) ≡ Denied (record { class = class.Clear; res_type = We; role = Other })
+  -- B's preemption of the key that it shares with the holder keeps B
+  pub preempt_shared_key_allowed : verdict shared b (command out.Preempt 7 7 5) ≡ Allowed
+  pub preempt_shared_key : applied shared b (command out.Preempt 7 7 5) ≡ record { keys = (b, 7) ∷ []; reservation = Some (Wero, b); generation = 3 }
+  pub preempt_shared_key_raised : raised shared b (Preempt 7 5) ≡ (a, RegistrationsPreempted) ∷ []
+  pub preempt_shared_key_removed : removed shared b (Preempt 7 5) ≡ a ∷ []
+  -- WEAR stays with B when its maker A unregisters, and ends with the last
+  pub outlives_maker : outlived ≡ record { keys = (b, 2) ∷ []; reservation = Some (Wear, a); generation = 3 }
+  pub outlives_maker_role : role outlived b ≡ Holder
+  pub ends_with_the_last : after outlived b (Register 0) ≡ record { keys = []; reservation = None; generation = 4 }
+  -- EAAR taken by 0 under another type: all others lose their keys
+  pub preempt_zero_takes : applied three_hold a (command out.Preempt 1 0 1) ≡ record { keys = (a, 1) ∷ []; reservation = Some (We, a); generation = 4 }
+  pub preempt_zero_takes_raised : raised three_hold a (Preempt 0 1) ≡ (b, RegistrationsPreempted) ∷ (c, RegistrationsPreempted) ∷ []
+  -- a preemption by 0 of another type is allowed, and refused
+  pub preempt_zero_allowed : verdict held a (command out.Preempt 1 0 1) ≡ Allowed
+  pub preempt_zero_refused : refusal held a (command out.Preempt 1 0 1) ≡ Some InvalidParam
+  -- a preemption of a key that nobody has, and a taking one with an unknown type
+  pub preempt_nobody : verdict held a (command out.Preempt 1 9 1) ≡ Rule K5
+  pub preempt_unknown_type : refusal held a (command out.Preempt 1 1 2) ≡ Some InvalidField
+  -- WERO released by its holder, by another type and its own
+  pub release_other_type : refusal registrants_only a (command out.Release 1 0 1) ≡ Some InvalidRelease
+  pub release : applied registrants_only a (command out.Release 1 0 5) ≡ record { keys = (a, 1) ∷ (b, 2) ∷ []; reservation = None; generation = 2 }
+  pub release_raised : raised registrants_only a (Release 5) ≡ (b, ReservationsReleased) ∷ []
+  -- WERO whose holder unregisters ends, and the others are told
+  pub unregister : after registrants_only a (Register 0) ≡ record { keys = (b, 2) ∷ []; reservation = None; generation = 3 }
+  pub unregister_raised : raised registrants_only a (Register 0) ≡ (b, ReservationsReleased) ∷ []
+  -- a move to a nexus that never made contact, and one that keeps the sender
+  pub register_and_move : applied held a (moving 1 9 b true) ≡ record { keys = (b, 9) ∷ []; reservation = Some (We, b); generation = 2 }
+  pub register_and_move_unregisters : applied (after held b (Register 2)) a (moving 1 9 b false) ≡ record { keys = (a, 1) ∷ (b, 9) ∷ []; reservation = Some (We, b); generation = 3 }
+  pub register_and_move_all : verdict two_hold a (moving 1 9 b true) ≡ Rule K6
+  pub register_and_move_itself : refusal held a (moving 1 9 a true) ≡ Some InvalidParam
+  pub register_and_move_nothing : refusal alone a (moving 1 9 b true) ≡ Some InvalidField
+  -- a type that is unknown, where nothing is held and where the sender holds
+  pub reserve_unknown : refusal alone a (command out.Reserve 1 0 2) ≡ Some InvalidField
+  pub reserve_again : verdict held a (command out.Reserve 1 0 2) ≡ Rule K4
+  -- WEAR taken by 0 by one of its holders
+  pub preempt_zero_same_type : applied two_hold a (command out.Preempt 1 0 7) ≡ record { keys = (a, 1) ∷ []; reservation = Some (Wear, a); generation = 3 }
+  pub preempt_zero_same_type_raised : raised two_hold a (Preempt 0 7) ≡ (b, RegistrationsPreempted) ∷ []
+  -- a preemption of the sender's own shared key that takes nothing
+  pub preempt_not_taking : applied not_taken b (command out.Preempt 2 2 6) ≡ record { keys = (a, 1) ∷ []; reservation = Some (Wero, a); generation = 4 }
+  pub preempt_not_taking_raised : raised not_taken b (Preempt 2 6) ≡ (c, RegistrationsPreempted) ∷ []
+  -- CLEAR, and then K1 before what is told
+  pub clear_raised : raised not_taken a Clear ≡ (b, ReservationsPreempted) ∷ (c, ReservationsPreempted) ∷ []
+  pub after_clear : verdict (after not_taken a Clear) b (command out.Register 9 4 0) ≡ Rule K1
