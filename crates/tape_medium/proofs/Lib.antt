@@ -1,0 +1,5 @@
+pub mod StoreLemmas
+pub mod WriteLemmas
+pub mod BlockLemmas
+pub mod WayLemmas
+pub mod PlainLemmas

@@ -1,0 +1,13 @@
+pub mod Limits
+pub mod Object
+pub mod TapeView
+pub mod Tape
+pub mod Space
+pub mod Elements
+pub mod ElementStatus
+pub mod Rows
+pub mod Store
+pub mod Found
+pub mod Kept
+pub mod Along
+pub mod Plain

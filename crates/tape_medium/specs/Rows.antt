@@ -1,0 +1,85 @@
+use Rattle.std.specs.Prelude.{◌≡◌, ℕ, pos, negsuc, [], ◌∷◌, ◌++◌, replicate, Some, None, Ok, Err, false}
+use Rattle.tape_medium.specs.Object.{Block, Mark}
+use Rattle.tape_medium.specs.TapeView.{TapeView}
+use Rattle.tape_medium.specs.Tape.{blank, moved_to, writes_block, object_at, item_of, bytes_of, passed}
+use Rattle.tape_medium.specs.Space.{spaced}
+use Rattle.tape_medium.specs.Elements.{Elements, moves, move_refusal}
+use Rattle.tape_medium.specs.ElementStatus.{element_status}
+use Rattle.tape_medium.specs.declared.item.Item.TheVariants as item
+use Rattle.tape_medium.specs.declared.fault.TapeFault.TheVariants.{Overflow}
+use Rattle.tape_medium.specs.declared.space.Stop.{Stop}
+use Rattle.tape_medium.specs.declared.space.Stop.TheVariants.{Done, AtMark, AtEnd, AtStart}
+use Rattle.tape_medium.specs.declared.space.SpaceCode.TheVariants.{Blocks, Marks, EndOfData}
+use Rattle.tape_medium.specs.declared.space.SpaceEnd.{SpaceEnd}
+use Rattle.tape_medium.specs.declared.elements.MapFault.TheVariants.{BadAddress, SourceEmpty, DestinationFull}
+use Rattle.tape_medium.specs.declared.volume.VolumeTag.{VolumeTag}
+
+-- a block of 400 bytes and a filemark
+abbrev pub block_and_mark : ℕ → TapeView
+block_and_mark position = record { objects = Block (replicate 400 7) ∷ Mark ∷ []; position = position; capacity = 1000 }
+
+-- reads of 1000 bytes give the block, the filemark, then the end; a read of 300 gives the first 300 bytes
+pub record ReadsOfOtherLength : Type 0 where
+  pub longer : item_of (object_at (block_and_mark 0)) ≡ item.Block 400
+  pub longer_bytes : bytes_of (object_at (block_and_mark 0)) 1000 ≡ replicate 400 7
+  pub to_mark : passed (object_at (block_and_mark 0)) (block_and_mark 0) ≡ block_and_mark 1
+  pub mark : item_of (object_at (block_and_mark 1)) ≡ item.Mark
+  pub mark_bytes : bytes_of (object_at (block_and_mark 1)) 1000 ≡ []
+  pub to_end : passed (object_at (block_and_mark 1)) (block_and_mark 1) ≡ block_and_mark 2
+  pub end : item_of (object_at (block_and_mark 2)) ≡ item.End
+  pub stays : passed (object_at (block_and_mark 2)) (block_and_mark 2) ≡ block_and_mark 2
+  pub shorter : bytes_of (object_at (block_and_mark 0)) 300 ≡ replicate 300 7
+
+abbrev pub space_end : ℕ → Stop → SpaceEnd
+space_end moved stop = record { moved = moved; stop = stop }
+
+-- over that tape, both ways
+pub record SpacesBothWays : Type 0 where
+  pub to_end : spaced EndOfData (block_and_mark 0) (pos 0) ≡ (block_and_mark 2, space_end 0 Done)
+  pub stopped : spaced Blocks (block_and_mark 0) (pos 3) ≡ (block_and_mark 2, space_end 1 AtMark)
+  pub over_one : spaced Blocks (block_and_mark 0) (pos 1) ≡ (block_and_mark 1, space_end 1 Done)
+  pub over_mark : spaced Marks (block_and_mark 0) (pos 1) ≡ (block_and_mark 2, space_end 1 Done)
+  pub at_end : spaced Marks (block_and_mark 0) (pos 2) ≡ (block_and_mark 2, space_end 1 AtEnd)
+  pub back_stopped : spaced Blocks (block_and_mark 2) (negsuc 1) ≡ (block_and_mark 1, space_end 0 AtMark)
+  pub back_to_start : spaced Blocks (block_and_mark 1) (negsuc 1) ≡ (block_and_mark 0, space_end 1 AtStart)
+  pub back_over_mark : spaced Marks (block_and_mark 2) (negsuc 0) ≡ (block_and_mark 1, space_end 1 Done)
+
+-- a tape for 10 bytes takes 6 and then no 5 more; from its beginning it takes 10
+abbrev pub six : TapeView
+six = record { objects = Block (replicate 6 1) ∷ []; position = 1; capacity = 10 }
+
+pub record OverflowKeepsTape : Type 0 where
+  pub first : writes_block (blank 10) (replicate 6 1) ≡ Ok six
+  pub full : writes_block six (replicate 5 2) ≡ Err Overflow
+  pub again : writes_block (moved_to six 0) (replicate 10 3) ≡ Ok (record { objects = Block (replicate 10 3) ∷ []; position = 1; capacity = 10 })
+
+-- one data transfer element, two storage elements, a volume in the first of these
+abbrev pub one_drive : VolumeTag → Elements
+one_drive tag =
+    record {
+      data_transfer = None ∷ [];
+      import_export = [];
+      storage = Some (record { tag = tag; protected = false; tape = blank 10 }) ∷ None ∷ [];
+    }
+
+abbrev pub ElementStatusOfOneDrive : Type 0
+ElementStatusOfOneDrive = (tag : VolumeTag) → element_status (one_drive tag) 0 0 0xffff false
+    ≡ 0x00 ∷ 0x00 ∷ 0x00 ∷ 0x04 ∷ 0x00 ∷ 0x00 ∷ 0x00 ∷ 0x58 ∷ []
+    ++ 0x01 ∷ 0x00 ∷ 0x00 ∷ 0x10 ∷ 0x00 ∷ 0x00 ∷ 0x00 ∷ 0x10 ∷ [] ++ replicate 16 0
+    ++ 0x04 ∷ 0x00 ∷ 0x00 ∷ 0x10 ∷ 0x00 ∷ 0x00 ∷ 0x00 ∷ 0x10 ∷ [] ++ 0x01 ∷ 0x00 ∷ 0x08 ∷ [] ++ replicate 13 0
+    ++ 0x02 ∷ 0x00 ∷ 0x00 ∷ 0x10 ∷ 0x00 ∷ 0x00 ∷ 0x00 ∷ 0x20 ∷ [] ++ 0x04 ∷ 0x00 ∷ 0x09 ∷ [] ++ replicate 13 0
+    ++ 0x04 ∷ 0x01 ∷ 0x08 ∷ [] ++ replicate 13 0
+
+-- the moves of that changer: only 0400h to 0401h moves
+pub record MovesOfOneDrive (tag : VolumeTag) : Type 0 where
+  pub moves_it : moves (one_drive tag) 0x400 0x401 ≡ Ok (record { data_transfer = None ∷ []; import_export = []; storage = None ∷ Some (record { tag = tag; protected = false; tape = blank 10 }) ∷ [] })
+  pub onto_itself : moves (one_drive tag) 0x400 0x400 ≡ Err DestinationFull
+  pub empty : moves (one_drive tag) 0x401 0x400 ≡ Err SourceEmpty
+  pub drive : moves (one_drive tag) 0x400 0x100 ≡ Err BadAddress
+  pub transport : moves (one_drive tag) 0x000 0x401 ≡ Err BadAddress
+  pub past : moves (one_drive tag) 0x400 0x402 ≡ Err BadAddress
+  pub into_drive : move_refusal (one_drive tag) 0 0x400 0x100 ≡ None
+  pub out_of_empty_drive : move_refusal (one_drive tag) 0 0x100 0x401 ≡ Some SourceEmpty
+  pub other_transport : move_refusal (one_drive tag) 1 0x400 0x100 ≡ Some BadAddress
+  pub second_drive : move_refusal (one_drive tag) 0 0x400 0x101 ≡ Some BadAddress
+  pub full : move_refusal (one_drive tag) 0 0x400 0x400 ≡ Some DestinationFull

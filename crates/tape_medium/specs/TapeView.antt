@@ -1,0 +1,9 @@
+use Rattle.std.specs.Prelude.{ℕ, List}
+use Rattle.tape_medium.specs.Object.{Object}
+
+-- a tape: its logical objects from the beginning on, the position, which counts the objects before it,
+-- and how many bytes of blocks it takes
+pub record TapeView : Type 0 where
+  pub objects : List Object
+  pub position : ℕ
+  pub capacity : ℕ

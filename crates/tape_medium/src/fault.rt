@@ -1,0 +1,10 @@
+/// Why a call of a tape fails, in the order of the tests. The tape is as before after each.
+#[derive(Clone, Copy, Debug, PartialEq, Eq)]
+pub enum TapeFault {
+    /// An empty block, a size of 0, either above the limit of a block, or bytes that aren't whole blocks.
+    BlockLength,
+    /// Bytes past the capacity of the tape, or more objects than a tape takes.
+    Overflow,
+    /// The allocator has no memory left.
+    NoMemory,
+}
