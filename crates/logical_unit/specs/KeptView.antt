@@ -1,0 +1,13 @@
+-- What a unit keeps beside its device.
+use Rattle.std.specs.Prelude.{ℕ}
+use Rattle.unit_attention.specs.Queues.{Slots}
+use Rattle.pr_core.specs.State.{State}
+
+pub record KeptView : Type 0 where
+  -- its logical unit number, and how many units the target has
+  pub lun : ℕ
+  pub units : ℕ
+  -- the registrations, the reservation and the generation
+  pub reservations : State
+  -- the nexuses that had contact, each with what waits to be reported
+  pub slots : Slots

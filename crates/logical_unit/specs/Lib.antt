@@ -1,0 +1,11 @@
+pub mod Conditions
+pub mod Commands
+pub mod UnitData
+pub mod Replies
+pub mod KeptView
+pub mod UnitView
+pub mod Kept
+pub mod Judge
+pub mod Step
+pub mod History
+pub mod Check
