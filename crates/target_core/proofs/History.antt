@@ -1,0 +1,124 @@
+-- The accepted history of a unit along a run.
+use Rattle.std.proofs.Common.{◌≡◌, ◌≢◌, ℕ, zero, suc, true, false, cond, ◌==◌, List, [], ◌∷◌, Option, Some, None, refl, sym, ap, ◌∙◌, eq-eqb}
+use Rattle.std.proofs.lemmas.List.Sums.{fold-append}
+use Rattle.std.specs.Prelude.{slice_get, slice_set, if◌then◌else◌}
+use Rattle.std.proofs.lemmas.Map.Views.{exact_unsigned_eq}
+use Rattle.scsi_cdb.specs.declared.kind.Kind.{Kind}
+use Rattle.scsi_nexus.specs.declared.nexus.Nexus.{Nexus}
+use Rattle.pr_core.specs.State.{State}
+use Rattle.device_server.specs.View.{DeviceView, Changer, kind_of}
+use Rattle.logical_unit.specs.declared.reply.Reply.{Reply}
+use Rattle.logical_unit.specs.History.{Accepted, accepted_by, after_history}
+use Rattle.logical_unit.specs.UnitView.{UnitView}
+use Rattle.logical_unit.proofs.History.{executes_keeps}
+use Rattle.logical_unit.specs.Step.{Executes, loses, resets}
+use Rattle.target_core.specs.declared.event.Event.{Event}
+use Rattle.target_core.specs.declared.event.Event.TheVariants as event
+use Rattle.target_core.specs.Run.{AtUnit, CommandsAt, Steps, Runs, lost_at, was_reset_at}
+use Rattle.target_core.specs.Laws.{accepted_at, accepted_in}
+
+get-set_same : (xs : List UnitView) (i : ℕ) (x y : UnitView) → slice_get xs i ≡ Some y → slice_get (slice_set xs i x) i ≡ Some x
+get-set_same [] i x y h = cc
+get-set_same (z ∷ xs) zero x y h = refl
+get-set_same (z ∷ xs) (suc i) x y h = get-set_same xs i x y h
+
+get-set_other : (xs : List UnitView) (i j : ℕ) (x : UnitView) → i ≢ j → slice_get (slice_set xs i x) j ≡ slice_get xs j
+get-set_other [] i j x apart = refl
+get-set_other (z ∷ xs) zero zero x apart = absurd (apart refl)
+get-set_other (z ∷ xs) zero (suc j) x apart = refl
+get-set_other (z ∷ xs) (suc i) zero x apart = refl
+get-set_other (z ∷ xs) (suc i) (suc j) x apart = get-set_other xs i j x (λ e. apart (ap suc e))
+
+same_kind : (d e : DeviceView) → kind_of d ≡ kind_of e
+same_kind Changer Changer = refl
+
+-- the unit at a place after an event, with what that adds to its history
+pub record Grows (v : State) (ms : List UnitView) (lun : ℕ) (added : List Accepted) : Type 0 where
+  pub unit : UnitView
+  pub place : slice_get ms lun ≡ Some unit
+  pub history : unit.kept.reservations ≡ after_history v added
+
+-- what a command to the unit at `at` adds to the history of the unit at `lun`
+abbrev pub added_at : ℕ → ℕ → List Accepted → List Accepted
+added_at lun at added = if at == lun then added else []
+
+none_some : (u : UnitView) → None ≡ Some u → ⊥
+none_some u e = cc
+
+-- a command to an absent unit leaves all units, and is none to a unit that is there
+absent_grows : (us ms : List UnitView) (lun at : ℕ) (u : UnitView) (added : List Accepted) → slice_get us at ≡ None → slice_get us lun ≡ Some u → ms ≡ us → Grows u.kept.reservations ms lun (added_at lun at added)
+absent_grows us ms lun at u added there here same =
+    elim (at == lun) as (λ b. (at == lun) ≡ b → Grows u.kept.reservations ms lun (cond b added [])) [
+      | true ↦ λ e. absurd (none_some u (sym there ∙ ap (slice_get us) (exact_unsigned_eq at lun e) ∙ here))
+      | false ↦ λ e. record { unit = u; place = ap (λ (xs : List UnitView). slice_get xs lun) same ∙ here; history = refl }
+    ] refl
+
+same_unit : (a b : UnitView) → Some a ≡ Some b → a ≡ b
+same_unit a b e = cc
+
+-- a command to a unit changes that unit by its part of the history, and no other
+unit_grows : (us ms : List UnitView) (lun at : ℕ) (u w : UnitView) (n : Nexus) (cdb bytes : List ℕ) (r : Reply) → slice_get us lun ≡ Some u → slice_get us at ≡ Some w → AtUnit us at (Executes w n cdb bytes) (ms, r)
+    → Grows u.kept.reservations ms lun (added_at lun at (accepted_by (kind_of u.device) n cdb bytes r.status))
+unit_grows us ms lun at u w n cdb bytes r here there a =
+    elim (at == lun) as (λ b. (at == lun) ≡ b → Grows u.kept.reservations ms lun (cond b (accepted_by (kind_of u.device) n cdb bytes r.status) [])) [
+      | true ↦ λ e.
+          let same : at ≡ lun = exact_unsigned_eq at lun e in
+          let is : u ≡ w = same_unit u w (sym here ∙ ap (slice_get us) (sym same) ∙ there) in
+          record {
+            unit = a.unit;
+            place = ap (λ (xs : List UnitView). slice_get xs lun) a.units ∙ ap (λ k. slice_get (slice_set us k a.unit) lun) same ∙ get-set_same us lun a.unit u here;
+            history =
+                executes_keeps w a.unit n cdb bytes r a.step ∙ ap (λ (x : UnitView). after_history x.kept.reservations (accepted_by (kind_of x.device) n cdb bytes r.status)) (sym is);
+          }
+      | false ↦ λ e.
+          let apart : at ≢ lun = λ same. let yes : (at == lun) ≡ true = eq-eqb at lun same in cc in
+          record { unit = u; place = ap (λ (xs : List UnitView). slice_get xs lun) a.units ∙ get-set_other us at lun a.unit apart ∙ here; history = refl }
+    ] refl
+
+commands_grow : (us ms : List UnitView) (lun at : ℕ) (u : UnitView) (n : Nexus) (cdb bytes : List ℕ) (r : Reply) (o : Option UnitView) → slice_get us at ≡ o → slice_get us lun ≡ Some u → CommandsAt us at o n cdb bytes (ms, r)
+    → Grows u.kept.reservations ms lun (added_at lun at (accepted_by (kind_of u.device) n cdb bytes r.status))
+commands_grow us ms lun at u n cdb bytes r None there here step = absent_grows us ms lun at u (accepted_by (kind_of u.device) n cdb bytes r.status) there here step.0
+commands_grow us ms lun at u n cdb bytes r (Some w) there here step = unit_grows us ms lun at u w n cdb bytes r here there step
+
+-- a change of one unit that leaves its registrations leaves those of every unit
+changed_grows : (us ms : List UnitView) (lun at : ℕ) (u w x : UnitView) → slice_get us lun ≡ Some u → slice_get us at ≡ Some w → ms ≡ slice_set us at x → x.kept.reservations ≡ w.kept.reservations → Grows u.kept.reservations ms lun []
+changed_grows us ms lun at u w x here there is kept =
+    elim (at == lun) as (λ b. (at == lun) ≡ b → Grows u.kept.reservations ms lun []) [
+      | true ↦ λ e.
+          let same : at ≡ lun = exact_unsigned_eq at lun e in
+          let one : u ≡ w = same_unit u w (sym here ∙ ap (slice_get us) (sym same) ∙ there) in
+          record {
+            unit = x;
+            place = ap (λ (xs : List UnitView). slice_get xs lun) is ∙ ap (λ k. slice_get (slice_set us k x) lun) same ∙ get-set_same us lun x u here;
+            history = kept ∙ ap (λ (y : UnitView). y.kept.reservations) (sym one);
+          }
+      | false ↦ λ e.
+          let apart : at ≢ lun = λ same. let yes : (at == lun) ≡ true = eq-eqb at lun same in cc in
+          record { unit = u; place = ap (λ (xs : List UnitView). slice_get xs lun) is ∙ get-set_other us at lun x apart ∙ here; history = refl }
+    ] refl
+
+loss_grows : (us ms : List UnitView) (r : Reply) (lun at : ℕ) (u : UnitView) (n : Nexus) (o : Option UnitView) → slice_get us at ≡ o → slice_get us lun ≡ Some u → ◌≡◌ {A = List UnitView × Reply} (ms, r) (lost_at us at o n) → Grows u.kept.reservations ms lun []
+loss_grows us ms r lun at u n None there here is = record { unit = u; place = ap (λ (x : List UnitView × Reply). slice_get x.0 lun) is ∙ here; history = refl }
+loss_grows us ms r lun at u n (Some w) there here is = changed_grows us ms lun at u w (loses w n).0 here there (ap (λ (x : List UnitView × Reply). x.0) is) refl
+
+reset_grows : (us ms : List UnitView) (r : Reply) (lun at : ℕ) (u : UnitView) (o : Option UnitView) → slice_get us at ≡ o → slice_get us lun ≡ Some u → ◌≡◌ {A = List UnitView × Reply} (ms, r) (was_reset_at us at o) → Grows u.kept.reservations ms lun []
+reset_grows us ms r lun at u None there here is = record { unit = u; place = ap (λ (x : List UnitView × Reply). slice_get x.0 lun) is ∙ here; history = refl }
+reset_grows us ms r lun at u (Some w) there here is = changed_grows us ms lun at u w (resets w) here there (ap (λ (x : List UnitView × Reply). x.0) is) refl
+
+step_grows : (us ms : List UnitView) (e : Event) (r : Reply) (lun : ℕ) (u : UnitView) → Steps us e (ms, r) → slice_get us lun ≡ Some u → Grows u.kept.reservations ms lun (accepted_at (kind_of u.device) lun e r)
+step_grows us ms (event.Command n at cdb bytes) r lun u step here = commands_grow us ms lun at u n cdb.items bytes.items r (slice_get us at) refl here step
+step_grows us ms (event.Loss n at) r lun u step here = loss_grows us ms r lun at u n (slice_get us at) refl here step
+step_grows us ms (event.Reset at) r lun u step here = reset_grows us ms r lun at u (slice_get us at) refl here step
+
+pub history_of_run : (us vs : List UnitView) (es : List Event) (rs : List Reply) (lun : ℕ) (u v : UnitView) → Runs us es rs vs → slice_get us lun ≡ Some u → slice_get vs lun ≡ Some v
+    → v.kept.reservations ≡ after_history u.kept.reservations (accepted_in (kind_of u.device) lun es rs)
+history_of_run us vs [] [] lun u v run before after = ap (λ (x : UnitView). x.kept.reservations) (same_unit v u (sym after ∙ ap (λ (xs : List UnitView). slice_get xs lun) run ∙ before))
+history_of_run us vs (e ∷ es) (r ∷ rs) lun u v run before after =
+    let grown = step_grows us run.0 e r lun u run.1 before in
+    let m = grown.unit in
+    history_of_run run.0 vs es rs lun m v run.2 grown.place after
+    ∙ ap (λ (k : Kind). after_history m.kept.reservations (accepted_in k lun es rs)) (same_kind m.device u.device)
+    ∙ ap (λ (w : State). after_history w (accepted_in (kind_of u.device) lun es rs)) grown.history
+    ∙ sym (fold-append _ u.kept.reservations (accepted_at (kind_of u.device) lun e r) (accepted_in (kind_of u.device) lun es rs))
+history_of_run us vs [] (r ∷ rs) lun u v run before after = absurd run
+history_of_run us vs (e ∷ es) [] lun u v run before after = absurd run

@@ -1,0 +1,22 @@
+use scsi_nexus::Nexus;
+
+/// What happens at the target.
+#[derive(Drop)]
+pub enum Event {
+    /// A command of a nexus to a logical unit, with the data sent with it.
+    Command {
+        nexus: Nexus,
+        lun: u8,
+        cdb: Vec<u8>,
+        bytes: Vec<u8>,
+    },
+    /// An I_T nexus loss at a logical unit.
+    Loss {
+        nexus: Nexus,
+        lun: u8,
+    },
+    /// A reset of a logical unit.
+    Reset {
+        lun: u8,
+    },
+}
