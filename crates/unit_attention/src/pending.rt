@@ -82,4 +82,15 @@ impl Pending {
             .copied()
             .find(|kind| !kind.is_reset())
     }
+
+    /// An equal list.
+    pub(crate) fn copy(&self) -> Pending
+        ensures { result ≡ self.now }
+    {
+        let mut kinds = ArrayVec::new();
+        for kind in self.kinds.as_slice() {
+            kinds.push(*kind);
+        }
+        Pending { kinds }
+    }
 }

@@ -152,4 +152,15 @@ impl Queues {
         }
         nexuses
     }
+
+    /// Equal lists, for a base that later records stand on.
+    pub fn copy(&self) -> Queues
+        ensures { result ≡ self.now }
+    {
+        let mut slots = ArrayVec::new();
+        for (nexus, pending) in self.slots.as_slice() {
+            slots.push((*nexus, pending.copy()));
+        }
+        Queues { slots }
+    }
 }
