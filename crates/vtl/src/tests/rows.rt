@@ -375,6 +375,8 @@ fn meets_128_nexuses(rt: HostRuntime) -> Result<(), Fail> {
         write!(script, "50000000000000{nexus:02x}.1 0 000000000000\n")?;
         expected.push_str(if nexus <= 128 { POWER_ON } else { "08 - -\n" })?;
     }
+    script.push_str("50000000000000ff.1 0 120000002400\n")?;
+    expected.push_str("08 - -\n")?;
     script.push_str("5000000000000001.1 9 000000000000\n")?;
     expected.push_str("02 700005000000000a00000000250000000000 -\n")?;
     assert_output(
