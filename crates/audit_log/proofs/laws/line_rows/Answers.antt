@@ -1,0 +1,32 @@
+use Rattle.std.proofs.Common.{refl}
+use Rattle.std.specs.Fmt.{digits}
+use Rattle.audit_log.specs.Lines.{line_of}
+use Rattle.audit_log.proofs.laws.line_rows.Goals as goal
+
+pub returns-clause-first_contact : goal.returns-clause-first_contact
+unfolding line_of digits
+returns-clause-first_contact c = refl
+
+pub returns-clause-ready : goal.returns-clause-ready
+unfolding line_of digits
+returns-clause-ready c = refl
+
+pub returns-clause-wrong_key : goal.returns-clause-wrong_key
+unfolding line_of digits
+returns-clause-wrong_key c = refl
+
+pub returns-clause-lost : goal.returns-clause-lost
+unfolding line_of digits
+returns-clause-lost c = refl
+
+pub returns-clause-was_reset : goal.returns-clause-was_reset
+unfolding line_of digits
+returns-clause-was_reset c = refl
+
+pub returns-clause-taken_out : goal.returns-clause-taken_out
+unfolding line_of digits
+returns-clause-taken_out c = refl
+
+pub returns-clause-unknown_opcode : goal.returns-clause-unknown_opcode
+unfolding line_of digits
+returns-clause-unknown_opcode c = refl

@@ -1,0 +1,54 @@
+-- Records as lines of text (profile).
+use Rattle.std.specs.Prelude.{ℕ, List, ◌++◌, codes, Option, Some, None}
+use Rattle.std.specs.Fmt.{decimal}
+use Rattle.std.specs.Int.{w64, to_be_bytes}
+use Rattle.scsi_cdb.specs.Classes.{class_of_action}
+use Rattle.scsi_sense.specs.Status.{status_code}
+use Rattle.scsi_nexus.specs.declared.nexus.Nexus.{Nexus}
+use Rattle.permit_tables.specs.Text.{class_name, cell_text}
+use Rattle.permit_tables.specs.declared.cell.Cell.{Cell}
+use Rattle.pr_core.specs.declared.key_rule.KeyRule.{KeyRule}
+use Rattle.pr_core.specs.declared.key_rule.KeyRule.TheVariants.{K1, K2, K3, K4, K5, K6}
+use Rattle.audit_log.specs.Hexadecimal.{hex_text, two_digits}
+use Rattle.audit_log.specs.Stages.{stage_number}
+use Rattle.audit_log.specs.declared.act.Act.{Act}
+use Rattle.audit_log.specs.declared.act.Act.TheVariants.{Command, ReserveOut, Invalid, Loss, Reset, MediumIn, MediumOut}
+use Rattle.audit_log.specs.declared.record.Record.{Record}
+
+-- SAS.PORT: 16 hexadecimal digits, a dot, the port
+abbrev pub nexus_text : Option Nexus → List ℕ
+nexus_text None = codes "-"
+nexus_text (Some n) = hex_text (to_be_bytes w64 n.sas) ++ codes "." ++ decimal n.port
+
+abbrev pub act_text : Act → List ℕ
+act_text (Command class) = class_name class
+act_text (ReserveOut params) = class_name (class_of_action params.act)
+act_text Invalid = codes "INVALID"
+act_text Loss = codes "LOSS"
+act_text Reset = codes "RESET"
+act_text MediumIn = codes "MEDIUM-IN"
+act_text MediumOut = codes "MEDIUM-OUT"
+
+abbrev pub cell_text_or_dash : Option Cell → List ℕ
+cell_text_or_dash None = codes "-"
+cell_text_or_dash (Some cell) = cell_text cell
+
+abbrev pub rule_text : Option KeyRule → List ℕ
+rule_text None = codes "-"
+rule_text (Some K1) = codes "K1"
+rule_text (Some K2) = codes "K2"
+rule_text (Some K3) = codes "K3"
+rule_text (Some K4) = codes "K4"
+rule_text (Some K5) = codes "K5"
+rule_text (Some K6) = codes "K6"
+
+-- NUMBER NEXUS WHAT STAGE CELL RULE STATUS
+unfoldable pub line_of : Record → List ℕ
+line_of r =
+    decimal r.number ++ codes " "
+    ++ nexus_text r.nexus ++ codes " "
+    ++ act_text r.act ++ codes " "
+    ++ decimal (stage_number r.stage) ++ codes " "
+    ++ cell_text_or_dash r.cell ++ codes " "
+    ++ rule_text r.rule ++ codes " "
+    ++ two_digits (status_code r.status)

@@ -1,0 +1,74 @@
+-- Worked records and their lines: A at port 1.
+use Rattle.std.specs.Prelude.{false, Some, None}
+use Rattle.scsi_cdb.specs.declared.classes.Class.TheVariants as class
+use Rattle.scsi_cdb.specs.declared.action.OutServiceAction.TheVariants as out
+use Rattle.scsi_sense.specs.Conditions.{sense_for}
+use Rattle.scsi_sense.specs.declared.condition.Condition.TheVariants.{PowerOnOrResetOccurred, InvalidCommandOperationCode}
+use Rattle.scsi_sense.specs.declared.status.Status.TheVariants.{Good, CheckCondition, ReservationConflict}
+use Rattle.scsi_nexus.specs.declared.nexus.Nexus.{Nexus}
+use Rattle.permit_tables.specs.declared.res_type.ResType.TheVariants as type
+use Rattle.permit_tables.specs.declared.role.Role.TheVariants.{Other}
+use Rattle.pr_params.specs.declared.out_params.OutParams.{OutParams}
+use Rattle.pr_core.specs.declared.key_rule.KeyRule.TheVariants.{K1}
+use Rattle.audit_log.specs.declared.stage.Stage.TheVariants.{Spelling, ResetAttention, ReservationCheck, Device}
+use Rattle.audit_log.specs.declared.act.Act.TheVariants.{Command, ReserveOut, Invalid, Loss, Reset, MediumOut}
+use Rattle.audit_log.specs.declared.record.Record.{Record}
+
+abbrev pub a : Nexus
+a = record { sas = 0x500000000000000A; port = 1 }
+
+-- REGISTER with a reservation key that the sender doesn't have
+abbrev pub register : OutParams
+register = record { act = out.Register; rk = 5; sark = 6; scope_type = 0; dest = None; unreg = false; defect = None }
+
+-- A's first TEST UNIT READY meets the condition of its first contact
+abbrev pub first_contact : Record
+first_contact = record {
+  number = 1;
+  nexus = Some a;
+  act = Command class.TestUnitReady;
+  stage = ResetAttention;
+  cell = None;
+  rule = None;
+  status = CheckCondition;
+  sense = Some (sense_for PowerOnOrResetOccurred);
+  mode_changed = false;
+}
+
+-- its second, which nothing refuses
+abbrev pub ready : Record
+ready = record first_contact {
+  number = 2;
+  stage = Device;
+  cell = Some (record { class = class.TestUnitReady; res_type = type.None; role = Other });
+  status = Good;
+  sense = None;
+}
+
+-- that REGISTER breaks the first rule on keys
+abbrev pub wrong_key : Record
+wrong_key = record first_contact {
+  number = 2;
+  act = ReserveOut register;
+  stage = ReservationCheck;
+  cell = Some (record { class = class.Register; res_type = type.None; role = Other });
+  rule = Some K1;
+  status = ReservationConflict;
+  sense = None;
+}
+
+-- A is lost
+abbrev pub lost : Record
+lost = record first_contact { number = 3; act = Loss; stage = Device; status = Good; sense = None }
+
+-- a reset of the unit is nobody's
+abbrev pub was_reset : Record
+was_reset = record lost { number = 40; nexus = None; act = Reset }
+
+-- the volume is taken out, with the last number that there is
+abbrev pub taken_out : Record
+taken_out = record was_reset { number = 18446744073709551615; act = MediumOut }
+
+-- bytes of A that spell no command
+abbrev pub unknown_opcode : Record
+unknown_opcode = record first_contact { act = Invalid; stage = Spelling; sense = Some (sense_for InvalidCommandOperationCode) }

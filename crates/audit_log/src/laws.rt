@@ -1,0 +1,27 @@
+ghost use Rattle.std.specs.Prelude.{◌≡◌, codes};
+ghost use Rattle.audit_log.specs.TrailView.{CountsUp};
+ghost use Rattle.audit_log.specs.Lines.{line_of};
+ghost use Rattle.audit_log.specs.Rows.{first_contact, ready, wrong_key, lost, was_reset, taken_out, unknown_opcode};
+
+/// Worked rows: records and their lines.
+pub fn line_rows()
+    ensures first_contact { line_of first_contact
+        ≡ codes "1 500000000000000a.1 TEST-UNIT-READY 2 - - 02" }
+    ensures ready { line_of ready
+        ≡ codes "2 500000000000000a.1 TEST-UNIT-READY 6 TEST-UNIT-READY/NONE/OTHER - 00" }
+    ensures wrong_key { line_of wrong_key
+        ≡ codes "2 500000000000000a.1 REGISTER 3 REGISTER/NONE/OTHER K1 18" }
+    ensures lost { line_of lost ≡ codes "3 500000000000000a.1 LOSS 6 - - 00" }
+    ensures was_reset { line_of was_reset ≡ codes "40 - RESET 6 - - 00" }
+    ensures taken_out { line_of taken_out
+        ≡ codes "18446744073709551615 - MEDIUM-OUT 6 - - 00" }
+    ensures unknown_opcode { line_of unknown_opcode
+        ≡ codes "1 500000000000000a.1 INVALID 1 - - 02" }
+{}
+
+/// Law: in a trail the number of each record is told by its place, counted from the last number
+/// before the first.
+#[tactic(auto, using(crate::proofs::Numbers::number_at))]
+pub fn numbers_count_up()
+    ensures { CountsUp }
+{}

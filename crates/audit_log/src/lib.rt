@@ -1,0 +1,21 @@
+//! The records of what was asked of a unit: how each command was judged and answered, in the order
+//! of their numbers, and the lines that they are written as.
+#![tactic(auto)]
+
+mod act;
+mod hexadecimal;
+mod laws;
+mod lines;
+mod record;
+mod stage;
+mod trail;
+
+pub use act::Act;
+pub use laws::{line_rows, numbers_count_up};
+pub use lines::{line, write_line};
+pub use record::Record;
+pub use stage::Stage;
+pub use trail::Trail;
+
+#[cfg(test)]
+mod tests;

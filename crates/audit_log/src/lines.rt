@@ -1,0 +1,90 @@
+ghost use Rattle.std.specs.Prelude.{◌≡◌, ◌++◌, IfOk, OnOk, string_bytes};
+ghost use Rattle.audit_log.specs.Lines.{line_of, nexus_text, cell_text_or_dash, rule_text, act_text};
+
+use crate::act::Act;
+use crate::hexadecimal::write_hex;
+use crate::record::Record;
+use permit_tables::{Cell, class_text};
+use pr_core::KeyRule;
+use scsi_nexus::Nexus;
+use std::alloc::{AllocError, Global};
+use std::fmt::Write;
+
+/// A record as `NUMBER NEXUS WHAT STAGE CELL RULE STATUS`, without an end of line: the number in
+/// decimal; the nexus as its SAS address in 16 hexadecimal digits, a dot and its port; what was
+/// asked; the stage's number; the cell as `CLASS/TYPE/ROLE`; the rule on keys; the status in two
+/// hexadecimal digits. A dash stands for a nexus, a cell or a rule that isn't there (profile).
+pub fn line(alloc: Global, entry: &Record) -> Result<String, AllocError>
+    ensures { IfOk result (λ text. string_bytes text ≡ line_of entry.now) }
+{
+    let mut text = String::new(alloc);
+    write_line(&mut text, entry)?;
+    Ok(text)
+}
+
+/// Adds a record's `line` to a text. Where memory runs out, a part of it may have been added.
+#[tactic(auto, unfolding(crate::specs::Lines::line_of))]
+pub fn write_line(text: &mut String, entry: &Record) -> Result<(), AllocError>
+    ensures { OnOk result (string_bytes text.new ≡ string_bytes text.old ++ line_of entry.now) }
+{
+    let number = entry.number;
+    write!(text, "{number} ")?;
+    write_nexus(text, entry.nexus)?;
+    let what = act_text(&entry.act);
+    let stage = entry.stage.number();
+    write!(text, " {what} {stage} ")?;
+    write_cell(text, entry.cell)?;
+    let rule = rule_text(entry.rule);
+    write!(text, " {rule} ")?;
+    write_hex(text, [entry.status.code()].as_slice())
+}
+
+fn write_nexus(text: &mut String, nexus: Option<Nexus>) -> Result<(), AllocError>
+    ensures { OnOk result (string_bytes text.new ≡ string_bytes text.old ++ nexus_text nexus) }
+{
+    match nexus {
+        None => text.push_str("-"),
+        Some(Nexus { sas, port }) => {
+            write_hex(text, sas.to_be_bytes().as_slice())?;
+            write!(text, ".{port}")
+        }
+    }
+}
+
+fn write_cell(text: &mut String, cell: Option<Cell>) -> Result<(), AllocError>
+    ensures { OnOk result (string_bytes text.new ≡ string_bytes text.old ++ cell_text_or_dash cell) }
+{
+    match cell {
+        None => text.push_str("-"),
+        Some(cell) => write!(text, "{cell}"),
+    }
+}
+
+/// What was asked: the name of the command's class, or of what isn't a command.
+fn act_text(act: &Act) -> &'static str
+    ensures { result.now ≡ act_text act.now }
+{
+    match act {
+        Act::Command(class) => class_text(*class),
+        Act::ReserveOut(params) => class_text(params.act.class()),
+        Act::Invalid => "INVALID",
+        Act::Loss => "LOSS",
+        Act::Reset => "RESET",
+        Act::MediumIn => "MEDIUM-IN",
+        Act::MediumOut => "MEDIUM-OUT",
+    }
+}
+
+fn rule_text(rule: Option<KeyRule>) -> &'static str
+    ensures { result.now ≡ rule_text rule }
+{
+    match rule {
+        None => "-",
+        Some(KeyRule::K1) => "K1",
+        Some(KeyRule::K2) => "K2",
+        Some(KeyRule::K3) => "K3",
+        Some(KeyRule::K4) => "K4",
+        Some(KeyRule::K5) => "K5",
+        Some(KeyRule::K6) => "K6",
+    }
+}

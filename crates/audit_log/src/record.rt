@@ -1,0 +1,34 @@
+use crate::act::Act;
+use crate::stage::Stage;
+use permit_tables::Cell;
+use pr_core::KeyRule;
+use scsi_nexus::Nexus;
+use scsi_sense::{Sense, Status};
+
+/// What was asked of a unit, and how it was judged and answered (profile).
+#[derive(Clone, Copy, Debug, PartialEq, Eq)]
+pub struct Record {
+    /// The record's number at its unit: one more than that of the record before.
+    pub number: u64,
+    /// Who asked, where somebody did.
+    pub nexus: Option<Nexus>,
+    /// What was asked.
+    pub act: Act,
+    /// The stage that decided the answer.
+    pub stage: Stage,
+    /// The cell of the permission table, of a command that came to the reservation check.
+    pub cell: Option<Cell>,
+    /// The rule on keys that the reservation check found broken.
+    pub rule: Option<KeyRule>,
+    /// The status that was answered.
+    pub status: Status,
+    /// The sense data that was answered with it.
+    pub sense: Option<Sense>,
+    /// Whether a MODE SELECT changed the block length.
+    pub mode_changed: bool,
+}
+
+/// The largest size of a record in bytes: a unit keeps one for each command.
+const RECORD_SIZE: usize = 136;
+
+const _: () = prove!(size_of::<Record>() <= RECORD_SIZE);

@@ -1,0 +1,180 @@
+use super::*;
+use permit_tables::{Cell, ResType, Role};
+use pr_core::KeyRule;
+use pr_params::OutParams;
+use scsi_cdb::{Class, OutServiceAction};
+use scsi_nexus::Nexus;
+use scsi_sense::{Condition, Sense, Status};
+use std::test::Fail;
+
+const A: Nexus = Nexus {
+    sas: 0x5000_0000_0000_000a,
+    port: 1,
+};
+
+/// The record of A's first TEST UNIT READY, which meets the condition of its first contact.
+fn first_contact() -> Record {
+    Record {
+        number: 1,
+        nexus: Some(A),
+        act: Act::Command(Class::TestUnitReady),
+        stage: Stage::ResetAttention,
+        cell: None,
+        rule: None,
+        status: Status::CheckCondition,
+        sense: Some(Sense::of(Condition::PowerOnOrResetOccurred)),
+        mode_changed: false,
+    }
+}
+
+/// The record of a REGISTER by A with a reservation key that it doesn't have.
+fn wrong_key() -> Record {
+    let params = OutParams {
+        act: OutServiceAction::Register,
+        rk: 5,
+        sark: 6,
+        scope_type: 0,
+        dest: None,
+        unreg: false,
+        defect: None,
+    };
+    Record {
+        number: 2,
+        nexus: Some(A),
+        act: Act::ReserveOut(params),
+        stage: Stage::ReservationCheck,
+        cell: Some(unreserved(Class::Register)),
+        rule: Some(KeyRule::K1),
+        status: Status::ReservationConflict,
+        sense: None,
+        mode_changed: false,
+    }
+}
+
+/// An event that isn't a command.
+fn event(number: u64, nexus: Option<Nexus>, act: Act) -> Record {
+    Record {
+        number,
+        nexus,
+        act,
+        stage: Stage::Device,
+        cell: None,
+        rule: None,
+        status: Status::Good,
+        sense: None,
+        mode_changed: false,
+    }
+}
+
+/// The cell of an unregistered sender where nothing is reserved.
+fn unreserved(class: Class) -> Cell {
+    Cell {
+        class,
+        res_type: ResType::None,
+        role: Role::Other,
+    }
+}
+
+#[test]
+fn writes_a_line_for_each_record(rt: HostRuntime) -> Result<(), Fail> {
+    let ready = Record {
+        number: 2,
+        stage: Stage::Device,
+        cell: Some(unreserved(Class::TestUnitReady)),
+        status: Status::Good,
+        sense: None,
+        ..first_contact()
+    };
+    let unknown_opcode = Record {
+        act: Act::Invalid,
+        stage: Stage::Spelling,
+        sense: Some(Sense::of(Condition::InvalidCommandOperationCode)),
+        ..first_contact()
+    };
+    let rows = [
+        (
+            first_contact(),
+            "1 500000000000000a.1 TEST-UNIT-READY 2 - - 02",
+        ),
+        (
+            ready,
+            "2 500000000000000a.1 TEST-UNIT-READY 6 TEST-UNIT-READY/NONE/OTHER - 00",
+        ),
+        (
+            wrong_key(),
+            "2 500000000000000a.1 REGISTER 3 REGISTER/NONE/OTHER K1 18",
+        ),
+        (unknown_opcode, "1 500000000000000a.1 INVALID 1 - - 02"),
+        (
+            event(3, Some(A), Act::Loss),
+            "3 500000000000000a.1 LOSS 6 - - 00",
+        ),
+        (event(40, None, Act::Reset), "40 - RESET 6 - - 00"),
+        (event(41, None, Act::MediumIn), "41 - MEDIUM-IN 6 - - 00"),
+        (
+            event(u64::MAX, None, Act::MediumOut),
+            "18446744073709551615 - MEDIUM-OUT 6 - - 00",
+        ),
+    ];
+    for (record, expected) in rows {
+        let text = line(rt.alloc(), &record)?;
+        assert_eq!(rt; text.as_str(), expected);
+    }
+    Ok(())
+}
+
+#[test]
+fn adds_a_line_to_a_text(rt: HostRuntime) -> Result<(), Fail> {
+    let mut text = String::from_str(rt.alloc(), "7\n")?;
+    write_line(&mut text, &event(8, None, Act::Reset))?;
+    assert_eq!(rt; text.as_str(), "7\n8 - RESET 6 - - 00");
+    Ok(())
+}
+
+#[test]
+fn hands_out_its_records_and_goes_on_counting(rt: HostRuntime) -> Result<(), Fail> {
+    let mut trail = Trail::new(rt.alloc(), 0);
+    assert_eq!(rt; trail.last(), 0);
+    trail.reserve_one()?;
+    trail.push(Record {
+        number: 1,
+        ..first_contact()
+    });
+    trail.reserve_one()?;
+    trail.push(Record {
+        number: 2,
+        ..wrong_key()
+    });
+    assert_eq!(rt; trail.last(), 2);
+    assert_eq!(rt; trail.records().len(), 2);
+
+    let drained = trail.drain(rt.alloc());
+    assert_eq!(rt;
+        drained.as_slice(),
+        [first_contact(), wrong_key()].as_slice()
+    );
+    assert_eq!(rt; trail.last(), 2);
+    assert!(rt; trail.records().is_empty());
+
+    trail.reserve_one()?;
+    trail.push(Record {
+        number: 3,
+        ..event(3, Some(A), Act::Loss)
+    });
+    assert_eq!(rt; trail.last(), 3);
+    assert_eq!(rt; trail.records().len(), 1);
+    Ok(())
+}
+
+#[test]
+fn only_commands_have_a_class(rt: HostRuntime) {
+    let rows = [
+        (first_contact().act, Some(Class::TestUnitReady)),
+        (wrong_key().act, Some(Class::Register)),
+        (Act::Invalid, None),
+        (Act::Reset, None),
+    ];
+    for (act, expected) in rows {
+        assert_eq!(rt; act.class(), expected, "{act:?}");
+    }
+}
