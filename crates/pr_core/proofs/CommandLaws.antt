@@ -15,8 +15,7 @@ use Rattle.permit_tables.specs.declared.role.Role.TheVariants.{Holder, Registere
 use Rattle.permit_tables.specs.Types.{is_all_registrants}
 use Rattle.pr_params.specs.declared.out_params.OutParams.{OutParams}
 use Rattle.pr_params.specs.Status.{key_in}
-use Rattle.pr_core.specs.declared.act.ReservationAct.{ReservationAct}
-use Rattle.pr_core.specs.declared.act.ReservationAct.TheVariants.{Register, Reserve, Release, Clear, Preempt, Move}
+use Rattle.pr_core.specs.Acts.{Act, Register, Reserve, Release, Clear, Preempt, Move}
 use Rattle.pr_core.specs.declared.key_rule.KeyRule.TheVariants.{K3}
 use Rattle.pr_core.specs.declared.pr_fault.PrFault.TheVariants.{InvalidField, InvalidParam}
 use Rattle.pr_core.specs.declared.verdict.Verdict.TheVariants.{Allowed, Denied, Rule}
@@ -46,15 +45,15 @@ generation_fits : (b : Bool) (g : ℕ) → g < 2 ^ 32 → (if b then (g + 1) % 2
 generation_fits true g lt = omega arith
 generation_fits false g lt = lt
 
-counts_from : (v : State) (h : List (Nexus × ReservationAct)) → v.generation < 2 ^ 32 → (after_all v h).generation ≡ (v.generation + count_by (λ e. is_counted e.1) h) % 2 ^ 32
+counts_from : (v : State) (h : List (Nexus × Act)) → v.generation < 2 ^ 32 → (after_all v h).generation ≡ (v.generation + count_by (λ e. is_counted e.1) h) % 2 ^ 32
 counts_from v [] lt = omega arith
 counts_from v (e ∷ h) lt =
     counts_from (after v e.0 e.1) h (generation_fits (is_counted e.1) v.generation lt)
-    ∙ counted_step (is_counted e.1) v.generation (count_by (λ (x : Nexus × ReservationAct). is_counted x.1) h)
-    ∙ ap (λ n. (v.generation + n) % 2 ^ 32) (sym (sum_by-cons (λ (x : Nexus × ReservationAct). cond (is_counted x.1) 1 0) e h))
+    ∙ counted_step (is_counted e.1) v.generation (count_by (λ (x : Nexus × Act). is_counted x.1) h)
+    ∙ ap (λ n. (v.generation + n) % 2 ^ 32) (sym (sum_by-cons (λ (x : Nexus × Act). cond (is_counted x.1) 1 0) e h))
 
 pub generation_counts : GenerationCounts
-generation_counts h = counts_from power_on h (lit< tt) ∙ ap (λ n. n % 2 ^ 32) (zero-add (count_by (λ (x : Nexus × ReservationAct). is_counted x.1) h))
+generation_counts h = counts_from power_on h (lit< tt) ∙ ap (λ n. n % 2 ^ 32) (zero-add (count_by (λ (x : Nexus × Act). is_counted x.1) h))
 
 -- what lasts has what keeps it
 kept_lasting : (keys : Keys) (o : Option (ResType × Nexus)) → is_kept_by keys (lasting keys o) ≡ true
@@ -87,7 +86,7 @@ by_key keys t n has = own_test (is_all_registrants t) keys has
     own_test true (e ∷ x) h = grind (arith, common_steps)
     own_test false x h = ap not h
 
-keyed_after : (v : State) (s : Nexus) (a : ReservationAct) (q : Nexus) → (key_after v s a q == 0) ≡ false → (key_in (keys_after v s a) q == 0) ≡ false
+keyed_after : (v : State) (s : Nexus) (a : Act) (q : Nexus) → (key_after v s a q == 0) ≡ false → (key_in (keys_after v s a) q == 0) ≡ false
 keyed_after v s a q h = ap (λ k. k == 0) (key-after v s a q) ∙ h
 
 unless : (b : Bool) (keys : Keys) (x : Option (ResType × Nexus)) (o : Option (ResType × Nexus)) → (b ≡ true → is_kept_by keys x ≡ true) → is_kept_by keys (unwrap_or (if b then Some x else None) (lasting keys o)) ≡ true
@@ -121,7 +120,7 @@ move_keeps v n d k unreg keyed =
     (keyed_after v n (Move k d unreg) d (ap (λ b. (if b then k else if same_nexus d n && unreg then 0 else key v d) == 0) (same_nexus-refl d) ∙ keyed))
 
 -- what is allowed and not refused keeps it so
-carried_out : (v : State) (n : Nexus) (p : OutParams) (a : ReservationAct) → refusal v n p ≡ None → verdict v n p ≡ Allowed → act_of v n p ≡ Some a → IsKept (after v n a)
+carried_out : (v : State) (n : Nexus) (p : OutParams) (a : Act) → refusal v n p ≡ None → verdict v n p ≡ Allowed → act_of v n p ≡ Some a → IsKept (after v n a)
 carried_out v n p a free allowed is = go p.act p.dest free allowed is
   where
     go : (act : OutServiceAction) (dest : Option Nexus) → refusal v n (record p { act = act; dest = dest }) ≡ None → verdict v n (record p { act = act; dest = dest }) ≡ Allowed
@@ -157,7 +156,7 @@ carried_out v n p a free allowed is = go p.act p.dest free allowed is
 
 -- what holds before a command, and after each act that is carried out, holds after it
 answered_keeps : (P : State → Type 0) (v : State) (n : Nexus) (p : OutParams) → P v
-    → ((a : ReservationAct) → refusal v n p ≡ None → verdict v n p ≡ Allowed → act_of v n p ≡ Some a → P (after v n a)) → P (answered v n p)
+    → ((a : Act) → refusal v n p ≡ None → verdict v n p ≡ Allowed → act_of v n p ≡ Some a → P (after v n a)) → P (answered v n p)
 answered_keeps P v n p before carried =
     elim (verdict v n p) as (λ w. verdict v n p ≡ w → P (elim w [ Allowed ↦ elim (refusal v n p) [ None ↦ applied v n p | Some fault ↦ v ] | Denied cell ↦ v | Rule rule ↦ v ])) [
       | Allowed ↦ λ allowed. elim (refusal v n p) as (λ o. refusal v n p ≡ o → P (elim o [ None ↦ applied v n p | Some fault ↦ v ])) [
@@ -202,15 +201,15 @@ reserve_takes_nothing cs n p reserve held =
     let given : Reserve (type_in p.scope_type) ≡ a = same_some (sym (reserve_act v n p reserve) ∙ is) in
     subst (λ b. (after v n b).reservation ≡ v.reservation) given (reserve_stays v n (type_in p.scope_type) (holder_is_registered cs) (proper_run cs) held))
   where
-    same_some : {x y : ReservationAct} → Some x ≡ Some y → x ≡ y
+    same_some : {x y : Act} → Some x ≡ Some y → x ≡ y
     same_some e = cc
 
 unless_false : {X : Type 0} (b : Bool) (x y : X) → b ≡ false → unwrap_or (if b then Some x else None) y ≡ y
 unless_false true x y e = cc
 unless_false false x y e = refl
 
-ends : (v : State) (s : Nexus) (a : ReservationAct) → IsKept v → IsProper v.keys → is_some v.reservation ≡ true → (after v s a).reservation ≢ v.reservation → MayEnd v s a
-ends v s (Register k) kept proper held differs = lost (keys_after v s (Register k)) v.reservation differs
+ends : (v : State) (s : Nexus) (a : Act) → IsKept v → IsProper v.keys → is_some v.reservation ≡ true → (after v s a).reservation ≢ v.reservation → MayEnd v s a
+ends v s (Register k targets) kept proper held differs = lost (keys_after v s (Register k targets)) v.reservation differs
 ends v s (Reserve t) kept proper held differs = differs (reserve_stays v s t kept proper held)
 ends v s (Release code) kept proper held differs =
     elim (is_holder v s) as (λ b. is_holder v s ≡ b → b ≡ true) [

@@ -13,8 +13,7 @@ use Rattle.std.proofs.lemmas.List.Sums.{fold_push}
 use Rattle.scsi_nexus.specs.declared.nexus.Nexus.{Nexus}
 use Rattle.scsi_nexus.specs.Order.{nexus_cmp, same_nexus}
 use Rattle.scsi_nexus.proofs.NexusLaws.{nexus_total, nexus_exact, eq_by_cmp-nexus, same_nexus-true}
-use Rattle.pr_core.specs.declared.act.ReservationAct.{ReservationAct}
-use Rattle.pr_core.specs.declared.act.ReservationAct.TheVariants.{Register, Reserve, Release, Clear, Preempt, Move}
+use Rattle.pr_core.specs.Acts.{Act, Register, Reserve, Release, Clear, Preempt, Move}
 use Rattle.pr_core.specs.Table.{all_keyed, IsProper}
 use Rattle.pr_params.specs.Status.{key_in}
 use Rattle.pr_core.specs.State.{State, Keys, key, key_after, keys_by, named, keys_after, after, after_all, reservation_after, generation_after, power_on, registrants}
@@ -44,8 +43,8 @@ key_in-outside x q h =
     let alike : list_any (eq_by_cmp nexus_cmp q) (map (λ e. e.0) x) ≡ list_any (same_nexus q) (map (λ e. e.0) x) = λ i. list_any (λ n. eq_by_cmp-nexus q n i) (map (λ e. e.0) x) in
     none_there (find nexus_cmp q x) (is_some-find nexus_cmp q x ∙ alike ∙ h)
 
-pub key_after-outside : (v : State) (s : Nexus) (a : ReservationAct) (q : Nexus) → list_any (same_nexus q) (named s a) ≡ false → key v q ≡ 0 → key_after v s a q ≡ 0
-key_after-outside v s (Register k) q h e = grind (arith, common_steps)
+pub key_after-outside : (v : State) (s : Nexus) (a : Act) (q : Nexus) → list_any (same_nexus q) (named s a) ≡ false → key v q ≡ 0 → key_after v s a q ≡ 0
+key_after-outside v s (Register k targets) q h e = grind (arith, common_steps)
 key_after-outside v s (Reserve t) q h e = e
 key_after-outside v s (Release t) q h e = e
 key_after-outside v s Clear q h e = refl
@@ -57,7 +56,7 @@ within true x k e h = e
 within false x k e h = e ∙ sym (h refl)
 
 -- the table, as a law of the state after
-pub key-after : (v : State) (s : Nexus) (a : ReservationAct) (q : Nexus) → key (after v s a) q ≡ key_after v s a q
+pub key-after : (v : State) (s : Nexus) (a : Act) (q : Nexus) → key (after v s a) q ≡ key_after v s a q
 unfolding keys_after
 key-after v s a q =
     let whole = key_in-keys_by (key_after v s a) (named s a ++ registrants v) q in
@@ -67,10 +66,10 @@ key-after v s a q =
     key_after-outside v s a q parts.0 (key_in-outside v.keys q parts.1))
 
 -- a history with one act more
-pub after_all-push : (base : State) (h : List (Nexus × ReservationAct)) (e : Nexus × ReservationAct) → after_all base (h ++ e ∷ []) ≡ after (after_all base h) e.0 e.1
+pub after_all-push : (base : State) (h : List (Nexus × Act)) (e : Nexus × Act) → after_all base (h ++ e ∷ []) ≡ after (after_all base h) e.0 e.1
 after_all-push base h e = fold_push (λ v x. after v x.0 x.1) base h e
 
-pub key-push : (base : State) (h : List (Nexus × ReservationAct)) (e : Nexus × ReservationAct) (q : Nexus) → key (after_all base (h ++ e ∷ [])) q ≡ key_after (after_all base h) e.0 e.1 q
+pub key-push : (base : State) (h : List (Nexus × Act)) (e : Nexus × Act) (q : Nexus) → key (after_all base (h ++ e ∷ [])) q ≡ key_after (after_all base h) e.0 e.1 q
 key-push base h e q = ap (λ v. key v q) (after_all-push base h e) ∙ key-after (after_all base h) e.0 e.1 q
 
 pub keyed-put : (n : Nexus) (k : ℕ) (x : Keys) → (k == 0) ≡ false → all_keyed x ≡ true → all_keyed (put nexus_cmp n k x) ≡ true
@@ -91,11 +90,11 @@ pub proper-keys_by : (f : Nexus → ℕ) (ns : List Nexus) → IsProper (keys_by
 proper-keys_by f [] = record { sorted = tt; keyed = refl }
 proper-keys_by f (n ∷ ns) = proper-step f n (keys_by f ns) (f n == 0) refl (proper-keys_by f ns)
 
-pub proper-after : (v : State) (s : Nexus) (a : ReservationAct) → IsProper (after v s a).keys
+pub proper-after : (v : State) (s : Nexus) (a : Act) → IsProper (after v s a).keys
 unfolding keys_after
 proper-after v s a = proper-keys_by (key_after v s a) (named s a ++ registrants v)
 
-pub proper-after_all : (v : State) (h : List (Nexus × ReservationAct)) → IsProper v.keys → IsProper (after_all v h).keys
+pub proper-after_all : (v : State) (h : List (Nexus × Act)) → IsProper v.keys → IsProper (after_all v h).keys
 proper-after_all v [] p = p
 proper-after_all v (e ∷ h) p = proper-after_all (after v e.0 e.1) h (proper-after v e.0 e.1)
 
@@ -121,7 +120,7 @@ pub same_keys : (x y : Keys) → IsProper x → IsProper y → ((q : Nexus) → 
 same_keys x y p r h = same_entries nexus_cmp nexus_total nexus_exact x y p.sorted r.sorted (λ q. found_alike (find nexus_cmp q x) (find nexus_cmp q y) (never_zero x q p.keyed) (never_zero y q r.keyed) (h q))
 
 -- the state after an act, by its table
-pub after-is : (v : State) (s : Nexus) (a : ReservationAct) (x : State) → IsProper x.keys → ((q : Nexus) → key x q ≡ key_after v s a q)
+pub after-is : (v : State) (s : Nexus) (a : Act) (x : State) → IsProper x.keys → ((q : Nexus) → key x q ≡ key_after v s a q)
     → x.reservation ≡ reservation_after v s a → x.generation ≡ generation_after v a → x ≡ after v s a
 after-is v s a x p keys reservation generation =
     let same = same_keys x.keys (after v s a).keys p (proper-after v s a) (λ q. keys q ∙ sym (key-after v s a q)) in

@@ -4,5 +4,6 @@ pub mod PutLaws
 pub mod Steps
 pub mod RaisedLaws
 pub mod Room
+pub mod ManyLaws
 pub mod RowLaws
 pub mod CommandLaws

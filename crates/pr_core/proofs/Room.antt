@@ -1,6 +1,6 @@
--- An accepted command leaves at most 64 registrations.
+-- An accepted command leaves no more registrations than there is room for.
 use Rattle.std.proofs.Common.{◌≡◌, ◌≢◌, ℕ, ◌+◌, ◌≤◌, Bool, true, false, cond, not, ◌==◌, ◌&&◌, ◌||◌, [], ◌∷◌, length, refl, sym, ap, subst, ◌∙◌, arith, Some, None, Option}
-use Rattle.std.specs.Prelude.{if◌then◌else◌, filter, unwrap_or, is_some, nat_le}
+use Rattle.std.specs.Prelude.{if◌then◌else◌, filter, unwrap_or, is_some, nat_lt, nat_le}
 use Rattle.std.specs.FinMap.{find, put}
 use Rattle.std.specs.FinMap.Entries.{length-put, length_without}
 use Rattle.std.specs.Ordering.{eq_by_cmp}
@@ -19,17 +19,17 @@ use Rattle.pr_core.specs.declared.pr_fault.PrFault.TheVariants.{InvalidField, In
 use Rattle.pr_core.specs.declared.key_rule.KeyRule.{KeyRule}
 use Rattle.pr_core.specs.declared.key_rule.KeyRule.TheVariants.{K3}
 use Rattle.pr_core.specs.Judge.{verdict}
-use Rattle.pr_core.specs.Outcome.{is_full, refusal, act_of, is_target_port}
+use Rattle.pr_core.specs.Outcome.{is_full, refusal, act_of}
+use Rattle.pr_core.specs.Targets.{is_target_port, targets}
 use Rattle.scsi_nexus.specs.declared.nexus.Nexus.{Nexus}
 use Rattle.scsi_nexus.specs.Order.{nexus_cmp, same_nexus}
 use Rattle.scsi_nexus.proofs.NexusLaws.{nexus_total, eq_by_cmp-nexus, same_nexus-sym}
-use Rattle.pr_core.specs.declared.act.ReservationAct.{ReservationAct}
-use Rattle.pr_core.specs.declared.act.ReservationAct.TheVariants.{Register, Reserve, Release, Clear, Preempt, Move}
+use Rattle.pr_core.specs.Acts.{Act, Register, Reserve, Release, Clear, Preempt, Move}
 use Rattle.pr_core.specs.Table.{IsProper}
 use Rattle.pr_params.specs.Status.{key_in}
 use Rattle.pr_core.specs.State.{State, capacity, type_in, Keys, key, keys_after, takes, is_all_held, is_registered}
 use Rattle.pr_core.proofs.TableLaws.{proper-filter}
-use Rattle.pr_core.proofs.Steps.{unregistered, registered, cleared, preempted_all, preempted_others, preempted_key, moved, moved_away, kept_reserve, kept_release}
+use Rattle.pr_core.proofs.Steps.{cleared, preempted_all, preempted_others, preempted_key, moved, moved_away, kept_reserve, kept_release}
 
 abbrev pub bit : Bool → ℕ
 bit b = if b then 1 else 0
@@ -66,7 +66,7 @@ length-gone-one n x p =
     omega (arith, counted, one_is x n p)
 
 -- no act but a registration adds one
-pub room_fewer : (v : State) (s : Nexus) (x : Keys) (a : ReservationAct) → x ≡ keys_after v s a → length x ≤ length v.keys → length v.keys ≤ capacity → length (keys_after v s a) ≤ capacity
+pub room_fewer : (v : State) (s : Nexus) (x : Keys) (a : Act) → x ≡ keys_after v s a → length x ≤ length v.keys → length v.keys ≤ capacity → length (keys_after v s a) ≤ capacity
 room_fewer v s x a is fewer room = subst (λ (y : Keys). length y ≤ capacity) is (omega arith)
 
 pub room_preempt : (v : State) (s : Nexus) (k t : ℕ) → IsProper v.keys → length v.keys ≤ capacity → length (keys_after v s (Preempt k t)) ≤ capacity
@@ -79,18 +79,8 @@ room_preempt v s k t p room =
       ] refl
     ] refl
 
-reg_bound : (j l x k : ℕ) → (not (not (j == 0)) && not (k == 0) && nat_le capacity l) ≡ false → (k == 0) ≡ false → x + bit (not (j == 0)) ≡ l + 1 → l ≤ capacity → x ≤ capacity
-reg_bound j l x k e f g room = grind (arith, common_steps)
-
-pub room_reg : (v : State) (s : Nexus) (k : ℕ) → IsProper v.keys → length v.keys ≤ capacity → (not (is_registered v s) && not (k == 0) && is_full v) ≡ false → length (keys_after v s (Register k)) ≤ capacity
-room_reg v s k p room free =
-    elim (k == 0) as (λ b. (k == 0) ≡ b → length (keys_after v s (Register k)) ≤ capacity) [
-      | true ↦ λ e. ap_room (exact_unsigned_eq k 0 e)
-      | false ↦ λ e. subst (λ (y : Keys). length y ≤ capacity) (registered v s k (λ z. false≢true (sym e ∙ eq-eqb k 0 z)) p) (reg_bound (key v s) (length v.keys) (length (put nexus_cmp s k v.keys)) k free e (length-put-one s k v.keys p) room)
-    ] refl
-  where
-    ap_room : k ≡ 0 → length (keys_after v s (Register k)) ≤ capacity
-    ap_room z = subst (λ j. length (keys_after v s (Register j)) ≤ capacity) (sym z) (room_fewer v s _ (Register 0) (unregistered v s p) (length-filter-le _ v.keys) room)
+not_more : (c l : ℕ) → nat_lt c l ≡ false → l ≤ c
+not_more c l h = grind (arith, common_steps)
 
 move_bound : (j l x : ℕ) → (not (not (j == 0)) && nat_le capacity l) ≡ false → x + bit (not (j == 0)) ≡ l + 1 → l ≤ capacity → x ≤ capacity
 move_bound j l x e g room = grind (arith, common_steps)
@@ -113,7 +103,7 @@ pub none_else : {X : Type 0} (b : Bool) (x : X) (o : Option X) → cond b (Some 
 none_else true x o h = cc
 none_else false x o h = (refl, h)
 
-pub act_given : (b : Bool) (x a : ReservationAct) → cond b None (Some x) ≡ Some a → x ≡ a
+pub act_given : (b : Bool) (x a : Act) → cond b None (Some x) ≡ Some a → x ≡ a
 act_given true x a h = cc
 act_given false x a h = cc
 
@@ -130,7 +120,7 @@ pub unnot : (x : Bool) → not (not x) ≡ false → x ≡ false
 unnot true h = h
 unnot false h = refl
 
-private_move : (v : State) (n : Nexus) (p : OutParams) (a : ReservationAct) → IsProper v.keys → length v.keys ≤ capacity → (dest : Option Nexus) (unreg : Bool)
+private_move : (v : State) (n : Nexus) (p : OutParams) (a : Act) → IsProper v.keys → length v.keys ≤ capacity → (dest : Option Nexus) (unreg : Bool)
     → refusal v n (record p { act = out.RegisterAndMove; dest = dest; unreg = unreg }) ≡ None → verdict v n (record p { act = out.RegisterAndMove; dest = dest; unreg = unreg }) ≡ Allowed
     → act_of v n (record p { act = out.RegisterAndMove; dest = dest; unreg = unreg }) ≡ Some a → length (keys_after v n a) ≤ capacity
 private_move v n p a ok le None unreg free allowed is = cc
@@ -154,19 +144,21 @@ private_move v n p a ok le (Some d) true free allowed is =
     let given : Move p.sark d true ≡ a = cc in
     subst (λ b. length (keys_after v n b) ≤ capacity) given (room_away v n d p.sark keyed ok le sender)
 
--- what is allowed and not refused leaves at most 64 registrations
-pub room : (v : State) (n : Nexus) (p : OutParams) (a : ReservationAct) → IsProper v.keys → length v.keys ≤ capacity → refusal v n p ≡ None → verdict v n p ≡ Allowed → act_of v n p ≡ Some a → length (keys_after v n a) ≤ capacity
+-- what is allowed and not refused leaves
+pub room : (v : State) (n : Nexus) (p : OutParams) (a : Act) → IsProper v.keys → length v.keys ≤ capacity → refusal v n p ≡ None → verdict v n p ≡ Allowed → act_of v n p ≡ Some a → length (keys_after v n a) ≤ capacity
 room v n p a ok le free allowed is = go p.act free allowed is
   where
     go : (act : OutServiceAction) → refusal v n (record p { act = act }) ≡ None → verdict v n (record p { act = act }) ≡ Allowed → act_of v n (record p { act = act }) ≡ Some a → length (keys_after v n a) ≤ capacity
     go out.Register free allowed is =
         let first = none_else (is_some p.defect) InvalidParam _ free in
-        let second = none_else (not (is_registered v n) && not (p.sark == 0) && is_full v) NoRegistrationRoom None first.1 in
-        subst (λ b. length (keys_after v n b) ≤ capacity) (act_given _ _ _ is) (room_reg v n p.sark ok le second.0)
+        let second = none_else (p.listed && is_registered v n) InvalidParam _ first.1 in
+        let third = none_else (nat_lt capacity (length (keys_after v n (Register p.sark (targets n p))))) NoRegistrationRoom None second.1 in
+        subst (λ b. length (keys_after v n b) ≤ capacity) (act_given _ _ _ is) (not_more capacity _ third.0)
     go out.RegisterAndIgnoreExistingKey free allowed is =
         let first = none_else (is_some p.defect) InvalidParam _ free in
-        let second = none_else (not (is_registered v n) && not (p.sark == 0) && is_full v) NoRegistrationRoom None first.1 in
-        subst (λ b. length (keys_after v n b) ≤ capacity) (act_given _ _ _ is) (room_reg v n p.sark ok le second.0)
+        let second = none_else (p.listed && is_registered v n) InvalidParam _ first.1 in
+        let third = none_else (nat_lt capacity (length (keys_after v n (Register p.sark (targets n p))))) NoRegistrationRoom None second.1 in
+        subst (λ b. length (keys_after v n b) ≤ capacity) (act_given _ _ _ is) (not_more capacity _ third.0)
     go out.Reserve free allowed is =
         let given : Reserve (type_in p.scope_type) ≡ a = cc in
         subst (λ b. length (keys_after v n b) ≤ capacity) given (room_fewer v n v.keys _ (kept_reserve v n (type_in p.scope_type) ok) (omega arith) le)

@@ -1,6 +1,6 @@
 -- How a PERSISTENT RESERVE OUT command is judged: the permission table, and then the rules on keys (SPC-4, "PERSISTENT
 -- RESERVE OUT command").
-use Rattle.std.specs.Prelude.{ℕ, Bool, false, not, ◌&&◌, ◌||◌, ◌==◌, if◌then◌else◌, Option, None, Some}
+use Rattle.std.specs.Prelude.{ℕ, Bool, false, not, ◌&&◌, ◌||◌, ◌==◌, if◌then◌else◌, List, Option, None, Some}
 use Rattle.std.specs.List.{list_any}
 use Rattle.scsi_cdb.specs.declared.action.OutServiceAction.TheVariants.{Register, Reserve, Preempt, PreemptAndAbort, RegisterAndIgnoreExistingKey, RegisterAndMove}
 use Rattle.scsi_cdb.specs.Classes.{class_of_action}
@@ -12,6 +12,7 @@ use Rattle.pr_core.specs.declared.key_rule.KeyRule.{KeyRule}
 use Rattle.pr_core.specs.declared.key_rule.KeyRule.TheVariants.{K1, K2, K3, K4, K5, K6}
 use Rattle.pr_core.specs.declared.verdict.Verdict.{Verdict}
 use Rattle.pr_core.specs.declared.verdict.Verdict.TheVariants.{Allowed, Denied, Rule}
+use Rattle.pr_core.specs.Targets.{targets}
 use Rattle.pr_core.specs.State.{State, key, is_registered, is_all_held, is_holder, res_type, role, cell}
 
 -- the byte of scope and type of the reservation in force
@@ -22,13 +23,21 @@ held_code v = code_of (res_type v)
 abbrev pub is_known_key : State → ℕ → Bool
 is_known_key v k = list_any (λ e. e.1 == k) v.keys
 
--- REGISTER by an unregistered nexus with a key
-abbrev pub breaks_first : State → Nexus → OutParams → Bool
-breaks_first v n p = elim p.act [ Register ↦ not (is_registered v n) && not (p.rk == 0) | _ ↦ false ]
+-- whether one of these nexuses is unregistered, though there is a reservation key
+abbrev pub has_unregistered : State → (rk : ℕ) → List Nexus → Bool
+has_unregistered v rk targets = list_any (λ n. not (is_registered v n) && not (rk == 0)) targets
 
--- REGISTER by a registered nexus with another key
+-- whether one of these nexuses is registered with another key
+abbrev pub has_other_key : State → (rk : ℕ) → List Nexus → Bool
+has_other_key v rk targets = list_any (λ n. is_registered v n && not (rk == key v n)) targets
+
+-- REGISTER with a key that names an unregistered nexus
+abbrev pub breaks_first : State → Nexus → OutParams → Bool
+breaks_first v n p = elim p.act [ Register ↦ has_unregistered v p.rk (targets n p) | _ ↦ false ]
+
+-- REGISTER that names a nexus registered with another key
 abbrev pub breaks_second : State → Nexus → OutParams → Bool
-breaks_second v n p = elim p.act [ Register ↦ is_registered v n && not (p.rk == key v n) | _ ↦ false ]
+breaks_second v n p = elim p.act [ Register ↦ has_other_key v p.rk (targets n p) | _ ↦ false ]
 
 -- any act that doesn't register its sender, without the sender's key
 abbrev pub breaks_third : State → Nexus → OutParams → Bool

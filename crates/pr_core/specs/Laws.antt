@@ -8,8 +8,7 @@ use Rattle.permit_tables.specs.declared.role.Role.TheVariants.{Registered}
 use Rattle.permit_tables.specs.Types.{is_all_registrants}
 use Rattle.pr_params.specs.declared.out_params.OutParams.{OutParams}
 use Rattle.pr_params.specs.Status.{key_in}
-use Rattle.pr_core.specs.declared.act.ReservationAct.{ReservationAct}
-use Rattle.pr_core.specs.declared.act.ReservationAct.TheVariants.{Register, Reserve, Release, Clear, Preempt, Move}
+use Rattle.pr_core.specs.Acts.{Act, Register, Reserve, Release, Clear, Preempt, Move}
 use Rattle.pr_core.specs.declared.verdict.Verdict.TheVariants.{Allowed, Denied, Rule}
 use Rattle.pr_core.specs.State.{State, Keys, power_on, role, is_all_held, is_holder, takes, keys_after, after, after_all, is_counted}
 use Rattle.pr_core.specs.Judge.{verdict}
@@ -33,7 +32,7 @@ NoneRegistered = (v : State) (n : Nexus) → is_all_held v ≡ true → role v n
 
 -- PRGENERATION counts exactly the accepted acts other than RESERVE and RELEASE
 abbrev pub GenerationCounts : Type 0
-GenerationCounts = (h : List (Nexus × ReservationAct)) → (after_all power_on h).generation ≡ count_by (λ e. is_counted e.1) h % 2 ^ 32
+GenerationCounts = (h : List (Nexus × Act)) → (after_all power_on h).generation ≡ count_by (λ e. is_counted e.1) h % 2 ^ 32
 
 -- whether a reservation has what keeps it among these keys: under an all registrants type somebody's key, else its holder's
 abbrev pub is_kept_by : Keys → Option (ResType × Nexus) → Bool
@@ -51,21 +50,21 @@ ReserveTakesNothing =
     → (answered (commanded commands) n p).reservation ≡ (commanded commands).reservation
 
 -- the act a of s unregisters the holder of the reservation, or under an all registrants type everybody
-abbrev pub Unregisters : State → Nexus → ReservationAct → Type 0
+abbrev pub Unregisters : State → Nexus → Act → Type 0
 Unregisters v s a = is_kept_by (keys_after v s a) v.reservation ≡ false
 
 -- how an act can end or move a reservation: PREEMPT with the holder's key, or 0 under an all registrants type; CLEAR; RELEASE by
 -- a holder; unregistering, by REGISTER or PREEMPT; REGISTER AND MOVE
-abbrev pub MayEnd : State → Nexus → ReservationAct → Type 0
+abbrev pub MayEnd : State → Nexus → Act → Type 0
 MayEnd v s (Preempt k code) = (takes v k ≡ true) ⊎ Unregisters v s (Preempt k code)
 MayEnd v s Clear = Unit {0}
 MayEnd v s (Release code) = is_holder v s ≡ true
-MayEnd v s (Register k) = Unregisters v s (Register k)
+MayEnd v s (Register k targets) = Unregisters v s (Register k targets)
 MayEnd v s (Move k d unreg) = Unit {0}
 MayEnd v s (Reserve t) = ⊥
 
 -- nothing else ends or moves a reservation
 abbrev pub OnlyTheseEnd : Type 0
 OnlyTheseEnd =
-    (commands : List (Nexus × OutParams)) (s : Nexus) (a : ReservationAct) → is_some (commanded commands).reservation ≡ true
+    (commands : List (Nexus × OutParams)) (s : Nexus) (a : Act) → is_some (commanded commands).reservation ≡ true
     → (after (commanded commands) s a).reservation ≢ (commanded commands).reservation → MayEnd (commanded commands) s a

@@ -1,3 +1,5 @@
+pub mod Acts
+pub mod Targets
 pub mod State
 pub mod Judge
 pub mod Outcome

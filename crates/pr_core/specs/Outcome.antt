@@ -1,7 +1,7 @@
 -- What an allowed PERSISTENT RESERVE OUT command does: it is refused, or its act is accepted, with what is told to others
 -- (SPC-4, "PERSISTENT RESERVE OUT command" and the clauses on each service action).
-use Rattle.std.specs.Prelude.{ℕ, Bool, not, ◌&&◌, ◌||◌, ◌==◌, nat_le, if◌then◌else◌, List, [], length, filter, Option, None, Some, is_some, is_none}
-use Rattle.std.specs.List.{filter_map}
+use Rattle.std.specs.Prelude.{ℕ, Bool, not, ◌&&◌, ◌||◌, ◌==◌, nat_lt, nat_le, if◌then◌else◌, List, [], length, filter, Option, None, Some, is_some, is_none}
+use Rattle.std.specs.List.{filter_map, list_any}
 use Rattle.scsi_cdb.specs.declared.action.OutServiceAction.TheVariants as out
 use Rattle.scsi_nexus.specs.declared.nexus.Nexus.{Nexus}
 use Rattle.scsi_nexus.specs.Order.{same_nexus}
@@ -9,11 +9,11 @@ use Rattle.permit_tables.specs.Types.{coded_type, is_registrants_only}
 use Rattle.unit_attention.specs.declared.kind.Kind.{Kind}
 use Rattle.unit_attention.specs.declared.kind.Kind.TheVariants.{ReservationsPreempted, ReservationsReleased, RegistrationsPreempted}
 use Rattle.pr_params.specs.declared.out_params.OutParams.{OutParams}
-use Rattle.pr_core.specs.declared.act.ReservationAct.{ReservationAct}
-use Rattle.pr_core.specs.declared.act.ReservationAct.TheVariants.{Register, Reserve, Release, Clear, Preempt, Move}
+use Rattle.pr_core.specs.Acts.{Act, Register, Reserve, Release, Clear, Preempt, Move}
+use Rattle.pr_core.specs.Targets.{is_target_port, targets, is_among}
 use Rattle.pr_core.specs.declared.pr_fault.PrFault.{PrFault}
 use Rattle.pr_core.specs.declared.pr_fault.PrFault.TheVariants.{InvalidField, InvalidParam, InvalidRelease, NoRegistrationRoom}
-use Rattle.pr_core.specs.State.{State, capacity, is_registered, is_all_held, is_holder, is_sole_holder, res_type, registrants, takes, key_after, type_in, after}
+use Rattle.pr_core.specs.State.{State, capacity, is_registered, is_all_held, is_holder, is_sole_holder, res_type, registrants, takes, key_after, keys_after, type_in, after}
 use Rattle.pr_core.specs.Judge.{held_code}
 
 -- whether there is no room for one more registration
@@ -24,13 +24,13 @@ is_full v = nat_le capacity (length v.keys)
 abbrev pub is_known_type : ℕ → Bool
 is_known_type code = is_some (coded_type code)
 
--- the relative target ports of the target (profile)
-abbrev pub is_target_port : ℕ → Bool
-is_target_port port = nat_le 1 port && nat_le port 2
-
--- REGISTER of either kind: there is no room for a new registration
+-- REGISTER of either kind: it lists SAS addresses and comes from a registered nexus (profile), or there is no room for all the
+-- new registrations
 abbrev pub register_refusal : State → Nexus → OutParams → Option PrFault
-register_refusal v n p = if not (is_registered v n) && not (p.sark == 0) && is_full v then Some NoRegistrationRoom else None
+register_refusal v n p =
+    if p.listed && is_registered v n then Some InvalidParam
+    else if nat_lt capacity (length (keys_after v n (Register p.sark (targets n p)))) then Some NoRegistrationRoom
+    else None
 
 -- RESERVE: nobody holds, and scope or type are unknown
 abbrev pub reserve_refusal : State → OutParams → Option PrFault
@@ -75,12 +75,13 @@ refusal v n p =
       | out.RegisterAndMove ↦ move_refusal v n p
     ]
 
--- REGISTER of either kind is no act for an unregistered nexus that registers with 0
-abbrev pub register_act : State → Nexus → OutParams → Option ReservationAct
-register_act v n p = if not (is_registered v n) && p.sark == 0 then None else Some (Register p.sark)
+-- REGISTER of either kind is no act where it takes keys away from nexuses that have none
+abbrev pub register_act : State → Nexus → OutParams → Option Act
+register_act v n p =
+    if p.sark == 0 && not (list_any (is_registered v) (targets n p)) then None else Some (Register p.sark (targets n p))
 
 -- the act that a command is, if it is one
-abbrev pub act_of : State → Nexus → OutParams → Option ReservationAct
+abbrev pub act_of : State → Nexus → OutParams → Option Act
 act_of v n p = elim p.act [
   | out.Register ↦ register_act v n p
   | out.RegisterAndIgnoreExistingKey ↦ register_act v n p
@@ -97,8 +98,10 @@ abbrev pub applied : State → Nexus → OutParams → State
 applied v n p = elim (act_of v n p) [ None ↦ v | Some a ↦ after v n a ]
 
 -- what the act a of s tells a registered nexus n
-abbrev pub told : State → Nexus → ReservationAct → Nexus → Option Kind
-told v s (Register k) n = if k == 0 && is_registrants_only (res_type v) && is_sole_holder v s then Some ReservationsReleased else None
+abbrev pub told : State → Nexus → Act → Nexus → Option Kind
+told v s (Register k targets) n =
+    if k == 0 && is_registrants_only (res_type v) && list_any (is_sole_holder v) targets && not (is_among n targets)
+    then Some ReservationsReleased else None
 told v s (Release code) n = if is_holder v s && (is_registrants_only (res_type v) || is_all_held v) then Some ReservationsReleased else None
 told v s Clear n = Some ReservationsPreempted
 told v s (Preempt k code) n =
@@ -108,26 +111,26 @@ told v s (Preempt k code) n =
 told v s a n = None
 
 -- the attention that the act a of s raises for a registered nexus, if it does: never for the sender
-abbrev pub raised_for : State → Nexus → ReservationAct → Nexus → Option (Nexus × Kind)
+abbrev pub raised_for : State → Nexus → Act → Nexus → Option (Nexus × Kind)
 raised_for v s a n = if same_nexus n s then None else elim (told v s a n) [ None ↦ None | Some kind ↦ Some (n, kind) ]
 
 -- the attentions that the act a of s raises, ascending by nexus
-abbrev pub raised : State → Nexus → ReservationAct → List (Nexus × Kind)
+abbrev pub raised : State → Nexus → Act → List (Nexus × Kind)
 raised v s a = filter_map (raised_for v s a) (registrants v)
 
 -- whether the act a of another, s, ends a registration
-abbrev pub is_removed : State → Nexus → ReservationAct → Nexus → Bool
+abbrev pub is_removed : State → Nexus → Act → Nexus → Bool
 is_removed v s a n = not (same_nexus n s) && key_after v s a n == 0
 
 -- the nexuses that lose their key by the act a of another, s, ascending
-abbrev pub removed : State → Nexus → ReservationAct → List Nexus
+abbrev pub removed : State → Nexus → Act → List Nexus
 removed v s a = filter (is_removed v s a) (registrants v)
 
 -- what a command that is no act, or this one, raises and removes
-abbrev pub raised_by : State → Nexus → Option ReservationAct → List (Nexus × Kind)
+abbrev pub raised_by : State → Nexus → Option Act → List (Nexus × Kind)
 raised_by v s None = []
 raised_by v s (Some a) = raised v s a
 
-abbrev pub removed_by : State → Nexus → Option ReservationAct → List Nexus
+abbrev pub removed_by : State → Nexus → Option Act → List Nexus
 removed_by v s None = []
 removed_by v s (Some a) = removed v s a

@@ -8,11 +8,12 @@ use Rattle.permit_tables.specs.declared.res_type.ResType.TheVariants.{We, Ea, We
 use Rattle.permit_tables.specs.declared.role.Role.TheVariants.{Holder, Registered, Other}
 use Rattle.unit_attention.specs.declared.kind.Kind.TheVariants.{ReservationsPreempted, ReservationsReleased, RegistrationsPreempted}
 use Rattle.pr_params.specs.declared.out_params.OutParams.{OutParams}
-use Rattle.pr_core.specs.declared.act.ReservationAct.{ReservationAct}
-use Rattle.pr_core.specs.declared.act.ReservationAct.TheVariants.{Register, Reserve, Release, Clear, Preempt}
+use Rattle.pr_core.specs.Acts.{Act, Register, Reserve, Release, Clear, Preempt}
 use Rattle.pr_core.specs.declared.key_rule.KeyRule.TheVariants.{K1, K2, K4, K5, K6}
 use Rattle.pr_core.specs.declared.pr_fault.PrFault.TheVariants.{InvalidField, InvalidParam, InvalidRelease}
 use Rattle.pr_core.specs.declared.verdict.Verdict.TheVariants.{Allowed, Denied, Rule}
+use Rattle.pr_params.specs.declared.param_fault.ParamFault.TheVariants.{Field}
+use Rattle.pr_core.specs.Targets.{targets}
 use Rattle.pr_core.specs.State.{State, power_on, role, after, after_all}
 use Rattle.pr_core.specs.Judge.{verdict}
 use Rattle.pr_core.specs.Outcome.{refusal, act_of, applied, raised, removed}
@@ -26,59 +27,86 @@ b = record { sas = 0x500000000000000B; port = 1 }
 abbrev pub c : Nexus
 c = record { sas = 0x500000000000000C; port = 1 }
 
-abbrev pub history : List (Nexus × ReservationAct) → State
+-- a REGISTER that names its sender alone
+abbrev pub registers : Nexus → ℕ → Nexus × Act
+registers n k = (n, Register k (n ∷ []))
+
+abbrev pub history : List (Nexus × Act) → State
 history = after_all power_on
 
 -- a command with nothing but an act, its keys and a byte of scope and type
 abbrev pub command : OutServiceAction → (rk sark code : ℕ) → OutParams
-command act rk sark code = record { act = act; rk = rk; sark = sark; scope_type = code; dest = None; unreg = false; defect = None }
+command act rk sark code = record { act = act; rk = rk; sark = sark; scope_type = code; dest = None; unreg = false; defect = None; all_ports = false; listed = false; targets = record { items = [] } }
 
 -- REGISTER AND MOVE
 abbrev pub moving : (rk sark : ℕ) → Nexus → Bool → OutParams
-moving rk sark d unreg = record { act = out.RegisterAndMove; rk = rk; sark = sark; scope_type = 0; dest = Some d; unreg = unreg; defect = None }
+moving rk sark d unreg = record { act = out.RegisterAndMove; rk = rk; sark = sark; scope_type = 0; dest = Some d; unreg = unreg; defect = None; all_ports = false; listed = false; targets = record { items = [] } }
+
+-- A's SAS address at another port
+abbrev pub a_at : ℕ → Nexus
+a_at port = record { sas = 0x500000000000000A; port = port }
+
+-- either REGISTER at every port, and with these listed addresses
+abbrev pub at_every_port : (rk sark : ℕ) → OutParams
+at_every_port rk sark = record (command out.Register rk sark 0) { all_ports = true }
+
+abbrev pub listing : (rk sark : ℕ) → List ℕ → OutParams
+listing rk sark addresses = record (command out.Register rk sark 0) { listed = true; targets = record { items = addresses } }
+
+-- A has key 1 at every port
+abbrev pub everywhere : State
+everywhere = applied power_on a (at_every_port 0 1)
+
+-- that, and A holds WERO beside B
+abbrev pub everywhere_held : State
+everywhere_held = after_all everywhere ((a, Reserve Wero) ∷ registers b 2 ∷ [])
+
+-- B listed C
+abbrev pub by_list : State
+by_list = applied power_on b (listing 0 7 (0x500000000000000C ∷ []))
 
 -- A and B share key 7, and A holds EA
 abbrev pub shared : State
-shared = history ((a, Register 7) ∷ (b, Register 7) ∷ (a, Reserve Ea) ∷ [])
+shared = history (registers a 7 ∷ registers b 7 ∷ (a, Reserve Ea) ∷ [])
 
 -- A made WEAR and is unregistered
 abbrev pub outlived : State
-outlived = history ((a, Register 1) ∷ (b, Register 2) ∷ (a, Reserve Wear) ∷ (a, Register 0) ∷ [])
+outlived = history (registers a 1 ∷ registers b 2 ∷ (a, Reserve Wear) ∷ registers a 0 ∷ [])
 
 -- A, B and C hold EAAR
 abbrev pub three_hold : State
-three_hold = history ((a, Register 1) ∷ (b, Register 2) ∷ (c, Register 3) ∷ (a, Reserve Eaar) ∷ [])
+three_hold = history (registers a 1 ∷ registers b 2 ∷ registers c 3 ∷ (a, Reserve Eaar) ∷ [])
 
 -- A alone is registered
 abbrev pub alone : State
-alone = history ((a, Register 1) ∷ [])
+alone = history (registers a 1 ∷ [])
 
 -- A holds WE
 abbrev pub held : State
-held = history ((a, Register 1) ∷ (a, Reserve We) ∷ [])
+held = history (registers a 1 ∷ (a, Reserve We) ∷ [])
 
 -- A holds WERO beside B
 abbrev pub registrants_only : State
-registrants_only = history ((a, Register 1) ∷ (b, Register 2) ∷ (a, Reserve Wero) ∷ [])
+registrants_only = history (registers a 1 ∷ registers b 2 ∷ (a, Reserve Wero) ∷ [])
 
 -- A and B hold WEAR
 abbrev pub two_hold : State
-two_hold = history ((a, Register 1) ∷ (b, Register 2) ∷ (a, Reserve Wear) ∷ [])
+two_hold = history (registers a 1 ∷ registers b 2 ∷ (a, Reserve Wear) ∷ [])
 
 -- A holds WERO, B and C share key 2
 abbrev pub not_taken : State
-not_taken = history ((a, Register 1) ∷ (b, Register 2) ∷ (c, Register 2) ∷ (a, Reserve Wero) ∷ [])
+not_taken = history (registers a 1 ∷ registers b 2 ∷ registers c 2 ∷ (a, Reserve Wero) ∷ [])
 
 pub record WorkedRows : Type 0 where
   -- two registrations, in order whoever came first
-  pub in_order : (history ((b, Register 2) ∷ (a, Register 1) ∷ [])).keys ≡ (a, 1) ∷ (b, 2) ∷ []
+  pub in_order : (history (registers b 2 ∷ registers a 1 ∷ [])).keys ≡ (a, 1) ∷ (b, 2) ∷ []
   -- REGISTER with 0 and 0 by an unregistered nexus is allowed and no act; with a wrong key it breaks K1, and then K2
   pub register_zero : verdict power_on a (command out.Register 0 0 0) ≡ Allowed
   pub register_zero_is_no_act : act_of power_on a (command out.Register 0 0 0) ≡ None
   pub register_wrong_key : verdict power_on a (command out.Register 5 6 0) ≡ Rule K1
   pub register_other_key : verdict alone a (command out.Register 5 6 0) ≡ Rule K2
   -- under WE a registered nexus may not reserve; an outsider may not clear
-  pub reserve_denied : verdict (after held b (Register 2)) b (command out.Reserve 2 0 1) ≡ Denied (record { class = class.Reserve; res_type = We; role = Registered })
+  pub reserve_denied : verdict (after held b (Register 2 (b ∷ []))) b (command out.Reserve 2 0 1) ≡ Denied (record { class = class.Reserve; res_type = We; role = Registered })
   pub clear_denied : verdict held b (command out.Clear 0 0 0) ≡ Denied (record { class = class.Clear; res_type = We; role = Other })
   -- B's preemption of the key that it shares with the holder keeps B
   pub preempt_shared_key_allowed : verdict shared b (command out.Preempt 7 7 5) ≡ Allowed
@@ -88,7 +116,7 @@ pub record WorkedRows : Type 0 where
   -- WEAR stays with B when its maker A unregisters, and ends with the last
   pub outlives_maker : outlived ≡ record { keys = (b, 2) ∷ []; reservation = Some (Wear, a); generation = 3 }
   pub outlives_maker_role : role outlived b ≡ Holder
-  pub ends_with_the_last : after outlived b (Register 0) ≡ record { keys = []; reservation = None; generation = 4 }
+  pub ends_with_the_last : after outlived b (Register 0 (b ∷ [])) ≡ record { keys = []; reservation = None; generation = 4 }
   -- EAAR taken by 0 under another type: all others lose their keys
   pub preempt_zero_takes : applied three_hold a (command out.Preempt 1 0 1) ≡ record { keys = (a, 1) ∷ []; reservation = Some (We, a); generation = 4 }
   pub preempt_zero_takes_raised : raised three_hold a (Preempt 0 1) ≡ (b, RegistrationsPreempted) ∷ (c, RegistrationsPreempted) ∷ []
@@ -103,11 +131,11 @@ pub record WorkedRows : Type 0 where
   pub release : applied registrants_only a (command out.Release 1 0 5) ≡ record { keys = (a, 1) ∷ (b, 2) ∷ []; reservation = None; generation = 2 }
   pub release_raised : raised registrants_only a (Release 5) ≡ (b, ReservationsReleased) ∷ []
   -- WERO whose holder unregisters ends, and the others are told
-  pub unregister : after registrants_only a (Register 0) ≡ record { keys = (b, 2) ∷ []; reservation = None; generation = 3 }
-  pub unregister_raised : raised registrants_only a (Register 0) ≡ (b, ReservationsReleased) ∷ []
+  pub unregister : after registrants_only a (Register 0 (a ∷ [])) ≡ record { keys = (b, 2) ∷ []; reservation = None; generation = 3 }
+  pub unregister_raised : raised registrants_only a (Register 0 (a ∷ [])) ≡ (b, ReservationsReleased) ∷ []
   -- a move to a nexus that never made contact, and one that keeps the sender
   pub register_and_move : applied held a (moving 1 9 b true) ≡ record { keys = (b, 9) ∷ []; reservation = Some (We, b); generation = 2 }
-  pub register_and_move_unregisters : applied (after held b (Register 2)) a (moving 1 9 b false) ≡ record { keys = (a, 1) ∷ (b, 9) ∷ []; reservation = Some (We, b); generation = 3 }
+  pub register_and_move_unregisters : applied (after held b (Register 2 (b ∷ []))) a (moving 1 9 b false) ≡ record { keys = (a, 1) ∷ (b, 9) ∷ []; reservation = Some (We, b); generation = 3 }
   pub register_and_move_all : verdict two_hold a (moving 1 9 b true) ≡ Rule K6
   pub register_and_move_itself : refusal held a (moving 1 9 a true) ≡ Some InvalidParam
   pub register_and_move_nothing : refusal alone a (moving 1 9 b true) ≡ Some InvalidField
@@ -123,3 +151,24 @@ pub record WorkedRows : Type 0 where
   -- CLEAR, and then K1 before what is told
   pub clear_raised : raised not_taken a Clear ≡ (b, ReservationsPreempted) ∷ (c, ReservationsPreempted) ∷ []
   pub after_clear : verdict (after not_taken a Clear) b (command out.Register 9 4 0) ≡ Rule K1
+  -- a registration at every port, and one that takes it away at one; a key that isn't that of all ports breaks K2
+  pub all_ports : everywhere ≡ record { keys = (a, 1) ∷ (a_at 2, 1) ∷ (a_at 3, 1) ∷ (a_at 4, 1) ∷ []; reservation = None; generation = 1 }
+  pub one_port_less : (applied everywhere a (command out.Register 1 0 0)).keys ≡ (a_at 2, 1) ∷ (a_at 3, 1) ∷ (a_at 4, 1) ∷ []
+  pub unregistered_at_one_port : verdict (applied everywhere a (command out.Register 1 0 0)) a (at_every_port 0 5) ≡ Rule K2
+  pub registered_at_one_port : verdict alone a (at_every_port 1 5) ≡ Rule K1
+  -- B lists C, who needs no contact, and itself; a registered nexus may not list
+  pub listed : by_list ≡ record { keys = (b, 7) ∷ (c, 7) ∷ []; reservation = None; generation = 1 }
+  pub listed_twice : (applied power_on b (listing 0 7 (0x500000000000000B ∷ 0x500000000000000C ∷ 0x500000000000000C ∷ []))).keys ≡ (b, 7) ∷ (c, 7) ∷ []
+  pub listed_nobody : (applied power_on b (listing 0 7 [])).keys ≡ (b, 7) ∷ []
+  pub listed_from_registered : verdict by_list b (listing 7 7 (0x500000000000000C ∷ [])) ≡ Allowed
+  pub listed_from_registered_refused : refusal by_list b (listing 7 7 (0x500000000000000C ∷ [])) ≡ Some InvalidParam
+  -- with both bits each address stands at every port
+  pub listed_at_all_ports : targets b (record (listing 0 7 (0x500000000000000A ∷ [])) { all_ports = true })
+      ≡ b ∷ b ∷ record b { port = 2 } ∷ record b { port = 3 } ∷ record b { port = 4 } ∷ a ∷ a_at 2 ∷ a_at 3 ∷ a_at 4 ∷ []
+  -- a defect is refused once the keys of the sender alone were looked at
+  pub defect_names_the_sender : verdict by_list a (record (at_every_port 0 3) { defect = Some Field }) ≡ Allowed
+  pub defect_refused : refusal by_list a (record (at_every_port 0 3) { defect = Some Field }) ≡ Some InvalidParam
+  -- WERO ends when its holder is among those unregistered: who still has a key is told, and A's other ports aren't
+  pub all_ports_release : applied everywhere_held a (at_every_port 1 0) ≡ record { keys = (b, 2) ∷ []; reservation = None; generation = 3 }
+  pub all_ports_release_raised : raised everywhere_held a (Register 0 (targets a (at_every_port 1 0))) ≡ (b, ReservationsReleased) ∷ []
+  pub all_ports_release_removed : removed everywhere_held a (Register 0 (targets a (at_every_port 1 0))) ≡ a_at 2 ∷ a_at 3 ∷ a_at 4 ∷ []

@@ -13,12 +13,12 @@ use Rattle.permit_tables.specs.declared.role.Role.TheVariants.{Holder, Registere
 use Rattle.permit_tables.specs.declared.cell.Cell.{Cell}
 use Rattle.permit_tables.specs.Types.{coded_type, is_all_registrants}
 use Rattle.pr_params.specs.Status.{key_in}
-use Rattle.pr_core.specs.declared.act.ReservationAct.{ReservationAct}
-use Rattle.pr_core.specs.declared.act.ReservationAct.TheVariants.{Register, Reserve, Release, Clear, Preempt, Move}
+use Rattle.pr_core.specs.Acts.{Act, Register, Reserve, Release, Clear, Preempt, Move}
+use Rattle.pr_core.specs.Targets.{is_among}
 
 -- how many registrations a unit has room for (profile)
 abbrev pub capacity : ℕ
-capacity = 64
+capacity = 256
 
 -- the registered nexuses, each with its key, ascending
 abbrev pub Keys : Type 0
@@ -69,8 +69,8 @@ abbrev pub takes : State → ℕ → Bool
 takes v k = elim v.reservation [ None ↦ false | Some r ↦ if is_all_registrants r.0 then k == 0 else k == key v r.1 ]
 
 -- the key of n after the act a of s
-abbrev pub key_after : State → Nexus → ReservationAct → Nexus → ℕ
-key_after v s (Register k) n = if same_nexus n s then k else key v n
+abbrev pub key_after : State → Nexus → Act → Nexus → ℕ
+key_after v s (Register k targets) n = if is_among n targets then k else key v n
 key_after v s Clear n = 0
 key_after v s (Preempt k code) n =
     if takes v k
@@ -89,12 +89,13 @@ abbrev pub registrants : State → List Nexus
 registrants v = map (λ e. e.0) v.keys
 
 -- the nexuses that an act of s names
-abbrev pub named : Nexus → ReservationAct → List Nexus
+abbrev pub named : Nexus → Act → List Nexus
+named s (Register k targets) = targets
 named s (Move k d unreg) = d ∷ s ∷ []
 named s a = s ∷ []
 
 -- the keys after the act a of s: no other nexus can have one
-unfoldable pub keys_after : State → Nexus → ReservationAct → Keys
+unfoldable pub keys_after : State → Nexus → Act → Keys
 keys_after v s a = keys_by (key_after v s a) (named s a ++ registrants v)
 
 -- a reservation ends when its nexus, or under an all registrants type every nexus, has no key
@@ -107,29 +108,29 @@ abbrev pub type_in : ℕ → ResType
 type_in code = unwrap_or (coded_type code) restype.None
 
 -- what the act a of s makes of the reservation by itself, if it does
-abbrev pub decided : State → Nexus → ReservationAct → Option (Option (ResType × Nexus))
+abbrev pub decided : State → Nexus → Act → Option (Option (ResType × Nexus))
 decided v s (Reserve t) = if is_none v.reservation then Some (Some (t, s)) else None
 decided v s (Release code) = if is_holder v s then Some None else None
 decided v s Clear = Some None
 decided v s (Preempt k code) = if takes v k then Some (Some (type_in code, s)) else None
 decided v s (Move k d unreg) = Some (elim v.reservation [ None ↦ None | Some r ↦ Some (r.0, d) ])
-decided v s (Register k) = None
+decided v s (Register k targets) = None
 
 -- the reservation after the act a of s: otherwise it stays, unless it ends with its keys
-abbrev pub reservation_after : State → Nexus → ReservationAct → Option (ResType × Nexus)
+abbrev pub reservation_after : State → Nexus → Act → Option (ResType × Nexus)
 reservation_after v s a = unwrap_or (decided v s a) (lasting (keys_after v s a) v.reservation)
 
 -- each act but RESERVE and RELEASE counts
-abbrev pub is_counted : ReservationAct → Bool
+abbrev pub is_counted : Act → Bool
 is_counted (Reserve t) = false
 is_counted (Release code) = false
 is_counted a = true
 
-abbrev pub generation_after : State → ReservationAct → ℕ
+abbrev pub generation_after : State → Act → ℕ
 generation_after v a = if is_counted a then (v.generation + 1) % 2 ^ 32 else v.generation
 
 -- what the act a of s leaves
-abbrev pub after : State → Nexus → ReservationAct → State
+abbrev pub after : State → Nexus → Act → State
 after v s a = record {
   keys = keys_after v s a;
   reservation = reservation_after v s a;
@@ -137,10 +138,10 @@ after v s a = record {
 }
 
 -- what a history leaves, oldest first, on a base
-abbrev pub after_all : State → List (Nexus × ReservationAct) → State
+abbrev pub after_all : State → List (Nexus × Act) → State
 after_all base h = fold (λ v e. after v e.0 e.1) base h
 
 -- a key that is moved is a key
-abbrev pub IsKeyed : ReservationAct → Type 0
+abbrev pub IsKeyed : Act → Type 0
 IsKeyed (Move k d unreg) = k ≢ 0
 IsKeyed a = Unit {0}

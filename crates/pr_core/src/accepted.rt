@@ -1,10 +1,12 @@
-ghost use Rattle.std.specs.Prelude.{◌≡◌, ◌==◌, ◌++◌, ◌+◌, ◌%◌, ◌^◌, if◌then◌else◌, IfOk};
+ghost use Rattle.std.specs.Prelude.{◌≡◌, ◌==◌, ◌++◌, ◌+◌, ◌%◌, ◌^◌, map, if◌then◌else◌, IfOk};
 ghost use Rattle.std.specs.FinMap.{put};
+ghost use Rattle.pr_core.specs.Acts.{act_shown};
 ghost use Rattle.scsi_nexus.specs.Order.{nexus_cmp};
 ghost use Rattle.pr_core.specs.State.{power_on, key, role as role_in, lasting, takes, is_all_held, is_holder, decided, key_after, keys_by, registrants, named, after, after_all, is_counted};
 
 use crate::act::ReservationAct;
 use crate::state::type_in;
+use crate::targets::is_among;
 use permit_tables::{ResType, Role};
 use pr_params::key_of;
 use scsi_nexus::Nexus;
@@ -34,9 +36,9 @@ impl WalkedState {
     /// What the acts leave, the oldest first, from power on.
     pub fn after_all(
         alloc: Global,
-        acts: &[(Nexus, ReservationAct)],
+        acts: &[(Nexus, ReservationAct<'_>)],
     ) -> Result<WalkedState, AllocError>
-        ensures { IfOk result (λ state. state ≡ after_all power_on acts.now) }
+        ensures { IfOk result (λ state. state ≡ after_all power_on (map (λ e. (e.0, act_shown e.1)) acts.now)) }
     {
         let mut state = WalkedState {
             keys: Vec::new(alloc),
@@ -132,12 +134,14 @@ impl WalkedState {
     }
 
     /// The key of a nexus after an act: the table.
-    fn key_after(&self, sender: Nexus, act: ReservationAct, nexus: Nexus) -> u64
-        ensures { result ≡ key_after self.now sender act nexus }
+    fn key_after(&self, sender: Nexus, act: ReservationAct<'_>, nexus: Nexus) -> u64
+        ensures { result ≡ key_after self.now sender (act_shown act.entry) nexus }
     {
         let key = self.key_of(nexus);
         match act {
-            ReservationAct::Register(new) => { if nexus == sender { new } else { key } }
+            ReservationAct::Register(new, targets) => {
+                if is_among(nexus, targets) { new } else { key }
+            }
             ReservationAct::Clear => 0,
             ReservationAct::Preempt(preempted, _) => {
                 let falls = if self.takes(preempted) {
@@ -161,11 +165,11 @@ impl WalkedState {
     }
 
     /// What an act makes of the reservation by itself, if it does.
-    fn decided(&self, sender: Nexus, act: ReservationAct) -> Option<Option<(ResType, Nexus)>>
-        ensures { result ≡ decided self.now sender act }
+    fn decided(&self, sender: Nexus, act: ReservationAct<'_>) -> Option<Option<(ResType, Nexus)>>
+        ensures { result ≡ decided self.now sender (act_shown act.entry) }
     {
         match act {
-            ReservationAct::Register(_) => None,
+            ReservationAct::Register(_, _) => None,
             ReservationAct::Reserve(res_type) => {
                 if self.reservation.is_none() {
                     Some(Some((res_type, sender)))
@@ -196,9 +200,9 @@ impl WalkedState {
         &self,
         alloc: Global,
         sender: Nexus,
-        act: ReservationAct,
+        act: ReservationAct<'_>,
     ) -> Result<Vec<Nexus>, AllocError>
-        ensures { IfOk result (λ list. list.items ≡ named sender act ++ registrants self.now) }
+        ensures { IfOk result (λ list. list.items ≡ named sender (act_shown act.entry) ++ registrants self.now) }
     {
         let mut list = names(alloc, sender, act)?;
         for (nexus, _) in &self.keys {
@@ -212,10 +216,10 @@ impl WalkedState {
         &self,
         alloc: Global,
         sender: Nexus,
-        act: ReservationAct,
+        act: ReservationAct<'_>,
         nexuses: &[Nexus],
     ) -> Result<Vec<(Nexus, u64)>, AllocError>
-        ensures { IfOk result (λ keys. keys.items ≡ keys_by (key_after self.now sender act) nexuses.now) }
+        ensures { IfOk result (λ keys. keys.items ≡ keys_by (key_after self.now sender (act_shown act.entry)) nexuses.now) }
     {
         let Some((first, rest)) = nexuses.split_first() else {
             return Ok(Vec::new(alloc));
@@ -231,13 +235,13 @@ impl WalkedState {
 
     /// What an act leaves.
     #[tactic(auto, unfolding(crate::specs::State::keys_after))]
-    fn after(
+    pub(crate) fn after(
         &self,
         alloc: Global,
         sender: Nexus,
-        act: ReservationAct,
+        act: ReservationAct<'_>,
     ) -> Result<WalkedState, AllocError>
-        ensures { IfOk result (λ state. state ≡ after self.now sender act) }
+        ensures { IfOk result (λ state. state ≡ after self.now sender (act_shown act.entry)) }
     {
         let nexuses = self.concerned(alloc, sender, act)?;
         let keys = self.keys_by(alloc, sender, act, &nexuses)?;
@@ -255,15 +259,15 @@ impl WalkedState {
 }
 
 /// The nexuses that an act names.
-fn names(alloc: Global, sender: Nexus, act: ReservationAct) -> Result<Vec<Nexus>, AllocError>
-    ensures { IfOk result (λ list. list.items ≡ named sender act) }
+fn names(alloc: Global, sender: Nexus, act: ReservationAct<'_>) -> Result<Vec<Nexus>, AllocError>
+    ensures { IfOk result (λ list. list.items ≡ named sender (act_shown act.entry)) }
 {
     match act {
         ReservationAct::Move(_, destination, _) => {
             Vec::from_slice(alloc, &[destination, sender])
         }
-        ReservationAct::Register(_)
-        | ReservationAct::Reserve(_)
+        ReservationAct::Register(_, targets) => Vec::from_slice(alloc, targets),
+        ReservationAct::Reserve(_)
         | ReservationAct::Release(_)
         | ReservationAct::Clear
         | ReservationAct::Preempt(_, _) => Vec::from_slice(alloc, &[sender]),
@@ -312,12 +316,12 @@ fn lasting_among(
 }
 
 /// PRGENERATION after an act.
-fn generation_after(generation: u32, act: ReservationAct) -> u32
-    ensures { result ≡ (if is_counted act then (generation + 1) % 2 ^ 32 else generation) }
+fn generation_after(generation: u32, act: ReservationAct<'_>) -> u32
+    ensures { result ≡ (if is_counted (act_shown act.entry) then (generation + 1) % 2 ^ 32 else generation) }
 {
     match act {
         ReservationAct::Reserve(_) | ReservationAct::Release(_) => generation,
-        ReservationAct::Register(_)
+        ReservationAct::Register(_, _)
         | ReservationAct::Clear
         | ReservationAct::Preempt(_, _)
         | ReservationAct::Move(_, _, _) => generation.wrapping_add(1),

@@ -3,9 +3,10 @@ use scsi_nexus::Nexus;
 
 /// A reservation act that was accepted, as the history of a unit has it beside its sender.
 #[derive(Clone, Copy, Debug, PartialEq, Eq)]
-pub enum ReservationAct {
-    /// REGISTER or REGISTER AND IGNORE EXISTING KEY with the new key; 0 unregisters the sender.
-    Register(u64),
+pub enum ReservationAct<'a> {
+    /// REGISTER or REGISTER AND IGNORE EXISTING KEY with the new key and the nexuses that it names;
+    /// 0 unregisters them.
+    Register(u64, &'a [Nexus]),
     /// RESERVE with the type.
     Reserve(ResType),
     /// RELEASE with the command's byte of scope and type, which counts for a holder alone.

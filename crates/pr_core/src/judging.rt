@@ -1,8 +1,10 @@
 ghost use Rattle.std.specs.Prelude.{◌≡◌};
-ghost use Rattle.pr_core.specs.Judge.{broken_rule, verdict};
+ghost use Rattle.pr_core.specs.Judge.{broken_rule, has_unregistered, has_other_key, verdict};
+ghost use Rattle.pr_core.specs.Targets.{targets as targets_of};
 
 use crate::key_rule::KeyRule;
 use crate::state::PrState;
+use crate::targets::{names_its_sender_alone, targets};
 use crate::verdict::Verdict;
 use permit_tables::allowed;
 use pr_params::OutParams;
@@ -19,30 +21,51 @@ impl PrState {
         if !allowed(cell) {
             return Verdict::Denied(cell);
         }
-        match self.broken_rule(nexus, params) {
+        let rule = if names_its_sender_alone(params) {
+            self.broken_rule(nexus, params, [nexus].as_slice())
+        } else {
+            self.broken_rule(nexus, params, targets(nexus, params).as_slice())
+        };
+        match rule {
             None => Verdict::Allowed,
             Some(rule) => Verdict::Rule(rule),
         }
     }
 
-    /// The first rule on keys that a command breaks.
-    fn broken_rule(&self, nexus: Nexus, params: &OutParams) -> Option<KeyRule>
+    /// Whether one of these nexuses is unregistered, though there is a reservation key.
+    fn has_unregistered(&self, reservation_key: u64, targets: &[Nexus]) -> bool
+        ensures { result ≡ has_unregistered self.now reservation_key targets.now }
+    {
+        targets
+            .iter()
+            .any(|nexus| self.key_of(*nexus) == 0 && reservation_key != 0)
+    }
+
+    /// Whether one of these nexuses is registered with another key.
+    fn has_other_key(&self, reservation_key: u64, targets: &[Nexus]) -> bool
+        ensures { result ≡ has_other_key self.now reservation_key targets.now }
+    {
+        targets.iter().any(|nexus| {
+            let key = self.key_of(*nexus);
+            key != 0 && reservation_key != key
+        })
+    }
+
+    /// The first rule on keys that a command breaks, which for a REGISTER are asked of these targets.
+    fn broken_rule(&self, nexus: Nexus, params: &OutParams, targets: &[Nexus]) -> Option<KeyRule>
+        requires { targets.now ≡ targets_of nexus params.now }
         ensures { result ≡ broken_rule self.now nexus params.now }
     {
         let key = self.key_of(nexus);
         match params.act {
             OutServiceAction::RegisterAndIgnoreExistingKey => None,
             OutServiceAction::Register => {
-                if key == 0 {
-                    if params.rk == 0 {
-                        None
-                    } else {
-                        Some(KeyRule::K1)
-                    }
-                } else if params.rk == key {
-                    None
-                } else {
+                if self.has_unregistered(params.rk, targets) {
+                    Some(KeyRule::K1)
+                } else if self.has_other_key(params.rk, targets) {
                     Some(KeyRule::K2)
+                } else {
+                    None
                 }
             }
             _ if key == 0 || params.rk != key => Some(KeyRule::K3),

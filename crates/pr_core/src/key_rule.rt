@@ -2,9 +2,9 @@
 /// (SPC-4, "PERSISTENT RESERVE OUT command"). They are tested in this order.
 #[derive(Clone, Copy, Debug, PartialEq, Eq)]
 pub enum KeyRule {
-    /// REGISTER by a sender that isn't registered, with a reservation key that isn't 0.
+    /// REGISTER that names a nexus that isn't registered, with a reservation key that isn't 0.
     K1,
-    /// REGISTER by a registered sender, with a reservation key that isn't its own.
+    /// REGISTER that names a registered nexus, with a reservation key that isn't that nexus's.
     K2,
     /// Any act but REGISTER and REGISTER AND IGNORE EXISTING KEY by a sender that isn't registered or
     /// whose reservation key isn't its own.

@@ -1,17 +1,17 @@
-ghost use Rattle.std.specs.Prelude.{◌≡◌, ◌≢◌, ℕ, ◌<◌, ◌≤◌, List, [], ◌||◌, ◌==◌, not, length, filter};
+ghost use Rattle.std.specs.Prelude.{◌≡◌, ◌≢◌, ℕ, ◌<◌, ◌≤◌, List, [], ◌||◌, ◌==◌, not, nat_le, length, filter};
 ghost use Rattle.std.specs.FinMap.{put};
 ghost use Rattle.std.specs.List.{list_any};
 ghost use Rattle.scsi_nexus.specs.Order.{nexus_cmp, same_nexus};
 ghost use Rattle.pr_params.specs.Status.{key_in};
 ghost use Rattle.pr_core.specs.State.{capacity};
-ghost use Rattle.pr_core.specs.Table.{IsProper};
+ghost use Rattle.pr_core.specs.Table.{IsProper, put_all, remove_all, register_all};
 
 use arrayvec::ArrayVec;
 use scsi_nexus::{Nexus, place_of};
 use std::marker::Model;
 
 /// How many registrations a unit has room for (profile).
-pub const REGISTRATIONS: usize = 64;
+pub const REGISTRATIONS: usize = 256;
 
 /// The registered nexuses with their keys, ascending by nexus, in fixed room.
 #[derive(Drop)]
@@ -108,5 +108,88 @@ impl KeyTable {
     {
         self.entries
             .retain(|entry| entry.0 == nexus || entry.1 != key);
+    }
+}
+
+impl KeyTable {
+    /// Registers these nexuses with a key, or unregisters them where it is 0.
+    pub(crate) fn register_all(&mut self, nexuses: &[Nexus], key: u64)
+        requires { length (register_all key self.old nexuses.now) ≤ capacity }
+        ensures { self.new ≡ register_all key self.old nexuses.now }
+    {
+        if key == 0 {
+            self.remove_all(nexuses);
+        } else {
+            self.put_all(nexuses, key);
+        }
+    }
+
+    #[tactic(auto, using(crate::proofs::ManyLaws::put_within, crate::proofs::ManyLaws::put_all_more))]
+    fn put_all(&mut self, nexuses: &[Nexus], key: u64)
+        requires keyed { key ≢ 0 }
+        requires room { length (put_all key self.old nexuses.now) ≤ capacity }
+        ensures { self.new ≡ put_all key self.old nexuses.now }
+    {
+        for nexus in nexuses {
+            self.put(*nexus, key);
+        }
+    }
+
+    #[tactic(auto, using(crate::proofs::ManyLaws::remove_all_more))]
+    fn remove_all(&mut self, nexuses: &[Nexus])
+        ensures { self.new ≡ remove_all self.old nexuses.now }
+    {
+        for nexus in nexuses {
+            self.remove(*nexus);
+        }
+    }
+
+    /// Whether there is room for all of these nexuses.
+    #[tactic(auto, using(crate::proofs::ManyLaws::length_put_all))]
+    pub(crate) fn has_room_for(&self, nexuses: &[Nexus], key: u64) -> bool
+        requires { key ≢ 0 }
+        ensures { result ≡ nat_le (length (put_all key self.now nexuses.now)) capacity }
+    {
+        if self.entries.len() + nexuses.len() <= REGISTRATIONS {
+            return true;
+        }
+        let mut copy = self.copy();
+        copy.takes_all(nexuses, key)
+    }
+
+    /// Registers these nexuses as long as there is room: whether there was for all.
+    #[tactic(auto, using(crate::proofs::ManyLaws::put_all_more, crate::proofs::ManyLaws::too_many))]
+    fn takes_all(&mut self, nexuses: &[Nexus], key: u64) -> bool
+        requires { key ≢ 0 }
+        ensures { result ≡ nat_le (length (put_all key self.old nexuses.now)) capacity }
+    {
+        for nexus in nexuses {
+            if !self.has_room_for_one(*nexus, key) {
+                return false;
+            }
+            self.put(*nexus, key);
+        }
+        let _entries = self.entries();
+        true
+    }
+
+    /// Whether there is room for a nexus.
+    #[tactic(auto, using(crate::proofs::ManyLaws::room_for_one))]
+    fn has_room_for_one(&self, nexus: Nexus, key: u64) -> bool
+        ensures { result ≡ nat_le (length (put nexus_cmp nexus key self.now)) capacity }
+    {
+        self.entries().len() < REGISTRATIONS || self.key(nexus) != 0
+    }
+}
+
+impl KeyTable {
+    /// An equal table.
+    pub(crate) fn copy(&self) -> KeyTable
+        ensures { result ≡ self.now }
+    {
+        let mut entries = ArrayVec::new();
+        let copied = entries.try_extend_from_slice(self.entries.as_slice());
+        prove!(copied.is_ok());
+        KeyTable { entries }
     }
 }

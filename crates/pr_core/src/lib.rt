@@ -15,6 +15,7 @@ mod raised;
 mod raising;
 mod rows;
 mod state;
+mod targets;
 mod verdict;
 
 pub use accepted::WalkedState;

@@ -1,27 +1,29 @@
-ghost use Rattle.std.specs.Prelude.{◌≡◌};
-ghost use Rattle.pr_core.specs.Outcome.{refusal, register_refusal, reserve_refusal, release_refusal, preempt_refusal, move_refusal, is_full, is_target_port, register_act, act_of};
+ghost use Rattle.std.specs.Prelude.{◌≡◌, option_map};
+ghost use Rattle.std.specs.List.{list_any};
+ghost use Rattle.pr_core.specs.Acts.{act_shown};
+ghost use Rattle.pr_core.specs.Targets.{targets as targets_of};
+ghost use Rattle.pr_core.specs.State.{is_registered};
+ghost use Rattle.pr_core.specs.Outcome.{refusal, register_refusal, reserve_refusal, release_refusal, preempt_refusal, move_refusal, is_full, register_act, act_of};
 
 use crate::act::ReservationAct;
 use crate::key_table::REGISTRATIONS;
 use crate::pr_fault::PrFault;
 use crate::state::{PrState, type_in};
+use crate::targets::is_target_port;
 use permit_tables::ResType;
 use pr_params::OutParams;
 use scsi_cdb::OutServiceAction;
 use scsi_nexus::Nexus;
 
-/// The last relative target port of the target; the first is 1 (profile).
-const LAST_TARGET_PORT: u16 = 2;
-
-fn is_target_port(port: u16) -> bool
-    ensures { result ≡ is_target_port port }
-{
-    1 <= port && port <= LAST_TARGET_PORT
-}
-
 impl PrState {
     /// Why an allowed command is refused, if it is; a defect of its list comes first.
-    pub(crate) fn refusal(&self, nexus: Nexus, params: &OutParams) -> Option<PrFault>
+    pub(crate) fn refusal(
+        &self,
+        nexus: Nexus,
+        params: &OutParams,
+        targets: &[Nexus],
+    ) -> Option<PrFault>
+        requires { targets.now ≡ targets_of nexus params.now }
         ensures { result ≡ refusal self.now nexus params.now }
     {
         if params.defect.is_some() {
@@ -29,7 +31,7 @@ impl PrState {
         }
         match params.act {
             OutServiceAction::Register | OutServiceAction::RegisterAndIgnoreExistingKey => {
-                self.register_refusal(nexus, params)
+                self.register_refusal(nexus, params, targets)
             }
             OutServiceAction::Reserve => self.reserve_refusal(params),
             OutServiceAction::Release => self.release_refusal(nexus, params),
@@ -48,13 +50,21 @@ impl PrState {
         self.registrations().len() >= REGISTRATIONS
     }
 
-    fn register_refusal(&self, nexus: Nexus, params: &OutParams) -> Option<PrFault>
+    fn register_refusal(
+        &self,
+        nexus: Nexus,
+        params: &OutParams,
+        targets: &[Nexus],
+    ) -> Option<PrFault>
+        requires { targets.now ≡ targets_of nexus params.now }
         ensures { result ≡ register_refusal self.now nexus params.now }
     {
-        if self.key_of(nexus) == 0 && params.sark != 0 && self.is_full() {
-            Some(PrFault::NoRegistrationRoom)
-        } else {
+        if params.listed && self.key_of(nexus) != 0 {
+            Some(PrFault::InvalidParam)
+        } else if self.has_room_for(nexus, targets, params.sark) {
             None
+        } else {
+            Some(PrFault::NoRegistrationRoom)
         }
     }
 
@@ -117,13 +127,19 @@ impl PrState {
 }
 
 impl PrState {
-    /// The act that a command is; none for an unregistered nexus that registers with 0.
-    pub(crate) fn act_of(&self, nexus: Nexus, params: &OutParams) -> Option<ReservationAct>
-        ensures { result ≡ act_of self.now nexus params.now }
+    /// The act that a command is; none where keys are taken away from nexuses that have none.
+    pub(crate) fn act_of<'a>(
+        &self,
+        nexus: Nexus,
+        params: &OutParams,
+        targets: &'a [Nexus],
+    ) -> Option<ReservationAct<'a>>
+        requires { targets.now ≡ targets_of nexus params.now }
+        ensures { option_map act_shown result ≡ act_of self.now nexus params.now }
     {
         match params.act {
             OutServiceAction::Register | OutServiceAction::RegisterAndIgnoreExistingKey => {
-                self.register_act(nexus, params)
+                self.register_act(nexus, params, targets)
             }
             OutServiceAction::Reserve => Some(ReservationAct::Reserve(type_in(params.scope_type))),
             OutServiceAction::Release => Some(ReservationAct::Release(params.scope_type)),
@@ -140,13 +156,26 @@ impl PrState {
         }
     }
 
-    fn register_act(&self, nexus: Nexus, params: &OutParams) -> Option<ReservationAct>
-        ensures { result ≡ register_act self.now nexus params.now }
+    fn register_act<'a>(
+        &self,
+        nexus: Nexus,
+        params: &OutParams,
+        targets: &'a [Nexus],
+    ) -> Option<ReservationAct<'a>>
+        requires { targets.now ≡ targets_of nexus params.now }
+        ensures { option_map act_shown result ≡ register_act self.now nexus params.now }
     {
-        if self.key_of(nexus) == 0 && params.sark == 0 {
+        if params.sark == 0 && !self.has_registered(targets) {
             None
         } else {
-            Some(ReservationAct::Register(params.sark))
+            Some(ReservationAct::Register(params.sark, targets))
         }
+    }
+
+    /// Whether one of these nexuses is registered.
+    fn has_registered(&self, targets: &[Nexus]) -> bool
+        ensures { result ≡ list_any (is_registered self.now) targets.now }
+    {
+        targets.iter().any(|nexus| self.key_of(*nexus) != 0)
     }
 }

@@ -1,22 +1,31 @@
 ghost use Rattle.std.specs.Prelude.{◌≡◌, ◌==◌};
-ghost use Rattle.pr_core.specs.State.{key_after};
+ghost use Rattle.pr_core.specs.State.{key_after, is_sole_holder};
+ghost use Rattle.pr_core.specs.Acts.{act_shown};
+ghost use Rattle.std.specs.List.{list_any};
 ghost use Rattle.pr_core.specs.Outcome.{told, raised, raised_for, removed, is_removed};
 
 use crate::act::ReservationAct;
 use crate::key_table::REGISTRATIONS;
 use crate::state::PrState;
+use crate::targets::is_among;
 use arrayvec::ArrayVec;
 use scsi_nexus::{Nexus, NexusList};
 use unit_attention::Kind;
 
 impl PrState {
     /// Whether an act leaves a nexus without a key.
-    fn loses(&self, sender: Nexus, act: ReservationAct, nexus: Nexus) -> bool
-        ensures { result ≡ (key_after self.now sender act nexus == 0) }
+    fn loses(&self, sender: Nexus, act: ReservationAct<'_>, nexus: Nexus) -> bool
+        ensures { result ≡ (key_after self.now sender (act_shown act.entry) nexus == 0) }
     {
         let key = self.key_of(nexus);
         match act {
-            ReservationAct::Register(new) => { if nexus == sender { new == 0 } else { key == 0 } }
+            ReservationAct::Register(new, targets) => {
+                if is_among(nexus, targets) {
+                    new == 0
+                } else {
+                    key == 0
+                }
+            }
             ReservationAct::Reserve(_) | ReservationAct::Release(_) => key == 0,
             ReservationAct::Clear => true,
             ReservationAct::Preempt(preempted, _) => {
@@ -37,14 +46,34 @@ impl PrState {
         }
     }
 
+    /// Whether one of these nexuses is the reservation's, where that isn't of an all registrants type.
+    fn has_holder(&self, targets: &[Nexus]) -> bool
+        ensures { result ≡ list_any (is_sole_holder self.now) targets.now }
+    {
+        targets.iter().any(|nexus| self.holds_alone(*nexus))
+    }
+
+    /// Whether the reservation is a nexus's, and isn't of an all registrants type.
+    fn holds_alone(&self, nexus: Nexus) -> bool
+        ensures { result ≡ is_sole_holder self.now nexus }
+    {
+        match self.reservation() {
+            None => false,
+            Some((res_type, holder)) => !res_type.is_all_registrants() && nexus == holder,
+        }
+    }
+
     /// What an act tells a registered nexus that isn't its sender.
-    fn told(&self, sender: Nexus, act: ReservationAct, nexus: Nexus) -> Option<Kind>
-        ensures { result ≡ told self.now sender act nexus }
+    fn told(&self, sender: Nexus, act: ReservationAct<'_>, nexus: Nexus) -> Option<Kind>
+        ensures { result ≡ told self.now sender (act_shown act.entry) nexus }
     {
         let released = match act {
             ReservationAct::Clear => return Some(Kind::ReservationsPreempted),
-            ReservationAct::Register(key) => {
-                key == 0 && self.res_type().is_registrants_only() && self.holds(sender)
+            ReservationAct::Register(key, targets) => {
+                key == 0
+                    && self.res_type().is_registrants_only()
+                    && self.has_holder(targets)
+                    && !is_among(nexus, targets)
             }
             ReservationAct::Release(_) => {
                 self.holds(sender) && (self.res_type().is_registrants_only() || self.is_all_held())
@@ -65,8 +94,13 @@ impl PrState {
     }
 
     /// The attention that an act raises for a registered nexus, if it does.
-    fn raised_for(&self, sender: Nexus, act: ReservationAct, nexus: Nexus) -> Option<(Nexus, Kind)>
-        ensures { result ≡ raised_for self.now sender act nexus }
+    fn raised_for(
+        &self,
+        sender: Nexus,
+        act: ReservationAct<'_>,
+        nexus: Nexus,
+    ) -> Option<(Nexus, Kind)>
+        ensures { result ≡ raised_for self.now sender (act_shown act.entry) nexus }
     {
         if nexus == sender {
             None
@@ -79,8 +113,8 @@ impl PrState {
     }
 
     /// Whether another's act unregisters a nexus.
-    fn is_removed(&self, sender: Nexus, act: ReservationAct, nexus: Nexus) -> bool
-        ensures { result ≡ is_removed self.now sender act nexus }
+    fn is_removed(&self, sender: Nexus, act: ReservationAct<'_>, nexus: Nexus) -> bool
+        ensures { result ≡ is_removed self.now sender (act_shown act.entry) nexus }
     {
         nexus != sender && self.loses(sender, act, nexus)
     }
@@ -90,9 +124,9 @@ impl PrState {
     pub(crate) fn attentions(
         &self,
         sender: Nexus,
-        act: ReservationAct,
+        act: ReservationAct<'_>,
     ) -> ArrayVec<(Nexus, Kind), REGISTRATIONS>
-        ensures { result.items ≡ raised self.now sender act }
+        ensures { result.items ≡ raised self.now sender (act_shown act.entry) }
     {
         let list = self.registrants();
         let mut attentions = ArrayVec::new();
@@ -106,8 +140,8 @@ impl PrState {
 
     /// The nexuses that another's act unregisters, ascending.
     #[tactic(auto, using(crate::proofs::RaisedLaws::kept_more))]
-    pub(crate) fn removed(&self, sender: Nexus, act: ReservationAct) -> NexusList
-        ensures { result ≡ removed self.now sender act }
+    pub(crate) fn removed(&self, sender: Nexus, act: ReservationAct<'_>) -> NexusList
+        ensures { result ≡ removed self.now sender (act_shown act.entry) }
     {
         let list = self.registrants();
         let mut removed = NexusList::new();

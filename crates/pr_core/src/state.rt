@@ -1,4 +1,5 @@
-ghost use Rattle.std.specs.Prelude.{◌≡◌, ◌≤◌, ◌==◌, length};
+ghost use Rattle.std.specs.Prelude.{◌≡◌, ◌≤◌, ◌==◌, nat_le, length};
+ghost use Rattle.pr_core.specs.Acts.{act_shown, Register};
 ghost use Rattle.std.specs.List.{list_any};
 ghost use Rattle.pr_core.specs.State.{State, capacity, power_on, key, lasting, takes, is_all_held, is_holder, decided, keys_after, after, registrants, IsKeyed, role as role_in, res_type as type_held, cell as cell_in, type_in as type_in_byte};
 ghost use Rattle.pr_core.specs.Table.{IsProper};
@@ -15,7 +16,7 @@ use std::marker::Model;
 ///
 /// | act | keys afterwards | reservation afterwards |
 /// |---|---|---|
-/// | REGISTER of either kind | the sender's is the new one, 0 for none | ends with its last holder's key |
+/// | REGISTER of either kind | that of each nexus it names is the new one, 0 for none | ends with its last holder's key |
 /// | RESERVE | | the sender's, where there was none |
 /// | RELEASE | | none, by a holder |
 /// | CLEAR | none | none |
@@ -197,11 +198,11 @@ impl PrState {
     }
 
     /// What an act makes of the reservation by itself, if it does.
-    fn decided(&self, sender: Nexus, act: ReservationAct) -> Option<Option<(ResType, Nexus)>>
-        ensures { result ≡ decided self.now sender act }
+    fn decided(&self, sender: Nexus, act: ReservationAct<'_>) -> Option<Option<(ResType, Nexus)>>
+        ensures { result ≡ decided self.now sender (act_shown act.entry) }
     {
         match act {
-            ReservationAct::Register(_) => None,
+            ReservationAct::Register(_, _) => None,
             ReservationAct::Reserve(res_type) => {
                 if self.reservation.is_none() {
                     Some(Some((res_type, sender)))
@@ -225,20 +226,23 @@ impl PrState {
         }
     }
 
+    /// Whether there is room for what a REGISTER of these nexuses registers.
+    #[tactic(auto, using(crate::proofs::ManyLaws::unregistering_fits, crate::proofs::ManyLaws::registering_is))]
+    pub(crate) fn has_room_for(&self, sender: Nexus, targets: &[Nexus], key: u64) -> bool
+        ensures { result ≡ nat_le (length (keys_after self.now sender (Register key targets.now))) capacity }
+    {
+        let _registrations = self.registrations();
+        key == 0 || self.keys.has_room_for(targets, key)
+    }
+
     /// Changes the keys by an act.
-    fn change_keys(&mut self, sender: Nexus, act: ReservationAct)
-        requires keyed { IsKeyed act }
-        requires room { length (keys_after self.old sender act) ≤ capacity }
-        ensures { self.new ≡ record self.old { keys = keys_after self.old sender act } }
+    fn change_keys(&mut self, sender: Nexus, act: ReservationAct<'_>)
+        requires keyed { IsKeyed (act_shown act) }
+        requires room { length (keys_after self.old sender (act_shown act)) ≤ capacity }
+        ensures { self.new ≡ record self.old { keys = keys_after self.old sender (act_shown act.entry) } }
     {
         match act {
-            ReservationAct::Register(key) => {
-                if key == 0 {
-                    self.keys.remove(sender);
-                } else {
-                    self.keys.put(sender, key);
-                }
-            }
+            ReservationAct::Register(key, targets) => self.keys.register_all(targets, key),
             ReservationAct::Reserve(_) | ReservationAct::Release(_) => {}
             ReservationAct::Clear => {
                 let none = KeyTable::new();
@@ -269,10 +273,10 @@ impl PrState {
     }
 
     /// Carries out an act.
-    pub(crate) fn accept(&mut self, sender: Nexus, act: ReservationAct)
-        requires keyed { IsKeyed act }
-        requires room { length (keys_after self.old sender act) ≤ capacity }
-        ensures { self.new ≡ after self.old sender act }
+    pub(crate) fn accept(&mut self, sender: Nexus, act: ReservationAct<'_>)
+        requires keyed { IsKeyed (act_shown act) }
+        requires room { length (keys_after self.old sender (act_shown act)) ≤ capacity }
+        ensures { self.new ≡ after self.old sender (act_shown act.entry) }
     {
         let decided = self.decided(sender, act);
         self.change_keys(sender, act);
@@ -284,6 +288,19 @@ impl PrState {
         let counted = !matches!(act, ReservationAct::Reserve(_) | ReservationAct::Release(_));
         if counted {
             self.generation = self.generation.wrapping_add(1);
+        }
+    }
+}
+
+impl PrState {
+    /// Equal reservations, for a base that later records stand on.
+    pub fn copy(&self) -> PrState
+        ensures { result ≡ self.now }
+    {
+        PrState {
+            keys: self.keys.copy(),
+            reservation: self.reservation,
+            generation: self.generation,
         }
     }
 }

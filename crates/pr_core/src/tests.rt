@@ -1,2 +1,3 @@
 mod generated;
 mod rows;
+mod several;

@@ -1,3 +1,4 @@
 pub mod DescriptorLaws
+pub mod IdLaws
 pub mod ListLaws
 pub mod PairLaws

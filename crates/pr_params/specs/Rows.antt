@@ -1,8 +1,10 @@
 -- Worked parameter lists and data.
 use Rattle.std.specs.Prelude.{◌≡◌, ℕ, true, false, List, [], ◌∷◌, ◌++◌, replicate, take, None, Some, Ok, Err}
+use Rattle.scsi_cdb.specs.declared.action.OutServiceAction.{OutServiceAction}
 use Rattle.scsi_cdb.specs.declared.action.OutServiceAction.TheVariants as out
 use Rattle.scsi_nexus.specs.declared.nexus.Nexus.{Nexus}
 use Rattle.permit_tables.specs.declared.res_type.ResType.TheVariants.{We, Wero, Wear}
+use Rattle.pr_params.specs.declared.out_params.OutParams.{OutParams}
 use Rattle.pr_params.specs.declared.param_fault.ParamFault.TheVariants.{ListLength, Field, TransportId}
 use Rattle.pr_params.specs.Lists.{reading}
 use Rattle.pr_params.specs.Status.{keys_data, reservation_data, full_status_data}
@@ -26,31 +28,75 @@ abbrev pub move_list : (flags first : ℕ) → List ℕ
 move_list flags first =
     low_key 1 ++ low_key 9 ++ 0 ∷ flags ∷ 0 ∷ 1 ∷ 0 ∷ 0 ∷ 0 ∷ 0x18 ∷ first ∷ 0 ∷ 0 ∷ 0 ∷ 0x50 ∷ 0 ∷ 0 ∷ 0 ∷ 0 ∷ 0 ∷ 0 ∷ 0x0B ∷ replicate 12 0
 
+-- the command with a basic list that has no defect and names nobody else
+abbrev pub plain : OutServiceAction → (rk sark scope_type : ℕ) → OutParams
+plain act rk sark scope_type = record {
+  rk = rk;
+  sark = sark;
+  dest = None;
+  act = act;
+  scope_type = scope_type;
+  unreg = false;
+  defect = None;
+  all_ports = false;
+  listed = false;
+  targets = record { items = [] };
+}
+
+-- a TransportID of a first byte and the address 500000000000000Ch, but for its last byte
+abbrev pub cut_id : ℕ → List ℕ
+cut_id first = first ∷ 0 ∷ 0 ∷ 0 ∷ 0x50 ∷ 0 ∷ 0 ∷ 0 ∷ 0 ∷ 0 ∷ 0 ∷ 0x0C ∷ replicate 11 0
+
+-- a list with SPEC_I_PT, key 7 for the unregistered, a length and what follows
+abbrev pub list_of : (flags listed_length : ℕ) → List ℕ → List ℕ
+list_of flags listed_length behind =
+    basic_list (low_key 0) (low_key 7) flags ++ 0 ∷ 0 ∷ 0 ∷ listed_length ∷ behind
+
 pub record ParameterListRows : Type 0 where
   -- a basic list
   pub registers : reading out.Register 0 24 (basic_list (low_key 0) (0x11 ∷ 0x22 ∷ 0x33 ∷ 0x44 ∷ 0x55 ∷ 0x66 ∷ 0x77 ∷ 0x88 ∷ []) 0)
-      ≡ Ok (record { act = out.Register; rk = 0; sark = 0x1122334455667788; scope_type = 0; dest = None; unreg = false; defect = None })
+      ≡ Ok (plain out.Register 0 0x1122334455667788 0)
   -- 23 bytes, and a length that isn't the data's
   pub short : reading out.Register 0 23 (replicate 23 0) ≡ Err ListLength
   pub other : reading out.Clear 0 25 (replicate 24 0) ≡ Err ListLength
   pub huge : reading out.Clear 0 0xFFFFFFFF [] ≡ Err ListLength
-  -- a longer list, with SPEC_I_PT or without, and with an act that ignores the bit
-  pub listed : reading out.Register 0 28 (basic_list (low_key 0) (low_key 7) 0x08 ++ replicate 4 0)
-      ≡ Ok (record { act = out.Register; rk = 0; sark = 7; scope_type = 0; dest = None; unreg = false; defect = Some Field })
-  pub longer : reading out.Register 0 28 (basic_list (low_key 0) (low_key 7) 0 ++ replicate 4 0) ≡ Err ListLength
-  pub longer_clear : reading out.Clear 0 28 (basic_list (low_key 0) (low_key 7) 0x08 ++ replicate 4 0) ≡ Err ListLength
-  -- APTPL with REGISTER AND IGNORE EXISTING KEY, and with an act that ignores it
+  -- a longer list without SPEC_I_PT, and with an act that ignores the bit
+  pub longer : reading out.Register 0 28 (list_of 0 0 []) ≡ Err ListLength
+  pub longer_clear : reading out.Clear 0 28 (list_of 0x08 0 []) ≡ Err ListLength
+  -- ALL_TG_PT
+  pub all_ports : reading out.Register 0 24 (basic_list (low_key 0) (low_key 7) 0x04)
+      ≡ Ok (record (plain out.Register 0 7 0) { all_ports = true })
+  -- SPEC_I_PT with one TransportID, and the same without its last byte
+  pub listed : reading out.Register 0 52 (list_of 0x08 0x18 (cut_id 0x06 ++ 0 ∷ []))
+      ≡ Ok (record (plain out.Register 0 7 0) { listed = true; targets = record { items = 0x500000000000000C ∷ [] } })
+  pub listed_cut : reading out.Register 0 51 (list_of 0x08 0x18 (cut_id 0x06)) ≡ Err ListLength
+  -- SPEC_I_PT where the length field isn't whole
+  pub no_length : reading out.Register 0 24 (basic_list (low_key 0) (low_key 7) 0x08) ≡ Err ListLength
+  pub cut_length : reading out.Register 0 25 (basic_list (low_key 0) (low_key 7) 0x08 ++ replicate 1 0) ≡ Err ListLength
+  pub shorter_length : reading out.Register 0 27 (basic_list (low_key 0) (low_key 7) 0x08 ++ replicate 3 0) ≡ Err ListLength
+  pub huge_length : reading out.Register 0 28 (basic_list (low_key 0) (low_key 7) 0x08 ++ replicate 4 0xFF) ≡ Err ListLength
+  -- SPEC_I_PT that names nobody; whose length is no whole TransportIDs; with a TransportID of another format
+  pub nobody : reading out.Register 0 28 (list_of 0x08 0 []) ≡ Ok (record (plain out.Register 0 7 0) { listed = true })
+  pub no_whole : reading out.Register 0 29 (list_of 0x08 1 (0 ∷ []))
+      ≡ Ok (record (plain out.Register 0 7 0) { listed = true; defect = Some Field })
+  pub other_format : reading out.Register 0 52 (list_of 0x08 0x18 (cut_id 0x46 ++ 0 ∷ []))
+      ≡ Ok (record (plain out.Register 0 7 0) { listed = true; defect = Some TransportId })
+  -- SPEC_I_PT with REGISTER AND IGNORE EXISTING KEY, and ALL_TG_PT beside it
+  pub ignoring : reading out.RegisterAndIgnoreExistingKey 0 52 (list_of 0x0C 0x18 (cut_id 0x06 ++ 0 ∷ []))
+      ≡ Ok (record (plain out.RegisterAndIgnoreExistingKey 0 7 0) { all_ports = true; listed = true; defect = Some Field })
+  -- APTPL with either REGISTER, before a bad TransportID, and with an act that ignores it
   pub aptpl : reading out.RegisterAndIgnoreExistingKey 0 24 (basic_list (low_key 0) (low_key 7) 0x01)
-      ≡ Ok (record { act = out.RegisterAndIgnoreExistingKey; rk = 0; sark = 7; scope_type = 0; dest = None; unreg = false; defect = Some Field })
-  pub ignored : reading out.Reserve 5 24 (basic_list (low_key 1) (low_key 0) 0x0D)
-      ≡ Ok (record { act = out.Reserve; rk = 1; sark = 0; scope_type = 5; dest = None; unreg = false; defect = None })
+      ≡ Ok (record (plain out.RegisterAndIgnoreExistingKey 0 7 0) { defect = Some Field })
+  pub aptpl_listed : reading out.Register 0 52 (list_of 0x09 0x18 (cut_id 0x46 ++ 0 ∷ []))
+      ≡ Ok (record (plain out.Register 0 7 0) { listed = true; defect = Some Field })
+  pub ignored : reading out.Reserve 5 24 (basic_list (low_key 1) (low_key 0) 0x0D) ≡ Ok (plain out.Reserve 1 0 5)
   -- REGISTER AND MOVE to B with UNREG; with APTPL; to a TransportID of another format
   pub moves : reading out.RegisterAndMove 0 48 (move_list 2 6)
-      ≡ Ok (record { act = out.RegisterAndMove; rk = 1; sark = 9; scope_type = 0; dest = Some b; unreg = true; defect = None })
+      ≡ Ok (record (plain out.RegisterAndMove 1 9 0) { dest = Some b; unreg = true })
   pub moves_aptpl : reading out.RegisterAndMove 0 48 (move_list 1 0x46)
-      ≡ Ok (record { act = out.RegisterAndMove; rk = 1; sark = 9; scope_type = 0; dest = None; unreg = false; defect = Some Field })
+      ≡ Ok (record (plain out.RegisterAndMove 1 9 0) { defect = Some Field })
   pub moves_other : reading out.RegisterAndMove 0 48 (move_list 2 0x46)
-      ≡ Ok (record { act = out.RegisterAndMove; rk = 1; sark = 9; scope_type = 0; dest = None; unreg = true; defect = Some TransportId })
+      ≡ Ok (record (plain out.RegisterAndMove 1 9 0) { unreg = true; defect = Some TransportId })
   -- 24 bytes whose TransportID has the length FFFFFFFFh
   pub moves_huge : reading out.RegisterAndMove 0 24 (replicate 20 0 ++ replicate 4 0xFF) ≡ Err ListLength
 

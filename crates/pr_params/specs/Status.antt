@@ -57,7 +57,7 @@ full_status_of reservation e =
 abbrev pub full_status_data : ℕ → Pairs → Option (ResType × Nexus) → List ℕ
 full_status_data generation pairs reservation = header generation (48 * length pairs) ++ flat_map (full_status_of reservation) pairs
 
--- REPORT CAPABILITIES: the length 8, TMV, and the six types; nothing persists through power loss, no commands are allowed
--- beyond the tables, and neither SPEC_I_PT nor ALL_TG_PT is supported
+-- REPORT CAPABILITIES: the length 8, SPEC_I_PT and ALL_TG_PT, TMV, and the six types; nothing persists through power loss,
+-- and no commands are allowed beyond the tables
 abbrev pub capabilities_data : List ℕ
-capabilities_data = 0x00 ∷ 0x08 ∷ 0x00 ∷ 0x80 ∷ 0xEA ∷ 0x01 ∷ 0x00 ∷ 0x00 ∷ []
+capabilities_data = 0x00 ∷ 0x08 ∷ 0x0C ∷ 0x80 ∷ 0xEA ∷ 0x01 ∷ 0x00 ∷ 0x00 ∷ []

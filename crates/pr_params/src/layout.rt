@@ -1,6 +1,8 @@
 //! The places of the parameter lists and of the parameter data of persistent reservations (SPC-4,
 //! "PERSISTENT RESERVE OUT parameter list" and "PERSISTENT RESERVE IN command").
 
+use scsi_nexus::TRANSPORT_ID_LENGTH;
+
 /// RESERVATION KEY of both lists.
 pub(crate) const RESERVATION_KEY: usize = 0;
 
@@ -21,6 +23,18 @@ pub(crate) const ALL_TG_PT: u32 = 2;
 
 /// APTPL's bit in either byte of flags.
 pub(crate) const APTPL: u32 = 0;
+
+/// TRANSPORTID PARAMETER DATA LENGTH of a list of either REGISTER with SPEC_I_PT.
+pub(crate) const LISTED_LENGTH_FIELD: usize = 24;
+
+/// Where the TransportIDs of a list with SPEC_I_PT begin.
+pub(crate) const LISTED_IDS: usize = 28;
+
+/// How many SAS addresses a REGISTER list names at most (profile).
+pub const TARGETS: usize = 256;
+
+/// The length of the most TransportIDs that a list with SPEC_I_PT may have.
+pub(crate) const LISTED_LENGTH: usize = TARGETS * TRANSPORT_ID_LENGTH;
 
 /// The byte of the REGISTER AND MOVE list with UNREG and APTPL.
 pub(crate) const MOVE_FLAGS: usize = 17;

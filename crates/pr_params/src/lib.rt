@@ -2,15 +2,20 @@
 //! answers.
 #![tactic(auto)]
 
+mod bits;
 mod full_status;
+mod kept_params;
 mod layout;
 mod out_params;
 mod param_fault;
 mod parameter_list;
+mod register_list;
 mod rows;
 mod status_data;
 
 pub use full_status::write_full_status;
+pub use kept_params::KeptParams;
+pub use layout::TARGETS;
 pub use out_params::OutParams;
 pub use param_fault::ParamFault;
 pub use parameter_list::read_out;

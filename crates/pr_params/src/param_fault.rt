@@ -3,8 +3,9 @@
 pub enum ParamFault {
     /// The PARAMETER LIST LENGTH isn't that of the data, or not that of the list's format.
     ListLength,
-    /// SPEC_I_PT, ALL_TG_PT or APTPL is set, none of which is supported (profile).
+    /// APTPL is set, or SPEC_I_PT with REGISTER AND IGNORE EXISTING KEY, neither of which is
+    /// supported, or the TransportIDs that SPEC_I_PT names aren't whole or are above 256 (profile).
     Field,
-    /// The TransportID isn't that of a SAS initiator port.
+    /// A TransportID isn't that of a SAS initiator port.
     TransportId,
 }

@@ -1,12 +1,15 @@
-ghost use Rattle.std.specs.Prelude.{◌≡◌, ◌==◌, ◌≤◌, ◌<◌, ◌/◌, ◌%◌, ◌^◌, length, slice_index};
-ghost use Rattle.pr_params.specs.Lists.{reading, is_length_right, is_format_length, params_of, basic_params, move_params, basic_defect, move_defect, moved_to, transport_id_length, number_at, bit};
+ghost use Rattle.std.specs.Prelude.{◌≡◌, ◌≤◌, length};
+ghost use Rattle.pr_params.specs.Lists.{reading, is_format_length, basic_params, move_params, move_defect, moved_to};
 
+use crate::bits::is_set;
 use crate::layout::{
-    ALL_TG_PT, APTPL, BASIC_FLAGS, BASIC_LENGTH, MOVE_FLAGS, RELATIVE_TARGET_PORT, RESERVATION_KEY,
-    SERVICE_ACTION_RESERVATION_KEY, SPEC_I_PT, TRANSPORT_ID, TRANSPORT_ID_LENGTH_FIELD, UNREG,
+    APTPL, BASIC_LENGTH, MOVE_FLAGS, RELATIVE_TARGET_PORT, RESERVATION_KEY,
+    SERVICE_ACTION_RESERVATION_KEY, TRANSPORT_ID, TRANSPORT_ID_LENGTH_FIELD, UNREG,
 };
 use crate::out_params::OutParams;
 use crate::param_fault::ParamFault;
+use crate::register_list::{has_register_length, read_register};
+use arrayvec::ArrayVec;
 use byteorder::{BigEndian, ByteOrder};
 use scsi_cdb::OutServiceAction;
 use scsi_nexus::{Nexus, TransportId};
@@ -27,22 +30,15 @@ pub fn read_out(
     }
     match act {
         OutServiceAction::RegisterAndMove => Ok(read_move(scope_type, bytes)),
-        OutServiceAction::Register
-        | OutServiceAction::Reserve
+        OutServiceAction::Register | OutServiceAction::RegisterAndIgnoreExistingKey => {
+            Ok(read_register(act, scope_type, bytes))
+        }
+        OutServiceAction::Reserve
         | OutServiceAction::Release
         | OutServiceAction::Clear
         | OutServiceAction::Preempt
-        | OutServiceAction::PreemptAndAbort
-        | OutServiceAction::RegisterAndIgnoreExistingKey => Ok(read_basic(act, scope_type, bytes)),
+        | OutServiceAction::PreemptAndAbort => Ok(read_basic(act, scope_type, bytes)),
     }
-}
-
-/// Whether a bit of a byte is 1.
-fn is_set(byte: u8, place: u32) -> bool
-    requires { place < 8 }
-    ensures { result ≡ (byte / 2 ^ place % 2 == 1) }
-{
-    byte >> place & 1 == 1
 }
 
 /// Whether the bytes are as many as the act's list has.
@@ -52,11 +48,7 @@ fn has_format_length(act: OutServiceAction, bytes: &[u8]) -> bool
     match act {
         OutServiceAction::RegisterAndMove => has_move_length(bytes),
         OutServiceAction::Register | OutServiceAction::RegisterAndIgnoreExistingKey => {
-            if bytes.len() > BASIC_LENGTH {
-                is_set(bytes[BASIC_FLAGS], SPEC_I_PT)
-            } else {
-                bytes.len() == BASIC_LENGTH
-            }
+            has_register_length(bytes)
         }
         OutServiceAction::Reserve
         | OutServiceAction::Release
@@ -82,34 +74,16 @@ fn read_basic(act: OutServiceAction, scope_type: u8, bytes: &[u8]) -> OutParams
     ensures { result ≡ basic_params act scope_type bytes.now }
 {
     OutParams {
-        act,
         rk: BigEndian::read_u64(&bytes[RESERVATION_KEY..]),
         sark: BigEndian::read_u64(&bytes[SERVICE_ACTION_RESERVATION_KEY..]),
-        scope_type,
         dest: None,
+        act,
+        scope_type,
         unreg: false,
-        defect: defect_of_basic(act, bytes[BASIC_FLAGS]),
-    }
-}
-
-/// What is wrong with the flags of a basic list.
-fn defect_of_basic(act: OutServiceAction, flags: u8) -> Option<ParamFault>
-    ensures { result ≡ basic_defect act flags }
-{
-    match act {
-        OutServiceAction::Register | OutServiceAction::RegisterAndIgnoreExistingKey => {
-            if is_set(flags, SPEC_I_PT) || is_set(flags, ALL_TG_PT) || is_set(flags, APTPL) {
-                Some(ParamFault::Field)
-            } else {
-                None
-            }
-        }
-        OutServiceAction::Reserve
-        | OutServiceAction::Release
-        | OutServiceAction::Clear
-        | OutServiceAction::Preempt
-        | OutServiceAction::PreemptAndAbort
-        | OutServiceAction::RegisterAndMove => None,
+        defect: None,
+        all_ports: false,
+        listed: false,
+        targets: ArrayVec::new(),
     }
 }
 
@@ -119,13 +93,16 @@ fn read_move(scope_type: u8, bytes: &[u8]) -> OutParams
 {
     let dest = destination(bytes);
     OutParams {
-        act: OutServiceAction::RegisterAndMove,
         rk: BigEndian::read_u64(&bytes[RESERVATION_KEY..]),
         sark: BigEndian::read_u64(&bytes[SERVICE_ACTION_RESERVATION_KEY..]),
-        scope_type,
         dest,
+        act: OutServiceAction::RegisterAndMove,
+        scope_type,
         unreg: is_set(bytes[MOVE_FLAGS], UNREG),
         defect: defect_of_move(bytes[MOVE_FLAGS], dest),
+        all_ports: false,
+        listed: false,
+        targets: ArrayVec::new(),
     }
 }
 

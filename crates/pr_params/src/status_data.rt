@@ -96,10 +96,10 @@ fn reservation_descriptor(key: u64, res_type: ResType) -> [u8; RESERVATION_LENGT
     descriptor
 }
 
-/// The data of REPORT CAPABILITIES: the six types, and no persistence through power loss, no
-/// SPEC_I_PT and no ALL_TG_PT (SPC-4, "REPORT CAPABILITIES service action"; the choice is profile).
+/// The data of REPORT CAPABILITIES: the six types, SPEC_I_PT and ALL_TG_PT, and no persistence
+/// through power loss (SPC-4, "REPORT CAPABILITIES service action"; the choice is profile).
 pub fn write_capabilities(alloc: Global) -> Result<Vec<u8>, AllocError>
     ensures { IfOk result (λ bytes. bytes.items ≡ capabilities_data) }
 {
-    Vec::from_slice(alloc, &[0x00, 0x08, 0x00, 0x80, 0xea, 0x01, 0x00, 0x00])
+    Vec::from_slice(alloc, &[0x00, 0x08, 0x0c, 0x80, 0xea, 0x01, 0x00, 0x00])
 }

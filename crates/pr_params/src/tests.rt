@@ -1,3 +1,5 @@
+mod lists;
+
 use super::*;
 use permit_tables::ResType;
 use scsi_cdb::OutServiceAction;
@@ -19,7 +21,7 @@ fn capabilities(rt: HostRuntime) -> Result<(), Fail> {
     let data = write_capabilities(rt.alloc())?;
     assert_eq!(rt;
         data.as_slice(),
-        [0x00, 0x08, 0x00, 0x80, 0xea, 0x01, 0x00, 0x00].as_slice()
+        [0x00, 0x08, 0x0c, 0x80, 0xea, 0x01, 0x00, 0x00].as_slice()
     );
     Ok(())
 }
@@ -69,59 +71,4 @@ fn full_status_of_a_holder(rt: HostRuntime) -> Result<(), Fail> {
     ];
     assert_eq!(rt; data.as_slice(), expected.as_slice());
     Ok(())
-}
-
-#[test]
-fn register_and_move_list(rt: HostRuntime) {
-    let mut list = [
-        0, 0, 0, 0, 0, 0, 0, 1, 0, 0, 0, 0, 0, 0, 0, 9, 0, 2, 0, 1, 0, 0, 0, 0x18, 6, 0, 0, 0,
-        0x50, 0, 0, 0, 0, 0, 0, 0x0b, 0, 0, 0, 0, 0, 0, 0, 0, 0, 0, 0, 0,
-    ];
-    let expected = OutParams {
-        act: OutServiceAction::RegisterAndMove,
-        rk: 1,
-        sark: 9,
-        scope_type: 0,
-        dest: Some(B),
-        unreg: true,
-        defect: None,
-    };
-    assert_eq!(rt;
-        read_out(OutServiceAction::RegisterAndMove, 0, 48, &list),
-        Ok(expected)
-    );
-    list[24] = 0x46;
-    let other = OutParams {
-        dest: None,
-        defect: Some(ParamFault::TransportId),
-        ..expected
-    };
-    assert_eq!(rt;
-        read_out(OutServiceAction::RegisterAndMove, 0, 48, &list),
-        Ok(other)
-    );
-    let length = Err(ParamFault::ListLength);
-    assert_eq!(rt;
-        read_out(OutServiceAction::RegisterAndMove, 0, 47, &list),
-        length
-    );
-}
-
-#[test]
-fn huge_list_length(rt: HostRuntime) {
-    let length = Err(ParamFault::ListLength);
-    assert_eq!(rt; read_out(OutServiceAction::Clear, 0, u32::MAX, &[]), length);
-    let mut list = [0; 24];
-    list[20] = 0xff;
-    list[21] = 0xff;
-    list[22] = 0xff;
-    list[23] = 0xff;
-    assert_eq!(rt;
-        read_out(OutServiceAction::RegisterAndMove, 0, 24, &list),
-        length
-    );
-    assert_eq!(rt;
-        read_out(OutServiceAction::Register, 0, 23, &list[..23]),
-        length
-    );
 }

@@ -1,3 +1,4 @@
+use arrayvec::ArrayVec;
 use pr_core::{PrState, Verdict};
 use pr_params::OutParams;
 use scsi_cdb::OutServiceAction;
@@ -15,13 +16,16 @@ pub(crate) fn nexus_of(number: u64) -> Nexus {
 /// A command with the keys of the nexus of that number, and a type.
 pub(crate) fn command(act: OutServiceAction, key: u64, scope_type: u8) -> OutParams {
     OutParams {
-        act,
         rk: key,
         sark: key,
-        scope_type,
         dest: None,
+        act,
+        scope_type,
         unreg: false,
         defect: None,
+        all_ports: false,
+        listed: false,
+        targets: ArrayVec::new(),
     }
 }
 

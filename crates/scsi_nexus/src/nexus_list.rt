@@ -6,7 +6,7 @@ use arrayvec::ArrayVec;
 use std::marker::Model;
 
 /// How many nexuses a list has room for (profile).
-pub const LIST_CAPACITY: usize = 64;
+pub const LIST_CAPACITY: usize = 256;
 
 /// A list of nexuses in fixed room, which takes no memory.
 #[derive(Drop)]

@@ -31,17 +31,17 @@ fn refuses_other_lengths_before_other_formats(rt: HostRuntime) {
 #[test]
 fn keeps_nexuses_in_the_order_of_their_coming(rt: HostRuntime) {
     let mut list = NexusList::new();
-    for port in 0..64u16 {
+    for port in 0..256u16 {
         assert_eq!(rt;
             list.push(Nexus {
                 sas: 1,
-                port: 63 - port
+                port: 255 - port
             }),
             Ok(())
         );
     }
     assert_eq!(rt; list.push(Nexus { sas: 2, port: 1 }), Err(IdFault::Full));
-    assert_eq!(rt; list.items().len(), 64);
-    assert_eq!(rt; list.items().first(), Some(&Nexus { sas: 1, port: 63 }));
+    assert_eq!(rt; list.items().len(), 256);
+    assert_eq!(rt; list.items().first(), Some(&Nexus { sas: 1, port: 255 }));
     assert!(rt; Nexus { sas: 1, port: 2 } < Nexus { sas: 2, port: 1 });
 }

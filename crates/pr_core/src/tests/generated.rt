@@ -3,11 +3,14 @@
 
 ghost use Rattle.std.specs.Prelude.{◌<◌};
 
+use crate::targets::targets;
 use crate::*;
+use arrayvec::ArrayVec;
 use permit_tables::ResType;
 use pr_params::OutParams;
 use scsi_cdb::OutServiceAction;
 use scsi_nexus::Nexus;
+use std::alloc::Global;
 use std::process::Abort;
 use std::test::Fail;
 
@@ -71,33 +74,49 @@ impl Numbers {
             Some((res_type, _)) if self.below(2) == 0 => res_type.code(),
             Some(_) | None => self.scope_type(),
         };
+        let act = self.act();
+        let registers = matches!(
+            act,
+            OutServiceAction::Register | OutServiceAction::RegisterAndIgnoreExistingKey
+        );
+        let mut targets = ArrayVec::new();
+        let listed = registers && self.below(4) == 0;
+        if listed {
+            targets.push(10 + self.below(3));
+            targets.push(10 + self.below(3));
+        }
         OutParams {
-            act: self.act(),
             rk,
             sark: self.below(4),
-            scope_type,
             dest: Some(self.nexus()),
+            act,
+            scope_type,
             unreg: self.below(2) == 0,
             defect: None,
+            all_ports: registers && self.below(3) == 0,
+            listed,
+            targets,
         }
     }
 }
 
-/// Sends a command, and keeps its act where it was accepted. Whether it was carried out.
+/// Sends a command, and walks on where its act was accepted. Whether it was carried out.
 fn sent(
+    alloc: Global,
     state: &mut PrState,
-    acts: &mut Vec<(Nexus, ReservationAct)>,
+    walked: &mut WalkedState,
     sender: Nexus,
     params: &OutParams,
 ) -> Result<bool, Fail> {
     match state.judge(sender, params) {
         Verdict::Allowed => {
-            let act = state.act_of(sender, params);
+            let named = targets(sender, params);
+            let act = state.act_of(sender, params, named.as_slice());
             if state.apply(sender, params).is_err() {
                 return Ok(false);
             }
             if let Some(act) = act {
-                acts.push((sender, act))?;
+                *walked = walked.after(alloc, sender, act)?;
             }
             Ok(true)
         }
@@ -105,23 +124,17 @@ fn sent(
     }
 }
 
-fn compare(
-    rt: &(impl Abort + AllocGlobal),
-    state: &PrState,
-    acts: &[(Nexus, ReservationAct)],
-) -> Result<(), Fail> {
-    let walked = WalkedState::after_all(rt.alloc(), acts)?;
+fn compare(rt: &impl Abort, state: &PrState, walked: &WalkedState) {
     assert_eq!(rt; walked.registrations(), state.registrations());
     assert_eq!(rt; walked.reservation(), state.reservation());
     assert_eq!(rt; walked.generation(), state.generation());
     for sas in 10..13 {
-        for port in 1..3 {
+        for port in 1..5 {
             let nexus = Nexus { sas, port };
             assert_eq!(rt; walked.key_of(nexus), state.key_of(nexus));
             assert_eq!(rt; walked.role(nexus), state.role(nexus));
         }
     }
-    Ok(())
 }
 
 #[test]
@@ -130,14 +143,14 @@ fn both_bodies_agree_over_generated_commands(rt: HostRuntime) -> Result<(), Fail
     let mut carried_out = 0u32;
     for _ in 0..50 {
         let mut state = PrState::new();
-        let mut acts = Vec::new(rt.alloc());
+        let mut walked = WalkedState::after_all(rt.alloc(), &[])?;
         for _ in 0..80 {
             let sender = numbers.nexus();
             let params = numbers.command(&state, sender);
-            if sent(&mut state, &mut acts, sender, &params)? {
+            if sent(rt.alloc(), &mut state, &mut walked, sender, &params)? {
                 carried_out = carried_out.saturating_add(1);
             }
-            compare(&rt, &state, &acts)?;
+            compare(&rt, &state, &walked);
         }
     }
     assert!(rt; carried_out > 1000, "{carried_out}");
@@ -148,9 +161,11 @@ fn both_bodies_agree_over_generated_commands(rt: HostRuntime) -> Result<(), Fail
 fn both_bodies_agree_over_a_shared_key(rt: HostRuntime) -> Result<(), Fail> {
     let first = Nexus { sas: 10, port: 1 };
     let second = Nexus { sas: 11, port: 1 };
+    let alone = [first];
+    let both = [second, first];
     let acts = [
-        (first, ReservationAct::Register(7)),
-        (second, ReservationAct::Register(7)),
+        (first, ReservationAct::Register(7, &alone)),
+        (second, ReservationAct::Register(7, &both)),
         (first, ReservationAct::Reserve(ResType::Ea)),
         (second, ReservationAct::Preempt(7, 0x05)),
     ];

@@ -7,23 +7,23 @@ use std::process::Abort;
 use std::test::Fail;
 use unit_attention::Kind;
 
-const A: Nexus = Nexus {
+pub(crate) const A: Nexus = Nexus {
     sas: 0x5000_0000_0000_000a,
     port: 1,
 };
 
-const B: Nexus = Nexus {
+pub(crate) const B: Nexus = Nexus {
     sas: 0x5000_0000_0000_000b,
     port: 1,
 };
 
-const C: Nexus = Nexus {
+pub(crate) const C: Nexus = Nexus {
     sas: 0x5000_0000_0000_000c,
     port: 1,
 };
 
 /// A command with the list of 24 bytes.
-fn command(
+pub(crate) fn command(
     rt: &impl Abort,
     act: OutServiceAction,
     reservation_key: u64,
@@ -40,7 +40,7 @@ fn command(
 }
 
 /// REGISTER AND MOVE by key 1 to a SAS address at port 1 with key 9.
-fn moving(rt: &impl Abort, flags: u8, sas: u64) -> OutParams {
+pub(crate) fn moving(rt: &impl Abort, flags: u8, sas: u64) -> OutParams {
     let mut list = [
         0, 0, 0, 0, 0, 0, 0, 1, 0, 0, 0, 0, 0, 0, 0, 9, 0, flags, 0, 1, 0, 0, 0, 0x18, 6, 0, 0, 0,
         0, 0, 0, 0, 0, 0, 0, 0, 0, 0, 0, 0, 0, 0, 0, 0, 0, 0, 0, 0,
@@ -53,7 +53,12 @@ fn moving(rt: &impl Abort, flags: u8, sas: u64) -> OutParams {
 }
 
 /// Sends a command that has to be carried out.
-fn sent(rt: &impl Abort, state: &mut PrState, sender: Nexus, params: &OutParams) -> Raised {
+pub(crate) fn sent(
+    rt: &impl Abort,
+    state: &mut PrState,
+    sender: Nexus,
+    params: &OutParams,
+) -> Raised {
     match state.judge(sender, params) {
         Verdict::Allowed => match state.apply(sender, params) {
             Ok(raised) => raised,
@@ -64,7 +69,12 @@ fn sent(rt: &impl Abort, state: &mut PrState, sender: Nexus, params: &OutParams)
 }
 
 /// Sends a command that has to be allowed and refused.
-fn refused(rt: &impl Abort, state: &mut PrState, sender: Nexus, params: &OutParams) -> PrFault {
+pub(crate) fn refused(
+    rt: &impl Abort,
+    state: &mut PrState,
+    sender: Nexus,
+    params: &OutParams,
+) -> PrFault {
     match state.judge(sender, params) {
         Verdict::Allowed => match state.apply(sender, params) {
             Ok(_) => panic!(rt; "it was carried out"),
@@ -75,14 +85,20 @@ fn refused(rt: &impl Abort, state: &mut PrState, sender: Nexus, params: &OutPara
 }
 
 /// Registers an unregistered nexus with a key.
-fn register(rt: &impl Abort, state: &mut PrState, nexus: Nexus, key: u64) {
+pub(crate) fn register(rt: &impl Abort, state: &mut PrState, nexus: Nexus, key: u64) {
     let params = command(rt, OutServiceAction::Register, 0, key, 0);
     let raised = sent(rt, state, nexus, &params);
     assert!(rt; raised.attentions.is_empty());
 }
 
 /// Reserves for a registered nexus with a key.
-fn reserve(rt: &impl Abort, state: &mut PrState, nexus: Nexus, key: u64, scope_type: u8) {
+pub(crate) fn reserve(
+    rt: &impl Abort,
+    state: &mut PrState,
+    nexus: Nexus,
+    key: u64,
+    scope_type: u8,
+) {
     let params = command(rt, OutServiceAction::Reserve, key, 0, scope_type);
     let raised = sent(rt, state, nexus, &params);
     assert!(rt; raised.attentions.is_empty());
@@ -104,7 +120,11 @@ fn preempt(
     sent(rt, state, nexus, &params)
 }
 
-fn keys_of(rt: &(impl Abort + AllocGlobal), state: &PrState, expected: &[u8]) -> Result<(), Fail> {
+pub(crate) fn keys_of(
+    rt: &(impl Abort + AllocGlobal),
+    state: &PrState,
+    expected: &[u8],
+) -> Result<(), Fail> {
     let data = write_keys(rt.alloc(), state.generation(), state.registrations())?;
     assert_eq!(rt; data.as_slice(), expected);
     Ok(())
@@ -307,42 +327,4 @@ fn register_and_move_unregisters(rt: HostRuntime) -> Result<(), Fail> {
         0, 0, 0, 3, 0, 0, 0, 0x10, 0, 0, 0, 0, 0, 0, 0, 1, 0, 0, 0, 0, 0, 0, 0, 9,
     ];
     keys_of(&rt, &state, &expected)
-}
-
-/// A, and 63 others with key 1.
-fn full_table(rt: &impl Abort) -> PrState {
-    let mut state = PrState::new();
-    register(rt, &mut state, A, 1);
-    for sas in 1..64 {
-        register(rt, &mut state, Nexus { sas, port: 2 }, 1);
-    }
-    state
-}
-
-#[test]
-fn registrations_full(rt: HostRuntime) -> Result<(), Fail> {
-    let mut state = full_table(&rt);
-    let params = command(&rt, OutServiceAction::Register, 0, 1, 0);
-    assert_eq!(rt;
-        refused(&rt, &mut state, B, &params),
-        PrFault::NoRegistrationRoom
-    );
-    let data = write_keys(rt.alloc(), state.generation(), state.registrations())?;
-    assert_eq!(rt; data.get(..8), Some([0, 0, 0, 0x40, 0, 0, 2, 0].as_slice()));
-    Ok(())
-}
-
-#[test]
-fn register_and_move_at_a_full_table(rt: HostRuntime) {
-    let mut state = full_table(&rt);
-    reserve(&rt, &mut state, A, 1, 0x01);
-    let keeping = moving(&rt, 0, B.sas);
-    assert_eq!(rt;
-        refused(&rt, &mut state, A, &keeping),
-        PrFault::NoRegistrationRoom
-    );
-    let _ = sent(&rt, &mut state, A, &moving(&rt, 2, B.sas));
-    assert_eq!(rt; state.registrants().items().len(), 64);
-    assert_eq!(rt; state.reservation(), Some((ResType::We, B)));
-    assert_eq!(rt; state.key_of(A), 0);
 }

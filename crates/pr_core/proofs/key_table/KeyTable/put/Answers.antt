@@ -23,7 +23,7 @@ insert-requires c =
     let inside : c.in-Err.place ≤ length c.self.inside.entries.items = omega (arith, (c.in-Err.ensures).0, ap length c.as_slice.ensures.value) in
     let longer = length-insert c.self.inside.entries.items c.in-Err.place (c.args.nexus, c.args.key) inside in
     let now : length (put nexus_cmp c.args.nexus c.args.key c.self.inside.entries.items) ≡ length (put nexus_cmp c.args.nexus c.args.key c.args.self.now) = ap (λ x. length (put nexus_cmp c.args.nexus c.args.key x)) c.self.view_is in
-    let room : length c.self.inside.entries.items < 64 = omega (arith, longer, ap length whole, now, c.requires.room) in
+    let room : length c.self.inside.entries.items < 256 = omega (arith, longer, ap length whole, now, c.requires.room) in
     (lit< tt, (inside, room))
 
 pub invariant_of-self-in-Err : goal.invariant_of-self-in-Err

@@ -1,0 +1,72 @@
+ghost use Rattle.std.specs.Prelude.{◌≡◌, true, [], ◌∷◌, ◌++◌};
+ghost use Rattle.pr_core.specs.Targets.{is_target_port, at_all_ports, targets, is_among};
+
+use arrayvec::ArrayVec;
+use pr_params::{OutParams, TARGETS};
+use scsi_nexus::Nexus;
+
+/// How many relative target ports the target has, from 1 on (profile).
+const TARGET_PORTS: usize = 4;
+
+/// Room for the sender, and for its SAS address and each listed one at every port.
+pub(crate) const TARGET_ROOM: usize = 1 + TARGET_PORTS * (1 + TARGETS);
+
+/// Whether a relative target port is one of the target's.
+pub(crate) fn is_target_port(port: u16) -> bool
+    ensures { result ≡ is_target_port port }
+{
+    1 <= port && port <= TARGET_PORTS as u16
+}
+
+/// Whether a nexus is one of these.
+pub(crate) fn is_among(nexus: Nexus, targets: &[Nexus]) -> bool
+    ensures { result ≡ is_among nexus targets.now }
+{
+    targets.iter().any(|target| nexus == *target)
+}
+
+/// Whether a REGISTER names no nexus but its sender.
+pub(crate) fn names_its_sender_alone(params: &OutParams) -> bool
+    ensures { result ≡ true → (sender : Nexus) → targets sender params.now ≡ sender ∷ [] }
+{
+    params.defect.is_some() || (!params.all_ports && params.targets.is_empty())
+}
+
+/// The nexuses that a REGISTER names.
+pub(crate) fn targets(sender: Nexus, params: &OutParams) -> ArrayVec<Nexus, TARGET_ROOM>
+    ensures { result.items ≡ targets sender params.now }
+{
+    let mut list = ArrayVec::new();
+    list.push(sender);
+    if params.defect.is_some() {
+        return list;
+    }
+    if params.all_ports {
+        push_all_ports(&mut list, sender.sas);
+    }
+    for sas in params.targets.as_slice() {
+        if params.all_ports {
+            push_all_ports(&mut list, *sas);
+        } else {
+            list.push(Nexus {
+                sas: *sas,
+                port: sender.port,
+            });
+        }
+    }
+    list
+}
+
+ghost use Rattle.std.specs.Prelude.{◌≤◌, ◌+◌, length};
+ghost use Rattle.pr_core.specs.declared.targets.TheConstants.{TARGET_ROOM};
+
+/// Adds a SAS address at every port.
+fn push_all_ports(list: &mut ArrayVec<Nexus, TARGET_ROOM>, sas: u64)
+    requires { length list.old.items + 4 ≤ TARGET_ROOM }
+    ensures { list.new.items ≡ list.old.items ++ at_all_ports sas }
+{
+    list.push(Nexus { sas, port: 1 });
+    list.push(Nexus { sas, port: 2 });
+    list.push(Nexus { sas, port: 3 });
+    list.push(Nexus { sas, port: 4 });
+}
