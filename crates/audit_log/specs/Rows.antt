@@ -1,5 +1,5 @@
 -- Worked records and their lines: A at port 1.
-use Rattle.std.specs.Prelude.{false, Some, None}
+use Rattle.std.specs.Prelude.{false, [], Some, None}
 use Rattle.scsi_cdb.specs.declared.classes.Class.TheVariants as class
 use Rattle.scsi_cdb.specs.declared.action.OutServiceAction.TheVariants as out
 use Rattle.scsi_sense.specs.Conditions.{sense_for}
@@ -19,7 +19,18 @@ a = record { sas = 0x500000000000000A; port = 1 }
 
 -- REGISTER with a reservation key that the sender doesn't have
 abbrev pub register : OutParams
-register = record { act = out.Register; rk = 5; sark = 6; scope_type = 0; dest = None; unreg = false; defect = None }
+register = record {
+  rk = 5;
+  sark = 6;
+  dest = None;
+  act = out.Register;
+  scope_type = 0;
+  unreg = false;
+  defect = None;
+  all_ports = false;
+  listed = false;
+  targets = record { items = [] };
+}
 
 -- A's first TEST UNIT READY meets the condition of its first contact
 abbrev pub first_contact : Record

@@ -1,15 +1,15 @@
 ghost use Rattle.std.specs.Prelude.{◌≡◌};
 
-use pr_params::OutParams;
+use pr_params::KeptParams;
 use scsi_cdb::Class;
 
 /// What a record says was asked of the unit.
-#[derive(Clone, Copy, Debug, PartialEq, Eq)]
+#[derive(Debug, Drop)]
 pub enum Act {
     /// A command other than PERSISTENT RESERVE OUT.
     Command(Class),
     /// PERSISTENT RESERVE OUT with its parameter list.
-    ReserveOut(OutParams),
+    ReserveOut(KeptParams),
     /// Bytes that spell no command of the unit, or a parameter list of a wrong length.
     Invalid,
     /// An I_T nexus loss.
@@ -31,7 +31,7 @@ impl Act {
     {
         match self {
             Act::Command(class) => Some(*class),
-            Act::ReserveOut(params) => Some(params.act.class()),
+            Act::ReserveOut(params) => Some(params.act().class()),
             Act::Invalid | Act::Loss | Act::Reset | Act::MediumIn | Act::MediumOut => None,
         }
     }

@@ -66,7 +66,7 @@ fn act_text(act: &Act) -> &'static str
 {
     match act {
         Act::Command(class) => class_text(*class),
-        Act::ReserveOut(params) => class_text(params.act.class()),
+        Act::ReserveOut(params) => class_text(params.act().class()),
         Act::Invalid => "INVALID",
         Act::Loss => "LOSS",
         Act::Reset => "RESET",

@@ -6,7 +6,7 @@ use scsi_nexus::Nexus;
 use scsi_sense::{Sense, Status};
 
 /// What was asked of a unit, and how it was judged and answered (profile).
-#[derive(Clone, Copy, Debug, PartialEq, Eq)]
+#[derive(Debug, Drop)]
 pub struct Record {
     /// The record's number at its unit: one more than that of the record before.
     pub number: u64,
@@ -28,7 +28,8 @@ pub struct Record {
     pub mode_changed: bool,
 }
 
-/// The largest size of a record in bytes: a unit keeps one for each command.
-const RECORD_SIZE: usize = 136;
+/// The largest size of a record in bytes: a unit keeps one for each command. A record of a command
+/// other than PERSISTENT RESERVE OUT takes nothing beyond it.
+const RECORD_SIZE: usize = 80;
 
 const _: () = prove!(size_of::<Record>() <= RECORD_SIZE);

@@ -1,10 +1,12 @@
 use super::*;
 use permit_tables::{Cell, ResType, Role};
 use pr_core::KeyRule;
-use pr_params::OutParams;
+use pr_params::read_out;
 use scsi_cdb::{Class, OutServiceAction};
 use scsi_nexus::Nexus;
 use scsi_sense::{Condition, Sense, Status};
+use std::alloc::{AllocError, Global};
+use std::process::Abort;
 use std::test::Fail;
 
 const A: Nexus = Nexus {
@@ -28,27 +30,22 @@ fn first_contact() -> Record {
 }
 
 /// The record of a REGISTER by A with a reservation key that it doesn't have.
-fn wrong_key() -> Record {
-    let params = OutParams {
-        act: OutServiceAction::Register,
-        rk: 5,
-        sark: 6,
-        scope_type: 0,
-        dest: None,
-        unreg: false,
-        defect: None,
-    };
-    Record {
+fn wrong_key(rt: &impl Abort, alloc: Global) -> Result<Record, AllocError> {
+    let list = [
+        0, 0, 0, 0, 0, 0, 0, 5, 0, 0, 0, 0, 0, 0, 0, 6, 0, 0, 0, 0, 0, 0, 0, 0,
+    ];
+    let params = read_out(OutServiceAction::Register, 0, 24, &list).expect(rt, "a basic list");
+    Ok(Record {
         number: 2,
         nexus: Some(A),
-        act: Act::ReserveOut(params),
+        act: Act::ReserveOut(params.keep(alloc)?),
         stage: Stage::ReservationCheck,
         cell: Some(unreserved(Class::Register)),
         rule: Some(KeyRule::K1),
         status: Status::ReservationConflict,
         sense: None,
         mode_changed: false,
-    }
+    })
 }
 
 /// An event that isn't a command.
@@ -101,7 +98,7 @@ fn writes_a_line_for_each_record(rt: HostRuntime) -> Result<(), Fail> {
             "2 500000000000000a.1 TEST-UNIT-READY 6 TEST-UNIT-READY/NONE/OTHER - 00",
         ),
         (
-            wrong_key(),
+            wrong_key(&rt, rt.alloc())?,
             "2 500000000000000a.1 REGISTER 3 REGISTER/NONE/OTHER K1 18",
         ),
         (unknown_opcode, "1 500000000000000a.1 INVALID 1 - - 02"),
@@ -143,16 +140,18 @@ fn hands_out_its_records_and_goes_on_counting(rt: HostRuntime) -> Result<(), Fai
     trail.reserve_one()?;
     trail.push(Record {
         number: 2,
-        ..wrong_key()
+        ..wrong_key(&rt, rt.alloc())?
     });
     assert_eq!(rt; trail.last(), 2);
     assert_eq!(rt; trail.records().len(), 2);
 
     let drained = trail.drain(rt.alloc());
-    assert_eq!(rt;
-        drained.as_slice(),
-        [first_contact(), wrong_key()].as_slice()
-    );
+    assert_eq!(rt; drained.len(), 2);
+    assert_eq!(rt; drained[0].number, 1);
+    assert_eq!(rt; drained[0].sense, first_contact().sense);
+    assert_eq!(rt; drained[1].number, 2);
+    assert_eq!(rt; drained[1].act.class(), Some(Class::Register));
+    assert_eq!(rt; drained[1].rule, Some(KeyRule::K1));
     assert_eq!(rt; trail.last(), 2);
     assert!(rt; trail.records().is_empty());
 
@@ -167,14 +166,15 @@ fn hands_out_its_records_and_goes_on_counting(rt: HostRuntime) -> Result<(), Fai
 }
 
 #[test]
-fn only_commands_have_a_class(rt: HostRuntime) {
+fn only_commands_have_a_class(rt: HostRuntime) -> Result<(), Fail> {
     let rows = [
         (first_contact().act, Some(Class::TestUnitReady)),
-        (wrong_key().act, Some(Class::Register)),
+        (wrong_key(&rt, rt.alloc())?.act, Some(Class::Register)),
         (Act::Invalid, None),
         (Act::Reset, None),
     ];
     for (act, expected) in rows {
         assert_eq!(rt; act.class(), expected, "{act:?}");
     }
+    Ok(())
 }
