@@ -1,3 +1,7 @@
 pub mod Contact
 pub mod History
 pub mod Check
+pub mod Plain
+pub mod Legal
+pub mod Executed
+pub mod Conflicts

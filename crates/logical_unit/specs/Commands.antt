@@ -1,15 +1,18 @@
--- The command that a CDB and the data sent with it spell, and its class.
-use Rattle.std.specs.Prelude.{ℕ, Bool, true, false, List, Result, Ok, Err}
+-- The command that a CDB and the data sent with it spell, its class, and what a record says was asked.
+use Rattle.std.specs.Prelude.{ℕ, Bool, true, false, List, Option, Some, None, Result, Ok, Err}
 use Rattle.scsi_cdb.specs.declared.kind.Kind.{Kind}
 use Rattle.scsi_cdb.specs.declared.classes.Class.{Class}
 use Rattle.scsi_cdb.specs.declared.classes.Class.TheVariants as class
 use Rattle.scsi_cdb.specs.declared.request.Request.{Request}
-use Rattle.scsi_cdb.specs.declared.request.Request.TheVariants.{PersistentReserveIn, PersistentReserveOut, Inquiry, ReportLuns, RequestSense}
+use Rattle.scsi_cdb.specs.declared.request.Request.TheVariants.{PreventAllowMediumRemoval, PersistentReserveIn, PersistentReserveOut, Inquiry, ReportLuns, RequestSense}
 use Rattle.scsi_cdb.specs.Classes.{class_of, class_of_action}
 use Rattle.scsi_cdb.specs.Commands.{reading}
 use Rattle.scsi_sense.specs.declared.condition.Condition.{Condition}
 use Rattle.scsi_sense.specs.declared.condition.Condition.TheVariants.{ParameterListLengthError}
 use Rattle.pr_params.specs.Lists as lists
+use Rattle.pr_params.specs.declared.out_params.OutParams.{OutParams}
+use Rattle.audit_log.specs.declared.act.Act.{Act}
+use Rattle.audit_log.specs.declared.act.Act.TheVariants as act
 use Rattle.logical_unit.specs.declared.command.Command.{Command}
 use Rattle.logical_unit.specs.declared.command.Command.TheVariants as command
 use Rattle.logical_unit.specs.declared.command.Command.TheVariants.{ReserveOut, ReserveIn, Device}
@@ -23,6 +26,7 @@ command_of (PersistentReserveIn action allocation_length) bytes = Ok (ReserveIn 
 command_of (Inquiry evpd page allocation_length) bytes = Ok (command.Inquiry evpd page allocation_length)
 command_of (ReportLuns select allocation_length) bytes = Ok (command.ReportLuns select allocation_length)
 command_of (RequestSense desc allocation_length) bytes = Ok (command.RequestSense desc allocation_length)
+command_of (PreventAllowMediumRemoval prevent) bytes = Ok (command.Prevent prevent)
 command_of request bytes = Ok (Device request)
 
 -- the command, or what is reported of bytes that spell none
@@ -35,11 +39,29 @@ class_of_command (ReserveIn action allocation_length) = class.PersistentReserveI
 class_of_command (command.Inquiry evpd page allocation_length) = class.Inquiry
 class_of_command (command.ReportLuns select allocation_length) = class.ReportLuns
 class_of_command (command.RequestSense desc allocation_length) = class.RequestSense
+class_of_command (command.Prevent prevent) = class_of (PreventAllowMediumRemoval prevent)
 class_of_command (Device request) = class_of request
 
--- the commands that pass over the attentions that wait for their sender (SPC-4, "Unit attention condition")
-abbrev pub passes_over : Command → Bool
-passes_over (command.Inquiry evpd page allocation_length) = true
-passes_over (command.ReportLuns select allocation_length) = true
-passes_over (command.RequestSense desc allocation_length) = true
-passes_over c = false
+-- the classes that pass over the attentions that wait for their sender (SPC-4, "Unit attention condition")
+abbrev pub passes_over : Class → Bool
+passes_over class.Inquiry = true
+passes_over class.ReportLuns = true
+passes_over class.RequestSense = true
+passes_over class = false
+
+-- the parameter list of PERSISTENT RESERVE OUT
+abbrev pub list_of : Command → Option OutParams
+list_of (ReserveOut params) = Some params
+list_of command = None
+
+-- what a record says was asked: a class, and for PERSISTENT RESERVE OUT its list; INVALID of bytes that spell no command
+abbrev pub act_of_command : Command → Act
+act_of_command (ReserveOut params) = act.ReserveOut params
+act_of_command command = act.Command (class_of_command command)
+
+abbrev pub act_of_spelled : Result Command Condition → Act
+act_of_spelled (Ok command) = act_of_command command
+act_of_spelled (Err condition) = act.Invalid
+
+abbrev pub act_of : Kind → (cdb bytes : List ℕ) → Act
+act_of kind cdb bytes = act_of_spelled (spelled kind cdb bytes)

@@ -1,12 +1,11 @@
 -- The accepted history of a unit: the PERSISTENT RESERVE OUT commands that ended GOOD, oldest first, each as its sender with its
 -- parameters. What stands at the unit afterwards is what they leave, one after another, of what stood before.
-use Rattle.std.specs.Prelude.{◌≡◌, ℕ, Bool, true, false, List, [], ◌∷◌, Result, Ok, if◌then◌else◌}
+use Rattle.std.specs.Prelude.{◌≡◌, ℕ, List, [], ◌∷◌, Result, Ok, if◌then◌else◌}
 use Rattle.std.specs.List.{fold}
 use Rattle.scsi_cdb.specs.declared.kind.Kind.{Kind}
 use Rattle.scsi_nexus.specs.declared.nexus.Nexus.{Nexus}
 use Rattle.scsi_sense.specs.declared.condition.Condition.{Condition}
 use Rattle.scsi_sense.specs.declared.status.Status.{Status}
-use Rattle.scsi_sense.specs.declared.status.Status.TheVariants.{Good}
 use Rattle.pr_params.specs.declared.out_params.OutParams.{OutParams}
 use Rattle.pr_core.specs.State.{State}
 use Rattle.pr_core.specs.Outcome.{applied}
@@ -16,15 +15,12 @@ use Rattle.logical_unit.specs.declared.command.Command.TheVariants.{ReserveOut}
 use Rattle.logical_unit.specs.declared.reply.Reply.{Reply}
 use Rattle.logical_unit.specs.Commands.{spelled}
 use Rattle.logical_unit.specs.Step.{Executes}
+use Rattle.logical_unit.specs.Legal.{is_good}
 use Rattle.logical_unit.specs.UnitView.{UnitView}
 
 -- an accepted command of a nexus
 abbrev pub Accepted : Type 0
 Accepted = Nexus × OutParams
-
-abbrev pub is_good : Status → Bool
-is_good Good = true
-is_good status = false
 
 -- what a command with its status adds to the history
 abbrev pub accepted_as : Nexus → Status → Result Command Condition → List Accepted

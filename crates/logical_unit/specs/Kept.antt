@@ -1,17 +1,21 @@
 -- How what a unit keeps changes.
-use Rattle.std.specs.Prelude.{ℕ, ◌||◌, ◌==◌, not, Bool, List, [], length}
+use Rattle.std.specs.Prelude.{ℕ, ◌||◌, ◌==◌, not, Bool, if◌then◌else◌, List, [], ◌∷◌, ◌++◌, filter, nat_lt, length}
 use Rattle.std.specs.List.{fold}
+use Rattle.scsi_cdb.specs.declared.action.OutServiceAction.{OutServiceAction}
+use Rattle.scsi_cdb.specs.declared.action.OutServiceAction.TheVariants.{PreemptAndAbort}
 use Rattle.scsi_nexus.specs.declared.nexus.Nexus.{Nexus}
+use Rattle.scsi_nexus.specs.Order.{same_nexus}
 use Rattle.unit_attention.specs.declared.kind.Kind.{Kind}
 use Rattle.unit_attention.specs.Queues.{Slots, has_slot, contacted, raised, cleared}
 use Rattle.pr_params.specs.declared.out_params.OutParams.{OutParams}
 use Rattle.pr_core.specs.State.{power_on}
-use Rattle.pr_core.specs.Outcome.{act_of, applied, raised_by}
+use Rattle.pr_core.specs.Outcome.{act_of, applied, raised_by, removed_by}
+use Rattle.pr_core.specs.Targets.{is_among}
 use Rattle.logical_unit.specs.KeptView.{KeptView}
 
 -- at power on nobody is registered and nobody had contact
 abbrev pub at_power_on : (lun units : ℕ) → KeptView
-at_power_on lun units = record { lun = lun; units = units; reservations = power_on; slots = [] }
+at_power_on lun units = record { lun = lun; units = units; reservations = power_on; slots = []; preventers = [] }
 
 -- whether the sender has a slot or there is one for it; 128 nexuses have one at most (profile)
 abbrev pub has_room : KeptView → Nexus → Bool
@@ -29,9 +33,30 @@ reported k n kind = record k { slots = cleared k.slots n kind }
 abbrev pub all_raised : Slots → List (Nexus × Kind) → Slots
 all_raised q attentions = fold (λ slots e. raised slots e.0 e.1) q attentions
 
+-- whether there is room for a nexus among those that prevent removal, 128 at most (profile)
+abbrev pub may_prevent : KeptView → Nexus → Bool
+may_prevent k n = is_among n k.preventers || nat_lt (length k.preventers) 128
+
+-- whether somebody prevents the removal of media
+abbrev pub is_prevented : KeptView → Bool
+is_prevented k = not (length k.preventers == 0)
+
+-- after PREVENT, and after ALLOW, by a nexus
+abbrev pub prevented : KeptView → Nexus → KeptView
+prevented k n = record k { preventers = if is_among n k.preventers then k.preventers else k.preventers ++ n ∷ [] }
+
+abbrev pub allowed : KeptView → Nexus → KeptView
+allowed k n = record k { preventers = filter (λ p. not (same_nexus p n)) k.preventers }
+
+-- the preventions that an accepted command leaves: PREEMPT AND ABORT ends those of the nexuses that it removes
+abbrev pub preventers_after : List Nexus → OutServiceAction → (removed : List Nexus) → List Nexus
+preventers_after preventers PreemptAndAbort removed = filter (λ p. not (is_among p removed)) preventers
+preventers_after preventers action removed = preventers
+
 -- after an accepted PERSISTENT RESERVE OUT command
 abbrev pub accepted : KeptView → Nexus → OutParams → KeptView
 accepted k n params = record k {
   reservations = applied k.reservations n params;
   slots = all_raised k.slots (raised_by k.reservations n (act_of k.reservations n params));
+  preventers = preventers_after k.preventers params.act (removed_by k.reservations n (act_of k.reservations n params));
 }

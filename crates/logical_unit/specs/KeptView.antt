@@ -1,5 +1,6 @@
--- What a unit keeps beside its device.
-use Rattle.std.specs.Prelude.{ℕ}
+-- What a unit keeps beside its device and its records.
+use Rattle.std.specs.Prelude.{ℕ, List}
+use Rattle.scsi_nexus.specs.declared.nexus.Nexus.{Nexus}
 use Rattle.unit_attention.specs.Queues.{Slots}
 use Rattle.pr_core.specs.State.{State}
 
@@ -11,3 +12,5 @@ pub record KeptView : Type 0 where
   pub reservations : State
   -- the nexuses that had contact, each with what waits to be reported
   pub slots : Slots
+  -- the nexuses that prevent the removal of media
+  pub preventers : List Nexus

@@ -1,11 +1,13 @@
 pub mod Conditions
 pub mod Commands
 pub mod UnitData
+pub mod Findings
 pub mod Replies
 pub mod KeptView
 pub mod UnitView
 pub mod Kept
 pub mod Judge
 pub mod Step
+pub mod Legal
 pub mod History
 pub mod Check

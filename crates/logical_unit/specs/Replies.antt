@@ -1,4 +1,4 @@
--- The answers of a unit. A number of 0 says that no record is kept of the event.
+-- The answers of a unit. A number of 0 says that there is no record of the event, or not yet.
 use Rattle.std.specs.Prelude.{◌≡◌, ℕ, ◌==◌, ◌&&◌, not, nat_lt, List, [], length, take, Option, Some, None, if◌then◌else◌, ◌⊎◌}
 use Rattle.scsi_cdb.specs.Bits.{bit, byte, two_bytes}
 use Rattle.scsi_sense.specs.declared.status.Status.{Status}
@@ -6,6 +6,8 @@ use Rattle.scsi_sense.specs.declared.status.Status.TheVariants.{Good, CheckCondi
 use Rattle.scsi_sense.specs.declared.condition.Condition.{Condition}
 use Rattle.scsi_sense.specs.declared.condition.Condition.TheVariants.{LogicalUnitNotSupported, InvalidFieldInCdb}
 use Rattle.scsi_sense.specs.Conditions.{sense_for}
+use Rattle.audit_log.specs.declared.stage.Stage.{Stage}
+use Rattle.audit_log.specs.declared.stage.Stage.TheVariants.{Fields, Device}
 use Rattle.device_server.specs.declared.outcome.Outcome.{Outcome}
 use Rattle.logical_unit.specs.declared.reply.Reply.{Reply}
 use Rattle.logical_unit.specs.UnitData.{absent_inquiry, sense_data}
@@ -30,10 +32,14 @@ check condition = record { status = CheckCondition; sense = Some (sense_for cond
 abbrev pub replied : Outcome → Reply
 replied outcome = record { status = outcome.status; sense = outcome.sense; payload = outcome.payload; number = 0 }
 
--- data cut at an allocation length, which changes nothing in it; a field that isn't right has none
-abbrev pub data_reply : Option (List ℕ) → (allocation_length : ℕ) → Reply
-data_reply (Some payload) n = good (take n payload)
-data_reply None n = check InvalidFieldInCdb
+-- data cut at an allocation length, which changes nothing in it, and the stage; a field that isn't right has none
+abbrev pub data_reply : Option (List ℕ) → (allocation_length : ℕ) → Stage × Reply
+data_reply (Some payload) n = (Device, good (take n payload))
+data_reply None n = (Fields, check InvalidFieldInCdb)
+
+-- with the number of the event's record
+abbrev pub numbered : Reply → ℕ → Reply
+numbered reply number = record reply { number = number }
 
 -- the answer of a unit that doesn't exist to a command: standard INQUIRY data, its own sense data, or 25h/00h
 abbrev pub absent_answer : List ℕ → Reply

@@ -1,26 +1,115 @@
--- One command at one unit.
-use Rattle.std.specs.Prelude.{◌≡◌, ℕ, true, List, Option, None, Some, if◌then◌else◌, ◌⊎◌}
+-- One event at one unit.
+use Rattle.std.specs.Prelude.{◌≡◌, ℕ, ◌+◌, ◌<◌, ◌^◌, Bool, true, false, List, [], ◌∷◌, ◌++◌, Option, None, Some, ◌⊎◌}
 use Rattle.scsi_nexus.specs.declared.nexus.Nexus.{Nexus}
+use Rattle.scsi_sense.specs.declared.sense.Sense.{Sense}
+use Rattle.scsi_sense.specs.declared.status.Status.{Status}
+use Rattle.scsi_sense.specs.declared.status.Status.TheVariants.{Good}
 use Rattle.unit_attention.specs.Queues.{has_slot, lost, was_reset}
-use Rattle.device_server.specs.View.{reset_of}
+use Rattle.audit_log.specs.declared.act.Act.{Act}
+use Rattle.audit_log.specs.declared.act.Act.TheVariants.{Loss, Reset}
+use Rattle.audit_log.specs.declared.record.Record.{Record}
+use Rattle.audit_log.specs.declared.stage.Stage.TheVariants.{Device}
+use Rattle.device_server.specs.View.{DeviceView, kind_of, reset_of}
+use Rattle.logical_unit.specs.declared.finding.Finding.{Finding}
 use Rattle.logical_unit.specs.declared.reply.Reply.{Reply}
-use Rattle.logical_unit.specs.Replies.{busy}
-use Rattle.logical_unit.specs.UnitView.{UnitView}
-use Rattle.logical_unit.specs.Kept.{has_room, met}
+use Rattle.logical_unit.specs.Commands.{act_of}
+use Rattle.logical_unit.specs.Findings.{unchecked}
+use Rattle.logical_unit.specs.Replies.{busy, numbered}
+use Rattle.logical_unit.specs.KeptView.{KeptView}
+use Rattle.logical_unit.specs.UnitView.{Present, UnitView, last_number}
+use Rattle.logical_unit.specs.Kept.{at_power_on, has_room, met, allowed}
 use Rattle.logical_unit.specs.Judge.{judged}
 
--- what isn't answered BUSY is a contact, and then judged
+-- a unit whose records will be numbered from one past a last number
+abbrev pub made : DeviceView → (lun units last : ℕ) → UnitView
+made device lun units last = record {
+  device = device;
+  kept = at_power_on lun units;
+  base = record { kept = at_power_on lun units; last = last };
+  records = [];
+}
+
+-- the record of an event
+abbrev pub entry_of : (number : ℕ) → Option Nexus → Act → Finding → Status → Option Sense → Record
+entry_of number nexus act finding status sense = record {
+  number = number;
+  nexus = nexus;
+  act = act;
+  stage = finding.stage;
+  cell = finding.cell;
+  rule = finding.rule;
+  status = status;
+  sense = sense;
+  mode_changed = false;
+}
+
+-- a unit after an event: its present, and one record more
+abbrev pub with_entry : UnitView → Present → Record → UnitView
+with_entry u now e = record { device = now.device; kept = now.kept; base = u.base; records = u.records ++ e ∷ [] }
+
+-- what a unit's commands are judged by, once the sender made contact
+abbrev pub contacted_present : UnitView → Nexus → Present
+contacted_present u n = record { device = u.device; kept = met u.kept n }
+
+-- a judged command has a record with the next number, and so has its reply
+abbrev pub recorded : UnitView → Nexus → Act → Present × Finding × Reply → UnitView × Reply
+recorded u n act answer = (
+  with_entry u answer.0 (entry_of (last_number u + 1) (Some n) act answer.1 answer.2.status answer.2.sense),
+  numbered answer.2 (last_number u + 1),
+)
+
+-- what isn't answered BUSY is a contact, and then judged, and recorded
 abbrev pub answered : UnitView → Nexus → (cdb bytes : List ℕ) → UnitView × Reply
-answered u n cdb bytes = judged (record u { kept = met u.kept n }) n cdb bytes
+answered u n cdb bytes = recorded u n (act_of (kind_of u.device) cdb bytes) (judged (contacted_present u n) n cdb bytes)
 
--- BUSY with nothing changed, which must come where there is no slot for the sender and may come for want of memory; or the answer
+-- whether there is a number for one record more
+abbrev pub HasNumber : UnitView → Type 0
+HasNumber u = last_number u + 1 < 2 ^ 64
+
+-- BUSY with nothing changed, which must come where there is no slot for the sender or the last record number is used, and may come
+-- for want of memory; or the answer
 abbrev pub Executes : UnitView → Nexus → (cdb bytes : List ℕ) → UnitView × Reply → Type 0
-Executes u n cdb bytes new = (new ≡ (u, busy)) ⊎ ((has_room u.kept n ≡ true) × (new ≡ answered u n cdb bytes))
+Executes u n cdb bytes new = (new ≡ (u, busy)) ⊎ ((has_room u.kept n ≡ true) × HasNumber u × (new ≡ answered u n cdb bytes))
 
--- an I_T nexus loss: nothing for a nexus without a slot, else its attention; a record number of 0 says that none is kept
-abbrev pub loses : UnitView → Nexus → UnitView × Option ℕ
-loses u n = (record u { kept = record u.kept { slots = lost u.kept.slots n } }, if has_slot u.kept.slots n then Some 0 else None)
+-- the record of an event that isn't a command
+abbrev pub event_of : (number : ℕ) → Option Nexus → Act → Record
+event_of number nexus act = entry_of number nexus act (unchecked Device) Good None
 
--- a reset of the unit: an attention for every slot, and the device is reset
+abbrev pub with_event : UnitView → Option Nexus → Act → Present → UnitView
+with_event u nexus act now = with_entry u now (event_of (last_number u + 1) nexus act)
+
+-- what is kept after an I_T nexus loss, and after a reset of the unit: an attention for the nexus, or for every slot, and its
+-- prevention of removal, or everybody's, ends
+abbrev pub kept_after_loss : KeptView → Nexus → KeptView
+kept_after_loss k n = allowed (record k { slots = lost k.slots n }) n
+
+abbrev pub kept_after_reset : KeptView → KeptView
+kept_after_reset k = record k { slots = was_reset k.slots; preventers = [] }
+
+-- the unit after the loss of a nexus that has a slot, and after a reset, by which the device is reset too
+abbrev pub loses : UnitView → Nexus → UnitView
+loses u n = with_event u (Some n) Loss (record { device = u.device; kept = kept_after_loss u.kept n })
+
 abbrev pub resets : UnitView → UnitView
-resets u = record { device = reset_of u.device; kept = record u.kept { slots = was_reset u.kept.slots } }
+resets u = with_event u None Reset (record { device = reset_of u.device; kept = kept_after_reset u.kept })
+
+-- a loss that isn't BUSY, with the number of its record: nothing for a nexus without a slot
+abbrev pub LosesAs : (known : Bool) → UnitView → Nexus → UnitView × Option ℕ → Type 0
+LosesAs false u n new = new ≡ (u, None)
+LosesAs true u n new = HasNumber u × (new ≡ (loses u n, Some (last_number u + 1)))
+
+abbrev pub Loses : UnitView → Nexus → UnitView × Option ℕ → Type 0
+Loses u n new = LosesAs (has_slot u.kept.slots n) u n new
+
+-- a reset that isn't BUSY, with the number of its record
+abbrev pub Resets : UnitView → UnitView × ℕ → Type 0
+Resets u new = HasNumber u × (new ≡ (resets u, last_number u + 1))
+
+-- once its records are handed out: the present is the base
+abbrev pub drained : UnitView → UnitView
+drained u = record {
+  device = u.device;
+  kept = u.kept;
+  base = record { kept = u.kept; last = last_number u };
+  records = [];
+}

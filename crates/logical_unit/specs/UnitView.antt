@@ -1,7 +1,40 @@
--- What contracts see of a unit: its device, and the rest.
+-- What contracts see of a unit.
+use Rattle.std.specs.Prelude.{ℕ, ◌+◌, List, length}
 use Rattle.device_server.specs.View.{DeviceView}
+use Rattle.audit_log.specs.declared.record.Record.{Record}
 use Rattle.logical_unit.specs.KeptView.{KeptView}
+
+-- a device, and what its unit keeps beside it: what commands are judged by
+pub record Present : Type 0 where
+  pub device : DeviceView
+  pub kept : KeptView
+
+-- what records are read from: what was kept before the first of them, and the last number that was used then
+pub record Base : Type 0 where
+  pub kept : KeptView
+  pub last : ℕ
 
 pub record UnitView : Type 0 where
   pub device : DeviceView
   pub kept : KeptView
+  pub base : Base
+  -- one for each event since the base, oldest first
+  pub records : List Record
+
+-- a unit without its device, and for how many records more there is room
+pub record StateView : Type 0 where
+  pub kept : KeptView
+  pub base : Base
+  pub records : List Record
+  pub room : ℕ
+
+-- the unit of a device
+abbrev pub unit_of : DeviceView → StateView → UnitView
+unit_of device s = record { device = device; kept = s.kept; base = s.base; records = s.records }
+
+-- the last number that was used
+abbrev pub last_number : UnitView → ℕ
+last_number u = u.base.last + length u.records
+
+abbrev pub last_in : StateView → ℕ
+last_in s = s.base.last + length s.records

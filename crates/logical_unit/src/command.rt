@@ -1,16 +1,19 @@
-ghost use Rattle.std.specs.Prelude.{◌≡◌};
-ghost use Rattle.logical_unit.specs.Commands.{spelled, command_of, class_of_command, passes_over};
+ghost use Rattle.std.specs.Prelude.{◌≡◌, IfOk};
+ghost use Rattle.logical_unit.specs.Commands.{spelled, command_of, class_of_command, passes_over, act_of_spelled};
 
 use crate::conditions::condition_of_fault;
-use pr_params::{OutParams, read_out};
+use crate::reserve_params::ReserveParams;
+use audit_log::Act;
+use pr_params::read_out;
 use scsi_cdb::{Class, InServiceAction, Kind, Request, class, decode};
 use scsi_sense::Condition;
+use std::alloc::{AllocError, Global};
 
 /// A command that its CDB and parameter list spell, as far as their lengths and codes go.
-#[derive(Clone, Copy, Debug)]
+#[derive(Debug, Drop)]
 pub enum Command {
     /// PERSISTENT RESERVE OUT with its parameter list.
-    ReserveOut(OutParams),
+    ReserveOut(ReserveParams),
     /// PERSISTENT RESERVE IN with its service action and ALLOCATION LENGTH.
     ReserveIn(InServiceAction, u16),
     /// INQUIRY with EVPD, PAGE CODE and ALLOCATION LENGTH.
@@ -19,6 +22,8 @@ pub enum Command {
     ReportLuns(u8, u32),
     /// REQUEST SENSE with DESC and ALLOCATION LENGTH.
     RequestSense(bool, u8),
+    /// PREVENT ALLOW MEDIUM REMOVAL with PREVENT.
+    Prevent(u8),
     /// A command that the device carries out.
     Device(Request),
 }
@@ -26,17 +31,26 @@ pub enum Command {
 impl Command {
     /// The command that a CDB spells for a kind of unit, with the data sent with it, or what is
     /// reported of bytes that spell none.
-    pub(crate) fn spelled(kind: Kind, cdb: &[u8], bytes: &[u8]) -> Result<Command, Condition>
-        ensures { result ≡ spelled kind cdb.now bytes.now }
+    pub(crate) fn spelled(
+        alloc: Global,
+        kind: Kind,
+        cdb: &[u8],
+        bytes: &[u8],
+    ) -> Result<Result<Command, Condition>, AllocError>
+        ensures { IfOk result (λ it. it ≡ spelled kind cdb.now bytes.now) }
     {
         match decode(kind, cdb) {
-            Ok(request) => Command::of(request, bytes),
-            Err(fault) => Err(condition_of_fault(fault)),
+            Ok(request) => Command::of(alloc, request, bytes),
+            Err(fault) => Ok(Err(condition_of_fault(fault))),
         }
     }
 
-    fn of(request: Request, bytes: &[u8]) -> Result<Command, Condition>
-        ensures { result ≡ command_of request bytes.now }
+    fn of(
+        alloc: Global,
+        request: Request,
+        bytes: &[u8],
+    ) -> Result<Result<Command, Condition>, AllocError>
+        ensures { IfOk result (λ it. it ≡ command_of request bytes.now) }
     {
         match request {
             Request::PersistentReserveOut {
@@ -44,27 +58,28 @@ impl Command {
                 scope_type,
                 parameter_list_length,
             } => match read_out(service_action, scope_type, parameter_list_length, bytes) {
-                Ok(params) => Ok(Command::ReserveOut(params)),
-                Err(_) => Err(Condition::ParameterListLengthError),
+                Ok(params) => Ok(Ok(Command::ReserveOut(ReserveParams::new(alloc, params)?))),
+                Err(_) => Ok(Err(Condition::ParameterListLengthError)),
             },
             Request::PersistentReserveIn {
                 service_action,
                 allocation_length,
-            } => Ok(Command::ReserveIn(service_action, allocation_length)),
+            } => Ok(Ok(Command::ReserveIn(service_action, allocation_length))),
             Request::Inquiry {
                 vital_product_data,
                 page_code,
                 allocation_length,
-            } => Ok(Command::Inquiry(vital_product_data, page_code, allocation_length)),
+            } => Ok(Ok(Command::Inquiry(vital_product_data, page_code, allocation_length))),
             Request::ReportLuns {
                 select_report,
                 allocation_length,
-            } => Ok(Command::ReportLuns(select_report, allocation_length)),
+            } => Ok(Ok(Command::ReportLuns(select_report, allocation_length))),
             Request::RequestSense {
                 descriptor_format,
                 allocation_length,
-            } => Ok(Command::RequestSense(descriptor_format, allocation_length)),
-            other => Ok(Command::Device(other)),
+            } => Ok(Ok(Command::RequestSense(descriptor_format, allocation_length))),
+            Request::PreventAllowMediumRemoval { prevent } => Ok(Ok(Command::Prevent(prevent))),
+            other => Ok(Ok(Command::Device(other))),
         }
     }
 
@@ -73,23 +88,36 @@ impl Command {
         ensures { result ≡ class_of_command self.now }
     {
         match self {
-            Command::ReserveOut(params) => params.act.class(),
+            Command::ReserveOut(list) => list.params().act.class(),
             Command::ReserveIn(_, _) => Class::PersistentReserveIn,
             Command::Inquiry(_, _, _) => Class::Inquiry,
             Command::ReportLuns(_, _) => Class::ReportLuns,
             Command::RequestSense(_, _) => Class::RequestSense,
+            Command::Prevent(prevent) => class(&Request::PreventAllowMediumRemoval {
+                prevent: *prevent,
+            }),
             Command::Device(request) => class(request),
         }
     }
+}
 
-    /// Whether it passes over the attentions that wait for its sender.
-    pub(crate) fn passes_over(&self) -> bool
-        ensures { result ≡ passes_over self.now }
-    {
-        match self {
-            Command::Inquiry(_, _, _) | Command::ReportLuns(_, _) | Command::RequestSense(_, _) =>
-                true,
-            Command::ReserveOut(_) | Command::ReserveIn(_, _) | Command::Device(_) => false,
-        }
+/// Whether a command of this class passes over the attentions that wait for its sender.
+pub(crate) fn passes_over(class: Class) -> bool
+    ensures { result ≡ passes_over class }
+{
+    match class {
+        Class::Inquiry | Class::ReportLuns | Class::RequestSense => true,
+        _ => false,
+    }
+}
+
+/// What a record says was asked by bytes.
+pub(crate) fn act_of(alloc: Global, spelled: &Result<Command, Condition>) -> Result<Act, AllocError>
+    ensures { IfOk result (λ act. act ≡ act_of_spelled spelled.now) }
+{
+    match spelled {
+        Ok(Command::ReserveOut(list)) => Ok(Act::ReserveOut(list.params().keep(alloc)?)),
+        Ok(command) => Ok(Act::Command(command.class())),
+        Err(_) => Ok(Act::Invalid),
     }
 }

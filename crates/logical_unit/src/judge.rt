@@ -3,109 +3,176 @@ ghost use Rattle.unit_attention.specs.Queues.{first_reset_of, first_other_of};
 ghost use Rattle.pr_core.specs.declared.verdict.Verdict.TheVariants.{Allowed};
 ghost use Rattle.device_server.specs.View.{kind_of};
 ghost use Rattle.logical_unit.specs.Kept.{has_room, met};
-ghost use Rattle.logical_unit.specs.Judge.{verdict_of, waiting, carried_out, let_through, checked, commanded, judged, requests_sense};
+ghost use Rattle.logical_unit.specs.Judge.{verdict_of, waiting, carried_out, let_through, checked, commanded, judged_as, requests_sense, prevents};
+ghost use Rattle.device_server.specs.View.{DeviceView};
 
-use crate::command::Command;
+use crate::command::{Command, passes_over};
 use crate::conditions::{condition_of_attention, condition_of_refusal};
+use crate::finding::Finding;
+use crate::kept::Kept;
 use crate::reply::Reply;
-use crate::state::UnitState;
 use crate::unit_data::{inquiry, report_luns, sense_data};
+use audit_log::Stage;
 use device_server::{DeviceServer, Payload};
 use pr_core::Verdict;
+use scsi_cdb::Class;
 use scsi_nexus::Nexus;
 use scsi_sense::Condition;
 use std::alloc::{AllocError, Global};
 use unit_attention::Kind;
 
-/// An attention that waits, unless the command passes over it.
-fn waiting(command: &Command, pending: Option<Kind>) -> Option<Kind>
-    ensures { result ≡ waiting command.now pending }
+/// An attention that waits, unless the class passes over it.
+fn waiting(class: Class, pending: Option<Kind>) -> Option<Kind>
+    ensures { result ≡ waiting class pending }
 {
-    if command.passes_over() { None } else { pending }
+    if passes_over(class) { None } else { pending }
 }
 
 /// A command by its own rules, where nothing stands before it. Want of memory changes nothing.
 fn carry_out<D: DeviceServer>(
     alloc: Global,
     server: &mut Box<D>,
-    state: &mut UnitState,
+    kept: &mut Kept,
     nexus: Nexus,
     command: &Command,
     bytes: &[u8],
-) -> Result<Reply, AllocError>
-    requires room { has_room state.old nexus ≡ true }
-    requires allowed { verdict_of state.old.reservations nexus command.now ≡ Allowed }
-    ensures ok { IfOk result (λ reply. carried_out (record { device = D.shown server.old.value; kept = met state.old nexus }) nexus command.now bytes.now ≡ (record { device = D.shown server.new.value; kept = state.new }, reply)) }
-    ensures err { OnErr result ((D.shown server.new.value ≡ D.shown server.old.value) × (state.new ≡ state.old)) }
+) -> Result<(Stage, Reply), AllocError>
+    requires room { has_room kept.old nexus ≡ true }
+    requires allowed { verdict_of kept.old.reservations nexus command.now ≡ Allowed }
+    ensures ok { IfOk result (λ it. carried_out (record { device = D.shown server.old.value; kept = met kept.old nexus }) nexus command.now bytes.now ≡ (record { device = D.shown server.new.value; kept = kept.new }, it.0, it.1)) }
+    ensures err { OnErr result ((D.shown server.new.value ≡ D.shown server.old.value) × (kept.new ≡ kept.old)) }
 {
     match command {
-        Command::ReserveOut(params) => match state.reserve(nexus, params) {
-            Ok(()) => Ok(Reply::good(Payload::none(alloc))),
-            Err(fault) => Ok(Reply::check(alloc, condition_of_refusal(fault))),
+        Command::ReserveOut(list) => match kept.reserve(nexus, list.params()) {
+            Ok(()) => Ok((Stage::Device, Reply::good(Payload::none(alloc)))),
+            Err(fault) => Ok((
+                Stage::Fields,
+                Reply::check(alloc, condition_of_refusal(fault)),
+            )),
         },
         Command::ReserveIn(service_action, allocation_length) => {
-            let payload = state.read_status(alloc, *service_action, *allocation_length)?;
-            state.meet(nexus);
-            Ok(Reply::good(payload))
+            let payload = kept.read_status(alloc, *service_action, *allocation_length)?;
+            kept.meet(nexus);
+            Ok((Stage::Device, Reply::good(payload)))
         }
         Command::Inquiry(vital_product_data, page_code, allocation_length) => {
             let payload = inquiry(
                 alloc,
                 server.kind(),
-                state.lun(),
+                kept.lun(),
                 *vital_product_data,
                 *page_code,
             )?;
-            state.meet(nexus);
+            kept.meet(nexus);
             Ok(Reply::data(alloc, payload, usize::from(*allocation_length)))
         }
         Command::ReportLuns(select_report, allocation_length) => {
-            let payload = report_luns(alloc, state.units(), *select_report)?;
-            state.meet(nexus);
+            let payload = report_luns(alloc, kept.units(), *select_report)?;
+            kept.meet(nexus);
             Ok(Reply::data(alloc, payload, *allocation_length as usize))
         }
         Command::RequestSense(descriptor_format, allocation_length) => request_sense(
             alloc,
-            state,
+            kept,
             nexus,
             *descriptor_format,
             *allocation_length,
         ),
+        Command::Prevent(prevent) => prevent_or_allow(alloc, kept, nexus, *prevent),
         Command::Device(request) => {
             let outcome = server.perform(alloc, request, bytes)?;
-            state.meet(nexus);
-            Ok(Reply::of(outcome))
+            kept.meet(nexus);
+            Ok((Stage::Device, Reply::of(outcome)))
         }
     }
+}
+
+/// PREVENT ALLOW MEDIUM REMOVAL. For want of room among those that prevent removal nothing changes;
+/// each of them has a slot, so there is room, but their list doesn't say so.
+fn prevent_or_allow(
+    alloc: Global,
+    kept: &mut Kept,
+    nexus: Nexus,
+    prevent: u8,
+) -> Result<(Stage, Reply), AllocError>
+    requires { has_room kept.old nexus ≡ true }
+    ensures ok { IfOk result (λ it. (device : DeviceView) → prevents (record { device = device; kept = met kept.old nexus }) nexus prevent ≡ (record { device = device; kept = kept.new }, it.0, it.1)) }
+    ensures err { OnErr result (kept.new ≡ kept.old) }
+{
+    match prevent {
+        0 => kept.allow(nexus),
+        1 => {
+            if !kept.may_prevent(nexus) {
+                return Err(AllocError);
+            }
+            kept.prevent(nexus);
+        }
+        _ => {
+            kept.meet(nexus);
+            let reply = Reply::check(alloc, Condition::InvalidFieldInCdb);
+            return Ok((Stage::Fields, reply));
+        }
+    }
+    Ok((Stage::Device, Reply::good(Payload::none(alloc))))
 }
 
 /// REQUEST SENSE. Want of memory changes nothing.
 fn request_sense(
     alloc: Global,
-    state: &mut UnitState,
+    kept: &mut Kept,
     nexus: Nexus,
     descriptor_format: bool,
     allocation_length: u8,
-) -> Result<Reply, AllocError>
-    requires { has_room state.old nexus ≡ true }
-    ensures ok { IfOk result (λ reply. requests_sense (met state.old nexus) nexus descriptor_format allocation_length ≡ (state.new, reply)) }
-    ensures err { OnErr result (state.new ≡ state.old) }
+) -> Result<(Stage, Reply), AllocError>
+    requires { has_room kept.old nexus ≡ true }
+    ensures ok { IfOk result (λ it. requests_sense (met kept.old nexus) nexus descriptor_format allocation_length ≡ (kept.new, it.0, it.1)) }
+    ensures err { OnErr result (kept.new ≡ kept.old) }
 {
     if descriptor_format {
-        state.meet(nexus);
-        return Ok(Reply::check(alloc, Condition::InvalidFieldInCdb));
+        kept.meet(nexus);
+        return Ok((
+            Stage::Fields,
+            Reply::check(alloc, Condition::InvalidFieldInCdb),
+        ));
     }
     let length = usize::from(allocation_length);
-    match state.pending(nexus) {
+    match kept.pending(nexus) {
         Some(kind) => {
             let payload = sense_data(alloc, condition_of_attention(kind))?;
-            let _ = state.tell(alloc, nexus, kind);
-            Ok(Reply::good(payload.cut(length)))
+            let _ = kept.tell(alloc, nexus, kind);
+            Ok((Stage::Device, Reply::good(payload.cut(length))))
         }
         None => {
             let payload = sense_data(alloc, Condition::NoAdditionalSenseInformation)?;
-            state.meet(nexus);
-            Ok(Reply::good(payload.cut(length)))
+            kept.meet(nexus);
+            Ok((Stage::Device, Reply::good(payload.cut(length))))
+        }
+    }
+}
+
+/// A command that the reservation check let through: another attention, or the command itself.
+fn let_through<D: DeviceServer>(
+    alloc: Global,
+    server: &mut Box<D>,
+    kept: &mut Kept,
+    nexus: Nexus,
+    command: &Command,
+    bytes: &[u8],
+) -> Result<(Finding, Reply), AllocError>
+    requires room { has_room kept.old nexus ≡ true }
+    requires allowed { verdict_of kept.old.reservations nexus command.now ≡ Allowed }
+    ensures ok { IfOk result (λ it. let_through (record { device = D.shown server.old.value; kept = met kept.old nexus }) nexus command.now bytes.now ≡ (record { device = D.shown server.new.value; kept = kept.new }, it.0, it.1)) }
+    ensures err { OnErr result ((D.shown server.new.value ≡ D.shown server.old.value) × (kept.new ≡ kept.old)) }
+{
+    let cell = kept.cell(nexus, command);
+    match waiting(command.class(), kept.first_other(nexus)) {
+        Some(kind) => Ok((
+            Finding::let_in(cell, Stage::OtherAttention),
+            kept.tell(alloc, nexus, kind),
+        )),
+        None => {
+            let (stage, reply) = carry_out(alloc, server, kept, nexus, command, bytes)?;
+            Ok((Finding::let_in(cell, stage), reply))
         }
     }
 }
@@ -114,64 +181,68 @@ fn request_sense(
 fn check<D: DeviceServer>(
     alloc: Global,
     server: &mut Box<D>,
-    state: &mut UnitState,
+    kept: &mut Kept,
     nexus: Nexus,
     command: &Command,
     bytes: &[u8],
-) -> Result<Reply, AllocError>
-    requires { has_room state.old nexus ≡ true }
-    ensures ok { IfOk result (λ reply. checked (record { device = D.shown server.old.value; kept = met state.old nexus }) nexus command.now bytes.now ≡ (record { device = D.shown server.new.value; kept = state.new }, reply)) }
-    ensures err { OnErr result ((D.shown server.new.value ≡ D.shown server.old.value) × (state.new ≡ state.old)) }
+) -> Result<(Finding, Reply), AllocError>
+    requires { has_room kept.old nexus ≡ true }
+    ensures ok { IfOk result (λ it. checked (record { device = D.shown server.old.value; kept = met kept.old nexus }) nexus command.now bytes.now ≡ (record { device = D.shown server.new.value; kept = kept.new }, it.0, it.1)) }
+    ensures err { OnErr result ((D.shown server.new.value ≡ D.shown server.old.value) × (kept.new ≡ kept.old)) }
 {
-    match state.verdict(nexus, command) {
-        Verdict::Allowed => match waiting(command, state.first_other(nexus)) {
-            Some(kind) => Ok(state.tell(alloc, nexus, kind)),
-            None => carry_out(alloc, server, state, nexus, command, bytes),
-        },
-        Verdict::Denied(_) | Verdict::Rule(_) => {
-            state.meet(nexus);
-            Ok(Reply::conflict(alloc))
-        }
-    }
+    let rule = match kept.verdict(nexus, command) {
+        Verdict::Allowed => return let_through(alloc, server, kept, nexus, command, bytes),
+        Verdict::Denied(_) => None,
+        Verdict::Rule(rule) => Some(rule),
+    };
+    let cell = kept.cell(nexus, command);
+    kept.meet(nexus);
+    Ok((Finding::in_conflict(cell, rule), Reply::conflict(alloc)))
 }
 
 /// A command that the bytes spell: an attention of ASC 29h, or the reservation check.
 fn judge_command<D: DeviceServer>(
     alloc: Global,
     server: &mut Box<D>,
-    state: &mut UnitState,
+    kept: &mut Kept,
     nexus: Nexus,
     command: &Command,
     bytes: &[u8],
-) -> Result<Reply, AllocError>
-    requires { has_room state.old nexus ≡ true }
-    ensures ok { IfOk result (λ reply. commanded (record { device = D.shown server.old.value; kept = met state.old nexus }) nexus command.now bytes.now ≡ (record { device = D.shown server.new.value; kept = state.new }, reply)) }
-    ensures err { OnErr result ((D.shown server.new.value ≡ D.shown server.old.value) × (state.new ≡ state.old)) }
+) -> Result<(Finding, Reply), AllocError>
+    requires { has_room kept.old nexus ≡ true }
+    ensures ok { IfOk result (λ it. commanded (record { device = D.shown server.old.value; kept = met kept.old nexus }) nexus command.now bytes.now ≡ (record { device = D.shown server.new.value; kept = kept.new }, it.0, it.1)) }
+    ensures err { OnErr result ((D.shown server.new.value ≡ D.shown server.old.value) × (kept.new ≡ kept.old)) }
 {
-    match waiting(command, state.first_reset(nexus)) {
-        Some(kind) => Ok(state.tell(alloc, nexus, kind)),
-        None => check(alloc, server, state, nexus, command, bytes),
+    match waiting(command.class(), kept.first_reset(nexus)) {
+        Some(kind) => Ok((
+            Finding::unchecked(Stage::ResetAttention),
+            kept.tell(alloc, nexus, kind),
+        )),
+        None => check(alloc, server, kept, nexus, command, bytes),
     }
 }
 
-/// A command from its bytes, by the stages in their order. Want of memory changes nothing.
+/// A command by the stages in their order, with what its record says. Want of memory changes nothing.
 pub(crate) fn judge<D: DeviceServer>(
     alloc: Global,
     server: &mut Box<D>,
-    state: &mut UnitState,
+    kept: &mut Kept,
     nexus: Nexus,
-    cdb: &[u8],
+    spelled: &Result<Command, Condition>,
     bytes: &[u8],
-) -> Result<Reply, AllocError>
-    requires { has_room state.old nexus ≡ true }
-    ensures ok { IfOk result (λ reply. judged (record { device = D.shown server.old.value; kept = met state.old nexus }) nexus cdb.now bytes.now ≡ (record { device = D.shown server.new.value; kept = state.new }, reply)) }
-    ensures err { OnErr result ((D.shown server.new.value ≡ D.shown server.old.value) × (state.new ≡ state.old)) }
+) -> Result<(Finding, Reply), AllocError>
+    requires { has_room kept.old nexus ≡ true }
+    ensures ok { IfOk result (λ it. judged_as (record { device = D.shown server.old.value; kept = met kept.old nexus }) nexus spelled.now bytes.now ≡ (record { device = D.shown server.new.value; kept = kept.new }, it.0, it.1)) }
+    ensures err { OnErr result ((D.shown server.new.value ≡ D.shown server.old.value) × (kept.new ≡ kept.old)) }
 {
-    match Command::spelled(server.kind(), cdb, bytes) {
-        Ok(spelled) => judge_command(alloc, server, state, nexus, &spelled, bytes),
+    match spelled {
+        Ok(command) => judge_command(alloc, server, kept, nexus, command, bytes),
         Err(condition) => {
-            state.meet(nexus);
-            Ok(Reply::check(alloc, condition))
+            kept.meet(nexus);
+            Ok((
+                Finding::unchecked(Stage::Spelling),
+                Reply::check(alloc, *condition),
+            ))
         }
     }
 }

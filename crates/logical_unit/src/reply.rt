@@ -1,3 +1,4 @@
+use audit_log::Stage;
 use device_server::{Outcome, Payload};
 use scsi_sense::{Condition, Sense, Status};
 use std::alloc::Global;
@@ -16,7 +17,7 @@ pub struct Reply {
 
 impl Reply {
     ghost use Rattle.std.specs.Prelude.{◌≡◌};
-    ghost use Rattle.logical_unit.specs.Replies.{plain, busy, conflict, good, check, replied, data_reply};
+    ghost use Rattle.logical_unit.specs.Replies.{plain, busy, conflict, good, check, replied, data_reply, numbered};
 
     fn plain(alloc: Global, status: Status) -> Reply
         ensures { result ≡ plain status }
@@ -79,13 +80,32 @@ impl Reply {
     }
 
     /// GOOD with data cut at an allocation length, or CHECK CONDITION where there is none since a
-    /// field of the CDB isn't right.
-    pub(crate) fn data(alloc: Global, payload: Option<Payload>, allocation_length: usize) -> Reply
+    /// field of the CDB isn't right; with the stage that decided it.
+    pub(crate) fn data(
+        alloc: Global,
+        payload: Option<Payload>,
+        allocation_length: usize,
+    ) -> (Stage, Reply)
         ensures { result ≡ data_reply payload allocation_length }
     {
         match payload {
-            Some(payload) => Reply::good(payload.cut(allocation_length)),
-            None => Reply::check(alloc, Condition::InvalidFieldInCdb),
+            Some(payload) => (Stage::Device, Reply::good(payload.cut(allocation_length))),
+            None => (
+                Stage::Fields,
+                Reply::check(alloc, Condition::InvalidFieldInCdb),
+            ),
+        }
+    }
+
+    /// With the number of the event's record.
+    pub(crate) fn numbered(self, number: u64) -> Reply
+        ensures { result ≡ numbered self number }
+    {
+        Reply {
+            status: self.status,
+            sense: self.sense,
+            payload: self.payload,
+            number,
         }
     }
 }

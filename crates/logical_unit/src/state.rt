@@ -1,229 +1,226 @@
-use crate::command::Command;
-use crate::conditions::condition_of_attention;
+use crate::command::{Command, act_of};
+use crate::finding::Finding;
+use crate::judge::judge;
+use crate::kept::Kept;
 use crate::reply::Reply;
-use device_server::Payload;
-use permit_tables::allowed;
-use pr_core::{PrFault, PrState, Verdict};
-use pr_params::{OutParams, write_capabilities, write_full_status, write_keys, write_reservation};
-use scsi_cdb::InServiceAction;
+use audit_log::{Act, Record, Stage, Trail};
+use device_server::DeviceServer;
 use scsi_nexus::Nexus;
+use scsi_sense::{Sense, Status};
 use std::alloc::{AllocError, Global};
 use std::marker::Model;
-use unit_attention::{Kind, Queues};
 
-/// What a unit keeps beside its device.
+/// A unit without its device: what it keeps now, the records, and what was kept before the first of
+/// them. What it keeps is always what the records make of that.
 #[derive(Drop)]
 pub(crate) struct UnitState {
-    lun: u8,
-    units: u8,
-    reservations: PrState,
-    queues: Queues,
+    kept: Kept,
+    base: Kept,
+    trail: Trail,
 }
 
 impl Model for UnitState {
-    ghost use Rattle.logical_unit.specs.KeptView.{KeptView};
+    ghost use Rattle.std.specs.Prelude.{◌≡◌};
+    ghost use Rattle.logical_unit.specs.UnitView.{Base, StateView};
+    ghost use Rattle.logical_unit.specs.Legal.{AreJudged, kept_after};
 
-    ghost Value = { KeptView };
+    ghost Value = { StateView };
 
-    ghost view = { λ s. record { lun = s.lun; units = s.units; reservations = s.reservations; slots = s.queues } };
+    ghost view = { λ s. record {
+      kept = s.kept;
+      base = record { kept = s.base; last = s.trail.base };
+      records = s.trail.records;
+      room = s.trail.room;
+    } };
+
+    ghost invariant = { λ s. AreJudged s.base s.trail.records × (s.kept ≡ kept_after s.base s.trail.records) };
 }
 
 impl UnitState {
-    ghost use Rattle.std.specs.Prelude.{◌≡◌, true};
-    ghost use Rattle.unit_attention.specs.Queues.{first_reset_of, first_other_of, has_slot, lost, was_reset};
-    ghost use Rattle.logical_unit.specs.Kept.{at_power_on, has_room, met, reported};
-    ghost use Rattle.logical_unit.specs.Judge.{pending_of};
-    ghost use Rattle.logical_unit.specs.Replies.{check};
-    ghost use Rattle.logical_unit.specs.Conditions.{condition_of_attention};
+    ghost use Rattle.std.specs.Prelude.{◌≡◌, ◌<◌, ◌+◌, ◌^◌, ℕ, true, [], IsTrue};
+    ghost use Rattle.unit_attention.specs.Queues.{has_slot};
+    ghost use Rattle.logical_unit.specs.UnitView.{Base, StateView, last_in};
+    ghost use Rattle.logical_unit.specs.Kept.{at_power_on, has_room, is_prevented};
+    ghost use Rattle.logical_unit.specs.Legal.{IsTrail};
 
-    /// At power on, for a unit of this number among so many.
-    pub(crate) fn new(lun: u8, units: u8) -> UnitState
-        ensures { result ≡ at_power_on lun units }
+    /// At power on, for a unit of this number among so many. The first record will have the number
+    /// after `last`.
+    pub(crate) fn new(alloc: Global, lun: u8, units: u8, last: u64) -> UnitState
+        ensures { result ≡ record { kept = at_power_on lun units; base = record { kept = at_power_on lun units; last = last }; records = []; room = 0 } }
     {
         UnitState {
-            lun,
-            units,
-            reservations: PrState::new(),
-            queues: Queues::new(),
+            kept: Kept::new(lun, units),
+            base: Kept::new(lun, units),
+            trail: Trail::new(alloc, last),
         }
     }
 
     pub(crate) fn lun(&self) -> u8
-        ensures { result ≡ self.now.lun }
+        ensures { result ≡ self.now.kept.lun }
     {
-        self.lun
+        self.kept.lun()
     }
 
     pub(crate) fn units(&self) -> u8
-        ensures { result ≡ self.now.units }
+        ensures { result ≡ self.now.kept.units }
     {
-        self.units
+        self.kept.units()
     }
 
     /// Whether a sender has a slot, or one is left for it.
     pub(crate) fn has_room(&self, nexus: Nexus) -> bool
-        ensures { result ≡ has_room self.now nexus }
+        ensures { result ≡ has_room self.now.kept nexus }
     {
-        self.queues.has(nexus) || !self.queues.is_full()
+        self.kept.has_room(nexus)
     }
 
-    /// The contact that each command is.
-    pub(crate) fn meet(&mut self, nexus: Nexus)
-        requires { has_room self.old nexus ≡ true }
-        ensures { self.new ≡ met self.old nexus }
+    /// Whether a nexus has a slot.
+    pub(crate) fn knows(&self, nexus: Nexus) -> bool
+        ensures { result ≡ has_slot self.now.kept.slots nexus }
     {
-        let met = self.queues.contact(nexus);
-        prove!(met.is_ok());
+        self.kept.knows(nexus)
     }
 
-    /// The oldest attention of ASC 29h that waits once the sender made contact.
-    pub(crate) fn first_reset(&self, nexus: Nexus) -> Option<Kind>
-        ensures { result ≡ first_reset_of (met self.now nexus).slots nexus }
+    /// Whether somebody prevents the removal of media.
+    pub(crate) fn is_prevented(&self) -> bool
+        ensures { result ≡ is_prevented self.now.kept }
     {
-        if self.queues.has(nexus) {
-            self.queues.first_reset(nexus)
-        } else {
-            Some(Kind::PowerOn)
+        self.kept.is_prevented()
+    }
+
+    /// The records, a legal trail.
+    pub(crate) fn records(&self) -> &[Record]
+        ensures records { result.now ≡ self.now.records }
+        ensures trail { IsTrail self.now.base self.now.records self.now.kept }
+    {
+        self.trail.records()
+    }
+
+    /// Makes room for one record more, where there is a number for it. Nothing else changes.
+    pub(crate) fn reserve(&mut self) -> bool
+        ensures rest { self.new ≡ record self.old { room = self.new.room } }
+        ensures room { IsTrue result → 0 < self.new.room }
+        ensures number { IsTrue result → last_in self.new + 1 < 2 ^ 64 }
+    {
+        if self.trail.last().checked_add(1).is_none() {
+            return false;
         }
-    }
-
-    /// The oldest other attention that waits once the sender made contact.
-    pub(crate) fn first_other(&self, nexus: Nexus) -> Option<Kind>
-        ensures { result ≡ first_other_of (met self.now nexus).slots nexus }
-    {
-        if self.queues.has(nexus) {
-            self.queues.first_other(nexus)
-        } else {
-            None
-        }
-    }
-
-    /// The attention that would be reported once the sender made contact.
-    pub(crate) fn pending(&self, nexus: Nexus) -> Option<Kind>
-        ensures { result ≡ pending_of (met self.now nexus).slots nexus }
-    {
-        match self.first_reset(nexus) {
-            Some(kind) => Some(kind),
-            None => self.first_other(nexus),
-        }
-    }
-
-    /// An I_T nexus loss: whether the nexus has a slot.
-    pub(crate) fn lose(&mut self, nexus: Nexus) -> bool
-        ensures state { self.new ≡ record self.old { slots = lost self.old.slots nexus } }
-        ensures known { result ≡ has_slot self.old.slots nexus }
-    {
-        let is_known = self.queues.has(nexus);
-        self.queues.lose(nexus);
-        is_known
-    }
-
-    /// A reset of the unit.
-    pub(crate) fn reset(&mut self)
-        ensures { self.new ≡ record self.old { slots = was_reset self.old.slots } }
-    {
-        self.queues.reset();
-    }
-
-    /// Contact, and the report of an attention, which waits no more.
-    pub(crate) fn tell(&mut self, alloc: Global, nexus: Nexus, kind: Kind) -> Reply
-        requires { has_room self.old nexus ≡ true }
-        ensures state { self.new ≡ reported (met self.old nexus) nexus kind }
-        ensures reply { result ≡ check (condition_of_attention kind) }
-    {
-        self.meet(nexus);
-        self.queues.clear(nexus, kind);
-        Reply::check(alloc, condition_of_attention(kind))
+        self.trail.reserve_one().is_ok()
     }
 }
 
 impl UnitState {
-    ghost use Rattle.std.specs.Prelude.{◌≡◌, true, None, Some, OnOk, IfOk, IfErr, take};
-    ghost use Rattle.pr_core.specs.Judge.{verdict};
-    ghost use Rattle.pr_core.specs.Outcome.{refusal};
-    ghost use Rattle.pr_core.specs.declared.verdict.Verdict.TheVariants.{Allowed};
-    ghost use Rattle.logical_unit.specs.Kept.{has_room, met, accepted};
-    ghost use Rattle.logical_unit.specs.Judge.{verdict_of, status_data};
+    ghost use Rattle.std.specs.Prelude.{◌≡◌, ◌<◌, ◌+◌, ◌^◌, ℕ, true, [], ◌∷◌, ◌++◌, Some, None, IfOk, OnErr};
+    ghost use Rattle.device_server.specs.View.{DeviceView};
+    ghost use Rattle.audit_log.specs.declared.act.Act.TheVariants.{Loss, Reset};
+    ghost use Rattle.logical_unit.specs.UnitView.{Base, StateView, unit_of, last_in};
+    ghost use Rattle.logical_unit.specs.Kept.{has_room};
+    ghost use Rattle.logical_unit.specs.Step.{answered, event_of, kept_after_loss, kept_after_reset};
+    ghost use Rattle.logical_unit.specs.Legal.{IsTrail};
 
-    /// What the reservation check says of a command.
-    pub(crate) fn verdict(&self, nexus: Nexus, command: &Command) -> Verdict
-        ensures { result ≡ verdict_of self.now.reservations nexus command.now }
-    {
-        match command {
-            Command::ReserveOut(params) => self.reservations.judge(nexus, params),
-            Command::ReserveIn(_, _)
-            | Command::Inquiry(_, _, _)
-            | Command::ReportLuns(_, _)
-            | Command::RequestSense(_, _)
-            | Command::Device(_) => {
-                let cell = self.reservations.cell(nexus, command.class());
-                if allowed(cell) {
-                    Verdict::Allowed
-                } else {
-                    Verdict::Denied(cell)
-                }
-            }
-        }
-    }
-
-    /// The data of PERSISTENT RESERVE IN, uncut.
-    fn status_data(
-        &self,
+    /// One command, with its record. Want of memory changes nothing.
+    pub(crate) fn answer<D: DeviceServer>(
+        &mut self,
         alloc: Global,
-        service_action: InServiceAction,
-    ) -> Result<Vec<u8>, AllocError>
-        ensures { IfOk result (λ bytes. bytes.items ≡ status_data self.now.reservations service_action) }
+        server: &mut Box<D>,
+        nexus: Nexus,
+        cdb: &[u8],
+        bytes: &[u8],
+    ) -> Result<Reply, AllocError>
+        requires slot { has_room self.old.kept nexus ≡ true }
+        requires room { 0 < self.old.room }
+        requires number { last_in self.old + 1 < 2 ^ 64 }
+        ensures ok { IfOk result (λ reply. answered (unit_of (D.shown server.old.value) self.old) nexus cdb.now bytes.now ≡ (unit_of (D.shown server.new.value) self.new, reply)) }
+        ensures err { OnErr result ((D.shown server.new.value ≡ D.shown server.old.value) × (self.new ≡ self.old)) }
     {
-        let generation = self.reservations.generation();
-        let pairs = self.reservations.registrations();
-        let reservation = self.reservations.reservation();
-        match service_action {
-            InServiceAction::ReadKeys => write_keys(alloc, generation, pairs),
-            InServiceAction::ReadReservation => {
-                write_reservation(alloc, generation, pairs, reservation)
-            }
-            InServiceAction::ReportCapabilities => write_capabilities(alloc),
-            InServiceAction::ReadFullStatus => {
-                write_full_status(alloc, generation, pairs, reservation)
-            }
-        }
+        let spelled = Command::spelled(alloc, server.kind(), cdb, bytes)?;
+        let act = act_of(alloc, &spelled)?;
+        let (finding, reply) = judge(alloc, server, &mut self.kept, nexus, &spelled, bytes)?;
+        let trail = &mut self.trail;
+        let number = note(trail, Some(nexus), act, finding, reply.status, reply.sense);
+        Ok(reply.numbered(number))
     }
 
-    /// The data of PERSISTENT RESERVE IN, cut at the allocation length.
-    pub(crate) fn read_status(
-        &self,
-        alloc: Global,
-        service_action: InServiceAction,
-        allocation_length: u16,
-    ) -> Result<Payload, AllocError>
-        ensures { IfOk result (λ payload. payload ≡ take allocation_length (status_data self.now.reservations service_action)) }
+    /// An I_T nexus loss, with its record, whose number is answered.
+    pub(crate) fn lose(&mut self, nexus: Nexus) -> u64
+        requires room { 0 < self.old.room }
+        requires number { last_in self.old + 1 < 2 ^ 64 }
+        ensures kept { self.new.kept ≡ kept_after_loss self.old.kept nexus }
+        ensures base { self.new.base ≡ self.old.base }
+        ensures records { self.new.records ≡ self.old.records ++ event_of (last_in self.old + 1) (Some nexus) Loss ∷ [] }
+        ensures number { result ≡ last_in self.old + 1 }
     {
-        let data = self.status_data(alloc, service_action)?;
-        Ok(Payload::of(data).cut(usize::from(allocation_length)))
+        self.kept.lose(nexus);
+        note_event(&mut self.trail, Some(nexus), Act::Loss)
     }
 
-    /// Contact, and an allowed PERSISTENT RESERVE OUT command with the attentions that it raises.
-    pub(crate) fn reserve(&mut self, nexus: Nexus, params: &OutParams) -> Result<(), PrFault>
-        requires room { has_room self.old nexus ≡ true }
-        requires allowed { verdict self.old.reservations nexus params.now ≡ Allowed }
-        ensures ok { OnOk result ((refusal self.old.reservations nexus params.now ≡ None) × (self.new ≡ accepted (met self.old nexus) nexus params.now)) }
-        ensures err { IfErr result (λ fault. (refusal self.old.reservations nexus params.now ≡ Some fault) × (self.new ≡ met self.old nexus)) }
+    /// A reset of the unit, with its record, whose number is answered.
+    pub(crate) fn reset(&mut self) -> u64
+        requires room { 0 < self.old.room }
+        requires number { last_in self.old + 1 < 2 ^ 64 }
+        ensures kept { self.new.kept ≡ kept_after_reset self.old.kept }
+        ensures base { self.new.base ≡ self.old.base }
+        ensures records { self.new.records ≡ self.old.records ++ event_of (last_in self.old + 1) None Reset ∷ [] }
+        ensures number { result ≡ last_in self.old + 1 }
     {
-        self.meet(nexus);
-        let raised = self.reservations.apply(nexus, params)?;
-        raise_all(&mut self.queues, raised.attentions.as_slice());
-        Ok(())
+        self.kept.reset();
+        note_event(&mut self.trail, None, Act::Reset)
+    }
+
+    /// Hands out the records, a legal trail, and keeps none: what is kept now is the new base. Takes
+    /// no memory.
+    pub(crate) fn drain(&mut self, alloc: Global) -> Vec<Record>
+        ensures records { result.items ≡ self.old.records }
+        ensures trail { IsTrail self.old.base self.old.records self.old.kept }
+        ensures rest { self.new ≡ record { kept = self.old.kept; base = record { kept = self.old.kept; last = last_in self.old }; records = []; room = 0 } }
+    {
+        self.base = self.kept.copy();
+        self.trail.drain(alloc)
     }
 }
 
-ghost use Rattle.std.specs.Prelude.{◌≡◌};
-ghost use Rattle.logical_unit.specs.Kept.{all_raised};
+ghost use Rattle.std.specs.Prelude.{◌≡◌, ◌<◌, ◌+◌, ◌^◌, [], ◌∷◌, ◌++◌};
+ghost use Rattle.audit_log.specs.TrailView.{last_of};
+ghost use Rattle.logical_unit.specs.Step.{entry_of, event_of};
 
-/// Raises attentions one after another.
-fn raise_all(queues: &mut Queues, attentions: &[(Nexus, Kind)])
-    ensures { queues.new ≡ all_raised queues.old attentions.now }
+/// Adds the record of an event, in room that was made before, and answers its number.
+fn note(
+    trail: &mut Trail,
+    nexus: Option<Nexus>,
+    act: Act,
+    finding: Finding,
+    status: Status,
+    sense: Option<Sense>,
+) -> u64
+    requires room { 0 < trail.old.room }
+    requires number { last_of trail.old + 1 < 2 ^ 64 }
+    ensures base { trail.new.base ≡ trail.old.base }
+    ensures records { trail.new.records ≡ trail.old.records ++ entry_of (last_of trail.old + 1) nexus act finding status sense ∷ [] }
+    ensures number { result ≡ last_of trail.old + 1 }
 {
-    for (nexus, kind) in attentions {
-        queues.raise(*nexus, *kind);
-    }
+    let number = trail.last() + 1;
+    trail.push(Record {
+        number,
+        nexus,
+        act,
+        stage: finding.stage,
+        cell: finding.cell,
+        rule: finding.rule,
+        status,
+        sense,
+        mode_changed: false,
+    });
+    number
+}
+
+/// The same for an event that isn't a command.
+fn note_event(trail: &mut Trail, nexus: Option<Nexus>, act: Act) -> u64
+    requires room { 0 < trail.old.room }
+    requires number { last_of trail.old + 1 < 2 ^ 64 }
+    ensures base { trail.new.base ≡ trail.old.base }
+    ensures records { trail.new.records ≡ trail.old.records ++ event_of (last_of trail.old + 1) nexus act ∷ [] }
+    ensures number { result ≡ last_of trail.old + 1 }
+{
+    let finding = Finding::unchecked(Stage::Device);
+    note(trail, nexus, act, finding, Status::Good, None)
 }

@@ -1,18 +1,20 @@
-use crate::judge::judge;
 use crate::reply::Reply;
 use crate::state::UnitState;
+use audit_log::Record;
 use device_server::DeviceServer;
 use scsi_cdb::Kind;
 use scsi_nexus::Nexus;
 use std::alloc::Global;
 use std::marker::Model;
 
-/// There is no room for a record of the event, and nothing has changed.
+/// There is no room for a record of the event, or no number, and nothing has changed.
 #[derive(Clone, Copy, Debug, PartialEq, Eq)]
 pub struct Busy;
 
-/// A logical unit: the device handed in, with the registrations, the reservation and the pending
-/// unit attentions.
+/// A logical unit: the device handed in, the registrations, the reservation and the pending unit
+/// attentions, and a record of each event. The records are a legal trail: each is what judgement
+/// gives after those before it, and together they give the registrations, the reservation and the
+/// attentions that stand now.
 #[derive(Drop)]
 pub struct LogicalUnit<D: DeviceServer> {
     server: Box<D>,
@@ -20,27 +22,34 @@ pub struct LogicalUnit<D: DeviceServer> {
 }
 
 impl<D: DeviceServer> Model for LogicalUnit<D> {
-    ghost use Rattle.logical_unit.specs.UnitView.{UnitView};
+    ghost use Rattle.logical_unit.specs.UnitView.{UnitView, unit_of};
 
     ghost Value = { UnitView };
 
-    ghost view = { λ u. record { device = D.shown u.server.value; kept = u.state } };
+    ghost view = { λ u. unit_of (D.shown u.server.value) u.state };
 }
 
 impl<D: DeviceServer> LogicalUnit<D> {
-    ghost use Rattle.std.specs.Prelude.{◌≡◌, Ok, IfOk, IsOk};
+    ghost use Rattle.std.specs.Prelude.{◌≡◌};
     ghost use Rattle.device_server.specs.View.{kind_of};
-    ghost use Rattle.logical_unit.specs.UnitView.{UnitView};
-    ghost use Rattle.logical_unit.specs.Kept.{at_power_on};
-    ghost use Rattle.logical_unit.specs.Step.{Executes, loses, resets};
+    ghost use Rattle.logical_unit.specs.Kept.{is_prevented};
+    ghost use Rattle.logical_unit.specs.Step.{made};
+    ghost use Rattle.logical_unit.specs.Legal.{IsTrail};
 
     /// A unit at power on, with its logical unit number and the count of the target's units.
-    pub fn new(lun: u8, units: u8, server: Box<D>) -> LogicalUnit<D>
-        ensures { result ≡ record { device = D.shown server.value; kept = at_power_on lun units } }
+    pub fn new(alloc: Global, lun: u8, units: u8, server: Box<D>) -> LogicalUnit<D>
+        ensures { result ≡ made (D.shown server.value) lun units 0 }
+    {
+        LogicalUnit::new_after(alloc, lun, units, server, 0)
+    }
+
+    /// The same, with its first record numbered after `last`.
+    pub fn new_after(alloc: Global, lun: u8, units: u8, server: Box<D>, last: u64) -> LogicalUnit<D>
+        ensures { result ≡ made (D.shown server.value) lun units last }
     {
         LogicalUnit {
             server,
-            state: UnitState::new(lun, units),
+            state: UnitState::new(alloc, lun, units, last),
         }
     }
 
@@ -64,40 +73,83 @@ impl<D: DeviceServer> LogicalUnit<D> {
         self.state.units()
     }
 
-    /// One command, from its CDB and the data sent with it. BUSY leaves the unit as it was.
+    /// Whether a nexus prevents the removal of media (SPC-4, "PREVENT ALLOW MEDIUM REMOVAL command").
+    pub fn prevented(&self) -> bool
+        ensures { result ≡ is_prevented self.now.kept }
+    {
+        self.state.is_prevented()
+    }
+
+    /// The records since the base, oldest first: a legal trail, which gives what is kept now.
+    pub fn records(&self) -> &[Record]
+        ensures records { result.now ≡ self.now.records }
+        ensures trail { IsTrail self.now.base self.now.records self.now.kept }
+    {
+        self.state.records()
+    }
+}
+
+impl<D: DeviceServer> LogicalUnit<D> {
+    ghost use Rattle.std.specs.Prelude.{◌≡◌, true, IfOk, OnErr};
+    ghost use Rattle.unit_attention.specs.Queues.{has_slot};
+    ghost use Rattle.logical_unit.specs.UnitView.{UnitView};
+    ghost use Rattle.logical_unit.specs.Step.{Executes, Loses, Resets, drained};
+    ghost use Rattle.logical_unit.specs.Legal.{IsTrail};
+
+    /// One command, from its CDB and the data sent with it. BUSY leaves the unit as it was; any other
+    /// answer leaves one record.
     pub fn execute(&mut self, alloc: Global, nexus: Nexus, cdb: &[u8], bytes: &[u8]) -> Reply
         ensures { Executes self.old nexus cdb.now bytes.now (self.new, result) }
     {
         if !self.state.has_room(nexus) {
             return Reply::busy(alloc);
         }
-        match judge(alloc, &mut self.server, &mut self.state, nexus, cdb, bytes) {
-            Ok(reply) => reply,
-            Err(_) => Reply::busy(alloc),
+        if !self.state.reserve() {
+            return Reply::busy(alloc);
         }
+        let server = &mut self.server;
+        let Ok(reply) = self.state.answer(alloc, server, nexus, cdb, bytes) else {
+            return Reply::busy(alloc);
+        };
+        reply
     }
 
-    /// An I_T nexus loss at this unit. `None` where the nexus has no slot, and then nothing changes;
-    /// else the number of the record, 0 while none is kept. Registrations and reservation stay.
+    /// An I_T nexus loss at this unit (SAM-5, "I_T nexus loss"). `None` where the nexus has no slot,
+    /// and then nothing changes; else the number of its record. Registrations and reservation stay.
     pub fn lose(&mut self, nexus: Nexus) -> Result<Option<u64>, Busy>
-        ensures unit { IfOk result (λ number. (self.new, number) ≡ loses self.old nexus) }
-        ensures never_busy { IsOk result }
+        ensures unit { IfOk result (λ number. Loses self.old nexus (self.new, number)) }
+        ensures busy { OnErr result (self.new ≡ self.old) }
+        ensures known { OnErr result (has_slot self.old.kept.slots nexus ≡ true) }
     {
-        if self.state.lose(nexus) {
-            Ok(Some(0))
-        } else {
-            Ok(None)
+        if !self.state.knows(nexus) {
+            return Ok(None);
         }
+        if !self.state.reserve() {
+            return Err(Busy);
+        }
+        Ok(Some(self.state.lose(nexus)))
     }
 
-    /// A reset of this unit: the number of the record, 0 while none is kept. Registrations and
+    /// A reset of this unit (SAM-5, "Logical unit reset"): the number of its record. Registrations and
     /// reservation stay.
     pub fn reset(&mut self) -> Result<u64, Busy>
-        ensures unit { self.new ≡ resets self.old }
-        ensures number { result ≡ Ok 0 }
+        ensures unit { IfOk result (λ number. Resets self.old (self.new, number)) }
+        ensures busy { OnErr result (self.new ≡ self.old) }
     {
+        if !self.state.reserve() {
+            return Err(Busy);
+        }
         self.server.reset();
-        self.state.reset();
-        Ok(0)
+        Ok(self.state.reset())
+    }
+
+    /// Hands out the records, a legal trail that gives what is kept now, and keeps none: what is kept
+    /// now is the base of the next. Takes no memory.
+    pub fn drain(&mut self, alloc: Global) -> Vec<Record>
+        ensures records { result.items ≡ self.old.records }
+        ensures trail { IsTrail self.old.base self.old.records self.old.kept }
+        ensures unit { self.new ≡ drained self.old }
+    {
+        self.state.drain(alloc)
     }
 }

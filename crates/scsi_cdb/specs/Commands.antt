@@ -11,7 +11,7 @@ use Rattle.scsi_cdb.specs.declared.fault.CdbFault.TheVariants.{Opcode, ShortCdb,
 use Rattle.scsi_cdb.specs.declared.kind.Kind.{Kind}
 use Rattle.scsi_cdb.specs.declared.kind.Kind.TheVariants.{Drive, Changer}
 use Rattle.scsi_cdb.specs.declared.request.Request.{Request}
-use Rattle.scsi_cdb.specs.declared.request.Request.TheVariants.{TestUnitReady, RequestSense, Inquiry, ReportLuns, PersistentReserveIn, PersistentReserveOut}
+use Rattle.scsi_cdb.specs.declared.request.Request.TheVariants.{TestUnitReady, RequestSense, Inquiry, PreventAllowMediumRemoval, ReportLuns, PersistentReserveIn, PersistentReserveOut}
 
 -- which kinds of unit have a command: both, the drives, the changer
 pub data Units : Type 0 where
@@ -71,6 +71,7 @@ table =
     row 0x00 6 Both (λ c. Some TestUnitReady)
     ∷ row 0x03 6 Both (λ c. Some (RequestSense (bit c 1 0) (byte c 4)))
     ∷ row 0x12 6 Both (λ c. Some (Inquiry (bit c 1 0) (byte c 2) (two_bytes c 3)))
+    ∷ row 0x1E 6 Both (λ c. Some (PreventAllowMediumRemoval (bits c 4 1 0)))
     ∷ row 0x5E 10 Both (λ c. reserve_in (in_service_action (bits c 1 4 0)) (two_bytes c 7))
     ∷ row 0x5F 10 Both (λ c. reserve_out (out_service_action (bits c 1 4 0)) (byte c 2) (four_bytes c 5))
     ∷ row 0xA0 12 Both (λ c. Some (ReportLuns (byte c 2) (four_bytes c 6)))

@@ -37,7 +37,9 @@ fn length_of(kind: Kind, opcode: u8) -> Option<usize>
     ensures some { IfSome result (λ n. 0 < n) }
 {
     match (kind, opcode) {
-        (_, TEST_UNIT_READY | REQUEST_SENSE | INQUIRY) => Some(SIX_BYTES),
+        (_, TEST_UNIT_READY | REQUEST_SENSE | INQUIRY | PREVENT_ALLOW_MEDIUM_REMOVAL) => {
+            Some(SIX_BYTES)
+        }
         (_, PERSISTENT_RESERVE_IN | PERSISTENT_RESERVE_OUT) => Some(TEN_BYTES),
         (_, REPORT_LUNS) => Some(TWELVE_BYTES),
         _ => None,
@@ -64,6 +66,9 @@ fn fields_of(opcode: u8, cdb: &[u8]) -> Option<Request>
         REPORT_LUNS => Some(Request::ReportLuns {
             select_report: byte_at(cdb, SELECT_REPORT),
             allocation_length: u32_at(cdb, REPORT_LUNS_ALLOCATION_LENGTH),
+        }),
+        PREVENT_ALLOW_MEDIUM_REMOVAL => Some(Request::PreventAllowMediumRemoval {
+            prevent: byte_at(cdb, PREVENT) & PREVENT_BITS,
         }),
         PERSISTENT_RESERVE_IN => reserve_in_at(cdb),
         PERSISTENT_RESERVE_OUT => reserve_out_at(cdb),

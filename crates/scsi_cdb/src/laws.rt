@@ -5,7 +5,7 @@ ghost use Rattle.scsi_cdb.specs.declared.action.InServiceAction.TheVariants.{Rea
 ghost use Rattle.scsi_cdb.specs.declared.action.OutServiceAction.TheVariants.{RegisterAndMove};
 ghost use Rattle.scsi_cdb.specs.declared.fault.CdbFault.TheVariants.{Opcode, ShortCdb, ServiceAction, Naca};
 ghost use Rattle.scsi_cdb.specs.declared.kind.Kind.TheVariants.{Drive, Changer};
-ghost use Rattle.scsi_cdb.specs.declared.request.Request.TheVariants.{TestUnitReady, RequestSense, Inquiry, ReportLuns, PersistentReserveIn, PersistentReserveOut, Space, ModeSense, MoveMedium, ReadElementStatus};
+ghost use Rattle.scsi_cdb.specs.declared.request.Request.TheVariants.{TestUnitReady, RequestSense, Inquiry, PreventAllowMediumRemoval, ReportLuns, PersistentReserveIn, PersistentReserveOut, Space, ModeSense, MoveMedium, ReadElementStatus};
 
 /// Law: a unit that has the command decodes what was encoded, where the fields fit their bits.
 #[tactic(auto, unfolding(crate::specs::Commands::command_of))]
@@ -27,6 +27,8 @@ pub fn worked_rows()
         ≡ Ok (PersistentReserveOut RegisterAndMove 0 0xFFFFFFFF) }
     ensures request_sense { reading Changer (0x03 ∷ 1 ∷ 0 ∷ 0 ∷ 0x12 ∷ 0 ∷ []) ≡ Ok (RequestSense true 18) }
     ensures inquiry { reading Drive (0x12 ∷ 1 ∷ 0x80 ∷ 1 ∷ 2 ∷ 0 ∷ []) ≡ Ok (Inquiry true 0x80 258) }
+    ensures prevent { reading Changer (0x1E ∷ 0 ∷ 0 ∷ 0 ∷ 0xFD ∷ 0 ∷ []) ≡ Ok (PreventAllowMediumRemoval 1) }
+    ensures allow { reading Drive (0x1E ∷ 0xFF ∷ 0xFF ∷ 0xFF ∷ 0 ∷ 0xC0 ∷ []) ≡ Ok (PreventAllowMediumRemoval 0) }
     ensures report_luns { reading Drive (0xA0 ∷ 0 ∷ 2 ∷ 0 ∷ 0 ∷ 0 ∷ 0 ∷ 0 ∷ 1 ∷ 0 ∷ 0 ∷ 0 ∷ [])
         ≡ Ok (ReportLuns 2 256) }
     ensures short_report_luns { reading Drive (0xA0 ∷ 0 ∷ 2 ∷ 0 ∷ 0 ∷ 0 ∷ 0 ∷ 0 ∷ 1 ∷ 0 ∷ 0 ∷ [])

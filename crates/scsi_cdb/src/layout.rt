@@ -134,7 +134,9 @@ pub const EOT_BIT: u8 = 2;
 
 pub const LOAD_BIT: u8 = 0;
 
-// PREVENT ALLOW MEDIUM REMOVAL, byte 4.
+// PREVENT ALLOW MEDIUM REMOVAL.
+pub const PREVENT: usize = 4;
+
 pub const PREVENT_BITS: u8 = 0x03;
 
 // LOCATE(10), byte 1.

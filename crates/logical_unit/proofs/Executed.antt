@@ -1,0 +1,19 @@
+-- A command that was answered in room that was made for its record.
+use Rattle.std.proofs.Common.{◌≡◌, ℕ, ◌+◌, ◌<◌, ◌^◌, true, List, sym, ap, ◌∙◌, subst, inr}
+use Rattle.scsi_nexus.specs.declared.nexus.Nexus.{Nexus}
+use Rattle.device_server.specs.View.{DeviceView}
+use Rattle.logical_unit.specs.declared.reply.Reply.{Reply}
+use Rattle.logical_unit.specs.UnitView.{UnitView, StateView, unit_of, last_in}
+use Rattle.logical_unit.specs.Kept.{has_room}
+use Rattle.logical_unit.specs.Step.{answered, HasNumber, Executes}
+
+pub executed : (u v : UnitView) (d : DeviceView) (old ready : StateView) (n : Nexus) (cdb bytes : List ℕ) (r : Reply)
+    → unit_of d old ≡ u → ready ≡ record old { room = ready.room } → has_room old.kept n ≡ true → last_in ready + 1 < 2 ^ 64
+    → answered (unit_of d ready) n cdb bytes ≡ (v, r) → Executes u n cdb bytes (v, r)
+executed u v d old ready n cdb bytes r is rest slot number answer =
+    let same : unit_of d ready ≡ u = ap (unit_of d) rest ∙ is in
+    inr (
+      subst (λ (x : UnitView). has_room x.kept n ≡ true) is slot,
+      subst HasNumber same number,
+      sym answer ∙ ap (λ (x : UnitView). answered x n cdb bytes) same,
+    )

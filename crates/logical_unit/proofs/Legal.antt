@@ -1,0 +1,188 @@
+-- What is judged leaves a legal trail.
+use Rattle.std.proofs.Common.{◌≡◌, ℕ, Bool, true, false, ◌==◌, List, [], ◌∷◌, ◌++◌, Option, Some, None, Result, Ok, Err, refl, sym, ap, ◌∙◌, subst, inl, inr}
+use Rattle.scsi_cdb.specs.declared.classes.Class.{Class}
+use Rattle.scsi_cdb.specs.declared.classes.Class.TheVariants as class
+use Rattle.scsi_nexus.specs.declared.nexus.Nexus.{Nexus}
+use Rattle.scsi_sense.specs.declared.condition.Condition.{Condition}
+use Rattle.scsi_sense.specs.declared.condition.Condition.TheVariants.{InvalidFieldInCdb}
+use Rattle.scsi_sense.specs.declared.status.Status.{Status}
+use Rattle.unit_attention.specs.declared.kind.Kind.{Kind}
+use Rattle.unit_attention.specs.Queues.{first_reset_of, first_other_of}
+use Rattle.permit_tables.specs.declared.cell.Cell.{Cell}
+use Rattle.pr_core.specs.Outcome.{refusal}
+use Rattle.pr_core.specs.declared.pr_fault.PrFault.{PrFault}
+use Rattle.pr_core.specs.declared.verdict.Verdict.{Verdict}
+use Rattle.pr_core.specs.declared.verdict.Verdict.TheVariants.{Allowed, Denied, Rule}
+use Rattle.audit_log.specs.declared.act.Act.{Act}
+use Rattle.audit_log.specs.declared.act.Act.TheVariants as act
+use Rattle.audit_log.specs.declared.record.Record.{Record}
+use Rattle.std.specs.Prelude.{if◌then◌else◌}
+use Rattle.audit_log.specs.declared.stage.Stage.{Stage}
+use Rattle.audit_log.specs.declared.stage.Stage.TheVariants as stage
+use Rattle.audit_log.specs.declared.stage.Stage.TheVariants.{ResetAttention, OtherAttention, Fields}
+use Rattle.device_server.specs.View.{DeviceView, kind_of}
+use Rattle.logical_unit.specs.declared.command.Command.{Command}
+use Rattle.logical_unit.specs.declared.command.Command.TheVariants.{ReserveOut, ReserveIn, Inquiry, ReportLuns, RequestSense, Prevent, Device}
+use Rattle.logical_unit.specs.declared.finding.Finding.{Finding}
+use Rattle.logical_unit.specs.declared.reply.Reply.{Reply}
+use Rattle.logical_unit.specs.Commands.{class_of_command, list_of, act_of_spelled}
+use Rattle.logical_unit.specs.Conditions.{condition_of_attention, condition_of_refusal}
+use Rattle.logical_unit.specs.Findings.{unchecked, let_in, in_conflict}
+use Rattle.logical_unit.specs.UnitData.{inquiry_data, selected_luns}
+use Rattle.logical_unit.specs.Replies.{conflict, check, good, data_reply}
+use Rattle.logical_unit.specs.KeptView.{KeptView}
+use Rattle.logical_unit.specs.UnitView.{Present}
+use Rattle.logical_unit.specs.Kept.{met, accepted, prevented, allowed}
+use Rattle.logical_unit.specs.Judge.{cell_of, verdict_of, waiting, pending_of, sensed, senses, tells, at_cell, carried_out, let_through, checked, commanded, judged_as}
+use Rattle.logical_unit.specs.Step.{entry_of, event_of, kept_after_loss, kept_after_reset}
+use Rattle.logical_unit.specs.Legal.{reported_if, left_by_class, left_at, kept_by, kept_after, Says, SaysItsOwn, IsCarriedOut, IsLetThrough, IsChecked, IsCommand, IsJudged, AreJudged}
+use Rattle.logical_unit.proofs.Check.{performed_no_conflict, prevents_by}
+use Rattle.logical_unit.proofs.Plain.{IsPlain, IsPlainIf}
+
+-- the record of a judgement
+abbrev pub entry : ℕ → Nexus → Act → Present × Finding × Reply → Record
+entry m n a x = entry_of m (Some n) a x.1 x.2.status x.2.sense
+
+-- a judgement's record says the right thing, and what is kept is what it leaves
+abbrev pub Fits : (Record → Type 0) → KeptView → Nexus → Command → ℕ → Act → Present × Finding × Reply → Type 0
+Fits J k n c m a x = J (entry m n a x) × (x.0.kept ≡ left_at x.1.stage k n (list_of c) (class_of_command c) x.2.status)
+
+says : (m : ℕ) (n : Nexus) (a : Act) (f : Finding) (r : Reply) → Says (entry_of m (Some n) a f r.status r.sense) f r
+says m n a f r = record { stage = refl; cell = refl; rule = refl; status = refl; sense = refl }
+
+data_says : (m : ℕ) (n : Nexus) (a : Act) (at : Cell) (o : Option (List ℕ)) (l : ℕ) → SaysItsOwn (entry_of m (Some n) a (let_in at (data_reply o l).0) (data_reply o l).1.status (data_reply o l).1.sense) at
+data_says m n a at (Some payload) l = record { stage = inr refl; cell = refl; rule = refl; status = λ e. cc }
+data_says m n a at None l = record { stage = inl refl; cell = refl; rule = refl; status = λ e. cc }
+
+data_left : (k : KeptView) (n : Nexus) (class : Class) (s : Status) (o : Option (List ℕ)) (l : ℕ) → k ≡ left_by_class k n class → k ≡ left_at (data_reply o l).0 k n None class s
+data_left k n class s (Some payload) l h = h
+data_left k n class s None l h = refl
+
+sensed_fits : (u : Present) (n : Nexus) (at : Cell) (l : ℕ) (m : ℕ) (a : Act) (o : Option Kind) → pending_of u.kept.slots n ≡ o
+    → Fits (λ e. SaysItsOwn e at) u.kept n (RequestSense false l) m a (at_cell at (senses u (sensed u.kept n l o)))
+sensed_fits u n at l m a (Some kind) h = (record { stage = inr refl; cell = refl; rule = refl; status = λ e. cc }, sym (ap (reported_if u.kept n) h))
+sensed_fits u n at l m a None h = (record { stage = inr refl; cell = refl; rule = refl; status = λ e. cc }, sym (ap (reported_if u.kept n) h))
+
+prevent_fits : (u : Present) (n : Nexus) (at : Cell) (m : ℕ) (a : Act) (zero one : Bool)
+    → SaysItsOwn (entry m n a (at_cell at (prevents_by u n zero one))) at
+    × ((prevents_by u n zero one).0.kept ≡ left_at (prevents_by u n zero one).1 u.kept n None (if zero then class.AllowRemoval else class.PreventRemoval) (prevents_by u n zero one).2.status)
+prevent_fits u n at m a true one = (record { stage = inr refl; cell = refl; rule = refl; status = λ e. cc }, refl)
+prevent_fits u n at m a false true = (record { stage = inr refl; cell = refl; rule = refl; status = λ e. cc }, refl)
+prevent_fits u n at m a false false = (record { stage = inl refl; cell = refl; rule = refl; status = λ e. cc }, refl)
+
+carried_fits : (u : Present) (n : Nexus) (c : Command) (bytes : List ℕ) (m : ℕ) (a : Act) → IsPlain c
+    → Fits (IsCarriedOut u.kept n (list_of c) (class_of_command c)) u.kept n c m a (at_cell (cell_of u n c) (carried_out u n c bytes))
+carried_fits u n (ReserveOut p) bytes m a plain =
+    let at = cell_of u n (ReserveOut p) in
+    elim (refusal u.kept.reservations n p) as (λ (o : Option PrFault). Fits (λ e. elim o [ Some fault ↦ Says e (let_in at Fields) (check (condition_of_refusal fault)) | None ↦ Says e (let_in at stage.Device) (good []) ]) u.kept n (ReserveOut p) m a (at_cell at (elim o [ Some fault ↦ (u, Fields, check (condition_of_refusal fault)) | None ↦ (record u { kept = accepted u.kept n p }, stage.Device, good []) ]))) [
+      | Some fault ↦ (says m n a (let_in at Fields) (check (condition_of_refusal fault)), refl)
+      | None ↦ (says m n a (let_in at stage.Device) (good []), refl)
+    ]
+carried_fits u n (ReserveIn act l) bytes m a plain = (record { stage = inr refl; cell = refl; rule = refl; status = λ e. cc }, refl)
+carried_fits u n (Inquiry e p l) bytes m a plain =
+    let o = inquiry_data (kind_of u.device) u.kept.lun e p in
+    (data_says m n a (cell_of u n (Inquiry e p l)) o l, data_left u.kept n class.Inquiry (data_reply o l).1.status o l refl)
+carried_fits u n (ReportLuns s l) bytes m a plain =
+    let o = selected_luns u.kept.units s in
+    (data_says m n a (cell_of u n (ReportLuns s l)) o l, data_left u.kept n class.ReportLuns (data_reply o l).1.status o l refl)
+carried_fits u n (RequestSense true l) bytes m a plain = (record { stage = inl refl; cell = refl; rule = refl; status = λ e. cc }, refl)
+carried_fits u n (RequestSense false l) bytes m a plain = sensed_fits u n (cell_of u n (RequestSense false l)) l m a (pending_of u.kept.slots n) refl
+carried_fits u n (Prevent p) bytes m a plain = prevent_fits u n (cell_of u n (Prevent p)) m a (p == 0) (p == 1)
+carried_fits u n (Device r) bytes m a plain =
+    (record { stage = inr refl; cell = refl; rule = refl; status = performed_no_conflict u.device r bytes }, plain u.kept n)
+
+let_through_as : (u : Present) (n : Nexus) (c : Command) (bytes : List ℕ) (m : ℕ) (a : Act) → IsPlain c → (o : Option Kind) → waiting (class_of_command c) (first_other_of u.kept.slots n) ≡ o
+    → Fits (λ e. elim o [ Some kind ↦ Says e (let_in (cell_of u n c) OtherAttention) (check (condition_of_attention kind)) | None ↦ IsCarriedOut u.kept n (list_of c) (class_of_command c) e ]) u.kept n c m a
+    (elim o [ Some kind ↦ tells u n kind (let_in (cell_of u n c) OtherAttention) | None ↦ at_cell (cell_of u n c) (carried_out u n c bytes) ])
+let_through_as u n c bytes m a plain (Some kind) h = (says m n a (let_in (cell_of u n c) OtherAttention) (check (condition_of_attention kind)), sym (ap (reported_if u.kept n) h))
+let_through_as u n c bytes m a plain None h = carried_fits u n c bytes m a plain
+
+let_through_fits : (u : Present) (n : Nexus) (c : Command) (bytes : List ℕ) (m : ℕ) (a : Act) → IsPlain c
+    → Fits (IsLetThrough u.kept n (list_of c) (class_of_command c)) u.kept n c m a (let_through u n c bytes)
+let_through_fits u n c bytes m a plain = let_through_as u n c bytes m a plain (waiting (class_of_command c) (first_other_of u.kept.slots n)) refl
+
+checked_fits : (u : Present) (n : Nexus) (c : Command) (bytes : List ℕ) (m : ℕ) (a : Act) → IsPlain c
+    → Fits (IsChecked u.kept n (list_of c) (class_of_command c)) u.kept n c m a (checked u n c bytes)
+checked_fits u n c bytes m a plain =
+    let at = cell_of u n c in
+    elim (verdict_of u.kept.reservations n c) as (λ (v : Verdict). Fits (λ e. elim v [ Allowed ↦ IsLetThrough u.kept n (list_of c) (class_of_command c) e | Denied cell ↦ Says e (in_conflict at None) conflict | Rule rule ↦ Says e (in_conflict at (Some rule)) conflict ]) u.kept n c m a
+    (elim v [ Allowed ↦ let_through u n c bytes | Denied cell ↦ (u, in_conflict at None, conflict) | Rule rule ↦ (u, in_conflict at (Some rule), conflict) ])) [
+      | Allowed ↦ let_through_fits u n c bytes m a plain
+      | Denied cell ↦ (says m n a (in_conflict at None) conflict, refl)
+      | Rule rule ↦ (says m n a (in_conflict at (Some rule)) conflict, refl)
+    ]
+
+commanded_as : (u : Present) (n : Nexus) (c : Command) (bytes : List ℕ) (m : ℕ) (a : Act) → IsPlain c → (o : Option Kind) → waiting (class_of_command c) (first_reset_of u.kept.slots n) ≡ o
+    → Fits (λ e. elim o [ Some kind ↦ Says e (unchecked ResetAttention) (check (condition_of_attention kind)) | None ↦ IsChecked u.kept n (list_of c) (class_of_command c) e ]) u.kept n c m a
+    (elim o [ Some kind ↦ tells u n kind (unchecked ResetAttention) | None ↦ checked u n c bytes ])
+commanded_as u n c bytes m a plain (Some kind) h = (says m n a (unchecked ResetAttention) (check (condition_of_attention kind)), sym (ap (reported_if u.kept n) h))
+commanded_as u n c bytes m a plain None h = checked_fits u n c bytes m a plain
+
+commanded_fits : (u : Present) (n : Nexus) (c : Command) (bytes : List ℕ) (m : ℕ) (a : Act) → IsPlain c
+    → Fits (IsCommand u.kept n (list_of c) (class_of_command c)) u.kept n c m a (commanded u n c bytes)
+commanded_fits u n c bytes m a plain = commanded_as u n c bytes m a plain (waiting (class_of_command c) (first_reset_of u.kept.slots n)) refl
+
+-- a record that may stand after what was kept, with what is kept then
+pub record IsNext (k : KeptView) (e : Record) (now : KeptView) : Type 0 where
+  pub judged : IsJudged k e
+  pub kept : now ≡ kept_by k e
+
+judged_next : (k : KeptView) (d : DeviceView) (n : Nexus) (s : Result Command Condition) (bytes : List ℕ) (m : ℕ) → IsPlainIf s
+    → IsNext k (entry m n (act_of_spelled s) (judged_as (record { device = d; kept = met k n }) n s bytes)) (judged_as (record { device = d; kept = met k n }) n s bytes).0.kept
+judged_next k d n (Err condition) bytes m plain = record { judged = (condition, says m n act.Invalid (unchecked stage.Spelling) (check condition)); kept = refl }
+judged_next k d n (Ok (ReserveOut p)) bytes m plain =
+    let f = commanded_fits (record { device = d; kept = met k n }) n (ReserveOut p) bytes m (act_of_spelled (Ok (ReserveOut p))) plain in
+    record { judged = f.0; kept = f.1 }
+judged_next k d n (Ok (ReserveIn a l)) bytes m plain =
+    let f = commanded_fits (record { device = d; kept = met k n }) n (ReserveIn a l) bytes m (act_of_spelled (Ok (ReserveIn a l))) plain in
+    record { judged = f.0; kept = f.1 }
+judged_next k d n (Ok (Inquiry e p l)) bytes m plain =
+    let f = commanded_fits (record { device = d; kept = met k n }) n (Inquiry e p l) bytes m (act_of_spelled (Ok (Inquiry e p l))) plain in
+    record { judged = f.0; kept = f.1 }
+judged_next k d n (Ok (ReportLuns s l)) bytes m plain =
+    let f = commanded_fits (record { device = d; kept = met k n }) n (ReportLuns s l) bytes m (act_of_spelled (Ok (ReportLuns s l))) plain in
+    record { judged = f.0; kept = f.1 }
+judged_next k d n (Ok (RequestSense e l)) bytes m plain =
+    let f = commanded_fits (record { device = d; kept = met k n }) n (RequestSense e l) bytes m (act_of_spelled (Ok (RequestSense e l))) plain in
+    record { judged = f.0; kept = f.1 }
+judged_next k d n (Ok (Prevent p)) bytes m plain =
+    let f = commanded_fits (record { device = d; kept = met k n }) n (Prevent p) bytes m (act_of_spelled (Ok (Prevent p))) plain in
+    record { judged = f.0; kept = f.1 }
+judged_next k d n (Ok (Device r)) bytes m plain =
+    let f = commanded_fits (record { device = d; kept = met k n }) n (Device r) bytes m (act_of_spelled (Ok (Device r))) plain in
+    record { judged = f.0; kept = f.1 }
+
+AreJudged-push : (k : KeptView) (es : List Record) (e : Record) → AreJudged k es → IsJudged (kept_after k es) e → AreJudged k (es ++ e ∷ [])
+AreJudged-push k [] e all last = (last, tt)
+AreJudged-push k (x ∷ xs) e all last = (all.0, AreJudged-push (kept_by k x) xs e all.1 last)
+
+kept_after-push : (k : KeptView) (es : List Record) (e : Record) → kept_after k (es ++ e ∷ []) ≡ kept_by (kept_after k es) e
+kept_after-push k [] e = refl
+kept_after-push k (x ∷ xs) e = kept_after-push (kept_by k x) xs e
+
+-- what a unit's state promises of its records, with one more at the end
+abbrev pub Stands : (base : KeptView) → List Record → KeptView → Type 0
+Stands base es now = AreJudged base es × (now ≡ kept_after base es)
+
+next_stands : (base kept now : KeptView) (es : List Record) (e : Record) → Stands base es kept → IsNext kept e now → Stands base (es ++ e ∷ []) now
+next_stands base kept now es e old next =
+    let there : IsNext (kept_after base es) e now = subst (λ k. IsNext k e now) old.1 next in
+    (AreJudged-push base es e old.0 there.judged, there.kept ∙ sym (kept_after-push base es e))
+
+-- a command's record
+pub answered_stands : (base kept now : KeptView) (es : List Record) (d after : DeviceView) (n : Nexus) (s : Result Command Condition) (bytes : List ℕ) (m : ℕ) (a : Act) (f : Finding) (r : Reply)
+    → Stands base es kept → IsPlainIf s → a ≡ act_of_spelled s
+    → judged_as (record { device = d; kept = met kept n }) n s bytes ≡ (record { device = after; kept = now }, f, r)
+    → Stands base (es ++ entry_of m (Some n) a f r.status r.sense ∷ []) now
+answered_stands base kept now es d after n s bytes m a f r old plain asked judged =
+    let next : IsNext kept (entry_of m (Some n) (act_of_spelled s) f r.status r.sense) now = subst (λ (x : Present × Finding × Reply). IsNext kept (entry m n (act_of_spelled s) x) x.0.kept) judged (judged_next kept d n s bytes m plain) in
+    next_stands base kept now es _ old (subst (λ (x : Act). IsNext kept (entry_of m (Some n) x f r.status r.sense) now) (sym asked) next)
+
+-- the record of a loss, and of a reset
+pub lost_stands : (base kept : KeptView) (es : List Record) (n : Nexus) (m : ℕ) → Stands base es kept → Stands base (es ++ event_of m (Some n) act.Loss ∷ []) (kept_after_loss kept n)
+lost_stands base kept es n m old =
+    next_stands base kept (kept_after_loss kept n) es (event_of m (Some n) act.Loss) old (record { judged = record { stage = refl; cell = refl; rule = refl; status = refl; sense = refl }; kept = refl })
+
+pub reset_stands : (base kept : KeptView) (es : List Record) (m : ℕ) → Stands base es kept → Stands base (es ++ event_of m None act.Reset ∷ []) (kept_after_reset kept)
+reset_stands base kept es m old =
+    next_stands base kept (kept_after_reset kept) es (event_of m None act.Reset) old (record { judged = record { stage = refl; cell = refl; rule = refl; status = refl; sense = refl }; kept = refl })

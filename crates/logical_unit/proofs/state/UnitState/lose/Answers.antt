@@ -1,0 +1,7 @@
+use Rattle.logical_unit.proofs.Legal.{lost_stands}
+use Rattle.logical_unit.proofs.state.UnitState.lose.Goals as goal
+
+pub invariant_of-self : goal.invariant_of-self
+invariant_of-self c =
+    rw (c.lose.ensures, c.note_event.ensures.records)
+    (lost_stands c.self.inside.base c.self.inside.kept c.self.inside.trail.records c.args.nexus _ c.self.invariant)

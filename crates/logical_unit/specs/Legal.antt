@@ -1,0 +1,151 @@
+-- Legal trails: what each record changes in what is kept, and how it must have been judged after the records before it.
+use Rattle.std.specs.Prelude.{◌≡◌, ◌≢◌, ◌↔◌, Bool, true, false, List, [], ◌∷◌, Option, None, Some, if◌then◌else◌, ◌⊎◌}
+use Rattle.std.specs.List.{All}
+use Rattle.scsi_cdb.specs.declared.classes.Class.{Class}
+use Rattle.scsi_cdb.specs.declared.classes.Class.TheVariants.{RequestSense, PreventRemoval, AllowRemoval}
+use Rattle.scsi_cdb.specs.Classes.{class_of_action}
+use Rattle.scsi_nexus.specs.declared.nexus.Nexus.{Nexus}
+use Rattle.scsi_sense.specs.declared.condition.Condition.{Condition}
+use Rattle.scsi_sense.specs.declared.status.Status.{Status}
+use Rattle.scsi_sense.specs.declared.status.Status.TheVariants.{Good, ReservationConflict}
+use Rattle.unit_attention.specs.declared.kind.Kind.{Kind}
+use Rattle.unit_attention.specs.Queues.{first_reset_of, first_other_of}
+use Rattle.permit_tables.specs.declared.cell.Cell.{Cell}
+use Rattle.pr_params.specs.declared.out_params.OutParams.{OutParams}
+use Rattle.pr_core.specs.State.{cell}
+use Rattle.pr_core.specs.Outcome.{refusal}
+use Rattle.pr_core.specs.declared.verdict.Verdict.TheVariants.{Allowed, Denied, Rule}
+use Rattle.audit_log.specs.declared.act.Act.{Act}
+use Rattle.audit_log.specs.declared.act.Act.TheVariants.{Command, ReserveOut, Invalid, Loss, Reset}
+use Rattle.audit_log.specs.declared.record.Record.{Record}
+use Rattle.audit_log.specs.declared.stage.Stage.{Stage}
+use Rattle.audit_log.specs.declared.stage.Stage.TheVariants.{Spelling, ResetAttention, ReservationCheck, OtherAttention, Fields, Device}
+use Rattle.audit_log.specs.TrailView.{IsNumbered}
+use Rattle.logical_unit.specs.declared.finding.Finding.{Finding}
+use Rattle.logical_unit.specs.declared.reply.Reply.{Reply}
+use Rattle.logical_unit.specs.Conditions.{condition_of_attention, condition_of_refusal}
+use Rattle.logical_unit.specs.Findings.{unchecked, let_in, in_conflict}
+use Rattle.logical_unit.specs.Replies.{good, check, conflict}
+use Rattle.logical_unit.specs.KeptView.{KeptView}
+use Rattle.logical_unit.specs.UnitView.{Base}
+use Rattle.logical_unit.specs.Kept.{met, reported, accepted, prevented, allowed}
+use Rattle.logical_unit.specs.Judge.{verdict_by, waiting, pending_of}
+use Rattle.logical_unit.specs.Step.{kept_after_loss, kept_after_reset}
+
+-- after the report of an attention, where one waits
+abbrev pub reported_if : KeptView → Nexus → Option Kind → KeptView
+reported_if k n None = k
+reported_if k n (Some kind) = reported k n kind
+
+-- REQUEST SENSE reports as data the attention that waits; PREVENT ALLOW MEDIUM REMOVAL prevents or allows
+abbrev pub left_by_class : KeptView → Nexus → Class → KeptView
+left_by_class k n RequestSense = reported_if k n (pending_of k.slots n)
+left_by_class k n PreventRemoval = prevented k n
+left_by_class k n AllowRemoval = allowed k n
+left_by_class k n class = k
+
+abbrev pub is_good : Status → Bool
+is_good Good = true
+is_good status = false
+
+-- what a command leaves that came to stage 6: PERSISTENT RESERVE OUT that is GOOD was accepted
+abbrev pub left_by : KeptView → Nexus → Option OutParams → Class → Status → KeptView
+left_by k n (Some params) class status = if is_good status then accepted k n params else k
+left_by k n None class status = left_by_class k n class
+
+-- what a command leaves of what is kept after its contact, by the stage that answered it
+abbrev pub left_at : Stage → KeptView → Nexus → Option OutParams → Class → Status → KeptView
+left_at ResetAttention k n list class status = reported_if k n (waiting class (first_reset_of k.slots n))
+left_at OtherAttention k n list class status = reported_if k n (waiting class (first_other_of k.slots n))
+left_at Device k n list class status = left_by k n list class status
+left_at stage k n list class status = k
+
+abbrev pub left_as : KeptView → Option Nexus → Act → Stage → Status → KeptView
+left_as k (Some n) (Command class) stage status = left_at stage (met k n) n None class status
+left_as k (Some n) (ReserveOut params) stage status = left_at stage (met k n) n (Some params) (class_of_action params.act) status
+left_as k (Some n) Invalid stage status = met k n
+left_as k (Some n) Loss stage status = kept_after_loss k n
+left_as k None Reset stage status = kept_after_reset k
+left_as k nexus act stage status = k
+
+-- what is kept after a record, and after records one after another
+abbrev pub kept_by : KeptView → Record → KeptView
+kept_by k e = left_as k e.nexus e.act e.stage e.status
+
+abbrev pub kept_after : KeptView → List Record → KeptView
+kept_after k [] = k
+kept_after k (e ∷ es) = kept_after (kept_by k e) es
+
+-- a record of this finding and this answer
+pub record Says (e : Record) (finding : Finding) (reply : Reply) : Type 0 where
+  pub stage : e.stage ≡ finding.stage
+  pub cell : e.cell ≡ finding.cell
+  pub rule : e.rule ≡ finding.rule
+  pub status : e.status ≡ reply.status
+  pub sense : e.sense ≡ reply.sense
+
+-- which of stages 5 and 6 a command other than PERSISTENT RESERVE OUT comes to, and what it is answered there, is its own or the
+-- device's; but it is no conflict
+pub record SaysItsOwn (e : Record) (at : Cell) : Type 0 where
+  pub stage : (e.stage ≡ Fields) ⊎ (e.stage ≡ Device)
+  pub cell : e.cell ≡ Some at
+  pub rule : e.rule ≡ None
+  pub status : e.status ≢ ReservationConflict
+
+-- stages 5 and 6
+abbrev pub IsCarriedOut : KeptView → Nexus → Option OutParams → Class → Record → Type 0
+IsCarriedOut k n (Some params) class e = elim (refusal k.reservations n params) [
+  | Some fault ↦ Says e (let_in (cell k.reservations n class) Fields) (check (condition_of_refusal fault))
+  | None ↦ Says e (let_in (cell k.reservations n class) Device) (good [])
+]
+IsCarriedOut k n None class e = SaysItsOwn e (cell k.reservations n class)
+
+-- stage 4
+abbrev pub IsLetThrough : KeptView → Nexus → Option OutParams → Class → Record → Type 0
+IsLetThrough k n list class e = elim (waiting class (first_other_of k.slots n)) [
+  | Some kind ↦ Says e (let_in (cell k.reservations n class) OtherAttention) (check (condition_of_attention kind))
+  | None ↦ IsCarriedOut k n list class e
+]
+
+-- stage 3
+abbrev pub IsChecked : KeptView → Nexus → Option OutParams → Class → Record → Type 0
+IsChecked k n list class e = elim (verdict_by k.reservations n list class) [
+  | Allowed ↦ IsLetThrough k n list class e
+  | Denied at ↦ Says e (in_conflict (cell k.reservations n class) None) conflict
+  | Rule rule ↦ Says e (in_conflict (cell k.reservations n class) (Some rule)) conflict
+]
+
+-- stage 2, from what is kept after the contact
+abbrev pub IsCommand : KeptView → Nexus → Option OutParams → Class → Record → Type 0
+IsCommand k n list class e = elim (waiting class (first_reset_of k.slots n)) [
+  | Some kind ↦ Says e (unchecked ResetAttention) (check (condition_of_attention kind))
+  | None ↦ IsChecked k n list class e
+]
+
+-- by what was asked; stage 1 is INVALID, with CHECK CONDITION, and what isn't a command is GOOD at stage 6
+abbrev pub IsJudgedAs : KeptView → Option Nexus → Act → Record → Type 0
+IsJudgedAs k (Some n) (Command class) e = IsCommand (met k n) n None class e
+IsJudgedAs k (Some n) (ReserveOut params) e = IsCommand (met k n) n (Some params) (class_of_action params.act) e
+IsJudgedAs k (Some n) Invalid e = (condition : Condition) × Says e (unchecked Spelling) (check condition)
+IsJudgedAs k (Some n) Loss e = Says e (unchecked Device) (good [])
+IsJudgedAs k None Reset e = Says e (unchecked Device) (good [])
+IsJudgedAs k nexus act e = ⊥
+
+-- a record is what judgement gives of what was kept before it
+abbrev pub IsJudged : KeptView → Record → Type 0
+IsJudged k e = IsJudgedAs k e.nexus e.act e
+
+abbrev pub AreJudged : KeptView → List Record → Type 0
+AreJudged k [] = Unit {0}
+AreJudged k (e ∷ es) = IsJudged k e × AreJudged (kept_by k e) es
+
+-- a legal trail: the records from a base, with what is kept after them
+pub record IsTrail (base : Base) (es : List Record) (now : KeptView) : Type 0 where
+  pub numbered : IsNumbered base.last es
+  pub judged : AreJudged base.kept es
+  pub present : now ≡ kept_after base.kept es
+
+-- in a legal trail RESERVATION CONFLICT stands exactly at stage 3
+abbrev pub ConflictsAtTheCheck : Type 0
+ConflictsAtTheCheck = (base : Base) (es : List Record) (now : KeptView) → IsTrail base es now
+    → All (λ e. (e.status ≡ ReservationConflict) ↔ (e.stage ≡ ReservationCheck)) es

@@ -1,0 +1,299 @@
+use crate::command::Command;
+use crate::conditions::condition_of_attention;
+use crate::preventers::Preventers;
+use crate::reply::Reply;
+use device_server::Payload;
+use permit_tables::{Cell, allowed as is_allowed};
+use pr_core::{PrFault, PrState, Verdict};
+use pr_params::{OutParams, write_capabilities, write_full_status, write_keys, write_reservation};
+use scsi_cdb::{InServiceAction, OutServiceAction};
+use scsi_nexus::Nexus;
+use std::alloc::{AllocError, Global};
+use std::marker::Model;
+use unit_attention::{Kind, Queues};
+
+/// What a unit keeps beside its device and its records.
+#[derive(Drop)]
+pub(crate) struct Kept {
+    lun: u8,
+    units: u8,
+    reservations: PrState,
+    queues: Queues,
+    preventers: Preventers,
+}
+
+impl Model for Kept {
+    ghost use Rattle.logical_unit.specs.KeptView.{KeptView};
+
+    ghost Value = { KeptView };
+
+    ghost view = { λ s. record { lun = s.lun; units = s.units; reservations = s.reservations; slots = s.queues; preventers = s.preventers } };
+}
+
+impl Kept {
+    ghost use Rattle.std.specs.Prelude.{◌≡◌, true};
+    ghost use Rattle.unit_attention.specs.Queues.{first_reset_of, first_other_of, has_slot};
+    ghost use Rattle.logical_unit.specs.Kept.{at_power_on, has_room, met, reported, may_prevent, is_prevented, prevented, allowed};
+    ghost use Rattle.logical_unit.specs.Step.{kept_after_loss, kept_after_reset};
+    ghost use Rattle.logical_unit.specs.Judge.{pending_of};
+    ghost use Rattle.logical_unit.specs.Replies.{check};
+    ghost use Rattle.logical_unit.specs.Conditions.{condition_of_attention};
+
+    /// At power on, for a unit of this number among so many.
+    pub(crate) fn new(lun: u8, units: u8) -> Kept
+        ensures { result ≡ at_power_on lun units }
+    {
+        Kept {
+            lun,
+            units,
+            reservations: PrState::new(),
+            queues: Queues::new(),
+            preventers: Preventers::new(),
+        }
+    }
+
+    pub(crate) fn lun(&self) -> u8
+        ensures { result ≡ self.now.lun }
+    {
+        self.lun
+    }
+
+    pub(crate) fn units(&self) -> u8
+        ensures { result ≡ self.now.units }
+    {
+        self.units
+    }
+
+    /// Whether a sender has a slot, or one is left for it.
+    pub(crate) fn has_room(&self, nexus: Nexus) -> bool
+        ensures { result ≡ has_room self.now nexus }
+    {
+        self.queues.has(nexus) || !self.queues.is_full()
+    }
+
+    /// The contact that each command is.
+    pub(crate) fn meet(&mut self, nexus: Nexus)
+        requires { has_room self.old nexus ≡ true }
+        ensures { self.new ≡ met self.old nexus }
+    {
+        let met = self.queues.contact(nexus);
+        prove!(met.is_ok());
+    }
+
+    /// The oldest attention of ASC 29h that waits once the sender made contact.
+    pub(crate) fn first_reset(&self, nexus: Nexus) -> Option<Kind>
+        ensures { result ≡ first_reset_of (met self.now nexus).slots nexus }
+    {
+        if self.queues.has(nexus) {
+            self.queues.first_reset(nexus)
+        } else {
+            Some(Kind::PowerOn)
+        }
+    }
+
+    /// The oldest other attention that waits once the sender made contact.
+    pub(crate) fn first_other(&self, nexus: Nexus) -> Option<Kind>
+        ensures { result ≡ first_other_of (met self.now nexus).slots nexus }
+    {
+        if self.queues.has(nexus) {
+            self.queues.first_other(nexus)
+        } else {
+            None
+        }
+    }
+
+    /// The attention that would be reported once the sender made contact.
+    pub(crate) fn pending(&self, nexus: Nexus) -> Option<Kind>
+        ensures { result ≡ pending_of (met self.now nexus).slots nexus }
+    {
+        match self.first_reset(nexus) {
+            Some(kind) => Some(kind),
+            None => self.first_other(nexus),
+        }
+    }
+
+    /// Whether a nexus has a slot.
+    pub(crate) fn knows(&self, nexus: Nexus) -> bool
+        ensures { result ≡ has_slot self.now.slots nexus }
+    {
+        self.queues.has(nexus)
+    }
+
+    /// Whether somebody prevents the removal of media.
+    pub(crate) fn is_prevented(&self) -> bool
+        ensures { result ≡ is_prevented self.now }
+    {
+        !self.preventers.is_empty()
+    }
+
+    /// Whether there is room for a nexus among those that prevent removal.
+    pub(crate) fn may_prevent(&self, nexus: Nexus) -> bool
+        ensures { result ≡ may_prevent self.now nexus }
+    {
+        self.preventers.has_room(nexus)
+    }
+
+    /// Contact, and removal is prevented.
+    pub(crate) fn prevent(&mut self, nexus: Nexus)
+        requires room { has_room self.old nexus ≡ true }
+        requires preventer { may_prevent self.old nexus ≡ true }
+        ensures { self.new ≡ prevented (met self.old nexus) nexus }
+    {
+        self.meet(nexus);
+        self.preventers.add(nexus);
+    }
+
+    /// Contact, and removal is no longer prevented by the nexus.
+    pub(crate) fn allow(&mut self, nexus: Nexus)
+        requires { has_room self.old nexus ≡ true }
+        ensures { self.new ≡ allowed (met self.old nexus) nexus }
+    {
+        self.meet(nexus);
+        self.preventers.remove(nexus);
+    }
+
+    /// An I_T nexus loss.
+    pub(crate) fn lose(&mut self, nexus: Nexus)
+        ensures { self.new ≡ kept_after_loss self.old nexus }
+    {
+        self.queues.lose(nexus);
+        self.preventers.remove(nexus);
+    }
+
+    /// A reset of the unit.
+    pub(crate) fn reset(&mut self)
+        ensures { self.new ≡ kept_after_reset self.old }
+    {
+        self.queues.reset();
+        let none = Preventers::new();
+        self.preventers = none;
+    }
+
+    /// The same, for a base that later records stand on.
+    pub(crate) fn copy(&self) -> Kept
+        ensures { result ≡ self.now }
+    {
+        Kept {
+            lun: self.lun,
+            units: self.units,
+            reservations: self.reservations.copy(),
+            queues: self.queues.copy(),
+            preventers: self.preventers.copy(),
+        }
+    }
+
+    /// Contact, and the report of an attention, which waits no more.
+    pub(crate) fn tell(&mut self, alloc: Global, nexus: Nexus, kind: Kind) -> Reply
+        requires { has_room self.old nexus ≡ true }
+        ensures state { self.new ≡ reported (met self.old nexus) nexus kind }
+        ensures reply { result ≡ check (condition_of_attention kind) }
+    {
+        self.meet(nexus);
+        self.queues.clear(nexus, kind);
+        Reply::check(alloc, condition_of_attention(kind))
+    }
+}
+
+impl Kept {
+    ghost use Rattle.std.specs.Prelude.{◌≡◌, true, None, Some, OnOk, IfOk, IfErr, take};
+    ghost use Rattle.pr_core.specs.State.{cell};
+    ghost use Rattle.pr_core.specs.Judge.{verdict};
+    ghost use Rattle.pr_core.specs.Outcome.{refusal};
+    ghost use Rattle.pr_core.specs.declared.verdict.Verdict.TheVariants.{Allowed};
+    ghost use Rattle.logical_unit.specs.Commands.{class_of_command};
+    ghost use Rattle.logical_unit.specs.Kept.{has_room, met, accepted};
+    ghost use Rattle.logical_unit.specs.Judge.{verdict_of, status_data};
+
+    /// The cell of the permission table that a command of a nexus stands in.
+    pub(crate) fn cell(&self, nexus: Nexus, command: &Command) -> Cell
+        ensures { result ≡ cell self.now.reservations nexus (class_of_command command.now) }
+    {
+        self.reservations.cell(nexus, command.class())
+    }
+
+    /// What the reservation check says of a command.
+    pub(crate) fn verdict(&self, nexus: Nexus, command: &Command) -> Verdict
+        ensures { result ≡ verdict_of self.now.reservations nexus command.now }
+    {
+        match command {
+            Command::ReserveOut(list) => self.reservations.judge(nexus, list.params()),
+            Command::ReserveIn(_, _)
+            | Command::Inquiry(_, _, _)
+            | Command::ReportLuns(_, _)
+            | Command::RequestSense(_, _)
+            | Command::Prevent(_)
+            | Command::Device(_) => {
+                let cell = self.reservations.cell(nexus, command.class());
+                if is_allowed(cell) {
+                    Verdict::Allowed
+                } else {
+                    Verdict::Denied(cell)
+                }
+            }
+        }
+    }
+
+    /// The data of PERSISTENT RESERVE IN, uncut.
+    fn status_data(
+        &self,
+        alloc: Global,
+        service_action: InServiceAction,
+    ) -> Result<Vec<u8>, AllocError>
+        ensures { IfOk result (λ bytes. bytes.items ≡ status_data self.now.reservations service_action) }
+    {
+        let generation = self.reservations.generation();
+        let pairs = self.reservations.registrations();
+        let reservation = self.reservations.reservation();
+        match service_action {
+            InServiceAction::ReadKeys => write_keys(alloc, generation, pairs),
+            InServiceAction::ReadReservation => {
+                write_reservation(alloc, generation, pairs, reservation)
+            }
+            InServiceAction::ReportCapabilities => write_capabilities(alloc),
+            InServiceAction::ReadFullStatus => {
+                write_full_status(alloc, generation, pairs, reservation)
+            }
+        }
+    }
+
+    /// The data of PERSISTENT RESERVE IN, cut at the allocation length.
+    pub(crate) fn read_status(
+        &self,
+        alloc: Global,
+        service_action: InServiceAction,
+        allocation_length: u16,
+    ) -> Result<Payload, AllocError>
+        ensures { IfOk result (λ payload. payload ≡ take allocation_length (status_data self.now.reservations service_action)) }
+    {
+        let data = self.status_data(alloc, service_action)?;
+        Ok(Payload::of(data).cut(usize::from(allocation_length)))
+    }
+
+    /// Contact, and an allowed PERSISTENT RESERVE OUT command with the attentions that it raises.
+    pub(crate) fn reserve(&mut self, nexus: Nexus, params: &OutParams) -> Result<(), PrFault>
+        requires room { has_room self.old nexus ≡ true }
+        requires allowed { verdict self.old.reservations nexus params.now ≡ Allowed }
+        ensures ok { OnOk result ((refusal self.old.reservations nexus params.now ≡ None) × (self.new ≡ accepted (met self.old nexus) nexus params.now)) }
+        ensures err { IfErr result (λ fault. (refusal self.old.reservations nexus params.now ≡ Some fault) × (self.new ≡ met self.old nexus)) }
+    {
+        self.meet(nexus);
+        let raised = self.reservations.apply(nexus, params)?;
+        raise_all(&mut self.queues, raised.attentions.as_slice());
+        if params.act == OutServiceAction::PreemptAndAbort {
+            self.preventers.remove_all(raised.removed.items());
+        }
+        Ok(())
+    }
+}
+
+ghost use Rattle.std.specs.Prelude.{◌≡◌};
+ghost use Rattle.logical_unit.specs.Kept.{all_raised};
+
+/// Raises attentions one after another.
+fn raise_all(queues: &mut Queues, attentions: &[(Nexus, Kind)])
+    ensures { queues.new ≡ all_raised queues.old attentions.now }
+{
+    for (nexus, kind) in attentions {
+        queues.raise(*nexus, *kind);
+    }
+}
