@@ -1,7 +1,7 @@
 #!/bin/sh
 # Runs scripts of 250,000, 500,000 and 1,000,000 commands, TEST UNIT READY and READ KEYS in turn over 100 nexuses of which 50
 # are registered, through `vtl replay`, and prints commands per second and peak memory of each. The cost of a command doesn't
-# grow with the script where the three rates are alike.
+# grow with the script where the three rates are alike. Words given to it, as --audit, are given to each `vtl replay`.
 set -eu
 top=$(cd "$(dirname "$0")/.." && pwd)
 "$top/vtl" --version >/dev/null
@@ -17,12 +17,12 @@ for commands in 250000 500000 1000000; do
         for (i = 150; i < commands; i++)
             printf "50000000000000%02x.1 0 %s\n", (i * 37) % 100, i % 2 ? "5e00000000000000ff00" : "000000000000"
     }' >"$work/script"
-    python3 - "$top/crates/vtl/out/vtl" "$work/script" "$commands" <<'END'
+    python3 - "$top/crates/vtl/out/vtl" "$work/script" "$commands" "$@" <<'END'
 import resource, subprocess, sys, time
-program, script, commands = sys.argv[1], sys.argv[2], int(sys.argv[3])
+program, script, commands, options = sys.argv[1], sys.argv[2], int(sys.argv[3]), sys.argv[4:]
 start = time.monotonic()
 with open(script, "rb") as lines:
-    subprocess.run([program, "replay"], stdin=lines, stdout=subprocess.DEVNULL, check=True)
+    subprocess.run([program, "replay", *options], stdin=lines, stdout=subprocess.DEVNULL, check=True)
 seconds = time.monotonic() - start
 peak = resource.getrusage(resource.RUSAGE_CHILDREN).ru_maxrss
 print(f"{commands} commands: {commands / seconds:,.0f} a second, {peak / 1024:,.0f} MiB at most")

@@ -1,20 +1,21 @@
 -- The accepted history of a unit along a run.
-use Rattle.std.proofs.Common.{◌≡◌, ◌≢◌, ℕ, zero, suc, true, false, cond, ◌==◌, List, [], ◌∷◌, Option, Some, None, refl, sym, ap, ◌∙◌, eq-eqb}
+use Rattle.std.proofs.Common.{◌≡◌, ◌≢◌, ℕ, zero, suc, Bool, true, false, cond, ◌==◌, List, [], ◌∷◌, Option, Some, None, inl, inr, refl, sym, ap, ◌∙◌, eq-eqb}
 use Rattle.std.proofs.lemmas.List.Sums.{fold-append}
 use Rattle.std.specs.Prelude.{slice_get, slice_set, if◌then◌else◌}
 use Rattle.std.proofs.lemmas.Map.Views.{exact_unsigned_eq}
 use Rattle.scsi_cdb.specs.declared.kind.Kind.{Kind}
 use Rattle.scsi_nexus.specs.declared.nexus.Nexus.{Nexus}
+use Rattle.unit_attention.specs.Queues.{has_slot}
 use Rattle.pr_core.specs.State.{State}
 use Rattle.device_server.specs.View.{DeviceView, Changer, kind_of}
 use Rattle.logical_unit.specs.declared.reply.Reply.{Reply}
 use Rattle.logical_unit.specs.History.{Accepted, accepted_by, after_history}
 use Rattle.logical_unit.specs.UnitView.{UnitView}
 use Rattle.logical_unit.proofs.History.{executes_keeps}
-use Rattle.logical_unit.specs.Step.{Executes, loses, resets}
+use Rattle.logical_unit.specs.Step.{Executes, LosesAs}
 use Rattle.target_core.specs.declared.event.Event.{Event}
 use Rattle.target_core.specs.declared.event.Event.TheVariants as event
-use Rattle.target_core.specs.Run.{AtUnit, CommandsAt, Steps, Runs, lost_at, was_reset_at}
+use Rattle.target_core.specs.Run.{AtUnit, CommandsAt, IsLost, IsReset, LosesAt, ResetsAt, Steps, Runs}
 use Rattle.target_core.specs.Laws.{accepted_at, accepted_in}
 
 get-set_same : (xs : List UnitView) (i : ℕ) (x y : UnitView) → slice_get xs i ≡ Some y → slice_get (slice_set xs i x) i ≡ Some x
@@ -97,13 +98,26 @@ changed_grows us ms lun at u w x here there is kept =
           record { unit = u; place = ap (λ (xs : List UnitView). slice_get xs lun) is ∙ get-set_other us at lun x apart ∙ here; history = refl }
     ] refl
 
-loss_grows : (us ms : List UnitView) (r : Reply) (lun at : ℕ) (u : UnitView) (n : Nexus) (o : Option UnitView) → slice_get us at ≡ o → slice_get us lun ≡ Some u → ◌≡◌ {A = List UnitView × Reply} (ms, r) (lost_at us at o n) → Grows u.kept.reservations ms lun []
-loss_grows us ms r lun at u n None there here is = record { unit = u; place = ap (λ (x : List UnitView × Reply). slice_get x.0 lun) is ∙ here; history = refl }
-loss_grows us ms r lun at u n (Some w) there here is = changed_grows us ms lun at u w (loses w n).0 here there (ap (λ (x : List UnitView × Reply). x.0) is) refl
+-- a loss and a reset leave a unit's registrations
+loses_keeps : (u v : UnitView) (n : Nexus) (number : Option ℕ) (known : Bool) → LosesAs known u n (v, number) → v.kept.reservations ≡ u.kept.reservations
+loses_keeps u v n number false is = ap (λ (x : UnitView × Option ℕ). x.0.kept.reservations) is
+loses_keeps u v n number true is = ap (λ (x : UnitView × Option ℕ). x.0.kept.reservations) is.1
 
-reset_grows : (us ms : List UnitView) (r : Reply) (lun at : ℕ) (u : UnitView) (o : Option UnitView) → slice_get us at ≡ o → slice_get us lun ≡ Some u → ◌≡◌ {A = List UnitView × Reply} (ms, r) (was_reset_at us at o) → Grows u.kept.reservations ms lun []
+loss_keeps : (u v : UnitView) (n : Nexus) (r : Reply) → IsLost u n (v, r) → v.kept.reservations ≡ u.kept.reservations
+loss_keeps u v n r (inl busy) = ap (λ (x : UnitView × Reply). x.0.kept.reservations) busy.0
+loss_keeps u v n r (inr lost) = loses_keeps u v n lost.0 (has_slot u.kept.slots n) lost.1
+
+reset_keeps : (u v : UnitView) (r : Reply) → IsReset u (v, r) → v.kept.reservations ≡ u.kept.reservations
+reset_keeps u v r (inl busy) = ap (λ (x : UnitView × Reply). x.0.kept.reservations) busy
+reset_keeps u v r (inr was) = ap (λ (x : UnitView × ℕ). x.0.kept.reservations) was.1.1
+
+loss_grows : (us ms : List UnitView) (r : Reply) (lun at : ℕ) (u : UnitView) (n : Nexus) (o : Option UnitView) → slice_get us at ≡ o → slice_get us lun ≡ Some u → LosesAt us at o n (ms, r) → Grows u.kept.reservations ms lun []
+loss_grows us ms r lun at u n None there here is = record { unit = u; place = ap (λ (x : List UnitView × Reply). slice_get x.0 lun) is ∙ here; history = refl }
+loss_grows us ms r lun at u n (Some w) there here a = changed_grows us ms lun at u w a.unit here there a.units (loss_keeps w a.unit n r a.step)
+
+reset_grows : (us ms : List UnitView) (r : Reply) (lun at : ℕ) (u : UnitView) (o : Option UnitView) → slice_get us at ≡ o → slice_get us lun ≡ Some u → ResetsAt us at o (ms, r) → Grows u.kept.reservations ms lun []
 reset_grows us ms r lun at u None there here is = record { unit = u; place = ap (λ (x : List UnitView × Reply). slice_get x.0 lun) is ∙ here; history = refl }
-reset_grows us ms r lun at u (Some w) there here is = changed_grows us ms lun at u w (resets w) here there (ap (λ (x : List UnitView × Reply). x.0) is) refl
+reset_grows us ms r lun at u (Some w) there here a = changed_grows us ms lun at u w a.unit here there a.units (reset_keeps w a.unit r a.step)
 
 step_grows : (us ms : List UnitView) (e : Event) (r : Reply) (lun : ℕ) (u : UnitView) → Steps us e (ms, r) → slice_get us lun ≡ Some u → Grows u.kept.reservations ms lun (accepted_at (kind_of u.device) lun e r)
 step_grows us ms (event.Command n at cdb bytes) r lun u step here = commands_grow us ms lun at u n cdb.items bytes.items r (slice_get us at) refl here step

@@ -1,8 +1,12 @@
-ghost use Rattle.std.specs.Prelude.{◌≡◌, ◌<◌, length, slice_get};
-ghost use Rattle.target_core.specs.Run.{Commands, lost_at, was_reset_at};
+ghost use Rattle.std.specs.Prelude.{◌≡◌, ◌<◌, length, slice_get, Some};
+ghost use Rattle.std.specs.Global.{Vec};
+ghost use Rattle.std.specs.Option.{option_map};
+ghost use Rattle.audit_log.specs.declared.record.Record.{Record};
+ghost use Rattle.target_core.specs.Run.{Commands, LosesAt, ResetsAt, Drains, done};
 
 use crate::event::Event;
 use crate::order::{CoreFault, fault_of};
+use audit_log::Record;
 use device_server::{DeviceServer, Payload};
 use logical_unit::{Busy, LogicalUnit, Reply, absent};
 use scsi_nexus::Nexus;
@@ -58,6 +62,15 @@ fn command_to<D: DeviceServer>(
     }
 }
 
+/// GOOD with the number of the event's record, 0 where it has none.
+fn done(alloc: Global, number: u64) -> Reply
+    ensures { result ≡ done number }
+{
+    let mut reply = Reply::good(Payload::none(alloc));
+    reply.number = number;
+    reply
+}
+
 /// An I_T nexus loss at one of the units.
 fn lose_at<D: DeviceServer>(
     alloc: Global,
@@ -66,10 +79,10 @@ fn lose_at<D: DeviceServer>(
     nexus: Nexus,
 ) -> Reply
     requires { lun < length units.old }
-    ensures { (units.new, result) ≡ lost_at units.old lun (slice_get units.old lun) nexus }
+    ensures { LosesAt units.old lun (slice_get units.old lun) nexus (units.new, result) }
 {
     match units[lun].lose(nexus) {
-        Ok(_) => Reply::good(Payload::none(alloc)),
+        Ok(number) => done(alloc, number.unwrap_or(0)),
         Err(Busy) => Reply::busy(alloc),
     }
 }
@@ -77,10 +90,10 @@ fn lose_at<D: DeviceServer>(
 /// A reset of one of the units.
 fn reset_at<D: DeviceServer>(alloc: Global, units: &mut [LogicalUnit<D>], lun: usize) -> Reply
     requires { lun < length units.old }
-    ensures { (units.new, result) ≡ was_reset_at units.old lun (slice_get units.old lun) }
+    ensures { ResetsAt units.old lun (slice_get units.old lun) (units.new, result) }
 {
     match units[lun].reset() {
-        Ok(_) => Reply::good(Payload::none(alloc)),
+        Ok(number) => done(alloc, number),
         Err(Busy) => Reply::busy(alloc),
     }
 }
@@ -92,7 +105,7 @@ fn lose<D: DeviceServer>(
     lun: usize,
     nexus: Nexus,
 ) -> Reply
-    ensures { (units.new.items, result) ≡ lost_at units.old.items lun (slice_get units.old.items lun) nexus }
+    ensures { LosesAt units.old.items lun (slice_get units.old.items lun) nexus (units.new.items, result) }
 {
     if lun < units.len() {
         lose_at(alloc, units.as_mut_slice(), lun, nexus)
@@ -103,7 +116,7 @@ fn lose<D: DeviceServer>(
 
 /// A reset of a unit, or of none.
 fn reset<D: DeviceServer>(alloc: Global, units: &mut Vec<LogicalUnit<D>>, lun: usize) -> Reply
-    ensures { (units.new.items, result) ≡ was_reset_at units.old.items lun (slice_get units.old.items lun) }
+    ensures { ResetsAt units.old.items lun (slice_get units.old.items lun) (units.new.items, result) }
 {
     if lun < units.len() {
         reset_at(alloc, units.as_mut_slice(), lun)
@@ -112,11 +125,37 @@ fn reset<D: DeviceServer>(alloc: Global, units: &mut Vec<LogicalUnit<D>>, lun: u
     }
 }
 
+/// The records of one of the units.
+fn drain_at<D: DeviceServer>(alloc: Global, units: &mut [LogicalUnit<D>], lun: usize) -> Vec<Record>
+    requires { lun < length units.old }
+    ensures { Drains units.old lun (units.new, Some result.items) }
+{
+    units[lun].drain(alloc)
+}
+
+/// The records of a unit, or of none.
+fn drain<D: DeviceServer>(
+    alloc: Global,
+    units: &mut Vec<LogicalUnit<D>>,
+    lun: usize,
+) -> Option<Vec<Record>>
+    ensures { Drains units.old.items lun (units.new.items, option_map (λ (entries : Vec Record). entries.items) result) }
+{
+    if lun < units.len() {
+        Some(drain_at(alloc, units.as_mut_slice(), lun))
+    } else {
+        None
+    }
+}
+
 impl<D: DeviceServer> TargetCore<D> {
     ghost use Rattle.std.specs.Prelude.{◌≡◌, List, ◌++◌, Some, None, OnOk, OnErr, IfOk, IfErr};
     ghost use Rattle.logical_unit.specs.declared.reply.Reply.{Reply};
     ghost use Rattle.target_core.specs.Faults.{fault_of};
-    ghost use Rattle.target_core.specs.Run.{Steps, Runs};
+    ghost use Rattle.std.specs.Global.{Vec};
+    ghost use Rattle.std.specs.Option.{option_map};
+    ghost use Rattle.audit_log.specs.declared.record.Record.{Record};
+    ghost use Rattle.target_core.specs.Run.{Steps, Runs, Drains};
 
     /// A target of these units. A refusal hands them back.
     pub fn new(
@@ -188,5 +227,14 @@ impl<D: DeviceServer> TargetCore<D> {
             let _ = replies.push(reply);
         }
         Ok(())
+    }
+
+    /// Hands out the records of a unit, oldest first: a legal trail, which gives what the unit keeps
+    /// now. The unit keeps none of them and goes on counting, and the other units stay as they were.
+    /// `None` where there is no such unit. Takes no memory.
+    pub fn drain(&mut self, alloc: Global, lun: u8) -> Option<Vec<Record>>
+        ensures { Drains self.old lun (self.new, option_map (λ (entries : Vec Record). entries.items) result) }
+    {
+        drain(alloc, &mut self.units, usize::from(lun))
     }
 }

@@ -5,4 +5,5 @@ pub mod Lines
 pub mod Script
 pub mod Input
 pub mod Replies
+pub mod AuditLines
 pub mod Replay

@@ -1,13 +1,15 @@
 -- A script that was run, and what was written of it.
-use Rattle.std.specs.Prelude.{◌≡◌, ℕ, List, Option, Ok, Err}
+use Rattle.std.specs.Prelude.{◌≡◌, ℕ, List, ◌++◌, Option, Ok, Err}
 use Rattle.std.specs.Io.KnownBytes.{Appends}
 use Rattle.logical_unit.specs.UnitView.{UnitView}
 use Rattle.logical_unit.specs.declared.reply.Reply.{Reply}
 use Rattle.target_core.specs.Run.{Runs}
 use Rattle.target_core.specs.declared.event.Event.{Event}
+use Rattle.vtl.specs.declared.audit_lines.Audit.{Audit}
 use Rattle.vtl.specs.declared.line_fault.LineFault.{LineFault}
 use Rattle.vtl.specs.declared.replay_fault.ReplayFault.{ReplayFault}
 use Rattle.vtl.specs.declared.replay_fault.ReplayFault.TheVariants.{Line, NoMemory, Read, Write}
+use Rattle.vtl.specs.AuditLines.{audit_text}
 use Rattle.vtl.specs.Input.{IsReadWhole}
 use Rattle.vtl.specs.Replies.{text_of}
 use Rattle.vtl.specs.Script.{saids, script_in}
@@ -21,10 +23,10 @@ pub record HasRun (turns : ℕ) (left left' : Option (List ℕ)) (core core' : L
   pub script : script_in input ≡ Ok (saids events)
   pub run : Runs core events replies core'
 
--- and the lines of its replies were written
-pub record Replays (turns : ℕ) (left left' : Option (List ℕ)) (core core' : List UnitView) (written written' : Option (List ℕ)) : Type 0 where
+-- and the lines of its replies were written, and then those of the records that the units have now, where they are wanted
+pub record Replays (turns : ℕ) (left left' : Option (List ℕ)) (core core' : List UnitView) (audit : Audit) (written written' : Option (List ℕ)) : Type 0 where
   pub ran : HasRun turns left left' core core'
-  pub lines : Appends written written' (text_of ran.replies)
+  pub lines : Appends written written' (text_of ran.replies ++ audit_text audit core')
 
 -- the input was read whole, and its line n is the first with a fault
 pub record Refuses (turns : ℕ) (left left' : Option (List ℕ)) (n : ℕ) (fault : LineFault) : Type 0 where

@@ -29,7 +29,7 @@ nexus_at (Some sas) port = Ok (record { sas = from_be_bytes w64 sas; port = port
 
 -- the digits of the target ports
 abbrev pub is_port : ℕ → Bool
-is_port c = nat_le 49 c && nat_le c 50
+is_port c = nat_le 49 c && nat_le c 52
 
 -- SAS.PORT: 16 hexadecimal digits, a dot, the port
 unfoldable pub nexus_in : List ℕ → Result Nexus LineFault

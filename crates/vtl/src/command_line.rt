@@ -1,5 +1,6 @@
-use clap::Command;
+use crate::audit_lines::Audit;
 use clap::error::ErrorKind;
+use clap::{Arg, ArgAction, ArgMatches, Command};
 use std::alloc::{AllocError, Global};
 use std::io;
 use thiserror::Error;
@@ -7,8 +8,8 @@ use thiserror::Error;
 /// What the program is asked to do.
 #[derive(Clone, Copy, Debug, PartialEq, Eq)]
 pub enum Task {
-    /// Run the script of standard input, and print its replies.
-    Replay,
+    /// Run the script of standard input, and print its replies and what is wanted of the records.
+    Replay(Audit),
 }
 
 /// Why a command line names no task.
@@ -67,14 +68,26 @@ impl From<clap::Error> for CommandLineFault {
 
 /// The task that the words of a command line name, the first of them the program's own name.
 pub fn task_of(alloc: Global, words: &[String]) -> Result<Task, CommandLineFault> {
-    let replay = Command::new(alloc, "replay").about(
-        "Runs the script of standard input and prints a line for each reply",
-    );
+    let audit = Arg::new(alloc, "audit")
+        .long("audit")
+        .action(ArgAction::SetTrue)
+        .help("Prints a line for each record of each unit behind the replies, LUN 0 first");
+    let replay = Command::new(alloc, "replay")
+        .about("Runs the script of standard input and prints a line for each reply")
+        .arg(audit)?;
     let command = Command::new(alloc, "vtl")
         .about("A tape library as a SCSI target")
         .version("0.1.0")
         .subcommand_required(true)
         .subcommand(replay)?;
-    let _matches = command.try_get_matches_from(words)?;
-    Ok(Task::Replay)
+    let matches = command.try_get_matches_from(words)?;
+    Ok(Task::Replay(audit_of(&matches)))
+}
+
+/// What the options of `replay` want of the records.
+fn audit_of(matches: &ArgMatches) -> Audit {
+    match matches.subcommand_matches("replay") {
+        Some(replay) if replay.get_flag("audit") => Audit::Lines,
+        _ => Audit::Off,
+    }
 }

@@ -1,6 +1,7 @@
 //! The program `vtl`: runs a script of commands through a tape library and prints its replies.
 #![tactic(auto)]
 
+mod audit_lines;
 mod command_line;
 mod cutting;
 mod input;

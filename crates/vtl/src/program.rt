@@ -1,3 +1,4 @@
+use crate::audit_lines::Audit;
 use crate::command_line::{CommandLineFault, Task, task_of};
 use crate::library::library;
 use crate::replay_fault::ReplayFault;
@@ -18,7 +19,7 @@ pub fn run<R: AllocGlobal + Env + Input + Print + Eprint>(rt: &R) -> u8 {
         }
     };
     let result = match task {
-        Task::Replay => replay_standard_input(rt),
+        Task::Replay(audit) => replay_standard_input(rt, audit),
     };
     match result {
         Ok(()) => 0,
@@ -42,9 +43,19 @@ fn task_of_arguments<R: AllocGlobal + Env>(rt: &R) -> Result<Task, CommandLineFa
     }
 }
 
-fn replay_standard_input<R: AllocGlobal + Input + Print>(rt: &R) -> Result<(), ReplayFault> {
+fn replay_standard_input<R: AllocGlobal + Input + Print>(
+    rt: &R,
+    audit: Audit,
+) -> Result<(), ReplayFault> {
     let mut core = library(rt.alloc())?;
     let mut reader = rt.reader();
     let mut writer = io::writer(rt);
-    replay(rt.alloc(), &mut core, &mut reader, &mut writer, TURNS)
+    replay(
+        rt.alloc(),
+        &mut core,
+        &mut reader,
+        &mut writer,
+        audit,
+        TURNS,
+    )
 }

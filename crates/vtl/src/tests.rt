@@ -1,3 +1,4 @@
+use crate::audit_lines::Audit;
 use crate::command_line::{Task, task_of};
 use crate::library::library;
 use crate::line_fault::LineFault;
@@ -14,7 +15,9 @@ use std::io::{Read, Write};
 use std::test::Fail;
 use target_core::Event;
 
+mod audit;
 mod every_unit;
+mod prevention;
 mod rows;
 mod want_of_memory;
 
@@ -71,13 +74,13 @@ fn refuses_the_first_fault_of_a_line(rt: HostRuntime) -> Result<(), Fail> {
         ("two words of a loss", "loss 256", LineFault::WordCount),
         (
             "four words of a loss",
-            "loss 500000000000000a.3 0 0",
+            "loss 500000000000000a.5 0 0",
             LineFault::WordCount,
         ),
         ("a reset of no unit", "reset 256", LineFault::BadUnit),
         (
             "a loss of no nexus",
-            "loss 500000000000000a.3 256",
+            "loss 500000000000000a.5 256",
             LineFault::BadNexus,
         ),
         (
@@ -101,8 +104,8 @@ fn refuses_the_first_fault_of_a_line(rt: HostRuntime) -> Result<(), Fail> {
             LineFault::BadNexus,
         ),
         (
-            "port 3",
-            "500000000000000a.3 256 000000000000",
+            "port 5",
+            "500000000000000a.5 256 000000000000",
             LineFault::BadNexus,
         ),
         (
@@ -266,6 +269,7 @@ fn reads_no_more_often_than_it_may(rt: HostRuntime) -> Result<(), Fail> {
             &mut library(rt.alloc())?,
             &mut reader,
             &mut writer,
+            Audit::Off,
             turns,
         );
         assert_eq!(rt; result, outcome, "{turns} turns");
@@ -287,6 +291,7 @@ fn tells_a_read_that_failed(rt: HostRuntime) -> Result<(), Fail> {
         &mut library(rt.alloc())?,
         &mut reader,
         &mut writer,
+        Audit::Off,
         9,
     );
     assert_eq!(rt; result, Err(ReplayFault::Read));
@@ -302,6 +307,7 @@ fn tells_a_closed_output(rt: HostRuntime) -> Result<(), Fail> {
         &mut library(rt.alloc())?,
         &mut reader,
         &mut Closed,
+        Audit::Off,
         9,
     );
     assert_eq!(rt; result, Err(ReplayFault::Write));
@@ -332,12 +338,19 @@ fn shows_faults(rt: HostRuntime) -> Result<(), Fail> {
 #[test]
 fn reads_command_lines(rt: HostRuntime) -> Result<(), Fail> {
     let rows = [
-        ("vtl replay", 0, ""),
         ("vtl", 2, "requires a subcommand"),
         ("vtl serve", 2, "unrecognized subcommand 'serve'"),
         ("vtl replay more", 2, "unexpected argument 'more'"),
+        ("vtl --audit replay", 2, "unexpected argument '--audit'"),
+        ("vtl replay --audit=1", 2, "unexpected value '1'"),
+        (
+            "vtl replay --audit --audit",
+            2,
+            "cannot be used multiple times",
+        ),
         ("vtl --help", 0, "Usage: vtl <COMMAND>"),
         ("vtl replay --help", 0, "Usage: vtl replay"),
+        ("vtl replay --help", 0, "--audit"),
         ("vtl --version", 0, "vtl 0.1.0"),
     ];
     for (line, status, text) in rows {
@@ -346,12 +359,31 @@ fn reads_command_lines(rt: HostRuntime) -> Result<(), Fail> {
             words.push(String::from_str(rt.alloc(), word)?)?;
         }
         match task_of(rt.alloc(), &words) {
-            Ok(Task::Replay) => assert!(rt; text.is_empty(), "{line}"),
+            Ok(_) => return Err("a task".into()),
             Err(fault) => {
                 assert_eq!(rt; fault.status(), status, "{line}");
                 let shown = fault.to_string(rt.alloc())?;
-                assert!(rt; !text.is_empty() && shown.contains(text), "{line}: {shown}");
+                assert!(rt; shown.contains(text), "{line}: {shown}");
             }
+        }
+    }
+    Ok(())
+}
+
+#[test]
+fn reads_what_is_wanted_of_the_records(rt: HostRuntime) -> Result<(), Fail> {
+    let rows = [
+        (&["vtl", "replay"][..], Audit::Off),
+        (&["vtl", "replay", "--audit"][..], Audit::Lines),
+    ];
+    for (line, audit) in rows {
+        let mut words = Vec::new(rt.alloc());
+        for word in line {
+            words.push(String::from_str(rt.alloc(), word)?)?;
+        }
+        match task_of(rt.alloc(), &words) {
+            Ok(task) => assert_eq!(rt; task, Task::Replay(audit)),
+            Err(_) => return Err("no task".into()),
         }
     }
     Ok(())

@@ -8,7 +8,7 @@ use scsi_nexus::Nexus;
 use std::alloc::Global;
 
 /// The target ports are 1 to this one.
-const PORTS: u16 = 2;
+const PORTS: u16 = 4;
 
 /// The nexus of a word `SAS.PORT`: 16 hexadecimal digits, a dot, a port.
 #[tactic(auto, unfolding(crate::specs::Words::nexus_in))]

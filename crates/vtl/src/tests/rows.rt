@@ -1,5 +1,6 @@
 //! Worked rows: commands to logical unit 0 and the replies to them.
 
+use crate::audit_lines::Audit;
 use crate::library::library;
 use crate::replaying::replay;
 use std::alloc::Global;
@@ -38,7 +39,7 @@ fn assert_replies(
     assert_output(rt, alloc, name, script.as_str(), expected.as_str())
 }
 
-/// Replays a whole script at power on, and compares the whole output.
+/// Replays a whole script at power on, and compares the whole output: the replies alone.
 pub(super) fn assert_output(
     rt: &impl Abort,
     alloc: Global,
@@ -48,7 +49,14 @@ pub(super) fn assert_output(
 ) -> Result<(), Fail> {
     let mut reader = script.as_bytes();
     let mut output = Vec::new(alloc);
-    replay(alloc, &mut library(alloc)?, &mut reader, &mut output, 9)?;
+    replay(
+        alloc,
+        &mut library(alloc)?,
+        &mut reader,
+        &mut output,
+        Audit::Off,
+        9,
+    )?;
     assert_eq!(rt; output.as_slice(), expected.as_bytes(), "{name}");
     Ok(())
 }
@@ -101,7 +109,7 @@ fn shows_registrations_and_reservations(rt: HostRuntime) -> Result<(), Fail> {
         (
             "capabilities",
             "a 5e02000000000000ff00\n",
-            "00 - 00080080ea010000\n",
+            "00 - 00080c80ea010000\n",
         ),
         (
             "release by type",
@@ -342,11 +350,13 @@ fn refuses_and_leaves_registrations(rt: HostRuntime) -> Result<(), Fail> {
 }
 
 #[test]
-fn registers_64_nexuses(rt: HostRuntime) -> Result<(), Fail> {
-    let register = "5f000000000000001800 000000000000000000000000000000010000000000000000";
+fn registers_64_addresses_at_every_port(rt: HostRuntime) -> Result<(), Fail> {
+    let everywhere = "5f000000000000001800 000000000000000000000000000000010000000004000000";
+    let alone = "5f000000000000001800 000000000000000000000000000000010000000000000000";
     let mut script = String::new(rt.alloc());
     let mut expected = String::new(rt.alloc());
     for nexus in 1..=65 {
+        let register = if nexus <= 64 { everywhere } else { alone };
         write!(script, "50000000000000{nexus:02x}.1 0 000000000000\n")?;
         write!(script, "50000000000000{nexus:02x}.1 0 {register}\n")?;
         expected.push_str(POWER_ON)?;
@@ -357,13 +367,86 @@ fn registers_64_nexuses(rt: HostRuntime) -> Result<(), Fail> {
         })?;
     }
     script.push_str("5000000000000001.1 0 5e000000000000000800\n")?;
-    expected.push_str("00 - 0000004000000200\n")?;
+    expected.push_str("00 - 0000004000000800\n")?;
     assert_output(
         &rt,
         rt.alloc(),
         "65 registrations",
         script.as_str(),
         expected.as_str(),
+    )
+}
+
+#[test]
+fn registers_several_nexuses(rt: HostRuntime) -> Result<(), Fail> {
+    let rows = [
+        (
+            "register all ports",
+            "a 5f000000000000001800 000000000000000000000000000000010000000004000000\n\
+             a 5e00000000000000ff00\n",
+            "00 - -\n\
+             00 - 00000001000000200000000000000001000000000000000100000000000000010000000000000001\n",
+        ),
+        (
+            "all ports unregister",
+            "a 5f000000000000001800 000000000000000000000000000000010000000004000000\n\
+             a 5f000000000000001800 000000000000000100000000000000000000000000000000\n\
+             a 5f000000000000001800 000000000000000000000000000000050000000004000000\n\
+             a 5e00000000000000ff00\n",
+            "00 - -\n\
+             00 - -\n\
+             18 - -\n\
+             00 - 0000000200000018000000000000000100000000000000010000000000000001\n",
+        ),
+        (
+            "listed from registered",
+            "b 5f000000000000003400 0000000000000000000000000000000700000000080000000000001806000000500000000000000c000000000000000000000000\n\
+             b 5f000000000000003400 0000000000000007000000000000000700000000080000000000001806000000500000000000000c000000000000000000000000\n\
+             b 5f000000000000003300 0000000000000007000000000000000700000000080000000000001806000000500000000000000c0000000000000000000000\n\
+             b 5e00000000000000ff00\n",
+            "00 - -\n\
+             02 700005000000000a00000000260000000000 -\n\
+             02 700005000000000a000000001a0000000000 -\n\
+             00 - 000000010000001000000000000000070000000000000007\n",
+        ),
+        (
+            "all ports release",
+            "a 5f000000000000001800 000000000000000000000000000000010000000004000000\n\
+             a 5f010500000000001800 000000000000000100000000000000000000000000000000\n\
+             b 5f000000000000001800 000000000000000000000000000000020000000000000000\n\
+             a 5f000000000000001800 000000000000000100000000000000000000000004000000\n\
+             b 5e01000000000000ff00\n\
+             b 000000000000\n\
+             a 000000000000\n\
+             b 5e01000000000000ff00\n",
+            "00 - -\n\
+             00 - -\n\
+             00 - -\n\
+             00 - -\n\
+             02 700006000000000a000000002a0400000000 -\n\
+             00 - -\n\
+             00 - -\n\
+             00 - 0000000300000000\n",
+        ),
+    ];
+    for (name, lines, replies) in rows {
+        assert_replies(&rt, rt.alloc(), name, lines, replies)?;
+    }
+    Ok(())
+}
+
+#[test]
+fn registers_a_listed_nexus_that_never_made_contact(rt: HostRuntime) -> Result<(), Fail> {
+    assert_output(
+        &rt,
+        rt.alloc(),
+        "register listed",
+        "500000000000000b.4 0 000000000000\n\
+         500000000000000b.4 0 5f000000000000003400 0000000000000000000000000000000700000000080000000000001806000000500000000000000c000000000000000000000000\n\
+         500000000000000b.4 0 5e00000000000000ff00\n",
+        "02 700006000000000a00000000290000000000 -\n\
+         00 - -\n\
+         00 - 000000010000001000000000000000070000000000000007\n",
     )
 }
 

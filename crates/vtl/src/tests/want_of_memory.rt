@@ -1,4 +1,5 @@
-//! A device that wants memory at a chosen call: BUSY, and nothing has changed.
+//! A device that wants memory at a chosen call: BUSY, nothing has changed, and the numbers of records
+//! go on.
 
 use device_server::{DeviceServer, Outcome, Payload};
 use logical_unit::LogicalUnit;
@@ -55,7 +56,7 @@ fn want_of_memory_is_busy(rt: HostRuntime) -> Result<(), Fail> {
         },
     )?;
     let mut units = Vec::new(alloc);
-    units.push(LogicalUnit::new(0, 1, server))?;
+    units.push(LogicalUnit::new(alloc, 0, 1, server))?;
     let Ok(mut core) = TargetCore::new(units) else {
         return Err("no target".into());
     };
@@ -72,14 +73,15 @@ fn want_of_memory_is_busy(rt: HostRuntime) -> Result<(), Fail> {
     let mut replies = Vec::new(alloc);
     core.run(alloc, &events, &mut replies)?;
     let expected = [
-        Status::CheckCondition,
-        Status::Good,
-        Status::Busy,
-        Status::Good,
-        Status::Good,
+        (Status::CheckCondition, 1),
+        (Status::Good, 2),
+        (Status::Busy, 0),
+        (Status::Good, 3),
+        (Status::Good, 4),
     ];
-    for (reply, status) in replies.iter().zip(expected.iter()) {
+    for (reply, (status, number)) in replies.iter().zip(expected.iter()) {
         assert_eq!(rt; reply.status, *status);
+        assert_eq!(rt; reply.number, *number);
     }
     assert_eq!(rt; replies.len(), 5);
     Ok(())

@@ -14,5 +14,5 @@ returns-in-Ok-clause-ok g c =
         script = search rules;
         run = rw (c.deref-2.ensures.value, replies) at ran.2;
       };
-      lines = rw (c.deref-4.ensures.value, c.in_ok-text.ensures, c.deref-3.ensures.value) at c.in-Ok.ensures;
+      lines = rw (c.as_bytes.ensures.value, c.in_ok-records.ensures, c.all.ensures, c.deref-4.ensures.value, c.in_ok-text.ensures, c.deref-3.ensures.value) at c.in-Ok.ensures;
     }
