@@ -1,7 +1,7 @@
 -- The commands (SPC-4, SSC-4, SMC-3): for each its operation code, the length of its CDB, the units that
 -- have it, and its fields.
 use Rattle.std.specs.Prelude.{ℕ, ◌-◌, ◌==◌, nat_lt, Bool, true, false, List, [], ◌∷◌, length, Option, Some, None, Result, Ok, Err, if◌then◌else◌, find}
-use Rattle.scsi_cdb.specs.Bits.{bit, bits, byte, two_bytes, four_bytes}
+use Rattle.scsi_cdb.specs.Bits.{bit, bits, byte, two_bytes, three_bytes, four_bytes, signed_three_bytes}
 use Rattle.scsi_cdb.specs.declared.action.InServiceAction.{InServiceAction}
 use Rattle.scsi_cdb.specs.declared.action.InServiceAction.TheVariants as in_act
 use Rattle.scsi_cdb.specs.declared.action.OutServiceAction.{OutServiceAction}
@@ -11,7 +11,7 @@ use Rattle.scsi_cdb.specs.declared.fault.CdbFault.TheVariants.{Opcode, ShortCdb,
 use Rattle.scsi_cdb.specs.declared.kind.Kind.{Kind}
 use Rattle.scsi_cdb.specs.declared.kind.Kind.TheVariants.{Drive, Changer}
 use Rattle.scsi_cdb.specs.declared.request.Request.{Request}
-use Rattle.scsi_cdb.specs.declared.request.Request.TheVariants.{TestUnitReady, RequestSense, Inquiry, PreventAllowMediumRemoval, ReportLuns, PersistentReserveIn, PersistentReserveOut}
+use Rattle.scsi_cdb.specs.declared.request.Request.TheVariants.{TestUnitReady, Rewind, RequestSense, ReadBlockLimits, Read, Write, WriteFilemarks, Space, Inquiry, ModeSelect, Erase, ModeSense, LoadUnload, PreventAllowMediumRemoval, Locate, ReadPosition, PersistentReserveIn, PersistentReserveOut, ReportLuns}
 
 -- which kinds of unit have a command: both, the drives, the changer
 pub data Units : Type 0 where
@@ -57,6 +57,10 @@ out_service_action code =
     else if code == 0x07 then Some out_act.RegisterAndMove
     else None
 
+-- the only service action of READ POSITION: the short form, with block identifiers
+abbrev pub read_position : ℕ → Option Request
+read_position code = if code == 0x00 then Some ReadPosition else None
+
 abbrev pub reserve_in : Option InServiceAction → ℕ → Option Request
 reserve_in None allocation_length = None
 reserve_in (Some action) allocation_length = Some (PersistentReserveIn action allocation_length)
@@ -69,9 +73,21 @@ reserve_out (Some action) scope_type list_length = Some (PersistentReserveOut ac
 abbrev pub table : List Row
 table =
     row 0x00 6 Both (λ c. Some TestUnitReady)
+    ∷ row 0x01 6 Drives (λ c. Some Rewind)
     ∷ row 0x03 6 Both (λ c. Some (RequestSense (bit c 1 0) (byte c 4)))
+    ∷ row 0x05 6 Drives (λ c. Some ReadBlockLimits)
+    ∷ row 0x08 6 Drives (λ c. Some (Read (bit c 1 1) (bit c 1 0) (three_bytes c 2)))
+    ∷ row 0x0A 6 Drives (λ c. Some (Write (bit c 1 0) (three_bytes c 2)))
+    ∷ row 0x10 6 Drives (λ c. Some (WriteFilemarks (bit c 1 1) (three_bytes c 2)))
+    ∷ row 0x11 6 Drives (λ c. Some (Space (bits c 1 3 0) (signed_three_bytes c 2)))
     ∷ row 0x12 6 Both (λ c. Some (Inquiry (bit c 1 0) (byte c 2) (two_bytes c 3)))
+    ∷ row 0x15 6 Drives (λ c. Some (ModeSelect (bit c 1 0) (byte c 4)))
+    ∷ row 0x19 6 Drives (λ c. Some Erase)
+    ∷ row 0x1A 6 Drives (λ c. Some (ModeSense (bit c 1 3) (bits c 2 7 6) (bits c 2 5 0) (byte c 3) (byte c 4)))
+    ∷ row 0x1B 6 Drives (λ c. Some (LoadUnload (bit c 4 3) (bit c 4 2) (bit c 4 0)))
     ∷ row 0x1E 6 Both (λ c. Some (PreventAllowMediumRemoval (bits c 4 1 0)))
+    ∷ row 0x2B 10 Drives (λ c. Some (Locate (bit c 1 2) (bit c 1 1) (four_bytes c 3)))
+    ∷ row 0x34 10 Drives (λ c. read_position (bits c 1 4 0))
     ∷ row 0x5E 10 Both (λ c. reserve_in (in_service_action (bits c 1 4 0)) (two_bytes c 7))
     ∷ row 0x5F 10 Both (λ c. reserve_out (out_service_action (bits c 1 4 0)) (byte c 2) (four_bytes c 5))
     ∷ row 0xA0 12 Both (λ c. Some (ReportLuns (byte c 2) (four_bytes c 6)))

@@ -1,15 +1,20 @@
 ghost use Rattle.std.specs.Prelude.{◌≡◌, ◌<◌, IfSome, IfOk};
 ghost use Rattle.std.specs.Option.{option_map};
-ghost use Rattle.scsi_cdb.specs.Bits.{bits, byte, two_bytes, four_bytes};
-ghost use Rattle.scsi_cdb.specs.Commands.{Row, command_of, row_of, fields_in, reading, in_service_action, out_service_action, reserve_in, reserve_out};
+ghost use Rattle.scsi_cdb.specs.Commands.{Row, command_of, row_of, fields_in, reading};
 ghost use Rattle.scsi_cdb.specs.Spelling.{Fits};
 
-use crate::action::{InServiceAction, OutServiceAction};
 use crate::fault::CdbFault;
-use crate::fields::{bit_at, byte_at, u16_at, u32_at};
+use crate::fields::bit_at;
 use crate::kind::Kind;
 use crate::layout::*;
+use crate::primary::{
+    inquiry_at, mode_select_at, mode_sense_at, prevent_allow_medium_removal_at, report_luns_at,
+    request_sense_at, reserve_in_at, reserve_out_at,
+};
 use crate::request::Request;
+use crate::stream::{
+    load_unload_at, locate_at, read_at, read_position_at, space_at, write_at, write_filemarks_at,
+};
 
 /// The request that the bytes spell for a unit of the kind. Bytes past the command's length and
 /// bits that are no field are ignored. An empty CDB is `ShortCdb`; else the first of these that
@@ -42,6 +47,20 @@ fn length_of(kind: Kind, opcode: u8) -> Option<usize>
         }
         (_, PERSISTENT_RESERVE_IN | PERSISTENT_RESERVE_OUT) => Some(TEN_BYTES),
         (_, REPORT_LUNS) => Some(TWELVE_BYTES),
+        (
+            Kind::Drive,
+            REWIND
+            | READ_BLOCK_LIMITS
+            | READ_6
+            | WRITE_6
+            | WRITE_FILEMARKS_6
+            | SPACE_6
+            | MODE_SELECT_6
+            | ERASE_6
+            | MODE_SENSE_6
+            | LOAD_UNLOAD,
+        ) => Some(SIX_BYTES),
+        (Kind::Drive, LOCATE_10 | READ_POSITION) => Some(TEN_BYTES),
         _ => None,
     }
 }
@@ -54,53 +73,24 @@ fn fields_of(opcode: u8, cdb: &[u8]) -> Option<Request>
 {
     match opcode {
         TEST_UNIT_READY => Some(Request::TestUnitReady),
-        REQUEST_SENSE => Some(Request::RequestSense {
-            descriptor_format: bit_at(cdb, FLAGS, DESC_BIT),
-            allocation_length: byte_at(cdb, REQUEST_SENSE_ALLOCATION_LENGTH),
-        }),
-        INQUIRY => Some(Request::Inquiry {
-            vital_product_data: bit_at(cdb, FLAGS, EVPD_BIT),
-            page_code: byte_at(cdb, INQUIRY_PAGE_CODE),
-            allocation_length: u16_at(cdb, INQUIRY_ALLOCATION_LENGTH),
-        }),
-        REPORT_LUNS => Some(Request::ReportLuns {
-            select_report: byte_at(cdb, SELECT_REPORT),
-            allocation_length: u32_at(cdb, REPORT_LUNS_ALLOCATION_LENGTH),
-        }),
-        PREVENT_ALLOW_MEDIUM_REMOVAL => Some(Request::PreventAllowMediumRemoval {
-            prevent: byte_at(cdb, PREVENT) & PREVENT_BITS,
-        }),
+        REWIND => Some(Request::Rewind),
+        REQUEST_SENSE => Some(request_sense_at(cdb)),
+        READ_BLOCK_LIMITS => Some(Request::ReadBlockLimits),
+        READ_6 => Some(read_at(cdb)),
+        WRITE_6 => Some(write_at(cdb)),
+        WRITE_FILEMARKS_6 => Some(write_filemarks_at(cdb)),
+        SPACE_6 => Some(space_at(cdb)),
+        INQUIRY => Some(inquiry_at(cdb)),
+        MODE_SELECT_6 => Some(mode_select_at(cdb)),
+        ERASE_6 => Some(Request::Erase),
+        MODE_SENSE_6 => Some(mode_sense_at(cdb)),
+        LOAD_UNLOAD => Some(load_unload_at(cdb)),
+        PREVENT_ALLOW_MEDIUM_REMOVAL => Some(prevent_allow_medium_removal_at(cdb)),
+        LOCATE_10 => Some(locate_at(cdb)),
+        READ_POSITION => read_position_at(cdb),
         PERSISTENT_RESERVE_IN => reserve_in_at(cdb),
         PERSISTENT_RESERVE_OUT => reserve_out_at(cdb),
+        REPORT_LUNS => Some(report_luns_at(cdb)),
         _ => None,
     }
-}
-
-fn reserve_in_at(cdb: &[u8]) -> Option<Request>
-    ensures value { result ≡
-        reserve_in (in_service_action (bits cdb.now 1 4 0)) (two_bytes cdb.now 7) }
-    ensures fits { IfSome result Fits }
-{
-    Some(Request::PersistentReserveIn {
-        service_action: InServiceAction::of(service_action_at(cdb))?,
-        allocation_length: u16_at(cdb, RESERVE_IN_ALLOCATION_LENGTH),
-    })
-}
-
-fn reserve_out_at(cdb: &[u8]) -> Option<Request>
-    ensures value { result ≡ reserve_out
-        (out_service_action (bits cdb.now 1 4 0)) (byte cdb.now 2) (four_bytes cdb.now 5) }
-    ensures fits { IfSome result Fits }
-{
-    Some(Request::PersistentReserveOut {
-        service_action: OutServiceAction::of(service_action_at(cdb))?,
-        scope_type: byte_at(cdb, RESERVE_OUT_SCOPE_TYPE),
-        parameter_list_length: u32_at(cdb, RESERVE_OUT_PARAMETER_LIST_LENGTH),
-    })
-}
-
-fn service_action_at(cdb: &[u8]) -> u8
-    ensures { result ≡ bits cdb.now 1 4 0 }
-{
-    byte_at(cdb, SERVICE_ACTION) & SERVICE_ACTION_BITS
 }

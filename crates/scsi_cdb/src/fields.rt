@@ -1,9 +1,11 @@
 //! Fields of a CDB by their places: read, where a byte past the end reads as 0, and written.
-ghost use Rattle.std.specs.Prelude.{◌≡◌, ◌<◌, ◌≤◌, length};
-ghost use Rattle.scsi_cdb.specs.Bits.{bit, byte, two_bytes, four_bytes};
+ghost use Rattle.std.specs.Prelude.{◌≡◌, ◌<◌, ◌≤◌, ◌^◌, length, pos, neg_ℤ, ◌≤ℤ◌, ◌<ℤ◌};
+ghost use Rattle.scsi_cdb.specs.Bits.{bit, bits, byte, two_bytes, three_bytes, four_bytes, signed_three_bytes};
 ghost use Rattle.scsi_cdb.specs.Spelling.{at, padded};
 
-use crate::layout::CDB_LENGTH;
+use crate::layout::{
+    CDB_LENGTH, FIRST_NEGATIVE_OF_24_BITS, NUMBERS_OF_24_BITS, SERVICE_ACTION, SERVICE_ACTION_BITS,
+};
 
 pub fn byte_at(cdb: &[u8], place: usize) -> u8
     ensures { result ≡ byte cdb.now place }
@@ -28,6 +30,34 @@ pub fn u16_at(cdb: &[u8], place: usize) -> u16
     u16::from_be_bytes([byte_at(cdb, place), byte_at(cdb, place + 1)])
 }
 
+pub fn u24_at(cdb: &[u8], place: usize) -> u32
+    requires { place < 16 }
+    ensures value { result ≡ three_bytes cdb.now place }
+    ensures fits { result < 2 ^ 24 }
+{
+    u32::from_be_bytes([
+        0,
+        byte_at(cdb, place),
+        byte_at(cdb, place + 1),
+        byte_at(cdb, place + 2),
+    ])
+}
+
+/// A count of three bytes with its sign, as two's complement.
+pub fn count_at(cdb: &[u8], place: usize) -> i32
+    requires { place < 16 }
+    ensures value { result ≡ signed_three_bytes cdb.now place }
+    ensures low { neg_ℤ (pos (2 ^ 23)) ≤ℤ result }
+    ensures high { result <ℤ pos (2 ^ 23) }
+{
+    let unsigned = u24_at(cdb, place) as i32;
+    if unsigned < FIRST_NEGATIVE_OF_24_BITS {
+        unsigned
+    } else {
+        unsigned - NUMBERS_OF_24_BITS
+    }
+}
+
 pub fn u32_at(cdb: &[u8], place: usize) -> u32
     requires { place < 16 }
     ensures { result ≡ four_bytes cdb.now place }
@@ -38,6 +68,12 @@ pub fn u32_at(cdb: &[u8], place: usize) -> u32
         byte_at(cdb, place + 2),
         byte_at(cdb, place + 3),
     ])
+}
+
+pub fn service_action_at(cdb: &[u8]) -> u8
+    ensures { result ≡ bits cdb.now 1 4 0 }
+{
+    byte_at(cdb, SERVICE_ACTION) & SERVICE_ACTION_BITS
 }
 
 /// A field of one bit.

@@ -1,11 +1,11 @@
-ghost use Rattle.std.specs.Prelude.{◌≡◌, Ok, Err, [], ◌∷◌, negsuc, true, false};
+ghost use Rattle.std.specs.Prelude.{◌≡◌, Ok, Err, [], ◌∷◌, pos, negsuc, true, false};
 ghost use Rattle.scsi_cdb.specs.Commands.{reading};
 ghost use Rattle.scsi_cdb.specs.Spelling.{ReadsBack, spelling, padded};
 ghost use Rattle.scsi_cdb.specs.declared.action.InServiceAction.TheVariants.{ReadKeys, ReadFullStatus};
 ghost use Rattle.scsi_cdb.specs.declared.action.OutServiceAction.TheVariants.{RegisterAndMove};
 ghost use Rattle.scsi_cdb.specs.declared.fault.CdbFault.TheVariants.{Opcode, ShortCdb, ServiceAction, Naca};
 ghost use Rattle.scsi_cdb.specs.declared.kind.Kind.TheVariants.{Drive, Changer};
-ghost use Rattle.scsi_cdb.specs.declared.request.Request.TheVariants.{TestUnitReady, RequestSense, Inquiry, PreventAllowMediumRemoval, ReportLuns, PersistentReserveIn, PersistentReserveOut, Space, ModeSense, MoveMedium, ReadElementStatus};
+ghost use Rattle.scsi_cdb.specs.declared.request.Request.TheVariants.{TestUnitReady, Rewind, RequestSense, ReadBlockLimits, Read, Write, WriteFilemarks, Space, Inquiry, ModeSelect, Erase, ModeSense, LoadUnload, PreventAllowMediumRemoval, Locate, ReadPosition, PersistentReserveIn, PersistentReserveOut, ReportLuns, MoveMedium, ReadElementStatus};
 
 /// Law: a unit that has the command decodes what was encoded, where the fields fit their bits.
 #[tactic(auto, unfolding(crate::specs::Commands::command_of))]
@@ -51,4 +51,36 @@ pub fn worked_rows()
         ≡ padded (0xA5 ∷ 0 ∷ 0 ∷ 0 ∷ 4 ∷ 0 ∷ 1 ∷ 0 ∷ []) }
     ensures all_elements { spelling (ReadElementStatus false 0 0 0xFFFF false false 0x1000)
         ≡ padded (0xB8 ∷ 0 ∷ 0 ∷ 0 ∷ 0xFF ∷ 0xFF ∷ 0 ∷ 0 ∷ 0x10 ∷ 0 ∷ []) }
+{}
+
+/// Worked rows of the commands that drives alone have.
+#[tactic(auto, unfolding(crate::specs::Commands::command_of))]
+pub fn worked_rows_of_drives()
+    ensures rewind { reading Drive (1 ∷ 1 ∷ 0 ∷ 0 ∷ 0 ∷ 0 ∷ []) ≡ Ok Rewind }
+    ensures read_block_limits { reading Drive (5 ∷ 0 ∷ 0 ∷ 0 ∷ 0 ∷ 0 ∷ []) ≡ Ok ReadBlockLimits }
+    ensures read_of_300_bytes { reading Drive (8 ∷ 0 ∷ 0 ∷ 1 ∷ 0x2C ∷ 0 ∷ []) ≡ Ok (Read false false 300) }
+    ensures read_of_two_blocks { reading Drive (8 ∷ 1 ∷ 0 ∷ 0 ∷ 2 ∷ 0 ∷ []) ≡ Ok (Read false true 2) }
+    ensures longest_read { reading Drive (8 ∷ 2 ∷ 0xFF ∷ 0xFF ∷ 0xFF ∷ 0xC0 ∷ []) ≡ Ok (Read true false 0xFFFFFF) }
+    ensures write { reading Drive (0x0A ∷ 1 ∷ 1 ∷ 2 ∷ 3 ∷ 0 ∷ []) ≡ Ok (Write true 0x010203) }
+    ensures filemarks { reading Drive (0x10 ∷ 1 ∷ 0 ∷ 1 ∷ 2 ∷ 0 ∷ []) ≡ Ok (WriteFilemarks false 258) }
+    ensures setmark { reading Drive (0x10 ∷ 2 ∷ 0 ∷ 0 ∷ 1 ∷ 0 ∷ []) ≡ Ok (WriteFilemarks true 1) }
+    ensures space_to_end_of_data { reading Drive (0x11 ∷ 3 ∷ 0 ∷ 0 ∷ 0 ∷ 0 ∷ []) ≡ Ok (Space 3 (pos 0)) }
+    ensures space_one_back { reading Drive (0x11 ∷ 0 ∷ 0xFF ∷ 0xFF ∷ 0xFF ∷ 0 ∷ []) ≡ Ok (Space 0 (negsuc 0)) }
+    ensures space_furthest { reading Drive (0x11 ∷ 0xF1 ∷ 0x7F ∷ 0xFF ∷ 0xFF ∷ 0 ∷ []) ≡ Ok (Space 1 (pos 8388607)) }
+    ensures space_furthest_back { reading Drive (0x11 ∷ 1 ∷ 0x80 ∷ 0 ∷ 0 ∷ 0 ∷ []) ≡ Ok (Space 1 (negsuc 8388607)) }
+    ensures mode_select { reading Drive (0x15 ∷ 0x11 ∷ 0 ∷ 0 ∷ 12 ∷ 0 ∷ []) ≡ Ok (ModeSelect true 12) }
+    ensures erase { reading Drive (0x19 ∷ 1 ∷ 0 ∷ 0 ∷ 0 ∷ 0 ∷ []) ≡ Ok Erase }
+    ensures mode_sense { reading Drive (0x1A ∷ 8 ∷ 0xBF ∷ 1 ∷ 2 ∷ 0 ∷ []) ≡ Ok (ModeSense true 2 0x3F 1 2) }
+    ensures load_and_hold { reading Drive (0x1B ∷ 1 ∷ 0 ∷ 0 ∷ 0x0B ∷ 0 ∷ []) ≡ Ok (LoadUnload true false true) }
+    ensures unload_at_end_of_tape { reading Drive (0x1B ∷ 0 ∷ 0 ∷ 0 ∷ 4 ∷ 0 ∷ []) ≡ Ok (LoadUnload false true false) }
+    ensures locate { reading Drive (0x2B ∷ 6 ∷ 9 ∷ 1 ∷ 2 ∷ 3 ∷ 4 ∷ 9 ∷ 9 ∷ 0 ∷ []) ≡ Ok (Locate true true 0x01020304) }
+    ensures no_naca_within_ten_bytes { reading Drive (0x2B ∷ 0 ∷ 0 ∷ 0 ∷ 0 ∷ 4 ∷ 0 ∷ 0 ∷ 0 ∷ 0 ∷ [])
+        ≡ Ok (Locate false false 1024) }
+    ensures read_position { reading Drive (0x34 ∷ 0xE0 ∷ 0 ∷ 0 ∷ 0 ∷ 0 ∷ 0 ∷ 0 ∷ 0 ∷ 0 ∷ []) ≡ Ok ReadPosition }
+    ensures no_long_form { reading Drive (0x34 ∷ 6 ∷ 0 ∷ 0 ∷ 0 ∷ 0 ∷ 0 ∷ 0 ∷ 0 ∷ 4 ∷ []) ≡ Err ServiceAction }
+    ensures naca { reading Drive (0x34 ∷ 0 ∷ 0 ∷ 0 ∷ 0 ∷ 0 ∷ 0 ∷ 0 ∷ 0 ∷ 4 ∷ []) ≡ Err Naca }
+    ensures short_locate { reading Drive (0x2B ∷ 0 ∷ 0 ∷ 0 ∷ 0 ∷ 0 ∷ 5 ∷ 0 ∷ 0 ∷ []) ≡ Err ShortCdb }
+    ensures rewind_of_one_byte { reading Drive (1 ∷ []) ≡ Err ShortCdb }
+    ensures rewind_of_a_changer { reading Changer (1 ∷ []) ≡ Err Opcode }
+    ensures move_medium_of_a_drive { reading Drive (0xA5 ∷ 0 ∷ 0 ∷ 0 ∷ 4 ∷ 0 ∷ 1 ∷ 0 ∷ 0 ∷ 0 ∷ 0 ∷ 0 ∷ []) ≡ Err Opcode }
 {}

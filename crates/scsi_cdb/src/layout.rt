@@ -48,6 +48,9 @@ pub const MOVE_MEDIUM: u8 = 0xA5;
 
 pub const READ_ELEMENT_STATUS: u8 = 0xB8;
 
+// Service actions of READ POSITION.
+pub const SHORT_FORM_BLOCK_ID: u8 = 0x00;
+
 // Service actions of PERSISTENT RESERVE IN.
 pub const READ_KEYS: u8 = 0x00;
 
@@ -92,16 +95,30 @@ pub const DESC_BIT: u8 = 0;
 
 pub const REQUEST_SENSE_ALLOCATION_LENGTH: usize = 4;
 
-// READ(6) and WRITE(6), byte 1.
+// READ(6) and WRITE(6), byte 1, and a place.
 pub const SILI_BIT: u8 = 1;
 
 pub const FIXED_BIT: u8 = 0;
 
-// WRITE FILEMARKS(6), byte 1.
+pub const TRANSFER_LENGTH: usize = 2;
+
+// WRITE FILEMARKS(6), byte 1, and a place.
 pub const WSMK_BIT: u8 = 1;
 
-// SPACE(6), byte 1.
+pub const FILEMARK_COUNT: usize = 2;
+
+// SPACE(6): places, and the bits of the code.
+pub const SPACE_CODE: usize = 1;
+
 pub const SPACE_CODE_BITS: u8 = 0x0F;
+
+pub const SPACE_COUNT: usize = 2;
+
+/// How many numbers 24 bits have.
+pub const NUMBERS_OF_24_BITS: i32 = 0x0100_0000;
+
+/// From here on, 24 bits of two's complement stand for a negative number.
+pub const FIRST_NEGATIVE_OF_24_BITS: i32 = 0x0080_0000;
 
 // INQUIRY, byte 1, and places.
 pub const EVPD_BIT: u8 = 0;
@@ -115,11 +132,15 @@ pub const SELECT_REPORT: usize = 2;
 
 pub const REPORT_LUNS_ALLOCATION_LENGTH: usize = 6;
 
-// MODE SELECT(6), byte 1.
+// MODE SELECT(6), byte 1, and a place.
 pub const SP_BIT: u8 = 0;
 
-// MODE SENSE(6), byte 1, then byte 2.
+pub const MODE_SELECT_PARAMETER_LIST_LENGTH: usize = 4;
+
+// MODE SENSE(6), byte 1, then byte 2: PC in the high two bits, the page code below; and places.
 pub const DBD_BIT: u8 = 3;
+
+pub const MODE_SENSE_PAGE: usize = 2;
 
 pub const PAGE_CONTROL_BITS: u8 = 0x03;
 
@@ -127,7 +148,13 @@ pub const PAGE_CONTROL_PLACE: u8 = 6;
 
 pub const PAGE_CODE_BITS: u8 = 0x3F;
 
+pub const MODE_SENSE_SUBPAGE_CODE: usize = 3;
+
+pub const MODE_SENSE_ALLOCATION_LENGTH: usize = 4;
+
 // LOAD UNLOAD, byte 4.
+pub const LOAD_UNLOAD_FLAGS: usize = 4;
+
 pub const HOLD_BIT: u8 = 3;
 
 pub const EOT_BIT: u8 = 2;
@@ -139,12 +166,14 @@ pub const PREVENT: usize = 4;
 
 pub const PREVENT_BITS: u8 = 0x03;
 
-// LOCATE(10), byte 1.
+// LOCATE(10), byte 1, and a place.
 pub const BT_BIT: u8 = 2;
 
 pub const CP_BIT: u8 = 1;
 
-// PERSISTENT RESERVE IN and OUT: the byte of the service action, and its bits.
+pub const LOGICAL_OBJECT_IDENTIFIER: usize = 3;
+
+// Commands with service actions: the byte of the service action, and its bits.
 pub const SERVICE_ACTION: usize = 1;
 
 pub const SERVICE_ACTION_BITS: u8 = 0x1F;

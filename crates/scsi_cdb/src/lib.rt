@@ -11,7 +11,9 @@ mod fields;
 mod kind;
 mod laws;
 mod layout;
+mod primary;
 mod request;
+mod stream;
 #[cfg(test)]
 mod tests;
 
@@ -22,5 +24,5 @@ pub use decoding::decode;
 pub use encoding::encode;
 pub use fault::CdbFault;
 pub use kind::Kind;
-pub use laws::{request_reads_back, worked_rows};
+pub use laws::{request_reads_back, worked_rows, worked_rows_of_drives};
 pub use request::Request;
