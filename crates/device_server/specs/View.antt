@@ -1,26 +1,102 @@
--- What contracts see of a device, and its step by each command.
-use Rattle.std.specs.Prelude.{ℕ, List, []}
+-- What contracts see of a device, its step by each command, and the volumes that go in and out.
+use Rattle.std.specs.Prelude.{ℕ, ◌==◌, true, false, List, [], length, Option, None, Some, Result, Ok, Err, if◌then◌else◌}
 use Rattle.scsi_cdb.specs.declared.kind.Kind.{Kind}
 use Rattle.scsi_cdb.specs.declared.kind.Kind.TheVariants as kind
 use Rattle.scsi_cdb.specs.declared.request.Request.{Request}
 use Rattle.scsi_cdb.specs.declared.request.Request.TheVariants.{TestUnitReady}
+use Rattle.scsi_sense.specs.declared.condition.Condition.{Condition}
 use Rattle.scsi_sense.specs.declared.condition.Condition.TheVariants.{InvalidCommandOperationCode}
+use Rattle.tape_medium.specs.declared.volume.VolumeTag.{VolumeTag}
+use Rattle.tape_medium.specs.declared.volume.Volume.{Volume}
+use Rattle.tape_medium.specs.declared.elements.MapFault.{MapFault}
+use Rattle.tape_medium.specs.declared.elements.MapFault.TheVariants as map_fault
+use Rattle.tape_medium.specs.Elements.{Elements, tag_of, reads, takes, puts, notes}
 use Rattle.device_server.specs.declared.outcome.Outcome.{Outcome}
+use Rattle.device_server.specs.declared.fault.TakeFault.{TakeFault}
+use Rattle.device_server.specs.declared.fault.TakeFault.TheVariants as take_fault
+use Rattle.device_server.specs.declared.fault.PutFault.{PutFault}
+use Rattle.device_server.specs.declared.fault.PutFault.TheVariants as put_fault
+use Rattle.device_server.specs.declared.fault.BadPlace.{BadPlace}
 use Rattle.device_server.specs.Outcomes.{done, refused}
+use Rattle.device_server.specs.Fields.{field_fault_of}
+use Rattle.device_server.specs.Drive.{DriveView, drive_step, drive_reset, rewound}
 
--- a changer; what it holds and drives come with the commands that tell of them
+-- a drive, or a changer with its elements
 pub data DeviceView : Type 0 where
-  Changer : DeviceView
+  Drive : DriveView → DeviceView
+  Changer : Elements → DeviceView
 
 abbrev pub kind_of : DeviceView → Kind
-kind_of Changer = kind.Changer
+kind_of (Drive d) = kind.Drive
+kind_of (Changer e) = kind.Changer
 
--- the device and its outcome after a command with the data sent with it (SMC-3, "TEST UNIT READY command"); a command that
--- a unit's device doesn't have isn't its own
+-- how many data transfer elements a changer has
+abbrev pub drives_of : DeviceView → ℕ
+drives_of (Drive d) = 0
+drives_of (Changer e) = length e.data_transfer
+
+-- PLACES. A drive has place 0, its bay. A changer's are its elements, by address.
+
+-- the tag of the volume at a place
+abbrev pub held_in : DeviceView → (place : ℕ) → Option VolumeTag
+held_in (Drive d) place = if place == 0 then tag_of d.bay else None
+held_in (Changer e) place = elim (reads e place) [ Ok tag ↦ tag | Err fault ↦ None ]
+
+-- a volume that is taken out of a drive is rewound
+abbrev pub taken_from_bay : DriveView → Option Volume → Result (Volume × DeviceView) TakeFault
+taken_from_bay d None = Err take_fault.Empty
+taken_from_bay d (Some v) = Ok (rewound v, Drive (record d { bay = None; loaded = false }))
+
+-- why nothing can be taken there
+abbrev pub take_fault_of : MapFault → TakeFault
+take_fault_of map_fault.SourceEmpty = take_fault.Empty
+take_fault_of fault = take_fault.BadPlace
+
+abbrev pub taken : DeviceView → (place : ℕ) → Result (Volume × DeviceView) TakeFault
+taken (Drive d) place = if place == 0 then taken_from_bay d d.bay else Err take_fault.BadPlace
+taken (Changer e) place = elim (takes e place) [ Ok it ↦ Ok (it.1, Changer it.0) | Err fault ↦ Err (take_fault_of fault) ]
+
+-- one that is put in is loaded, at the beginning of its tape
+abbrev pub put_in_bay : DriveView → Option Volume → Volume → Result DeviceView PutFault
+put_in_bay d (Some other) v = Err put_fault.Full
+put_in_bay d None v = Ok (Drive (record d { bay = Some (rewound v); loaded = true }))
+
+-- why nothing can be put there
+abbrev pub put_fault_of : MapFault → PutFault
+put_fault_of map_fault.DestinationFull = put_fault.Full
+put_fault_of fault = put_fault.BadPlace
+
+abbrev pub put : DeviceView → (place : ℕ) → Volume → Result DeviceView PutFault
+put (Drive d) place v = if place == 0 then put_in_bay d d.bay v else Err put_fault.BadPlace
+put (Changer e) place v = elim (puts e place v) [ Ok after ↦ Ok (Changer after) | Err fault ↦ Err (put_fault_of fault) ]
+
+-- the tag in a drive's element of a changer
+abbrev pub marked : DeviceView → (place : ℕ) → Option VolumeTag → Result DeviceView BadPlace
+marked (Drive d) place tag = Err record {}
+marked (Changer e) place tag = elim (notes e place tag) [ Ok after ↦ Ok (Changer after) | Err fault ↦ Err record {} ]
+
+-- THE STEP by a command, with the data sent with it: first its fields are looked at
+
+-- what is refused of a command by its fields alone
+abbrev pub field_fault : DeviceView → Request → List ℕ → Option Condition
+field_fault device request bytes = field_fault_of (kind_of device) request bytes
+
+-- a changer's (SMC-3, "TEST UNIT READY command"); a command that a unit's device doesn't have isn't its own
+abbrev pub changer_step : Elements → Request → List ℕ → Elements × Outcome
+changer_step e TestUnitReady bytes = (e, done [])
+changer_step e request bytes = (e, refused InvalidCommandOperationCode)
+
+abbrev pub stepped : DeviceView → Request → List ℕ → DeviceView × Outcome
+stepped (Drive d) request bytes = let step = drive_step d request bytes in (Drive step.0, step.1)
+stepped (Changer e) request bytes = let step = changer_step e request bytes in (Changer step.0, step.1)
+
 abbrev pub performed : DeviceView → Request → List ℕ → DeviceView × Outcome
-performed Changer TestUnitReady bytes = (Changer, done [])
-performed device request bytes = (device, refused InvalidCommandOperationCode)
+performed device request bytes = elim (field_fault device request bytes) [
+  | Some condition ↦ (device, refused condition)
+  | None ↦ stepped device request bytes
+]
 
 -- the device after a reset of the unit: a changer's elements stay as they are
 abbrev pub reset_of : DeviceView → DeviceView
-reset_of Changer = Changer
+reset_of (Drive d) = Drive (drive_reset d)
+reset_of (Changer e) = Changer e

@@ -11,11 +11,13 @@ pub struct Outcome {
     pub sense: Option<Sense>,
     /// The data for the sender.
     pub payload: Payload,
+    /// Whether a MODE SELECT changed the mode parameters, of which every other nexus is to be told.
+    pub mode_changed: bool,
 }
 
 impl Outcome {
     ghost use Rattle.std.specs.Prelude.{◌≡◌};
-    ghost use Rattle.device_server.specs.Outcomes.{done, refused};
+    ghost use Rattle.device_server.specs.Outcomes.{done, set, ended, refused};
 
     /// GOOD, with data.
     pub fn good(payload: Payload) -> Outcome
@@ -25,6 +27,29 @@ impl Outcome {
             status: Status::Good,
             sense: None,
             payload,
+            mode_changed: false,
+        }
+    }
+
+    /// GOOD, of a MODE SELECT.
+    pub fn set(alloc: Global, mode_changed: bool) -> Outcome
+        ensures { result ≡ set mode_changed }
+    {
+        Outcome {
+            mode_changed,
+            ..Outcome::good(Payload::none(alloc))
+        }
+    }
+
+    /// CHECK CONDITION with sense data, and with the data that was read before.
+    pub fn ended(sense: Sense, payload: Payload) -> Outcome
+        ensures { result ≡ ended sense payload }
+    {
+        Outcome {
+            status: Status::CheckCondition,
+            sense: Some(sense),
+            payload,
+            mode_changed: false,
         }
     }
 
@@ -32,10 +57,6 @@ impl Outcome {
     pub fn check(alloc: Global, condition: Condition) -> Outcome
         ensures { result ≡ refused condition }
     {
-        Outcome {
-            status: Status::CheckCondition,
-            sense: Some(Sense::of(condition)),
-            payload: Payload::none(alloc),
-        }
+        Outcome::ended(Sense::of(condition), Payload::none(alloc))
     }
 }

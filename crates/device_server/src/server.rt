@@ -1,11 +1,16 @@
+use crate::fault::{BadPlace, PutFault, TakeFault};
 use crate::outcome::Outcome;
 use scsi_cdb::{Kind, Request};
 use std::alloc::{AllocError, Global};
+use tape_medium::{Volume, VolumeTag};
 
 /// A device, seen by the view of it alone. A unit judges each command before the device gets it.
+///
+/// A drive has one place, 0, its bay. The places of a changer are its elements, by their addresses: storage and import/export elements
+/// hold volumes, data transfer elements have the tag of the volume in their drive.
 pub trait DeviceServer: Drop {
-    ghost use Rattle.std.specs.Prelude.{◌≡◌, IfOk, OnErr};
-    ghost use Rattle.device_server.specs.View.{DeviceView, kind_of, performed, reset_of};
+    ghost use Rattle.std.specs.Prelude.{◌≡◌, Ok, Err, IfOk, OnOk, OnErr, IfErr};
+    ghost use Rattle.device_server.specs.View.{DeviceView, kind_of, drives_of, held_in, performed, taken, put, marked, reset_of};
 
     ghost shown: { Self → DeviceView };
 
@@ -13,8 +18,16 @@ pub trait DeviceServer: Drop {
     fn kind(&self) -> Kind
         ensures { result ≡ kind_of (shown self.now) };
 
-    /// Carries out a command, with the data sent with it. Want of memory leaves the device as it
-    /// was.
+    /// How many data transfer elements a changer has; 0 for a drive.
+    fn drives(&self) -> u16
+        ensures { result ≡ drives_of (shown self.now) };
+
+    /// The tag of the volume at a place, if there is one.
+    fn held(&self, place: u16) -> Option<VolumeTag>
+        ensures { result ≡ held_in (shown self.now) place };
+
+    /// Carries out a command, with the data sent with it. Fields that are refused change nothing, and neither does want of memory. An
+    /// allocation length has cut the data.
     fn perform(
         &mut self,
         alloc: Global,
@@ -23,6 +36,25 @@ pub trait DeviceServer: Drop {
     ) -> Result<Outcome, AllocError>
         ensures ok { IfOk result (λ outcome. performed (shown self.old) request.now bytes.now ≡ (shown self.new, outcome)) }
         ensures err { OnErr result (shown self.new ≡ shown self.old) };
+
+    /// Takes a volume out. A refusal changes nothing.
+    fn take_volume(&mut self, place: u16) -> Result<Volume, TakeFault>
+        ensures ok { IfOk result (λ volume. taken (shown self.old) place ≡ Ok (volume, shown self.new)) }
+        ensures err { IfErr result (λ fault. taken (shown self.old) place ≡ Err fault) }
+        ensures same { OnErr result (shown self.new ≡ shown self.old) };
+
+    /// Puts a volume in. A refusal changes nothing and hands the volume back.
+    fn put_volume(&mut self, place: u16, volume: Volume) -> Result<(), (Volume, PutFault)>
+        ensures ok { OnOk result (put (shown self.old) place volume ≡ Ok (shown self.new)) }
+        ensures err { IfErr result (λ back. put (shown self.old) place volume ≡ Err back.1) }
+        ensures back { IfErr result (λ back. back.0 ≡ volume) }
+        ensures same { OnErr result (shown self.new ≡ shown self.old) };
+
+    /// Notes the tag of the volume in a drive at its data transfer element. A refusal changes nothing.
+    fn mark(&mut self, place: u16, tag: Option<VolumeTag>) -> Result<(), BadPlace>
+        ensures ok { OnOk result (marked (shown self.old) place tag ≡ Ok (shown self.new)) }
+        ensures err { IfErr result (λ fault. marked (shown self.old) place tag ≡ Err fault) }
+        ensures same { OnErr result (shown self.new ≡ shown self.old) };
 
     /// A reset of the unit (SAM-5, "Logical unit reset").
     fn reset(&mut self)

@@ -1,0 +1,26 @@
+use thiserror::Error;
+
+/// Why no volume was taken out.
+#[derive(Clone, Copy, Debug, PartialEq, Eq, Error)]
+pub enum TakeFault {
+    /// No such place, or one that holds no volumes.
+    #[error("no such place")]
+    BadPlace,
+    #[error("no volume there")]
+    Empty,
+}
+
+/// Why a volume wasn't put in.
+#[derive(Clone, Copy, Debug, PartialEq, Eq, Error)]
+pub enum PutFault {
+    /// No such place, or one that holds no volumes.
+    #[error("no such place")]
+    BadPlace,
+    #[error("a volume is there")]
+    Full,
+}
+
+/// No data transfer element is there.
+#[derive(Clone, Copy, Debug, PartialEq, Eq, Error)]
+#[error("no data transfer element there")]
+pub struct BadPlace;
