@@ -1,0 +1,295 @@
+//! The drive, and its commands by what they need of the bay.
+
+ghost use Rattle.std.specs.Prelude.{◌≡◌, None, IfOk, OnErr};
+ghost use Rattle.scsi_cdb.specs.declared.kind.Kind.TheVariants as kind;
+ghost use Rattle.device_server.specs.Fields.{field_fault_of, mode_select_fault};
+ghost use Rattle.device_server.specs.Mode.{block_length_after};
+ghost use Rattle.device_server.specs.Drive.{on_tape};
+
+use crate::mode::{block_length_after, mode_data};
+use crate::positioning::{locate, position_data, space};
+use crate::reading::{read_block, read_blocks};
+use crate::writing::{erase, write_block, write_blocks, write_filemarks};
+use device_server::{BadPlace, DeviceServer, Outcome, Payload, PutFault, TakeFault, field_fault};
+use scsi_cdb::{Kind, Request};
+use scsi_sense::Condition;
+use std::alloc::{AllocError, Global};
+use std::marker::Model;
+use tape_medium::{Tape, Volume, VolumeTag};
+
+/// The data of READ BLOCK LIMITS: no granularity, and blocks of 1 to 65,536 bytes (SSC-4, "READ BLOCK LIMITS command").
+const BLOCK_LIMITS: [u8; 6] = [0x00, 0x01, 0x00, 0x00, 0x00, 0x01];
+
+/// A tape drive with one bay. A volume in it is loaded or not; the block length of the mode is 0 for blocks of any length.
+#[derive(Drop)]
+pub struct TapeDrive {
+    bay: Option<Volume>,
+    loaded: bool,
+    block_length: u32,
+}
+
+impl Model for TapeDrive {
+    ghost use Rattle.device_server.specs.Drive.{DriveView};
+
+    ghost Value = { DriveView };
+
+    ghost view = { λ d. record { bay = d.bay; loaded = d.loaded; block_length = d.block_length } };
+}
+
+impl TapeDrive {
+    ghost use Rattle.device_server.specs.Drive.{empty_drive, drive_step, in_bay, loads, selects, is_protected};
+
+    /// A drive with an empty bay.
+    pub fn new() -> TapeDrive
+        ensures { result ≡ empty_drive }
+    {
+        TapeDrive {
+            bay: None,
+            loaded: false,
+            block_length: 0,
+        }
+    }
+
+    /// Carries out a command whose fields aren't refused.
+    fn step(
+        &mut self,
+        alloc: Global,
+        request: &Request,
+        bytes: &[u8],
+    ) -> Result<Outcome, AllocError>
+        requires { field_fault_of kind.Drive request.now bytes.now ≡ None }
+        ensures ok { IfOk result (λ outcome. drive_step self.old request.now bytes.now ≡ (self.new, outcome)) }
+        ensures err { OnErr result (self.new ≡ self.old) }
+    {
+        match request {
+            Request::ReadBlockLimits => {
+                Ok(Outcome::good(Payload::copied(alloc, &BLOCK_LIMITS)?))
+            }
+            Request::ModeSelect {
+                save_pages,
+                parameter_list_length,
+            } => Ok(self.select(alloc, *save_pages, *parameter_list_length, bytes)),
+            Request::ModeSense {
+                disable_block_descriptors,
+                allocation_length,
+                ..
+            } => Ok(Outcome::good(mode_data(
+                alloc,
+                self.is_protected(),
+                *disable_block_descriptors,
+                self.block_length,
+                *allocation_length,
+            )?)),
+            Request::LoadUnload { load, .. } => Ok(self.load(alloc, *load)),
+            _ => self.in_bay(alloc, request, bytes),
+        }
+    }
+
+    /// MODE SELECT.
+    fn select(
+        &mut self,
+        alloc: Global,
+        save_pages: bool,
+        parameter_list_length: u8,
+        list: &[u8],
+    ) -> Outcome
+        requires { mode_select_fault save_pages parameter_list_length list.now ≡ None }
+        ensures { selects self.old (block_length_after self.old.block_length parameter_list_length list.now) ≡ (self.new, result) }
+    {
+        let before = self.block_length;
+        self.block_length = block_length_after(before, parameter_list_length, list);
+        Outcome::set(alloc, self.block_length != before)
+    }
+
+    /// Whether a protected volume is in the bay, loaded or not.
+    fn is_protected(&self) -> bool
+        ensures { result ≡ is_protected self.now.bay }
+    {
+        match &self.bay {
+            None => false,
+            Some(volume) => volume.protected,
+        }
+    }
+
+    /// LOAD UNLOAD.
+    fn load(&mut self, alloc: Global, load: bool) -> Outcome
+        ensures { loads self.old self.old.bay load ≡ (self.new, result) }
+    {
+        match &mut self.bay {
+            None => Outcome::check(alloc, Condition::MediumNotPresent),
+            Some(volume) => {
+                volume.tape.rewind();
+                self.loaded = load;
+                Outcome::good(Payload::none(alloc))
+            }
+        }
+    }
+
+    /// A command on the tape of the volume in the bay.
+    fn in_bay(
+        &mut self,
+        alloc: Global,
+        request: &Request,
+        bytes: &[u8],
+    ) -> Result<Outcome, AllocError>
+        ensures ok { IfOk result (λ outcome. in_bay self.old self.old.bay request.now bytes.now ≡ (self.new, outcome)) }
+        ensures err { OnErr result (self.new ≡ self.old) }
+    {
+        match &mut self.bay {
+            None => Ok(Outcome::check(alloc, Condition::MediumNotPresent)),
+            Some(volume) => {
+                if !self.loaded {
+                    return Ok(Outcome::check(alloc, Condition::InitializingCommandRequired));
+                }
+                on_tape(
+                    alloc,
+                    &mut volume.tape,
+                    volume.protected,
+                    self.block_length,
+                    request,
+                    bytes,
+                )
+            }
+        }
+    }
+}
+
+impl DeviceServer for TapeDrive {
+    ghost use Rattle.device_server.specs.View.{Drive};
+
+    ghost shown = { λ d. Drive d };
+
+    fn kind(&self) -> Kind {
+        Kind::Drive
+    }
+
+    fn drives(&self) -> u16 {
+        0
+    }
+
+    fn held(&self, place: u16) -> Option<VolumeTag> {
+        if place != 0 {
+            return None;
+        }
+        match &self.bay {
+            None => None,
+            Some(volume) => Some(volume.tag),
+        }
+    }
+
+    fn perform(
+        &mut self,
+        alloc: Global,
+        request: &Request,
+        bytes: &[u8],
+    ) -> Result<Outcome, AllocError> {
+        match field_fault(Kind::Drive, request, bytes) {
+            Some(condition) => Ok(Outcome::check(alloc, condition)),
+            None => self.step(alloc, request, bytes),
+        }
+    }
+
+    fn take_volume(&mut self, place: u16) -> Result<Volume, TakeFault> {
+        if place != 0 {
+            return Err(TakeFault::BadPlace);
+        }
+        match self.bay.take() {
+            None => Err(TakeFault::Empty),
+            Some(mut volume) => {
+                volume.tape.rewind();
+                self.loaded = false;
+                Ok(volume)
+            }
+        }
+    }
+
+    fn put_volume(&mut self, place: u16, mut volume: Volume) -> Result<(), (Volume, PutFault)> {
+        if place != 0 {
+            return Err((volume, PutFault::BadPlace));
+        }
+        if self.bay.is_some() {
+            return Err((volume, PutFault::Full));
+        }
+        volume.tape.rewind();
+        self.bay = Some(volume);
+        self.loaded = true;
+        Ok(())
+    }
+
+    fn mark(&mut self, _place: u16, _tag: Option<VolumeTag>) -> Result<(), BadPlace> {
+        Err(BadPlace)
+    }
+
+    fn reset(&mut self) {
+        self.block_length = 0;
+        if let Some(volume) = &mut self.bay {
+            volume.tape.rewind();
+        }
+    }
+}
+
+/// A command on the tape of a volume that is loaded.
+fn on_tape(
+    alloc: Global,
+    tape: &mut Tape,
+    protected: bool,
+    block_length: u32,
+    request: &Request,
+    bytes: &[u8],
+) -> Result<Outcome, AllocError>
+    ensures ok { IfOk result (λ outcome. on_tape block_length protected tape.old request.now bytes.now ≡ (tape.new, outcome)) }
+    ensures err { OnErr result (tape.new ≡ tape.old) }
+{
+    match request {
+        Request::TestUnitReady => Ok(Outcome::good(Payload::none(alloc))),
+        Request::Rewind => {
+            tape.rewind();
+            Ok(Outcome::good(Payload::none(alloc)))
+        }
+        Request::Read {
+            suppress_incorrect_length,
+            fixed: false,
+            transfer_length,
+        } => read_block(
+            alloc,
+            tape,
+            *suppress_incorrect_length,
+            block_length,
+            *transfer_length,
+        ),
+        Request::Read {
+            fixed: true,
+            transfer_length,
+            ..
+        } => read_blocks(alloc, tape, block_length, *transfer_length),
+        Request::Write {
+            fixed: false,
+            transfer_length,
+        } => write_block(alloc, tape, protected, *transfer_length, bytes),
+        Request::Write {
+            fixed: true,
+            transfer_length,
+        } => write_blocks(
+            alloc,
+            tape,
+            protected,
+            block_length,
+            *transfer_length,
+            bytes,
+        ),
+        Request::WriteFilemarks { filemark_count, .. } => write_filemarks(
+            alloc,
+            tape,
+            protected,
+            *filemark_count,
+        ),
+        Request::Space { code, count } => Ok(space(alloc, tape, *code, *count)),
+        Request::Erase => Ok(erase(alloc, tape, protected)),
+        Request::Locate {
+            logical_object_identifier,
+            ..
+        } => Ok(locate(alloc, tape, *logical_object_identifier)),
+        Request::ReadPosition => Ok(Outcome::good(position_data(alloc, tape.position())?)),
+        _ => Ok(Outcome::check(alloc, Condition::InvalidCommandOperationCode)),
+    }
+}

@@ -1,0 +1,13 @@
+//! A tape drive with one bay, and the commands that it carries out on the volume in it.
+#![tactic(auto)]
+
+mod drive;
+mod mode;
+mod positioning;
+mod reading;
+mod sense;
+#[cfg(test)]
+mod tests;
+mod writing;
+
+pub use drive::TapeDrive;
