@@ -22,7 +22,7 @@ use Rattle.audit_log.specs.declared.stage.Stage.TheVariants.{ResetAttention, Res
 use Rattle.logical_unit.specs.declared.finding.Finding.{Finding}
 use Rattle.logical_unit.specs.declared.reply.Reply.{Reply}
 use Rattle.logical_unit.specs.Conditions.{condition_of_attention, condition_of_refusal}
-use Rattle.logical_unit.specs.Findings.{unchecked, let_in, in_conflict}
+use Rattle.logical_unit.specs.Findings.{at_stage, let_in, in_conflict}
 use Rattle.logical_unit.specs.Replies.{conflict, check, good}
 use Rattle.logical_unit.specs.KeptView.{KeptView}
 use Rattle.logical_unit.specs.Kept.{met}
@@ -73,8 +73,8 @@ checked k n list class e =
 
 commanded : (k : KeptView) (n : Nexus) (list : Option OutParams) (class : Class) (e : Record) → IsCommand k n list class e → AtTheCheck e
 commanded k n list class e =
-    elim (waiting class (first_reset_of k.slots n)) as (λ (o : Option Kind). (elim o [ Some kind ↦ Says e (unchecked ResetAttention) (check (condition_of_attention kind)) | None ↦ IsChecked k n list class e ]) → AtTheCheck e) [
-      | Some kind ↦ elsewhere e (unchecked ResetAttention) (check (condition_of_attention kind)) (λ h. cc) (λ h. cc)
+    elim (waiting class (first_reset_of k.slots n)) as (λ (o : Option Kind). (elim o [ Some kind ↦ Says e (at_stage ResetAttention) (check (condition_of_attention kind)) | None ↦ IsChecked k n list class e ]) → AtTheCheck e) [
+      | Some kind ↦ elsewhere e (at_stage ResetAttention) (check (condition_of_attention kind)) (λ h. cc) (λ h. cc)
       | None ↦ checked k n list class e
     ]
 
@@ -91,8 +91,8 @@ judged k None (ReserveOut params) e j = absurd j
 judged k None Invalid e j = absurd j
 judged k None Loss e j = absurd j
 judged k None Reset e j = elsewhere e _ (good []) (λ h. cc) (λ h. cc) j
-judged k None MediumIn e j = absurd j
-judged k None MediumOut e j = absurd j
+judged k None MediumIn e j = elsewhere e _ (good []) (λ h. cc) (λ h. cc) j
+judged k None MediumOut e j = elsewhere e _ (good []) (λ h. cc) (λ h. cc) j.1
 
 all : (k : KeptView) (es : List Record) → AreJudged k es → All AtTheCheck es
 all k [] j place d within = absurd (omega (arith, within))

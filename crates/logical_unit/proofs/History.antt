@@ -12,20 +12,23 @@ use Rattle.pr_core.specs.declared.verdict.Verdict.TheVariants.{Allowed, Denied, 
 use Rattle.permit_tables.specs.declared.cell.Cell.{Cell}
 use Rattle.audit_log.specs.declared.stage.Stage.TheVariants as stage
 use Rattle.audit_log.specs.declared.stage.Stage.TheVariants.{ResetAttention, OtherAttention, Fields}
-use Rattle.device_server.specs.View.{kind_of}
+use Rattle.std.specs.Prelude.{cond, ◌&&◌}
+use Rattle.scsi_cdb.specs.declared.request.Request.{Request}
+use Rattle.scsi_sense.specs.declared.condition.Condition.TheVariants.{MediumRemovalPrevented}
+use Rattle.device_server.specs.View.{kind_of, field_fault, performed}
 use Rattle.logical_unit.specs.declared.command.Command.{Command}
 use Rattle.logical_unit.specs.declared.command.Command.TheVariants.{ReserveOut, ReserveIn, Inquiry, ReportLuns, RequestSense, Prevent, Device}
 use Rattle.logical_unit.specs.declared.reply.Reply.{Reply}
 use Rattle.logical_unit.specs.declared.finding.Finding.{Finding}
 use Rattle.logical_unit.specs.Commands.{spelled, class_of_command}
-use Rattle.logical_unit.specs.Findings.{unchecked, let_in, in_conflict}
+use Rattle.logical_unit.specs.Findings.{at_stage, let_in, in_conflict}
 use Rattle.logical_unit.specs.Conditions.{condition_of_refusal}
 use Rattle.logical_unit.specs.Replies.{busy, conflict, check, good}
 use Rattle.logical_unit.specs.KeptView.{KeptView}
 use Rattle.logical_unit.specs.UnitView.{Present, UnitView}
-use Rattle.logical_unit.specs.Kept.{accepted}
+use Rattle.logical_unit.specs.Kept.{accepted, is_prevented, after_mode}
 use Rattle.logical_unit.proofs.Check.{prevents_by}
-use Rattle.logical_unit.specs.Judge.{cell_of, verdict_of, waiting, pending_of, sensed, tells, at_cell, carried_out, let_through, checked, commanded, judged_as}
+use Rattle.logical_unit.specs.Judge.{cell_of, verdict_of, waiting, pending_of, sensed, tells, steps, unloads, performs, at_cell, carried_out, let_through, checked, commanded, judged_as}
 use Rattle.logical_unit.specs.Step.{contacted_present, Executes}
 use Rattle.logical_unit.specs.History.{accepted_as, accepted_by, after_history}
 
@@ -65,9 +68,25 @@ prevented_leaves u n true one = refl
 prevented_leaves u n false true = refl
 prevented_leaves u n false false = refl
 
+mode_leaves : (k : KeptView) (n : Nexus) (changed : Bool) → (after_mode k n changed).reservations ≡ k.reservations
+mode_leaves k n true = refl
+mode_leaves k n false = refl
+
+steps_leaves : (u : Present) (n : Nexus) (at : Cell) (r : Request) (bytes : List ℕ) (prevented : Bool)
+    → Leaves u.kept.reservations n (Ok (Device r)) (at_cell at (cond prevented (u, at_stage stage.Device, check MediumRemovalPrevented) (steps u n (performed u.device r bytes))))
+steps_leaves u n at r bytes true = refl
+steps_leaves u n at r bytes false = mode_leaves u.kept n (performed u.device r bytes).1.mode_changed
+
+performs_leaves : (u : Present) (n : Nexus) (at : Cell) (r : Request) (bytes : List ℕ) → Leaves u.kept.reservations n (Ok (Device r)) (at_cell at (performs u n r bytes))
+performs_leaves u n at r bytes =
+    elim (field_fault u.device r bytes) as (λ (o : Option Condition). Leaves u.kept.reservations n (Ok (Device r)) (at_cell at (elim o [ Some condition ↦ (u, at_stage Fields, check condition) | None ↦ cond (unloads r && is_prevented u.kept) (u, at_stage stage.Device, check MediumRemovalPrevented) (steps u n (performed u.device r bytes)) ]))) [
+      | Some condition ↦ refl
+      | None ↦ steps_leaves u n at r bytes (unloads r && is_prevented u.kept)
+    ]
+
 carried_leaves : (u : Present) (n : Nexus) (at : Cell) (c : Command) (bytes : List ℕ) → Leaves u.kept.reservations n (Ok c) (at_cell at (carried_out u n c bytes))
 carried_leaves u n at (ReserveOut p) bytes =
-    elim (refusal u.kept.reservations n p) as (λ (o : Option PrFault). Leaves u.kept.reservations n (Ok (ReserveOut p)) (at_cell at (elim o [ Some fault ↦ (u, Fields, check (condition_of_refusal fault)) | None ↦ (record u { kept = accepted u.kept n p }, stage.Device, good []) ]))) [
+    elim (refusal u.kept.reservations n p) as (λ (o : Option PrFault). Leaves u.kept.reservations n (Ok (ReserveOut p)) (at_cell at (elim o [ Some fault ↦ (u, at_stage Fields, check (condition_of_refusal fault)) | None ↦ (record u { kept = accepted u.kept n p }, at_stage stage.Device, good []) ]))) [
       | Some fault ↦ refl
       | None ↦ refl
     ]
@@ -77,7 +96,7 @@ carried_leaves u n at (ReportLuns s l) bytes = refl
 carried_leaves u n at (RequestSense true l) bytes = refl
 carried_leaves u n at (RequestSense false l) bytes = sensed_leaves u.kept n l (pending_of u.kept.slots n)
 carried_leaves u n at (Prevent p) bytes = prevented_leaves u n (p == 0) (p == 1)
-carried_leaves u n at (Device r) bytes = refl
+carried_leaves u n at (Device r) bytes = performs_leaves u n at r bytes
 
 let_through_leaves : (u : Present) (n : Nexus) (c : Command) (bytes : List ℕ) → Leaves u.kept.reservations n (Ok c) (let_through u n c bytes)
 let_through_leaves u n c bytes =
@@ -98,8 +117,8 @@ checked_leaves u n c bytes =
 
 commanded_leaves : (u : Present) (n : Nexus) (c : Command) (bytes : List ℕ) → Leaves u.kept.reservations n (Ok c) (commanded u n c bytes)
 commanded_leaves u n c bytes =
-    elim (waiting (class_of_command c) (first_reset_of u.kept.slots n)) as (λ (o : Option Kind). Leaves u.kept.reservations n (Ok c) (elim o [ Some kind ↦ tells u n kind (unchecked ResetAttention) | None ↦ checked u n c bytes ])) [
-      | Some kind ↦ told_leaves u n c kind (unchecked ResetAttention)
+    elim (waiting (class_of_command c) (first_reset_of u.kept.slots n)) as (λ (o : Option Kind). Leaves u.kept.reservations n (Ok c) (elim o [ Some kind ↦ tells u n kind (at_stage ResetAttention) | None ↦ checked u n c bytes ])) [
+      | Some kind ↦ told_leaves u n c kind (at_stage ResetAttention)
       | None ↦ checked_leaves u n c bytes
     ]
 

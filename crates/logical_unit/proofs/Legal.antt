@@ -4,7 +4,7 @@ use Rattle.scsi_cdb.specs.declared.classes.Class.{Class}
 use Rattle.scsi_cdb.specs.declared.classes.Class.TheVariants as class
 use Rattle.scsi_nexus.specs.declared.nexus.Nexus.{Nexus}
 use Rattle.scsi_sense.specs.declared.condition.Condition.{Condition}
-use Rattle.scsi_sense.specs.declared.condition.Condition.TheVariants.{InvalidFieldInCdb}
+use Rattle.scsi_sense.specs.declared.condition.Condition.TheVariants.{MediumRemovalPrevented}
 use Rattle.scsi_sense.specs.declared.status.Status.{Status}
 use Rattle.unit_attention.specs.declared.kind.Kind.{Kind}
 use Rattle.unit_attention.specs.Queues.{first_reset_of, first_other_of}
@@ -16,27 +16,29 @@ use Rattle.pr_core.specs.declared.verdict.Verdict.TheVariants.{Allowed, Denied, 
 use Rattle.audit_log.specs.declared.act.Act.{Act}
 use Rattle.audit_log.specs.declared.act.Act.TheVariants as act
 use Rattle.audit_log.specs.declared.record.Record.{Record}
-use Rattle.std.specs.Prelude.{if◌then◌else◌}
-use Rattle.audit_log.specs.declared.stage.Stage.{Stage}
+use Rattle.std.specs.Prelude.{if◌then◌else◌, cond, ◌&&◌}
 use Rattle.audit_log.specs.declared.stage.Stage.TheVariants as stage
 use Rattle.audit_log.specs.declared.stage.Stage.TheVariants.{ResetAttention, OtherAttention, Fields}
-use Rattle.device_server.specs.View.{DeviceView, kind_of}
+use Rattle.device_server.specs.View.{DeviceView, kind_of, field_fault, performed}
+use Rattle.scsi_cdb.specs.declared.request.Request.{Request}
+use Rattle.scsi_cdb.specs.Classes.{class_of}
 use Rattle.logical_unit.specs.declared.command.Command.{Command}
 use Rattle.logical_unit.specs.declared.command.Command.TheVariants.{ReserveOut, ReserveIn, Inquiry, ReportLuns, RequestSense, Prevent, Device}
 use Rattle.logical_unit.specs.declared.finding.Finding.{Finding}
 use Rattle.logical_unit.specs.declared.reply.Reply.{Reply}
 use Rattle.logical_unit.specs.Commands.{class_of_command, list_of, act_of_spelled}
 use Rattle.logical_unit.specs.Conditions.{condition_of_attention, condition_of_refusal}
-use Rattle.logical_unit.specs.Findings.{unchecked, let_in, in_conflict}
+use Rattle.logical_unit.specs.Findings.{at_stage, let_in, in_conflict}
 use Rattle.logical_unit.specs.UnitData.{inquiry_data, selected_luns}
 use Rattle.logical_unit.specs.Replies.{conflict, check, good, data_reply}
 use Rattle.logical_unit.specs.KeptView.{KeptView}
 use Rattle.logical_unit.specs.UnitView.{Present}
-use Rattle.logical_unit.specs.Kept.{met, accepted, prevented, allowed}
-use Rattle.logical_unit.specs.Judge.{cell_of, verdict_of, waiting, pending_of, sensed, senses, tells, at_cell, carried_out, let_through, checked, commanded, judged_as}
+use Rattle.logical_unit.specs.Kept.{met, accepted, is_prevented, with_medium}
+use Rattle.logical_unit.specs.Judge.{cell_of, verdict_of, waiting, pending_of, sensed, senses, tells, steps, unloads, performs, at_cell, carried_out, let_through, checked, commanded, judged_as}
 use Rattle.logical_unit.specs.Step.{entry_of, event_of, kept_after_loss, kept_after_reset}
 use Rattle.logical_unit.specs.Legal.{reported_if, left_by_class, left_at, kept_by, kept_after, Says, SaysItsOwn, IsCarriedOut, IsLetThrough, IsChecked, IsCommand, IsJudged, AreJudged}
-use Rattle.logical_unit.proofs.Check.{performed_no_conflict, prevents_by}
+use Rattle.logical_unit.proofs.Check.{prevents_by}
+use Rattle.logical_unit.proofs.Outcomes.{performed_own}
 use Rattle.logical_unit.proofs.Plain.{IsPlain, IsPlainIf}
 
 -- the record of a judgement
@@ -45,51 +47,67 @@ entry m n a x = entry_of m (Some n) a x.1 x.2.status x.2.sense
 
 -- a judgement's record says the right thing, and what is kept is what it leaves
 abbrev pub Fits : (Record → Type 0) → KeptView → Nexus → Command → ℕ → Act → Present × Finding × Reply → Type 0
-Fits J k n c m a x = J (entry m n a x) × (x.0.kept ≡ left_at x.1.stage k n (list_of c) (class_of_command c) x.2.status)
+Fits J k n c m a x = J (entry m n a x) × (x.0.kept ≡ left_at x.1.stage k n (list_of c) (class_of_command c) x.2.status x.1.mode_changed)
 
 says : (m : ℕ) (n : Nexus) (a : Act) (f : Finding) (r : Reply) → Says (entry_of m (Some n) a f r.status r.sense) f r
-says m n a f r = record { stage = refl; cell = refl; rule = refl; status = refl; sense = refl }
+says m n a f r = record { stage = refl; cell = refl; rule = refl; mode_changed = refl; status = refl; sense = refl }
 
 data_says : (m : ℕ) (n : Nexus) (a : Act) (at : Cell) (o : Option (List ℕ)) (l : ℕ) → SaysItsOwn (entry_of m (Some n) a (let_in at (data_reply o l).0) (data_reply o l).1.status (data_reply o l).1.sense) at
-data_says m n a at (Some payload) l = record { stage = inr refl; cell = refl; rule = refl; status = λ e. cc }
-data_says m n a at None l = record { stage = inl refl; cell = refl; rule = refl; status = λ e. cc }
+data_says m n a at (Some payload) l = record { stage = inr refl; cell = refl; rule = refl; status = λ e. cc; mode = λ e. absurd cc }
+data_says m n a at None l = record { stage = inl refl; cell = refl; rule = refl; status = λ e. cc; mode = λ e. absurd cc }
 
-data_left : (k : KeptView) (n : Nexus) (class : Class) (s : Status) (o : Option (List ℕ)) (l : ℕ) → k ≡ left_by_class k n class → k ≡ left_at (data_reply o l).0 k n None class s
+data_left : (k : KeptView) (n : Nexus) (class : Class) (s : Status) (o : Option (List ℕ)) (l : ℕ) → k ≡ left_by_class k n class false → k ≡ left_at (data_reply o l).0 k n None class s false
 data_left k n class s (Some payload) l h = h
 data_left k n class s None l h = refl
 
 sensed_fits : (u : Present) (n : Nexus) (at : Cell) (l : ℕ) (m : ℕ) (a : Act) (o : Option Kind) → pending_of u.kept.slots n ≡ o
     → Fits (λ e. SaysItsOwn e at) u.kept n (RequestSense false l) m a (at_cell at (senses u (sensed u.kept n l o)))
-sensed_fits u n at l m a (Some kind) h = (record { stage = inr refl; cell = refl; rule = refl; status = λ e. cc }, sym (ap (reported_if u.kept n) h))
-sensed_fits u n at l m a None h = (record { stage = inr refl; cell = refl; rule = refl; status = λ e. cc }, sym (ap (reported_if u.kept n) h))
+sensed_fits u n at l m a (Some kind) h = (record { stage = inr refl; cell = refl; rule = refl; status = λ e. cc; mode = λ e. absurd cc }, sym (ap (reported_if u.kept n) h))
+sensed_fits u n at l m a None h = (record { stage = inr refl; cell = refl; rule = refl; status = λ e. cc; mode = λ e. absurd cc }, sym (ap (reported_if u.kept n) h))
 
 prevent_fits : (u : Present) (n : Nexus) (at : Cell) (m : ℕ) (a : Act) (zero one : Bool)
     → SaysItsOwn (entry m n a (at_cell at (prevents_by u n zero one))) at
-    × ((prevents_by u n zero one).0.kept ≡ left_at (prevents_by u n zero one).1 u.kept n None (if zero then class.AllowRemoval else class.PreventRemoval) (prevents_by u n zero one).2.status)
-prevent_fits u n at m a true one = (record { stage = inr refl; cell = refl; rule = refl; status = λ e. cc }, refl)
-prevent_fits u n at m a false true = (record { stage = inr refl; cell = refl; rule = refl; status = λ e. cc }, refl)
-prevent_fits u n at m a false false = (record { stage = inl refl; cell = refl; rule = refl; status = λ e. cc }, refl)
+    × ((prevents_by u n zero one).0.kept ≡ left_at (prevents_by u n zero one).1.stage u.kept n None (if zero then class.AllowRemoval else class.PreventRemoval) (prevents_by u n zero one).2.status (prevents_by u n zero one).1.mode_changed)
+prevent_fits u n at m a true one = (record { stage = inr refl; cell = refl; rule = refl; status = λ e. cc; mode = λ e. absurd cc }, refl)
+prevent_fits u n at m a false true = (record { stage = inr refl; cell = refl; rule = refl; status = λ e. cc; mode = λ e. absurd cc }, refl)
+prevent_fits u n at m a false false = (record { stage = inl refl; cell = refl; rule = refl; status = λ e. cc; mode = λ e. absurd cc }, refl)
+
+steps_fits : (u : Present) (n : Nexus) (r : Request) (bytes : List ℕ) (m : ℕ) (a : Act) → IsPlain (Device r) → (prevented : Bool)
+    → Fits (IsCarriedOut u.kept n None (class_of r)) u.kept n (Device r) m a (at_cell (cell_of u n (Device r)) (cond prevented (u, at_stage stage.Device, check MediumRemovalPrevented) (steps u n (performed u.device r bytes))))
+steps_fits u n r bytes m a plain true = (record { stage = inr refl; cell = refl; rule = refl; status = λ e. cc; mode = λ e. absurd cc }, plain u.kept n false)
+steps_fits u n r bytes m a plain false =
+    let own = performed_own u.device r bytes in (
+      record { stage = inr refl; cell = refl; rule = refl; status = own.status; mode = λ e. let changed = own.mode e in record { class = changed.0; stage = refl; status = changed.1 } },
+      plain u.kept n (performed u.device r bytes).1.mode_changed,
+    )
+
+performs_fits : (u : Present) (n : Nexus) (r : Request) (bytes : List ℕ) (m : ℕ) (a : Act) → IsPlain (Device r)
+    → Fits (IsCarriedOut u.kept n None (class_of r)) u.kept n (Device r) m a (at_cell (cell_of u n (Device r)) (performs u n r bytes))
+performs_fits u n r bytes m a plain =
+    elim (field_fault u.device r bytes) as (λ (o : Option Condition). Fits (IsCarriedOut u.kept n None (class_of r)) u.kept n (Device r) m a (at_cell (cell_of u n (Device r)) (elim o [ Some condition ↦ (u, at_stage Fields, check condition) | None ↦ cond (unloads r && is_prevented u.kept) (u, at_stage stage.Device, check MediumRemovalPrevented) (steps u n (performed u.device r bytes)) ]))) [
+      | Some condition ↦ (record { stage = inl refl; cell = refl; rule = refl; status = λ e. cc; mode = λ e. absurd cc }, refl)
+      | None ↦ steps_fits u n r bytes m a plain (unloads r && is_prevented u.kept)
+    ]
 
 carried_fits : (u : Present) (n : Nexus) (c : Command) (bytes : List ℕ) (m : ℕ) (a : Act) → IsPlain c
     → Fits (IsCarriedOut u.kept n (list_of c) (class_of_command c)) u.kept n c m a (at_cell (cell_of u n c) (carried_out u n c bytes))
 carried_fits u n (ReserveOut p) bytes m a plain =
     let at = cell_of u n (ReserveOut p) in
-    elim (refusal u.kept.reservations n p) as (λ (o : Option PrFault). Fits (λ e. elim o [ Some fault ↦ Says e (let_in at Fields) (check (condition_of_refusal fault)) | None ↦ Says e (let_in at stage.Device) (good []) ]) u.kept n (ReserveOut p) m a (at_cell at (elim o [ Some fault ↦ (u, Fields, check (condition_of_refusal fault)) | None ↦ (record u { kept = accepted u.kept n p }, stage.Device, good []) ]))) [
+    elim (refusal u.kept.reservations n p) as (λ (o : Option PrFault). Fits (λ e. elim o [ Some fault ↦ Says e (let_in at Fields) (check (condition_of_refusal fault)) | None ↦ Says e (let_in at stage.Device) (good []) ]) u.kept n (ReserveOut p) m a (at_cell at (elim o [ Some fault ↦ (u, at_stage Fields, check (condition_of_refusal fault)) | None ↦ (record u { kept = accepted u.kept n p }, at_stage stage.Device, good []) ]))) [
       | Some fault ↦ (says m n a (let_in at Fields) (check (condition_of_refusal fault)), refl)
       | None ↦ (says m n a (let_in at stage.Device) (good []), refl)
     ]
-carried_fits u n (ReserveIn act l) bytes m a plain = (record { stage = inr refl; cell = refl; rule = refl; status = λ e. cc }, refl)
+carried_fits u n (ReserveIn act l) bytes m a plain = (record { stage = inr refl; cell = refl; rule = refl; status = λ e. cc; mode = λ e. absurd cc }, refl)
 carried_fits u n (Inquiry e p l) bytes m a plain =
     let o = inquiry_data (kind_of u.device) u.kept.lun e p in
     (data_says m n a (cell_of u n (Inquiry e p l)) o l, data_left u.kept n class.Inquiry (data_reply o l).1.status o l refl)
 carried_fits u n (ReportLuns s l) bytes m a plain =
     let o = selected_luns u.kept.units s in
     (data_says m n a (cell_of u n (ReportLuns s l)) o l, data_left u.kept n class.ReportLuns (data_reply o l).1.status o l refl)
-carried_fits u n (RequestSense true l) bytes m a plain = (record { stage = inl refl; cell = refl; rule = refl; status = λ e. cc }, refl)
+carried_fits u n (RequestSense true l) bytes m a plain = (record { stage = inl refl; cell = refl; rule = refl; status = λ e. cc; mode = λ e. absurd cc }, refl)
 carried_fits u n (RequestSense false l) bytes m a plain = sensed_fits u n (cell_of u n (RequestSense false l)) l m a (pending_of u.kept.slots n) refl
 carried_fits u n (Prevent p) bytes m a plain = prevent_fits u n (cell_of u n (Prevent p)) m a (p == 0) (p == 1)
-carried_fits u n (Device r) bytes m a plain =
-    (record { stage = inr refl; cell = refl; rule = refl; status = performed_no_conflict u.device r bytes }, plain u.kept n)
+carried_fits u n (Device r) bytes m a plain = performs_fits u n r bytes m a plain
 
 let_through_as : (u : Present) (n : Nexus) (c : Command) (bytes : List ℕ) (m : ℕ) (a : Act) → IsPlain c → (o : Option Kind) → waiting (class_of_command c) (first_other_of u.kept.slots n) ≡ o
     → Fits (λ e. elim o [ Some kind ↦ Says e (let_in (cell_of u n c) OtherAttention) (check (condition_of_attention kind)) | None ↦ IsCarriedOut u.kept n (list_of c) (class_of_command c) e ]) u.kept n c m a
@@ -113,9 +131,9 @@ checked_fits u n c bytes m a plain =
     ]
 
 commanded_as : (u : Present) (n : Nexus) (c : Command) (bytes : List ℕ) (m : ℕ) (a : Act) → IsPlain c → (o : Option Kind) → waiting (class_of_command c) (first_reset_of u.kept.slots n) ≡ o
-    → Fits (λ e. elim o [ Some kind ↦ Says e (unchecked ResetAttention) (check (condition_of_attention kind)) | None ↦ IsChecked u.kept n (list_of c) (class_of_command c) e ]) u.kept n c m a
-    (elim o [ Some kind ↦ tells u n kind (unchecked ResetAttention) | None ↦ checked u n c bytes ])
-commanded_as u n c bytes m a plain (Some kind) h = (says m n a (unchecked ResetAttention) (check (condition_of_attention kind)), sym (ap (reported_if u.kept n) h))
+    → Fits (λ e. elim o [ Some kind ↦ Says e (at_stage ResetAttention) (check (condition_of_attention kind)) | None ↦ IsChecked u.kept n (list_of c) (class_of_command c) e ]) u.kept n c m a
+    (elim o [ Some kind ↦ tells u n kind (at_stage ResetAttention) | None ↦ checked u n c bytes ])
+commanded_as u n c bytes m a plain (Some kind) h = (says m n a (at_stage ResetAttention) (check (condition_of_attention kind)), sym (ap (reported_if u.kept n) h))
 commanded_as u n c bytes m a plain None h = checked_fits u n c bytes m a plain
 
 commanded_fits : (u : Present) (n : Nexus) (c : Command) (bytes : List ℕ) (m : ℕ) (a : Act) → IsPlain c
@@ -129,7 +147,7 @@ pub record IsNext (k : KeptView) (e : Record) (now : KeptView) : Type 0 where
 
 judged_next : (k : KeptView) (d : DeviceView) (n : Nexus) (s : Result Command Condition) (bytes : List ℕ) (m : ℕ) → IsPlainIf s
     → IsNext k (entry m n (act_of_spelled s) (judged_as (record { device = d; kept = met k n }) n s bytes)) (judged_as (record { device = d; kept = met k n }) n s bytes).0.kept
-judged_next k d n (Err condition) bytes m plain = record { judged = (condition, says m n act.Invalid (unchecked stage.Spelling) (check condition)); kept = refl }
+judged_next k d n (Err condition) bytes m plain = record { judged = (condition, says m n act.Invalid (at_stage stage.Spelling) (check condition)); kept = refl }
 judged_next k d n (Ok (ReserveOut p)) bytes m plain =
     let f = commanded_fits (record { device = d; kept = met k n }) n (ReserveOut p) bytes m (act_of_spelled (Ok (ReserveOut p))) plain in
     record { judged = f.0; kept = f.1 }
@@ -181,8 +199,17 @@ answered_stands base kept now es d after n s bytes m a f r old plain asked judge
 -- the record of a loss, and of a reset
 pub lost_stands : (base kept : KeptView) (es : List Record) (n : Nexus) (m : ℕ) → Stands base es kept → Stands base (es ++ event_of m (Some n) act.Loss ∷ []) (kept_after_loss kept n)
 lost_stands base kept es n m old =
-    next_stands base kept (kept_after_loss kept n) es (event_of m (Some n) act.Loss) old (record { judged = record { stage = refl; cell = refl; rule = refl; status = refl; sense = refl }; kept = refl })
+    next_stands base kept (kept_after_loss kept n) es (event_of m (Some n) act.Loss) old (record { judged = record { stage = refl; cell = refl; rule = refl; mode_changed = refl; status = refl; sense = refl }; kept = refl })
 
 pub reset_stands : (base kept : KeptView) (es : List Record) (m : ℕ) → Stands base es kept → Stands base (es ++ event_of m None act.Reset ∷ []) (kept_after_reset kept)
 reset_stands base kept es m old =
-    next_stands base kept (kept_after_reset kept) es (event_of m None act.Reset) old (record { judged = record { stage = refl; cell = refl; rule = refl; status = refl; sense = refl }; kept = refl })
+    next_stands base kept (kept_after_reset kept) es (event_of m None act.Reset) old (record { judged = record { stage = refl; cell = refl; rule = refl; mode_changed = refl; status = refl; sense = refl }; kept = refl })
+
+-- the record of a volume that came in, and of one that was taken out
+pub medium_in_stands : (base kept : KeptView) (es : List Record) (m : ℕ) → Stands base es kept → Stands base (es ++ event_of m None act.MediumIn ∷ []) (with_medium kept)
+medium_in_stands base kept es m old =
+    next_stands base kept (with_medium kept) es (event_of m None act.MediumIn) old (record { judged = record { stage = refl; cell = refl; rule = refl; mode_changed = refl; status = refl; sense = refl }; kept = refl })
+
+pub medium_out_stands : (base kept : KeptView) (es : List Record) (m : ℕ) → is_prevented kept ≡ false → Stands base es kept → Stands base (es ++ event_of m None act.MediumOut ∷ []) kept
+medium_out_stands base kept es m free old =
+    next_stands base kept kept es (event_of m None act.MediumOut) old (record { judged = (free, record { stage = refl; cell = refl; rule = refl; mode_changed = refl; status = refl; sense = refl }); kept = refl })

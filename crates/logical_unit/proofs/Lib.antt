@@ -1,6 +1,8 @@
 pub mod Contact
 pub mod History
+pub mod Outcomes
 pub mod Check
+pub mod SameKind
 pub mod Plain
 pub mod Legal
 pub mod Executed

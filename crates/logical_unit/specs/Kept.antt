@@ -1,11 +1,12 @@
 -- How what a unit keeps changes.
-use Rattle.std.specs.Prelude.{ℕ, ◌||◌, ◌==◌, not, Bool, if◌then◌else◌, List, [], ◌∷◌, ◌++◌, filter, nat_lt, length}
+use Rattle.std.specs.Prelude.{ℕ, ◌||◌, ◌==◌, not, Bool, if◌then◌else◌, List, [], ◌∷◌, ◌++◌, filter, map, nat_lt, length}
 use Rattle.std.specs.List.{fold}
 use Rattle.scsi_cdb.specs.declared.action.OutServiceAction.{OutServiceAction}
 use Rattle.scsi_cdb.specs.declared.action.OutServiceAction.TheVariants.{PreemptAndAbort}
 use Rattle.scsi_nexus.specs.declared.nexus.Nexus.{Nexus}
 use Rattle.scsi_nexus.specs.Order.{same_nexus}
 use Rattle.unit_attention.specs.declared.kind.Kind.{Kind}
+use Rattle.unit_attention.specs.declared.kind.Kind.TheVariants.{MediumChanged, ModeParametersChanged}
 use Rattle.unit_attention.specs.Queues.{Slots, has_slot, contacted, raised, cleared}
 use Rattle.pr_params.specs.declared.out_params.OutParams.{OutParams}
 use Rattle.pr_core.specs.State.{power_on}
@@ -32,6 +33,24 @@ reported k n kind = record k { slots = cleared k.slots n kind }
 -- attentions raised one after another
 abbrev pub all_raised : Slots → List (Nexus × Kind) → Slots
 all_raised q attentions = fold (λ slots e. raised slots e.0 e.1) q attentions
+
+-- an attention raised for every nexus that has a slot, and for every one but the sender
+abbrev pub with_slots : Slots → List Nexus
+with_slots q = map (λ e. e.0) q
+
+abbrev pub all_told : Slots → Kind → Slots
+all_told q kind = fold (λ slots n. raised slots n kind) q (with_slots q)
+
+abbrev pub others_told : Slots → (sender : Nexus) → Kind → Slots
+others_told q sender kind = fold (λ slots n. if same_nexus n sender then slots else raised slots n kind) q (with_slots q)
+
+-- after a command of a nexus that changed the mode parameters, or left them
+abbrev pub after_mode : KeptView → Nexus → (mode_changed : Bool) → KeptView
+after_mode k n mode_changed = if mode_changed then record k { slots = others_told k.slots n ModeParametersChanged } else k
+
+-- after a volume came in
+abbrev pub with_medium : KeptView → KeptView
+with_medium k = record k { slots = all_told k.slots MediumChanged }
 
 -- whether there is room for a nexus among those that prevent removal, 128 at most (profile)
 abbrev pub may_prevent : KeptView → Nexus → Bool

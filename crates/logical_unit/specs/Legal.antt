@@ -2,7 +2,7 @@
 use Rattle.std.specs.Prelude.{◌≡◌, ◌≢◌, ◌↔◌, Bool, true, false, List, [], ◌∷◌, Option, None, Some, if◌then◌else◌, ◌⊎◌}
 use Rattle.std.specs.List.{All}
 use Rattle.scsi_cdb.specs.declared.classes.Class.{Class}
-use Rattle.scsi_cdb.specs.declared.classes.Class.TheVariants.{RequestSense, PreventRemoval, AllowRemoval}
+use Rattle.scsi_cdb.specs.declared.classes.Class.TheVariants.{RequestSense, PreventRemoval, AllowRemoval, ModeSelect}
 use Rattle.scsi_cdb.specs.Classes.{class_of_action}
 use Rattle.scsi_nexus.specs.declared.nexus.Nexus.{Nexus}
 use Rattle.scsi_sense.specs.declared.condition.Condition.{Condition}
@@ -16,7 +16,7 @@ use Rattle.pr_core.specs.State.{cell}
 use Rattle.pr_core.specs.Outcome.{refusal}
 use Rattle.pr_core.specs.declared.verdict.Verdict.TheVariants.{Allowed, Denied, Rule}
 use Rattle.audit_log.specs.declared.act.Act.{Act}
-use Rattle.audit_log.specs.declared.act.Act.TheVariants.{Command, ReserveOut, Invalid, Loss, Reset}
+use Rattle.audit_log.specs.declared.act.Act.TheVariants.{Command, ReserveOut, Invalid, Loss, Reset, MediumIn, MediumOut}
 use Rattle.audit_log.specs.declared.record.Record.{Record}
 use Rattle.audit_log.specs.declared.stage.Stage.{Stage}
 use Rattle.audit_log.specs.declared.stage.Stage.TheVariants.{Spelling, ResetAttention, ReservationCheck, OtherAttention, Fields, Device}
@@ -24,11 +24,11 @@ use Rattle.audit_log.specs.TrailView.{IsNumbered}
 use Rattle.logical_unit.specs.declared.finding.Finding.{Finding}
 use Rattle.logical_unit.specs.declared.reply.Reply.{Reply}
 use Rattle.logical_unit.specs.Conditions.{condition_of_attention, condition_of_refusal}
-use Rattle.logical_unit.specs.Findings.{unchecked, let_in, in_conflict}
+use Rattle.logical_unit.specs.Findings.{at_stage, let_in, in_conflict}
 use Rattle.logical_unit.specs.Replies.{good, check, conflict}
 use Rattle.logical_unit.specs.KeptView.{KeptView}
 use Rattle.logical_unit.specs.UnitView.{Base}
-use Rattle.logical_unit.specs.Kept.{met, reported, accepted, prevented, allowed}
+use Rattle.logical_unit.specs.Kept.{met, reported, accepted, prevented, allowed, is_prevented, after_mode, with_medium}
 use Rattle.logical_unit.specs.Judge.{verdict_by, waiting, pending_of}
 use Rattle.logical_unit.specs.Step.{kept_after_loss, kept_after_reset}
 
@@ -37,40 +37,43 @@ abbrev pub reported_if : KeptView → Nexus → Option Kind → KeptView
 reported_if k n None = k
 reported_if k n (Some kind) = reported k n kind
 
--- REQUEST SENSE reports as data the attention that waits; PREVENT ALLOW MEDIUM REMOVAL prevents or allows
-abbrev pub left_by_class : KeptView → Nexus → Class → KeptView
-left_by_class k n RequestSense = reported_if k n (pending_of k.slots n)
-left_by_class k n PreventRemoval = prevented k n
-left_by_class k n AllowRemoval = allowed k n
-left_by_class k n class = k
+-- REQUEST SENSE reports as data the attention that waits; PREVENT ALLOW MEDIUM REMOVAL prevents or allows; MODE SELECT may have changed
+-- the mode parameters, which is told to the others
+abbrev pub left_by_class : KeptView → Nexus → Class → (mode_changed : Bool) → KeptView
+left_by_class k n RequestSense mode_changed = reported_if k n (pending_of k.slots n)
+left_by_class k n PreventRemoval mode_changed = prevented k n
+left_by_class k n AllowRemoval mode_changed = allowed k n
+left_by_class k n class mode_changed = after_mode k n mode_changed
 
 abbrev pub is_good : Status → Bool
 is_good Good = true
 is_good status = false
 
 -- what a command leaves that came to stage 6: PERSISTENT RESERVE OUT that is GOOD was accepted
-abbrev pub left_by : KeptView → Nexus → Option OutParams → Class → Status → KeptView
-left_by k n (Some params) class status = if is_good status then accepted k n params else k
-left_by k n None class status = left_by_class k n class
+abbrev pub left_by : KeptView → Nexus → Option OutParams → Class → Status → (mode_changed : Bool) → KeptView
+left_by k n (Some params) class status mode_changed = if is_good status then accepted k n params else k
+left_by k n None class status mode_changed = left_by_class k n class mode_changed
 
 -- what a command leaves of what is kept after its contact, by the stage that answered it
-abbrev pub left_at : Stage → KeptView → Nexus → Option OutParams → Class → Status → KeptView
-left_at ResetAttention k n list class status = reported_if k n (waiting class (first_reset_of k.slots n))
-left_at OtherAttention k n list class status = reported_if k n (waiting class (first_other_of k.slots n))
-left_at Device k n list class status = left_by k n list class status
-left_at stage k n list class status = k
+abbrev pub left_at : Stage → KeptView → Nexus → Option OutParams → Class → Status → (mode_changed : Bool) → KeptView
+left_at ResetAttention k n list class status mode_changed = reported_if k n (waiting class (first_reset_of k.slots n))
+left_at OtherAttention k n list class status mode_changed = reported_if k n (waiting class (first_other_of k.slots n))
+left_at Device k n list class status mode_changed = left_by k n list class status mode_changed
+left_at stage k n list class status mode_changed = k
 
-abbrev pub left_as : KeptView → Option Nexus → Act → Stage → Status → KeptView
-left_as k (Some n) (Command class) stage status = left_at stage (met k n) n None class status
-left_as k (Some n) (ReserveOut params) stage status = left_at stage (met k n) n (Some params) (class_of_action params.act) status
-left_as k (Some n) Invalid stage status = met k n
-left_as k (Some n) Loss stage status = kept_after_loss k n
-left_as k None Reset stage status = kept_after_reset k
-left_as k nexus act stage status = k
+abbrev pub left_as : KeptView → Option Nexus → Act → Stage → Status → (mode_changed : Bool) → KeptView
+left_as k (Some n) (Command class) stage status mode_changed = left_at stage (met k n) n None class status mode_changed
+left_as k (Some n) (ReserveOut params) stage status mode_changed =
+    left_at stage (met k n) n (Some params) (class_of_action params.act) status mode_changed
+left_as k (Some n) Invalid stage status mode_changed = met k n
+left_as k (Some n) Loss stage status mode_changed = kept_after_loss k n
+left_as k None Reset stage status mode_changed = kept_after_reset k
+left_as k None MediumIn stage status mode_changed = with_medium k
+left_as k nexus act stage status mode_changed = k
 
 -- what is kept after a record, and after records one after another
 abbrev pub kept_by : KeptView → Record → KeptView
-kept_by k e = left_as k e.nexus e.act e.stage e.status
+kept_by k e = left_as k e.nexus e.act e.stage e.status e.mode_changed
 
 abbrev pub kept_after : KeptView → List Record → KeptView
 kept_after k [] = k
@@ -81,8 +84,15 @@ pub record Says (e : Record) (finding : Finding) (reply : Reply) : Type 0 where
   pub stage : e.stage ≡ finding.stage
   pub cell : e.cell ≡ finding.cell
   pub rule : e.rule ≡ finding.rule
+  pub mode_changed : e.mode_changed ≡ finding.mode_changed
   pub status : e.status ≡ reply.status
   pub sense : e.sense ≡ reply.sense
+
+-- only a MODE SELECT that ended GOOD changed the mode parameters
+pub record ChangedTheMode (e : Record) (asked : Class) : Type 0 where
+  pub class : asked ≡ ModeSelect
+  pub stage : e.stage ≡ Device
+  pub status : e.status ≡ Good
 
 -- which of stages 5 and 6 a command other than PERSISTENT RESERVE OUT comes to, and what it is answered there, is its own or the
 -- device's; but it is no conflict
@@ -91,6 +101,7 @@ pub record SaysItsOwn (e : Record) (at : Cell) : Type 0 where
   pub cell : e.cell ≡ Some at
   pub rule : e.rule ≡ None
   pub status : e.status ≢ ReservationConflict
+  pub mode : e.mode_changed ≡ true → ChangedTheMode e at.class
 
 -- stages 5 and 6
 abbrev pub IsCarriedOut : KeptView → Nexus → Option OutParams → Class → Record → Type 0
@@ -118,7 +129,7 @@ IsChecked k n list class e = elim (verdict_by k.reservations n list class) [
 -- stage 2, from what is kept after the contact
 abbrev pub IsCommand : KeptView → Nexus → Option OutParams → Class → Record → Type 0
 IsCommand k n list class e = elim (waiting class (first_reset_of k.slots n)) [
-  | Some kind ↦ Says e (unchecked ResetAttention) (check (condition_of_attention kind))
+  | Some kind ↦ Says e (at_stage ResetAttention) (check (condition_of_attention kind))
   | None ↦ IsChecked k n list class e
 ]
 
@@ -126,9 +137,11 @@ IsCommand k n list class e = elim (waiting class (first_reset_of k.slots n)) [
 abbrev pub IsJudgedAs : KeptView → Option Nexus → Act → Record → Type 0
 IsJudgedAs k (Some n) (Command class) e = IsCommand (met k n) n None class e
 IsJudgedAs k (Some n) (ReserveOut params) e = IsCommand (met k n) n (Some params) (class_of_action params.act) e
-IsJudgedAs k (Some n) Invalid e = (condition : Condition) × Says e (unchecked Spelling) (check condition)
-IsJudgedAs k (Some n) Loss e = Says e (unchecked Device) (good [])
-IsJudgedAs k None Reset e = Says e (unchecked Device) (good [])
+IsJudgedAs k (Some n) Invalid e = (condition : Condition) × Says e (at_stage Spelling) (check condition)
+IsJudgedAs k (Some n) Loss e = Says e (at_stage Device) (good [])
+IsJudgedAs k None Reset e = Says e (at_stage Device) (good [])
+IsJudgedAs k None MediumIn e = Says e (at_stage Device) (good [])
+IsJudgedAs k None MediumOut e = (is_prevented k ≡ false) × Says e (at_stage Device) (good [])
 IsJudgedAs k nexus act e = ⊥
 
 -- a record is what judgement gives of what was kept before it

@@ -9,5 +9,6 @@ pub mod Kept
 pub mod Judge
 pub mod Step
 pub mod Legal
+pub mod Medium
 pub mod History
 pub mod Check

@@ -13,7 +13,7 @@ use Rattle.device_server.specs.View.{DeviceView, kind_of, reset_of}
 use Rattle.logical_unit.specs.declared.finding.Finding.{Finding}
 use Rattle.logical_unit.specs.declared.reply.Reply.{Reply}
 use Rattle.logical_unit.specs.Commands.{act_of}
-use Rattle.logical_unit.specs.Findings.{unchecked}
+use Rattle.logical_unit.specs.Findings.{at_stage}
 use Rattle.logical_unit.specs.Replies.{busy, numbered}
 use Rattle.logical_unit.specs.KeptView.{KeptView}
 use Rattle.logical_unit.specs.UnitView.{Present, UnitView, last_number}
@@ -40,7 +40,7 @@ entry_of number nexus act finding status sense = record {
   rule = finding.rule;
   status = status;
   sense = sense;
-  mode_changed = false;
+  mode_changed = finding.mode_changed;
 }
 
 -- a unit after an event: its present, and one record more
@@ -73,7 +73,7 @@ Executes u n cdb bytes new = (new ≡ (u, busy)) ⊎ ((has_room u.kept n ≡ tru
 
 -- the record of an event that isn't a command
 abbrev pub event_of : (number : ℕ) → Option Nexus → Act → Record
-event_of number nexus act = entry_of number nexus act (unchecked Device) Good None
+event_of number nexus act = entry_of number nexus act (at_stage Device) Good None
 
 abbrev pub with_event : UnitView → Option Nexus → Act → Present → UnitView
 with_event u nexus act now = with_entry u now (event_of (last_number u + 1) nexus act)

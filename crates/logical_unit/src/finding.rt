@@ -11,20 +11,43 @@ pub struct Finding {
     pub cell: Option<Cell>,
     /// The rule on keys that the reservation check found broken.
     pub rule: Option<KeyRule>,
+    /// Whether it is a MODE SELECT that changed the mode parameters.
+    pub mode_changed: bool,
 }
 
 impl Finding {
     ghost use Rattle.std.specs.Prelude.{◌≡◌};
-    ghost use Rattle.logical_unit.specs.Findings.{unchecked, let_in, in_conflict};
+    ghost use Rattle.logical_unit.specs.Findings.{at_stage, at_device, in_cell, let_in, in_conflict};
 
-    /// Before the reservation check, and of what isn't a command.
-    pub(crate) fn unchecked(stage: Stage) -> Finding
-        ensures { result ≡ unchecked stage }
+    /// A stage alone: before the reservation check, and of what isn't a command.
+    pub(crate) fn at_stage(stage: Stage) -> Finding
+        ensures { result ≡ at_stage stage }
     {
         Finding {
             stage,
             cell: None,
             rule: None,
+            mode_changed: false,
+        }
+    }
+
+    /// The device's stage, of a command that changed the mode parameters, or left them.
+    pub(crate) fn at_device(mode_changed: bool) -> Finding
+        ensures { result ≡ at_device mode_changed }
+    {
+        Finding {
+            mode_changed,
+            ..Finding::at_stage(Stage::Device)
+        }
+    }
+
+    /// Of a command that came to the reservation check.
+    pub(crate) fn in_cell(self, cell: Cell) -> Finding
+        ensures { result ≡ in_cell cell self }
+    {
+        Finding {
+            cell: Some(cell),
+            ..self
         }
     }
 
@@ -32,11 +55,7 @@ impl Finding {
     pub(crate) fn let_in(cell: Cell, stage: Stage) -> Finding
         ensures { result ≡ let_in cell stage }
     {
-        Finding {
-            stage,
-            cell: Some(cell),
-            rule: None,
-        }
+        Finding::at_stage(stage).in_cell(cell)
     }
 
     /// A conflict: by the cell, or by a rule on keys.
@@ -47,6 +66,7 @@ impl Finding {
             stage: Stage::ReservationCheck,
             cell: Some(cell),
             rule,
+            mode_changed: false,
         }
     }
 }

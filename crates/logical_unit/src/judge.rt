@@ -3,7 +3,10 @@ ghost use Rattle.unit_attention.specs.Queues.{first_reset_of, first_other_of};
 ghost use Rattle.pr_core.specs.declared.verdict.Verdict.TheVariants.{Allowed};
 ghost use Rattle.device_server.specs.View.{kind_of};
 ghost use Rattle.logical_unit.specs.Kept.{has_room, met};
-ghost use Rattle.logical_unit.specs.Judge.{verdict_of, waiting, carried_out, let_through, checked, commanded, judged_as, requests_sense, prevents};
+ghost use Rattle.pr_core.specs.Judge.{verdict};
+ghost use Rattle.logical_unit.specs.Findings.{at_stage};
+ghost use Rattle.logical_unit.specs.Replies.{data_reply};
+ghost use Rattle.logical_unit.specs.Judge.{verdict_of, waiting, carried_out, reserves, unloads, performs, let_through, checked, commanded, judged_as, requests_sense, prevents};
 ghost use Rattle.device_server.specs.View.{DeviceView};
 
 use crate::command::{Command, passes_over};
@@ -13,9 +16,10 @@ use crate::kept::Kept;
 use crate::reply::Reply;
 use crate::unit_data::{inquiry, report_luns, sense_data};
 use audit_log::Stage;
-use device_server::{DeviceServer, Payload};
+use device_server::{DeviceServer, Payload, field_fault};
 use pr_core::Verdict;
-use scsi_cdb::Class;
+use pr_params::OutParams;
+use scsi_cdb::{Class, Request};
 use scsi_nexus::Nexus;
 use scsi_sense::Condition;
 use std::alloc::{AllocError, Global};
@@ -36,55 +40,101 @@ fn carry_out<D: DeviceServer>(
     nexus: Nexus,
     command: &Command,
     bytes: &[u8],
-) -> Result<(Stage, Reply), AllocError>
+) -> Result<(Finding, Reply), AllocError>
     requires room { has_room kept.old nexus ≡ true }
     requires allowed { verdict_of kept.old.reservations nexus command.now ≡ Allowed }
     ensures ok { IfOk result (λ it. carried_out (record { device = D.shown server.old.value; kept = met kept.old nexus }) nexus command.now bytes.now ≡ (record { device = D.shown server.new.value; kept = kept.new }, it.0, it.1)) }
     ensures err { OnErr result ((D.shown server.new.value ≡ D.shown server.old.value) × (kept.new ≡ kept.old)) }
 {
     match command {
-        Command::ReserveOut(list) => match kept.reserve(nexus, list.params()) {
-            Ok(()) => Ok((Stage::Device, Reply::good(Payload::none(alloc)))),
-            Err(fault) => Ok((
-                Stage::Fields,
-                Reply::check(alloc, condition_of_refusal(fault)),
-            )),
-        },
+        Command::ReserveOut(list) => Ok(reserve(alloc, kept, nexus, list.params())),
         Command::ReserveIn(service_action, allocation_length) => {
             let payload = kept.read_status(alloc, *service_action, *allocation_length)?;
             kept.meet(nexus);
-            Ok((Stage::Device, Reply::good(payload)))
+            Ok((Finding::at_stage(Stage::Device), Reply::good(payload)))
         }
         Command::Inquiry(vital_product_data, page_code, allocation_length) => {
-            let payload = inquiry(
-                alloc,
-                server.kind(),
-                kept.lun(),
-                *vital_product_data,
-                *page_code,
-            )?;
+            let kind = server.kind();
+            let payload = inquiry(alloc, kind, kept.lun(), *vital_product_data, *page_code)?;
             kept.meet(nexus);
-            Ok(Reply::data(alloc, payload, usize::from(*allocation_length)))
+            Ok(answer(alloc, payload, usize::from(*allocation_length)))
         }
         Command::ReportLuns(select_report, allocation_length) => {
             let payload = report_luns(alloc, kept.units(), *select_report)?;
             kept.meet(nexus);
-            Ok(Reply::data(alloc, payload, *allocation_length as usize))
+            Ok(answer(alloc, payload, *allocation_length as usize))
         }
-        Command::RequestSense(descriptor_format, allocation_length) => request_sense(
-            alloc,
-            kept,
-            nexus,
-            *descriptor_format,
-            *allocation_length,
-        ),
+        Command::RequestSense(descriptor_format, allocation_length) => {
+            request_sense(alloc, kept, nexus, *descriptor_format, *allocation_length)
+        }
         Command::Prevent(prevent) => prevent_or_allow(alloc, kept, nexus, *prevent),
-        Command::Device(request) => {
-            let outcome = server.perform(alloc, request, bytes)?;
-            kept.meet(nexus);
-            Ok((Stage::Device, Reply::of(outcome)))
-        }
+        Command::Device(request) => perform(alloc, server, kept, nexus, request, bytes),
     }
+}
+
+/// An allowed PERSISTENT RESERVE OUT command.
+fn reserve(alloc: Global, kept: &mut Kept, nexus: Nexus, params: &OutParams) -> (Finding, Reply)
+    requires room { has_room kept.old nexus ≡ true }
+    requires allowed { verdict kept.old.reservations nexus params.now ≡ Allowed }
+    ensures { (device : DeviceView) → reserves (record { device = device; kept = met kept.old nexus }) nexus params.now ≡ (record { device = device; kept = kept.new }, result.0, result.1) }
+{
+    match kept.reserve(nexus, params) {
+        Ok(()) => (
+            Finding::at_stage(Stage::Device),
+            Reply::good(Payload::none(alloc)),
+        ),
+        Err(fault) => (
+            Finding::at_stage(Stage::Fields),
+            Reply::check(alloc, condition_of_refusal(fault)),
+        ),
+    }
+}
+
+/// Data cut at an allocation length, or a field that isn't right.
+fn answer(alloc: Global, payload: Option<Payload>, allocation_length: usize) -> (Finding, Reply)
+    ensures { result ≡ (at_stage (data_reply payload allocation_length).0, (data_reply payload allocation_length).1) }
+{
+    let (stage, reply) = Reply::data(alloc, payload, allocation_length);
+    (Finding::at_stage(stage), reply)
+}
+
+/// Whether a command would have a volume unloaded.
+fn unloads(request: &Request) -> bool
+    ensures { result ≡ unloads request.now }
+{
+    match request {
+        Request::LoadUnload { load, .. } => !*load,
+        _ => false,
+    }
+}
+
+/// A command of the device. Want of memory changes nothing.
+fn perform<D: DeviceServer>(
+    alloc: Global,
+    server: &mut Box<D>,
+    kept: &mut Kept,
+    nexus: Nexus,
+    request: &Request,
+    bytes: &[u8],
+) -> Result<(Finding, Reply), AllocError>
+    requires { has_room kept.old nexus ≡ true }
+    ensures ok { IfOk result (λ it. performs (record { device = D.shown server.old.value; kept = met kept.old nexus }) nexus request.now bytes.now ≡ (record { device = D.shown server.new.value; kept = kept.new }, it.0, it.1)) }
+    ensures err { OnErr result ((D.shown server.new.value ≡ D.shown server.old.value) × (kept.new ≡ kept.old)) }
+{
+    if let Some(condition) = field_fault(server.kind(), request, bytes) {
+        kept.meet(nexus);
+        let reply = Reply::check(alloc, condition);
+        return Ok((Finding::at_stage(Stage::Fields), reply));
+    }
+    if unloads(request) && kept.is_prevented() {
+        kept.meet(nexus);
+        let reply = Reply::check(alloc, Condition::MediumRemovalPrevented);
+        return Ok((Finding::at_stage(Stage::Device), reply));
+    }
+    let outcome = server.perform(alloc, request, bytes)?;
+    kept.meet(nexus);
+    kept.note_mode(nexus, outcome.mode_changed);
+    Ok((Finding::at_device(outcome.mode_changed), Reply::of(outcome)))
 }
 
 /// PREVENT ALLOW MEDIUM REMOVAL. For want of room among those that prevent removal nothing changes;
@@ -94,7 +144,7 @@ fn prevent_or_allow(
     kept: &mut Kept,
     nexus: Nexus,
     prevent: u8,
-) -> Result<(Stage, Reply), AllocError>
+) -> Result<(Finding, Reply), AllocError>
     requires { has_room kept.old nexus ≡ true }
     ensures ok { IfOk result (λ it. (device : DeviceView) → prevents (record { device = device; kept = met kept.old nexus }) nexus prevent ≡ (record { device = device; kept = kept.new }, it.0, it.1)) }
     ensures err { OnErr result (kept.new ≡ kept.old) }
@@ -110,10 +160,11 @@ fn prevent_or_allow(
         _ => {
             kept.meet(nexus);
             let reply = Reply::check(alloc, Condition::InvalidFieldInCdb);
-            return Ok((Stage::Fields, reply));
+            return Ok((Finding::at_stage(Stage::Fields), reply));
         }
     }
-    Ok((Stage::Device, Reply::good(Payload::none(alloc))))
+    let reply = Reply::good(Payload::none(alloc));
+    Ok((Finding::at_stage(Stage::Device), reply))
 }
 
 /// REQUEST SENSE. Want of memory changes nothing.
@@ -123,29 +174,28 @@ fn request_sense(
     nexus: Nexus,
     descriptor_format: bool,
     allocation_length: u8,
-) -> Result<(Stage, Reply), AllocError>
+) -> Result<(Finding, Reply), AllocError>
     requires { has_room kept.old nexus ≡ true }
     ensures ok { IfOk result (λ it. requests_sense (met kept.old nexus) nexus descriptor_format allocation_length ≡ (kept.new, it.0, it.1)) }
     ensures err { OnErr result (kept.new ≡ kept.old) }
 {
     if descriptor_format {
         kept.meet(nexus);
-        return Ok((
-            Stage::Fields,
-            Reply::check(alloc, Condition::InvalidFieldInCdb),
-        ));
+        let reply = Reply::check(alloc, Condition::InvalidFieldInCdb);
+        return Ok((Finding::at_stage(Stage::Fields), reply));
     }
     let length = usize::from(allocation_length);
+    let finding = Finding::at_stage(Stage::Device);
     match kept.pending(nexus) {
         Some(kind) => {
             let payload = sense_data(alloc, condition_of_attention(kind))?;
             let _ = kept.tell(alloc, nexus, kind);
-            Ok((Stage::Device, Reply::good(payload.cut(length))))
+            Ok((finding, Reply::good(payload.cut(length))))
         }
         None => {
             let payload = sense_data(alloc, Condition::NoAdditionalSenseInformation)?;
             kept.meet(nexus);
-            Ok((Stage::Device, Reply::good(payload.cut(length))))
+            Ok((finding, Reply::good(payload.cut(length))))
         }
     }
 }
@@ -171,8 +221,8 @@ fn let_through<D: DeviceServer>(
             kept.tell(alloc, nexus, kind),
         )),
         None => {
-            let (stage, reply) = carry_out(alloc, server, kept, nexus, command, bytes)?;
-            Ok((Finding::let_in(cell, stage), reply))
+            let (finding, reply) = carry_out(alloc, server, kept, nexus, command, bytes)?;
+            Ok((finding.in_cell(cell), reply))
         }
     }
 }
@@ -215,7 +265,7 @@ fn judge_command<D: DeviceServer>(
 {
     match waiting(command.class(), kept.first_reset(nexus)) {
         Some(kind) => Ok((
-            Finding::unchecked(Stage::ResetAttention),
+            Finding::at_stage(Stage::ResetAttention),
             kept.tell(alloc, nexus, kind),
         )),
         None => check(alloc, server, kept, nexus, command, bytes),
@@ -240,7 +290,7 @@ pub(crate) fn judge<D: DeviceServer>(
         Err(condition) => {
             kept.meet(nexus);
             Ok((
-                Finding::unchecked(Stage::Spelling),
+                Finding::at_stage(Stage::Spelling),
                 Reply::check(alloc, *condition),
             ))
         }

@@ -33,7 +33,7 @@ impl Model for Kept {
 impl Kept {
     ghost use Rattle.std.specs.Prelude.{◌≡◌, true};
     ghost use Rattle.unit_attention.specs.Queues.{first_reset_of, first_other_of, has_slot};
-    ghost use Rattle.logical_unit.specs.Kept.{at_power_on, has_room, met, reported, may_prevent, is_prevented, prevented, allowed};
+    ghost use Rattle.logical_unit.specs.Kept.{at_power_on, has_room, met, reported, may_prevent, is_prevented, prevented, allowed, after_mode, with_medium};
     ghost use Rattle.logical_unit.specs.Step.{kept_after_loss, kept_after_reset};
     ghost use Rattle.logical_unit.specs.Judge.{pending_of};
     ghost use Rattle.logical_unit.specs.Replies.{check};
@@ -169,6 +169,22 @@ impl Kept {
         self.preventers = none;
     }
 
+    /// A command of a nexus changed the mode parameters, or left them.
+    pub(crate) fn note_mode(&mut self, nexus: Nexus, mode_changed: bool)
+        ensures { self.new ≡ after_mode self.old nexus mode_changed }
+    {
+        if mode_changed {
+            tell_others(&mut self.queues, nexus, Kind::ModeParametersChanged);
+        }
+    }
+
+    /// A volume came in.
+    pub(crate) fn take_in_medium(&mut self)
+        ensures { self.new ≡ with_medium self.old }
+    {
+        tell_all(&mut self.queues, Kind::MediumChanged);
+    }
+
     /// The same, for a base that later records stand on.
     pub(crate) fn copy(&self) -> Kept
         ensures { result ≡ self.now }
@@ -287,7 +303,7 @@ impl Kept {
 }
 
 ghost use Rattle.std.specs.Prelude.{◌≡◌};
-ghost use Rattle.logical_unit.specs.Kept.{all_raised};
+ghost use Rattle.logical_unit.specs.Kept.{all_raised, all_told, others_told};
 
 /// Raises attentions one after another.
 fn raise_all(queues: &mut Queues, attentions: &[(Nexus, Kind)])
@@ -295,5 +311,27 @@ fn raise_all(queues: &mut Queues, attentions: &[(Nexus, Kind)])
 {
     for (nexus, kind) in attentions {
         queues.raise(*nexus, *kind);
+    }
+}
+
+/// Raises an attention for every slot.
+fn tell_all(queues: &mut Queues, kind: Kind)
+    ensures { queues.new ≡ all_told queues.old kind }
+{
+    let nexuses = queues.slots();
+    for nexus in nexuses.as_slice() {
+        queues.raise(*nexus, kind);
+    }
+}
+
+/// Raises an attention for every slot but the sender's.
+fn tell_others(queues: &mut Queues, sender: Nexus, kind: Kind)
+    ensures { queues.new ≡ others_told queues.old sender kind }
+{
+    let nexuses = queues.slots();
+    for nexus in nexuses.as_slice() {
+        if *nexus != sender {
+            queues.raise(*nexus, kind);
+        }
     }
 }

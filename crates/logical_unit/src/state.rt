@@ -110,11 +110,11 @@ impl UnitState {
 }
 
 impl UnitState {
-    ghost use Rattle.std.specs.Prelude.{◌≡◌, ◌<◌, ◌+◌, ◌^◌, ℕ, true, [], ◌∷◌, ◌++◌, Some, None, IfOk, OnErr};
+    ghost use Rattle.std.specs.Prelude.{◌≡◌, ◌<◌, ◌+◌, ◌^◌, ℕ, true, false, [], ◌∷◌, ◌++◌, Some, None, IfOk, OnErr};
     ghost use Rattle.device_server.specs.View.{DeviceView};
-    ghost use Rattle.audit_log.specs.declared.act.Act.TheVariants.{Loss, Reset};
+    ghost use Rattle.audit_log.specs.declared.act.Act.TheVariants.{Loss, Reset, MediumIn, MediumOut};
     ghost use Rattle.logical_unit.specs.UnitView.{Base, StateView, unit_of, last_in};
-    ghost use Rattle.logical_unit.specs.Kept.{has_room};
+    ghost use Rattle.logical_unit.specs.Kept.{has_room, is_prevented, with_medium};
     ghost use Rattle.logical_unit.specs.Step.{answered, event_of, kept_after_loss, kept_after_reset};
     ghost use Rattle.logical_unit.specs.Legal.{IsTrail};
 
@@ -167,6 +167,32 @@ impl UnitState {
         note_event(&mut self.trail, None, Act::Reset)
     }
 
+    /// A volume came in, with its record, whose number is answered.
+    pub(crate) fn take_in_medium(&mut self) -> u64
+        requires room { 0 < self.old.room }
+        requires number { last_in self.old + 1 < 2 ^ 64 }
+        ensures kept { self.new.kept ≡ with_medium self.old.kept }
+        ensures base { self.new.base ≡ self.old.base }
+        ensures records { self.new.records ≡ self.old.records ++ event_of (last_in self.old + 1) None MediumIn ∷ [] }
+        ensures number { result ≡ last_in self.old + 1 }
+    {
+        self.kept.take_in_medium();
+        note_event(&mut self.trail, None, Act::MediumIn)
+    }
+
+    /// A volume was taken out, with its record, whose number is answered.
+    pub(crate) fn give_out_medium(&mut self) -> u64
+        requires room { 0 < self.old.room }
+        requires number { last_in self.old + 1 < 2 ^ 64 }
+        requires allowed { is_prevented self.old.kept ≡ false }
+        ensures kept { self.new.kept ≡ self.old.kept }
+        ensures base { self.new.base ≡ self.old.base }
+        ensures records { self.new.records ≡ self.old.records ++ event_of (last_in self.old + 1) None MediumOut ∷ [] }
+        ensures number { result ≡ last_in self.old + 1 }
+    {
+        note_event(&mut self.trail, None, Act::MediumOut)
+    }
+
     /// Hands out the records, a legal trail, and keeps none: what is kept now is the new base. Takes
     /// no memory.
     pub(crate) fn drain(&mut self, alloc: Global) -> Vec<Record>
@@ -208,7 +234,7 @@ fn note(
         rule: finding.rule,
         status,
         sense,
-        mode_changed: false,
+        mode_changed: finding.mode_changed,
     });
     number
 }
@@ -221,6 +247,6 @@ fn note_event(trail: &mut Trail, nexus: Option<Nexus>, act: Act) -> u64
     ensures records { trail.new.records ≡ trail.old.records ++ event_of (last_of trail.old + 1) nexus act ∷ [] }
     ensures number { result ≡ last_of trail.old + 1 }
 {
-    let finding = Finding::unchecked(Stage::Device);
+    let finding = Finding::at_stage(Stage::Device);
     note(trail, nexus, act, finding, Status::Good, None)
 }

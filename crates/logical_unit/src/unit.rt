@@ -1,3 +1,4 @@
+use crate::medium_fault::MediumFault;
 use crate::reply::Reply;
 use crate::state::UnitState;
 use audit_log::Record;
@@ -6,6 +7,7 @@ use scsi_cdb::Kind;
 use scsi_nexus::Nexus;
 use std::alloc::Global;
 use std::marker::Model;
+use tape_medium::{Volume, VolumeTag};
 
 /// There is no room for a record of the event, or no number, and nothing has changed.
 #[derive(Clone, Copy, Debug, PartialEq, Eq)]
@@ -31,7 +33,7 @@ impl<D: DeviceServer> Model for LogicalUnit<D> {
 
 impl<D: DeviceServer> LogicalUnit<D> {
     ghost use Rattle.std.specs.Prelude.{◌≡◌};
-    ghost use Rattle.device_server.specs.View.{kind_of};
+    ghost use Rattle.device_server.specs.View.{kind_of, drives_of, held_in};
     ghost use Rattle.logical_unit.specs.Kept.{is_prevented};
     ghost use Rattle.logical_unit.specs.Step.{made};
     ghost use Rattle.logical_unit.specs.Legal.{IsTrail};
@@ -57,6 +59,21 @@ impl<D: DeviceServer> LogicalUnit<D> {
         ensures { result ≡ kind_of self.now.device }
     {
         self.server.kind()
+    }
+
+    /// How many data transfer elements a changer has; 0 for a drive.
+    pub fn drives(&self) -> u16
+        ensures { result ≡ drives_of self.now.device }
+    {
+        self.server.drives()
+    }
+
+    /// The tag of the volume at a place of the device: 0 is a drive's bay, a changer's are its elements
+    /// by address.
+    pub fn held(&self, place: u16) -> Option<VolumeTag>
+        ensures { result ≡ held_in self.now.device place }
+    {
+        self.server.held(place)
     }
 
     /// The logical unit number.
@@ -90,10 +107,11 @@ impl<D: DeviceServer> LogicalUnit<D> {
 }
 
 impl<D: DeviceServer> LogicalUnit<D> {
-    ghost use Rattle.std.specs.Prelude.{◌≡◌, true, IfOk, OnErr};
+    ghost use Rattle.std.specs.Prelude.{◌≡◌, ◌+◌, true, Ok, IfOk, IfErr, OnOk, OnErr};
     ghost use Rattle.unit_attention.specs.Queues.{has_slot};
-    ghost use Rattle.logical_unit.specs.UnitView.{UnitView};
-    ghost use Rattle.logical_unit.specs.Step.{Executes, Loses, Resets, drained};
+    ghost use Rattle.logical_unit.specs.UnitView.{UnitView, last_number};
+    ghost use Rattle.logical_unit.specs.Step.{HasNumber, Executes, Loses, Resets, drained};
+    ghost use Rattle.logical_unit.specs.Medium.{taken_out, put_in, IsRefusal};
     ghost use Rattle.logical_unit.specs.Legal.{IsTrail};
 
     /// One command, from its CDB and the data sent with it. BUSY leaves the unit as it was; any other
@@ -143,6 +161,53 @@ impl<D: DeviceServer> LogicalUnit<D> {
         Ok(self.state.reset())
     }
 
+    /// Takes the volume out of a drive, with the number of its record. It is refused in the order of the
+    /// faults; Busy is for want of room or of a number.
+    pub fn medium_out(&mut self) -> Result<(Volume, u64), MediumFault>
+        ensures ok { IfOk result (λ it. taken_out self.old ≡ Ok (it.0, self.new)) }
+        ensures number { IfOk result (λ it. HasNumber self.old × (it.1 ≡ last_number self.old + 1)) }
+        ensures err { IfErr result (IsRefusal (taken_out self.old)) }
+        ensures same { OnErr result (self.new ≡ self.old) }
+    {
+        if self.server.kind() == Kind::Changer {
+            return Err(MediumFault::NotADrive);
+        }
+        if self.state.is_prevented() {
+            return Err(MediumFault::Prevented);
+        }
+        if !has_volume(&self.server) {
+            return Err(MediumFault::Empty);
+        }
+        if !self.state.reserve() {
+            return Err(MediumFault::Busy);
+        }
+        let volume = take_from_bay(&mut self.server);
+        Ok((volume, self.state.give_out_medium()))
+    }
+
+    /// Puts a volume into a drive, and answers the number of its record. Every slot is told. It is
+    /// refused in the order of the faults, and the volume handed back; Busy is for want of room or of a
+    /// number. Who prevents removal doesn't prevent this.
+    pub fn medium_in(&mut self, volume: Volume) -> Result<u64, (Volume, MediumFault)>
+        ensures ok { OnOk result (put_in self.old volume ≡ Ok self.new) }
+        ensures number { IfOk result (λ number. HasNumber self.old × (number ≡ last_number self.old + 1)) }
+        ensures err { IfErr result (λ back. IsRefusal (put_in self.old volume) back.1) }
+        ensures back { IfErr result (λ back. back.0 ≡ volume) }
+        ensures same { OnErr result (self.new ≡ self.old) }
+    {
+        if self.server.kind() == Kind::Changer {
+            return Err((volume, MediumFault::NotADrive));
+        }
+        if has_volume(&self.server) {
+            return Err((volume, MediumFault::Full));
+        }
+        if !self.state.reserve() {
+            return Err((volume, MediumFault::Busy));
+        }
+        put_into_bay(&mut self.server, volume);
+        Ok(self.state.take_in_medium())
+    }
+
     /// Hands out the records, a legal trail that gives what is kept now, and keeps none: what is kept
     /// now is the base of the next. Takes no memory.
     pub fn drain(&mut self, alloc: Global) -> Vec<Record>
@@ -151,5 +216,40 @@ impl<D: DeviceServer> LogicalUnit<D> {
         ensures unit { self.new ≡ drained self.old }
     {
         self.state.drain(alloc)
+    }
+}
+
+ghost use Rattle.std.specs.Prelude.{◌≡◌, ℕ, Ok, IsOk, is_ok, is_err};
+ghost use Rattle.scsi_cdb.specs.declared.kind.Kind.TheVariants.{Drive};
+ghost use Rattle.device_server.specs.View.{kind_of, taken, put};
+
+/// Whether there is a volume in a drive's bay.
+fn has_volume<D: DeviceServer>(server: &Box<D>) -> bool
+    requires { kind_of (D.shown server.now.value) ≡ Drive }
+    ensures taken { result ≡ is_ok (taken (D.shown server.now.value) 0) }
+    ensures put { (volume : Volume) → result ≡ is_err (put (D.shown server.now.value) 0 volume) }
+{
+    server.held(0).is_some()
+}
+
+/// Takes the volume out of a drive's bay.
+fn take_from_bay<D: DeviceServer>(server: &mut Box<D>) -> Volume
+    requires { IsOk (taken (D.shown server.old.value) 0) }
+    ensures { taken (D.shown server.old.value) 0 ≡ Ok (result, D.shown server.new.value) }
+{
+    match server.take_volume(0) {
+        Ok(volume) => volume,
+        Err(_) => unreachable!(),
+    }
+}
+
+/// Puts a volume into a drive's bay.
+fn put_into_bay<D: DeviceServer>(server: &mut Box<D>, volume: Volume)
+    requires { IsOk (put (D.shown server.old.value) 0 volume) }
+    ensures { put (D.shown server.old.value) 0 volume ≡ Ok (D.shown server.new.value) }
+{
+    match server.put_volume(0, volume) {
+        Ok(()) => {}
+        Err(_) => unreachable!(),
     }
 }
