@@ -7,11 +7,12 @@ use Rattle.scsi_cdb.specs.declared.kind.Kind.{Kind}
 use Rattle.scsi_nexus.specs.declared.nexus.Nexus.{Nexus}
 use Rattle.unit_attention.specs.Queues.{has_slot}
 use Rattle.pr_core.specs.State.{State}
-use Rattle.device_server.specs.View.{DeviceView, Changer, kind_of}
+use Rattle.device_server.specs.View.{kind_of}
 use Rattle.logical_unit.specs.declared.reply.Reply.{Reply}
 use Rattle.logical_unit.specs.History.{Accepted, accepted_by, after_history}
 use Rattle.logical_unit.specs.UnitView.{UnitView}
 use Rattle.logical_unit.proofs.History.{executes_keeps}
+use Rattle.logical_unit.proofs.SameKind.{executes_kind, kind_after_reset}
 use Rattle.logical_unit.specs.Step.{Executes, LosesAs}
 use Rattle.target_core.specs.declared.event.Event.{Event}
 use Rattle.target_core.specs.declared.event.Event.TheVariants as event
@@ -30,14 +31,12 @@ get-set_other (z ∷ xs) zero (suc j) x apart = refl
 get-set_other (z ∷ xs) (suc i) zero x apart = refl
 get-set_other (z ∷ xs) (suc i) (suc j) x apart = get-set_other xs i j x (λ e. apart (ap suc e))
 
-same_kind : (d e : DeviceView) → kind_of d ≡ kind_of e
-same_kind Changer Changer = refl
-
--- the unit at a place after an event, with what that adds to its history
-pub record Grows (v : State) (ms : List UnitView) (lun : ℕ) (added : List Accepted) : Type 0 where
+-- the unit that stood at a place after an event, of the same kind, with what that adds to its history
+pub record Grows (u : UnitView) (ms : List UnitView) (lun : ℕ) (added : List Accepted) : Type 0 where
   pub unit : UnitView
   pub place : slice_get ms lun ≡ Some unit
-  pub history : unit.kept.reservations ≡ after_history v added
+  pub kind : kind_of unit.device ≡ kind_of u.device
+  pub history : unit.kept.reservations ≡ after_history u.kept.reservations added
 
 -- what a command to the unit at `at` adds to the history of the unit at `lun`
 abbrev pub added_at : ℕ → ℕ → List Accepted → List Accepted
@@ -47,11 +46,11 @@ none_some : (u : UnitView) → None ≡ Some u → ⊥
 none_some u e = cc
 
 -- a command to an absent unit leaves all units, and is none to a unit that is there
-absent_grows : (us ms : List UnitView) (lun at : ℕ) (u : UnitView) (added : List Accepted) → slice_get us at ≡ None → slice_get us lun ≡ Some u → ms ≡ us → Grows u.kept.reservations ms lun (added_at lun at added)
+absent_grows : (us ms : List UnitView) (lun at : ℕ) (u : UnitView) (added : List Accepted) → slice_get us at ≡ None → slice_get us lun ≡ Some u → ms ≡ us → Grows u ms lun (added_at lun at added)
 absent_grows us ms lun at u added there here same =
-    elim (at == lun) as (λ b. (at == lun) ≡ b → Grows u.kept.reservations ms lun (cond b added [])) [
+    elim (at == lun) as (λ b. (at == lun) ≡ b → Grows u ms lun (cond b added [])) [
       | true ↦ λ e. absurd (none_some u (sym there ∙ ap (slice_get us) (exact_unsigned_eq at lun e) ∙ here))
-      | false ↦ λ e. record { unit = u; place = ap (λ (xs : List UnitView). slice_get xs lun) same ∙ here; history = refl }
+      | false ↦ λ e. record { unit = u; place = ap (λ (xs : List UnitView). slice_get xs lun) same ∙ here; kind = refl; history = refl }
     ] refl
 
 same_unit : (a b : UnitView) → Some a ≡ Some b → a ≡ b
@@ -59,43 +58,45 @@ same_unit a b e = cc
 
 -- a command to a unit changes that unit by its part of the history, and no other
 unit_grows : (us ms : List UnitView) (lun at : ℕ) (u w : UnitView) (n : Nexus) (cdb bytes : List ℕ) (r : Reply) → slice_get us lun ≡ Some u → slice_get us at ≡ Some w → AtUnit us at (Executes w n cdb bytes) (ms, r)
-    → Grows u.kept.reservations ms lun (added_at lun at (accepted_by (kind_of u.device) n cdb bytes r.status))
+    → Grows u ms lun (added_at lun at (accepted_by (kind_of u.device) n cdb bytes r.status))
 unit_grows us ms lun at u w n cdb bytes r here there a =
-    elim (at == lun) as (λ b. (at == lun) ≡ b → Grows u.kept.reservations ms lun (cond b (accepted_by (kind_of u.device) n cdb bytes r.status) [])) [
+    elim (at == lun) as (λ b. (at == lun) ≡ b → Grows u ms lun (cond b (accepted_by (kind_of u.device) n cdb bytes r.status) [])) [
       | true ↦ λ e.
           let same : at ≡ lun = exact_unsigned_eq at lun e in
           let is : u ≡ w = same_unit u w (sym here ∙ ap (slice_get us) (sym same) ∙ there) in
           record {
             unit = a.unit;
             place = ap (λ (xs : List UnitView). slice_get xs lun) a.units ∙ ap (λ k. slice_get (slice_set us k a.unit) lun) same ∙ get-set_same us lun a.unit u here;
+            kind = executes_kind w a.unit n cdb bytes r a.step ∙ ap (λ (x : UnitView). kind_of x.device) (sym is);
             history =
                 executes_keeps w a.unit n cdb bytes r a.step ∙ ap (λ (x : UnitView). after_history x.kept.reservations (accepted_by (kind_of x.device) n cdb bytes r.status)) (sym is);
           }
       | false ↦ λ e.
           let apart : at ≢ lun = λ same. let yes : (at == lun) ≡ true = eq-eqb at lun same in cc in
-          record { unit = u; place = ap (λ (xs : List UnitView). slice_get xs lun) a.units ∙ get-set_other us at lun a.unit apart ∙ here; history = refl }
+          record { unit = u; place = ap (λ (xs : List UnitView). slice_get xs lun) a.units ∙ get-set_other us at lun a.unit apart ∙ here; kind = refl; history = refl }
     ] refl
 
 commands_grow : (us ms : List UnitView) (lun at : ℕ) (u : UnitView) (n : Nexus) (cdb bytes : List ℕ) (r : Reply) (o : Option UnitView) → slice_get us at ≡ o → slice_get us lun ≡ Some u → CommandsAt us at o n cdb bytes (ms, r)
-    → Grows u.kept.reservations ms lun (added_at lun at (accepted_by (kind_of u.device) n cdb bytes r.status))
+    → Grows u ms lun (added_at lun at (accepted_by (kind_of u.device) n cdb bytes r.status))
 commands_grow us ms lun at u n cdb bytes r None there here step = absent_grows us ms lun at u (accepted_by (kind_of u.device) n cdb bytes r.status) there here step.0
 commands_grow us ms lun at u n cdb bytes r (Some w) there here step = unit_grows us ms lun at u w n cdb bytes r here there step
 
 -- a change of one unit that leaves its registrations leaves those of every unit
-changed_grows : (us ms : List UnitView) (lun at : ℕ) (u w x : UnitView) → slice_get us lun ≡ Some u → slice_get us at ≡ Some w → ms ≡ slice_set us at x → x.kept.reservations ≡ w.kept.reservations → Grows u.kept.reservations ms lun []
-changed_grows us ms lun at u w x here there is kept =
-    elim (at == lun) as (λ b. (at == lun) ≡ b → Grows u.kept.reservations ms lun []) [
+changed_grows : (us ms : List UnitView) (lun at : ℕ) (u w x : UnitView) → slice_get us lun ≡ Some u → slice_get us at ≡ Some w → ms ≡ slice_set us at x → kind_of x.device ≡ kind_of w.device → x.kept.reservations ≡ w.kept.reservations → Grows u ms lun []
+changed_grows us ms lun at u w x here there is kind kept =
+    elim (at == lun) as (λ b. (at == lun) ≡ b → Grows u ms lun []) [
       | true ↦ λ e.
           let same : at ≡ lun = exact_unsigned_eq at lun e in
           let one : u ≡ w = same_unit u w (sym here ∙ ap (slice_get us) (sym same) ∙ there) in
           record {
             unit = x;
             place = ap (λ (xs : List UnitView). slice_get xs lun) is ∙ ap (λ k. slice_get (slice_set us k x) lun) same ∙ get-set_same us lun x u here;
+            kind = kind ∙ ap (λ (y : UnitView). kind_of y.device) (sym one);
             history = kept ∙ ap (λ (y : UnitView). y.kept.reservations) (sym one);
           }
       | false ↦ λ e.
           let apart : at ≢ lun = λ same. let yes : (at == lun) ≡ true = eq-eqb at lun same in cc in
-          record { unit = u; place = ap (λ (xs : List UnitView). slice_get xs lun) is ∙ get-set_other us at lun x apart ∙ here; history = refl }
+          record { unit = u; place = ap (λ (xs : List UnitView). slice_get xs lun) is ∙ get-set_other us at lun x apart ∙ here; kind = refl; history = refl }
     ] refl
 
 -- a loss and a reset leave a unit's registrations
@@ -111,15 +112,28 @@ reset_keeps : (u v : UnitView) (r : Reply) → IsReset u (v, r) → v.kept.reser
 reset_keeps u v r (inl busy) = ap (λ (x : UnitView × Reply). x.0.kept.reservations) busy
 reset_keeps u v r (inr was) = ap (λ (x : UnitView × ℕ). x.0.kept.reservations) was.1.1
 
-loss_grows : (us ms : List UnitView) (r : Reply) (lun at : ℕ) (u : UnitView) (n : Nexus) (o : Option UnitView) → slice_get us at ≡ o → slice_get us lun ≡ Some u → LosesAt us at o n (ms, r) → Grows u.kept.reservations ms lun []
-loss_grows us ms r lun at u n None there here is = record { unit = u; place = ap (λ (x : List UnitView × Reply). slice_get x.0 lun) is ∙ here; history = refl }
-loss_grows us ms r lun at u n (Some w) there here a = changed_grows us ms lun at u w a.unit here there a.units (loss_keeps w a.unit n r a.step)
+-- and its kind
+lost_kind : (u v : UnitView) (n : Nexus) (number : Option ℕ) (known : Bool) → LosesAs known u n (v, number) → kind_of v.device ≡ kind_of u.device
+lost_kind u v n number false is = ap (λ (x : UnitView × Option ℕ). kind_of x.0.device) is
+lost_kind u v n number true is = ap (λ (x : UnitView × Option ℕ). kind_of x.0.device) is.1
 
-reset_grows : (us ms : List UnitView) (r : Reply) (lun at : ℕ) (u : UnitView) (o : Option UnitView) → slice_get us at ≡ o → slice_get us lun ≡ Some u → ResetsAt us at o (ms, r) → Grows u.kept.reservations ms lun []
-reset_grows us ms r lun at u None there here is = record { unit = u; place = ap (λ (x : List UnitView × Reply). slice_get x.0 lun) is ∙ here; history = refl }
-reset_grows us ms r lun at u (Some w) there here a = changed_grows us ms lun at u w a.unit here there a.units (reset_keeps w a.unit r a.step)
+loss_kind : (u v : UnitView) (n : Nexus) (r : Reply) → IsLost u n (v, r) → kind_of v.device ≡ kind_of u.device
+loss_kind u v n r (inl busy) = ap (λ (x : UnitView × Reply). kind_of x.0.device) busy.0
+loss_kind u v n r (inr lost) = lost_kind u v n lost.0 (has_slot u.kept.slots n) lost.1
 
-step_grows : (us ms : List UnitView) (e : Event) (r : Reply) (lun : ℕ) (u : UnitView) → Steps us e (ms, r) → slice_get us lun ≡ Some u → Grows u.kept.reservations ms lun (accepted_at (kind_of u.device) lun e r)
+reset_kind : (u v : UnitView) (r : Reply) → IsReset u (v, r) → kind_of v.device ≡ kind_of u.device
+reset_kind u v r (inl busy) = ap (λ (x : UnitView × Reply). kind_of x.0.device) busy
+reset_kind u v r (inr was) = ap (λ (x : UnitView × ℕ). kind_of x.0.device) was.1.1 ∙ kind_after_reset u.device
+
+loss_grows : (us ms : List UnitView) (r : Reply) (lun at : ℕ) (u : UnitView) (n : Nexus) (o : Option UnitView) → slice_get us at ≡ o → slice_get us lun ≡ Some u → LosesAt us at o n (ms, r) → Grows u ms lun []
+loss_grows us ms r lun at u n None there here is = record { unit = u; place = ap (λ (x : List UnitView × Reply). slice_get x.0 lun) is ∙ here; kind = refl; history = refl }
+loss_grows us ms r lun at u n (Some w) there here a = changed_grows us ms lun at u w a.unit here there a.units (loss_kind w a.unit n r a.step) (loss_keeps w a.unit n r a.step)
+
+reset_grows : (us ms : List UnitView) (r : Reply) (lun at : ℕ) (u : UnitView) (o : Option UnitView) → slice_get us at ≡ o → slice_get us lun ≡ Some u → ResetsAt us at o (ms, r) → Grows u ms lun []
+reset_grows us ms r lun at u None there here is = record { unit = u; place = ap (λ (x : List UnitView × Reply). slice_get x.0 lun) is ∙ here; kind = refl; history = refl }
+reset_grows us ms r lun at u (Some w) there here a = changed_grows us ms lun at u w a.unit here there a.units (reset_kind w a.unit r a.step) (reset_keeps w a.unit r a.step)
+
+step_grows : (us ms : List UnitView) (e : Event) (r : Reply) (lun : ℕ) (u : UnitView) → Steps us e (ms, r) → slice_get us lun ≡ Some u → Grows u ms lun (accepted_at (kind_of u.device) lun e r)
 step_grows us ms (event.Command n at cdb bytes) r lun u step here = commands_grow us ms lun at u n cdb.items bytes.items r (slice_get us at) refl here step
 step_grows us ms (event.Loss n at) r lun u step here = loss_grows us ms r lun at u n (slice_get us at) refl here step
 step_grows us ms (event.Reset at) r lun u step here = reset_grows us ms r lun at u (slice_get us at) refl here step
@@ -131,7 +145,7 @@ history_of_run us vs (e ∷ es) (r ∷ rs) lun u v run before after =
     let grown = step_grows us run.0 e r lun u run.1 before in
     let m = grown.unit in
     history_of_run run.0 vs es rs lun m v run.2 grown.place after
-    ∙ ap (λ (k : Kind). after_history m.kept.reservations (accepted_in k lun es rs)) (same_kind m.device u.device)
+    ∙ ap (λ (k : Kind). after_history m.kept.reservations (accepted_in k lun es rs)) grown.kind
     ∙ ap (λ (w : State). after_history w (accepted_in (kind_of u.device) lun es rs)) grown.history
     ∙ sym (fold-append _ u.kept.reservations (accepted_at (kind_of u.device) lun e r) (accepted_in (kind_of u.device) lun es rs))
 history_of_run us vs [] (r ∷ rs) lun u v run before after = absurd run

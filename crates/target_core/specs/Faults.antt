@@ -1,5 +1,5 @@
 -- Why units make no target.
-use Rattle.std.specs.Prelude.{ℕ, ◌+◌, Bool, true, false, ◌&&◌, nat_lt, List, [], ◌∷◌, length, Option, Some, None, if◌then◌else◌, ◌==◌}
+use Rattle.std.specs.Prelude.{ℕ, ◌+◌, Bool, true, false, ◌&&◌, nat_le, List, [], ◌∷◌, length, Option, Some, None, if◌then◌else◌, ◌==◌}
 use Rattle.scsi_cdb.specs.declared.kind.Kind.{Kind}
 use Rattle.scsi_cdb.specs.declared.kind.Kind.TheVariants.{Drive, Changer}
 use Rattle.device_server.specs.View.{kind_of}
@@ -25,7 +25,8 @@ are_drives (u ∷ us) from count =
 abbrev pub is_in_order : UnitView → List UnitView → ℕ → Bool
 is_in_order c ds count = is_changer (kind_of c.device) && (c.kept.lun == 0 && (c.kept.units == count && are_drives ds 1 count))
 
--- the first that applies; a target has a changer and at most four drives (profile)
+-- the first that applies; a target has a changer and one to four drives (profile)
 abbrev pub fault_of : List UnitView → Option CoreFault
 fault_of [] = Some Count
-fault_of (c ∷ ds) = if nat_lt (length ds) 5 then (if is_in_order c ds (length ds + 1) then None else Some Order) else Some Count
+fault_of (c ∷ ds) =
+    if nat_le 1 (length ds) && nat_le (length ds) 4 then (if is_in_order c ds (length ds + 1) then None else Some Order) else Some Count

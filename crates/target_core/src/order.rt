@@ -11,7 +11,7 @@ const UNITS: usize = 5;
 /// Why units make no target, in the order of the tests.
 #[derive(Clone, Copy, Debug, PartialEq, Eq)]
 pub enum CoreFault {
-    /// There is none, or there are more than five.
+    /// There are fewer than two, or more than five: a target has a changer and one to four drives.
     Count,
     /// They aren't a changer and then drives, numbered by place, each made with this count of units.
     Order,
@@ -24,7 +24,7 @@ pub(crate) fn fault_of<D: DeviceServer>(units: &[LogicalUnit<D>]) -> Option<Core
     let [changer, drives @ ..] = units else {
         return Some(CoreFault::Count);
     };
-    if drives.len() >= UNITS {
+    if drives.is_empty() || drives.len() >= UNITS {
         return Some(CoreFault::Count);
     }
     let count = drives.len() as u8 + 1;
