@@ -1,3 +1,4 @@
+pub mod Devices
 pub mod Text
 pub mod Faults
 pub mod Words

@@ -4,6 +4,7 @@
 mod audit_lines;
 mod command_line;
 mod cutting;
+mod device;
 mod input;
 mod library;
 mod line;

@@ -16,13 +16,21 @@ use std::test::Fail;
 use target_core::Event;
 
 mod audit;
+mod drives;
 mod every_unit;
 mod prevention;
 mod rows;
+mod targets;
+mod volumes;
 mod want_of_memory;
 
 const A: Nexus = Nexus {
     sas: 0x5000_0000_0000_000A,
+    port: 1,
+};
+
+const B: Nexus = Nexus {
+    sas: 0x5000_0000_0000_000B,
     port: 1,
 };
 

@@ -5,6 +5,7 @@ use crate::audit_lines::Audit;
 use crate::library::library;
 use crate::replaying::replay;
 use crate::stub_changer::StubChanger;
+use device_server::DeviceServer;
 use logical_unit::{Busy, LogicalUnit};
 use scsi_sense::Status;
 use std::alloc::Global;
@@ -14,10 +15,10 @@ use std::test::Fail;
 use target_core::TargetCore;
 
 /// Replays a script with the lines of the records, and compares the whole output.
-fn assert_audited(
+pub(super) fn assert_audited<D: DeviceServer>(
     rt: &impl Abort,
     alloc: Global,
-    core: &mut TargetCore<StubChanger>,
+    core: &mut TargetCore<D>,
     script: &str,
     expected: &str,
 ) -> Result<(), Fail> {
@@ -125,6 +126,50 @@ fn writes_losses_and_resets(rt: HostRuntime) -> Result<(), Fail> {
 }
 
 #[test]
+fn writes_the_records_of_the_drive_behind_those_of_the_changer(
+    rt: HostRuntime,
+) -> Result<(), Fail> {
+    assert_audited(
+        &rt,
+        rt.alloc(),
+        &mut library(rt.alloc())?,
+        "500000000000000a.1 1 000000000000\n\
+         500000000000000a.1 1 000000000000\n\
+         500000000000000a.1 0 000000000000\n\
+         500000000000000a.1 1 100000000100\n\
+         500000000000000a.1 1 050000000000\n\
+         500000000000000a.1 1 0a0000000400 010203\n\
+         500000000000000a.1 1 200000000000\n\
+         500000000000000a.1 1 1b0000000100\n\
+         500000000000000a.1 0 1b0000000100\n\
+         reset 1\n\
+         reset 0\n",
+        "02 700006000000000a00000000290000000000 -\n\
+         02 700002000000000a000000003a0000000000 -\n\
+         02 700006000000000a00000000290000000000 -\n\
+         02 700002000000000a000000003a0000000000 -\n\
+         00 - 000100000001\n\
+         02 700005000000000a00000000240000000000 -\n\
+         02 700005000000000a00000000200000000000 -\n\
+         02 700002000000000a000000003a0000000000 -\n\
+         02 700005000000000a00000000200000000000 -\n\
+         00 - -\n\
+         00 - -\n\
+         1 500000000000000a.1 TEST-UNIT-READY 2 - - 02\n\
+         2 500000000000000a.1 INVALID 1 - - 02\n\
+         3 - RESET 6 - - 00\n\
+         1 500000000000000a.1 TEST-UNIT-READY 2 - - 02\n\
+         2 500000000000000a.1 TEST-UNIT-READY 6 TEST-UNIT-READY/NONE/OTHER - 02\n\
+         3 500000000000000a.1 WRITE-FILEMARKS(6) 6 WRITE-FILEMARKS(6)/NONE/OTHER - 02\n\
+         4 500000000000000a.1 READ-BLOCK-LIMITS 6 READ-BLOCK-LIMITS/NONE/OTHER - 00\n\
+         5 500000000000000a.1 WRITE(6) 5 WRITE(6)/NONE/OTHER - 02\n\
+         6 500000000000000a.1 INVALID 1 - - 02\n\
+         7 500000000000000a.1 LOAD-UNLOAD 6 LOAD-UNLOAD/NONE/OTHER - 02\n\
+         8 - RESET 6 - - 00\n",
+    )
+}
+
+#[test]
 fn has_no_record_of_a_sender_without_a_slot(rt: HostRuntime) -> Result<(), Fail> {
     let mut script = String::new(rt.alloc());
     let mut expected = String::new(rt.alloc());
@@ -174,7 +219,9 @@ fn goes_on_counting_after_a_drain(rt: HostRuntime) -> Result<(), Fail> {
     for (entry, number) in drained.iter().zip(1..) {
         assert_eq!(rt; entry.number, number);
     }
-    assert!(rt; core.drain(alloc, 1).is_none());
+    let of_the_drive = core.drain(alloc, 1).ok_or("no drive")?;
+    assert!(rt; of_the_drive.is_empty());
+    assert!(rt; core.drain(alloc, 2).is_none());
     assert_audited(
         &rt,
         alloc,

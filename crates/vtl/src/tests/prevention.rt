@@ -1,6 +1,6 @@
 //! Who prevents the removal of media, and when that ends.
 
-use super::A;
+use super::{A, B};
 use crate::audit_lines::Audit;
 use crate::library::library;
 use crate::replaying::replay;
@@ -11,11 +11,6 @@ use scsi_sense::Status;
 use std::alloc::{AllocError, Global};
 use std::process::Abort;
 use std::test::Fail;
-
-const B: Nexus = Nexus {
-    sas: 0x5000_0000_0000_000b,
-    port: 1,
-};
 
 const ALLOW: &[u8] = &[0x1e, 0, 0, 0, 0, 0];
 

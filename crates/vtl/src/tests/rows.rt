@@ -11,7 +11,7 @@ use std::test::Fail;
 /// The first command of each nexus, which reports its power on.
 const CONTACTS: &str = "a 000000000000\nb 000000000000\nc 000000000000\n";
 
-const POWER_ON: &str = "02 700006000000000a00000000290000000000 -\n";
+pub(super) const POWER_ON: &str = "02 700006000000000a00000000290000000000 -\n";
 
 /// Replays lines `NEXUS CDB [DATA]` after the contacts, and compares the replies. NEXUS is the last
 /// digit of a SAS address at port 1.
@@ -23,20 +23,23 @@ fn assert_replies(
     replies: &str,
 ) -> Result<(), Fail> {
     let mut script = String::new(alloc);
-    for line in CONTACTS.lines().chain(lines.lines()) {
-        let (nexus, command) = line.split_once(' ').ok_or("no command")?;
-        script.push_str("500000000000000")?;
-        script.push_str(nexus)?;
-        script.push_str(".1 0 ")?;
-        script.push_str(command)?;
-        script.push('\n')?;
-    }
+    push_lines(&mut script, 0, CONTACTS)?;
+    push_lines(&mut script, 0, lines)?;
     let mut expected = String::new(alloc);
     for _ in 0..3 {
         expected.push_str(POWER_ON)?;
     }
     expected.push_str(replies)?;
     assert_output(rt, alloc, name, script.as_str(), expected.as_str())
+}
+
+/// Adds lines `NEXUS CDB [DATA]` to a script, as commands to a logical unit.
+pub(super) fn push_lines(script: &mut String, lun: u8, lines: &str) -> Result<(), Fail> {
+    for line in lines.lines() {
+        let (nexus, command) = line.split_once(' ').ok_or("no command")?;
+        write!(script, "500000000000000{nexus}.1 {lun} {command}\n")?;
+    }
+    Ok(())
 }
 
 /// Replays a whole script at power on, and compares the whole output: the replies alone.

@@ -1,70 +1,106 @@
-//! A device that wants memory at a chosen call: BUSY, nothing has changed, and the numbers of records
+//! A device that wants memory at chosen calls: BUSY, nothing has changed, and the numbers of records
 //! go on.
 
-use device_server::{DeviceServer, Outcome, Payload};
+use super::A;
+use super::audit::assert_audited;
+use super::targets::target;
+use crate::device::Device;
+use crate::stub_changer::StubChanger;
+use device_server::{BadPlace, DeviceServer, Outcome, PutFault, TakeFault};
 use logical_unit::LogicalUnit;
 use scsi_cdb::{Kind, Request};
-use scsi_nexus::Nexus;
-use scsi_sense::{Condition, Status};
+use scsi_sense::Status;
 use std::alloc::{AllocError, Global};
 use std::test::Fail;
+use tape_medium::{Volume, VolumeTag};
+use tape_server::TapeDrive;
 use target_core::{Event, TargetCore};
 
-/// A changer without elements that wants memory at its call of this number.
+/// A device that wants memory at its calls of these numbers, from 1 on.
 #[derive(Drop)]
-struct WantingChanger {
+struct WantingDevice {
+    device: Device,
     calls: u64,
-    wants_at: u64,
+    first: u64,
+    last: u64,
 }
 
-impl DeviceServer for WantingChanger {
-    ghost use Rattle.device_server.specs.View.{Changer};
+impl DeviceServer for WantingDevice {
+    ghost use Rattle.vtl.specs.Devices.{shown_as};
 
-    ghost shown = { λ _. Changer };
+    ghost shown = { λ d. shown_as d.device };
 
     fn kind(&self) -> Kind {
-        Kind::Changer
+        self.device.kind()
+    }
+
+    fn drives(&self) -> u16 {
+        self.device.drives()
+    }
+
+    fn held(&self, place: u16) -> Option<VolumeTag> {
+        self.device.held(place)
     }
 
     fn perform(
         &mut self,
         alloc: Global,
         request: &Request,
-        _bytes: &[u8],
+        bytes: &[u8],
     ) -> Result<Outcome, AllocError> {
-        self.calls = self.calls.wrapping_add(1);
-        if self.calls == self.wants_at {
+        self.calls = self.calls.saturating_add(1);
+        if self.first <= self.calls && self.calls <= self.last {
             return Err(AllocError);
         }
-        match request {
-            Request::TestUnitReady => Ok(Outcome::good(Payload::none(alloc))),
-            _ => Ok(Outcome::check(alloc, Condition::InvalidCommandOperationCode)),
-        }
+        self.device.perform(alloc, request, bytes)
     }
 
-    fn reset(&mut self) {}
+    fn take_volume(&mut self, place: u16) -> Result<Volume, TakeFault> {
+        self.device.take_volume(place)
+    }
+
+    fn put_volume(&mut self, place: u16, volume: Volume) -> Result<(), (Volume, PutFault)> {
+        self.device.put_volume(place, volume)
+    }
+
+    fn mark(&mut self, place: u16, tag: Option<VolumeTag>) -> Result<(), BadPlace> {
+        self.device.mark(place, tag)
+    }
+
+    fn reset(&mut self) {
+        self.device.reset();
+    }
+}
+
+/// A target whose changer wants memory at its second call, and whose empty drive at every call.
+fn wanting_target(alloc: Global) -> Result<TargetCore<WantingDevice>, Fail> {
+    let changer = WantingDevice {
+        device: Device::Changer(StubChanger),
+        calls: 0,
+        first: 2,
+        last: 2,
+    };
+    let drive = WantingDevice {
+        device: Device::Tape(TapeDrive::new()),
+        calls: 0,
+        first: 1,
+        last: u64::MAX,
+    };
+    target(
+        alloc,
+        LogicalUnit::new(alloc, 0, 2, Box::new(alloc, changer)?),
+        LogicalUnit::new(alloc, 1, 2, Box::new(alloc, drive)?),
+    )
 }
 
 #[test]
 fn want_of_memory_is_busy(rt: HostRuntime) -> Result<(), Fail> {
     let alloc = rt.alloc();
-    let server = Box::new(
-        alloc,
-        WantingChanger {
-            calls: 0,
-            wants_at: 2,
-        },
-    )?;
-    let mut units = Vec::new(alloc);
-    units.push(LogicalUnit::new(alloc, 0, 1, server))?;
-    let Ok(mut core) = TargetCore::new(units) else {
-        return Err("no target".into());
-    };
-    let nexus = Nexus { sas: 1, port: 1 };
+    let mut core = wanting_target(alloc)?;
     let mut events = Vec::new(alloc);
     for _ in 0..5 {
         events.push(Event::Command {
-            nexus,
+            nexus: A,
             lun: 0,
             cdb: Vec::from_slice(alloc, &[0; 6])?,
             bytes: Vec::new(alloc),
@@ -85,4 +121,54 @@ fn want_of_memory_is_busy(rt: HostRuntime) -> Result<(), Fail> {
     }
     assert_eq!(rt; replies.len(), 5);
     Ok(())
+}
+
+#[test]
+fn the_reservation_check_comes_before_the_device(rt: HostRuntime) -> Result<(), Fail> {
+    let alloc = rt.alloc();
+    assert_audited(
+        &rt,
+        alloc,
+        &mut wanting_target(alloc)?,
+        "500000000000000a.1 1 000000000000\n\
+         500000000000000b.1 1 000000000000\n\
+         500000000000000a.1 1 000000000000\n\
+         500000000000000a.1 1 5e00000000000000ff00\n\
+         500000000000000a.1 1 5e000000000000000500\n\
+         500000000000000a.1 1 5f000000000000001800 000000000000000000000000000000000000000000000000\n\
+         500000000000000a.1 1 5e00000000000000ff00\n\
+         500000000000000a.1 1 5f000000000000001800 000000000000000011223344556677880000000000000000\n\
+         500000000000000b.1 1 5f000000000000001800 000000000000000099aabbccddeeff000000000000000000\n\
+         500000000000000a.1 1 5e000000000000000c00\n\
+         500000000000000a.1 1 5f010100000000001800 112233445566778800000000000000000000000000000000\n\
+         500000000000000a.1 1 0a0000000400 01020304\n\
+         500000000000000b.1 1 0a0000000400 01020304\n\
+         500000000000000b.1 1 5e01000000000000ff00\n",
+        "02 700006000000000a00000000290000000000 -\n\
+         02 700006000000000a00000000290000000000 -\n\
+         08 - -\n\
+         00 - 0000000000000000\n\
+         00 - 0000000000\n\
+         00 - -\n\
+         00 - 0000000000000000\n\
+         00 - -\n\
+         00 - -\n\
+         00 - 000000020000001011223344\n\
+         00 - -\n\
+         08 - -\n\
+         18 - -\n\
+         00 - 000000020000001011223344556677880000000000010000\n\
+         1 500000000000000a.1 TEST-UNIT-READY 2 - - 02\n\
+         2 500000000000000b.1 TEST-UNIT-READY 2 - - 02\n\
+         3 500000000000000a.1 PR-IN 6 PR-IN/NONE/OTHER - 00\n\
+         4 500000000000000a.1 PR-IN 6 PR-IN/NONE/OTHER - 00\n\
+         5 500000000000000a.1 REGISTER 6 REGISTER/NONE/OTHER - 00\n\
+         6 500000000000000a.1 PR-IN 6 PR-IN/NONE/OTHER - 00\n\
+         7 500000000000000a.1 REGISTER 6 REGISTER/NONE/OTHER - 00\n\
+         8 500000000000000b.1 REGISTER 6 REGISTER/NONE/OTHER - 00\n\
+         9 500000000000000a.1 PR-IN 6 PR-IN/NONE/REGISTERED - 00\n\
+         10 500000000000000a.1 RESERVE 6 RESERVE/NONE/REGISTERED - 00\n\
+         11 500000000000000b.1 WRITE(6) 3 WRITE(6)/WE/REGISTERED - 18\n\
+         12 500000000000000b.1 PR-IN 6 PR-IN/WE/REGISTERED - 00\n",
+    )
 }
