@@ -1,0 +1,4 @@
+pub mod Address
+pub mod Limits
+pub mod Runs
+pub mod Pages

@@ -1,0 +1,49 @@
+//! The addresses and numbers of the elements.
+
+/// How many data transfer elements a map has at most (profile).
+pub const DRIVE_LIMIT: u16 = 4;
+
+/// How many import/export elements a map has at most (profile).
+pub const PORTAL_LIMIT: u16 = 16;
+
+/// How many storage elements a map has at most (profile).
+pub const SLOT_LIMIT: u16 = 1024;
+
+/// The address of the medium transport element (profile).
+pub(crate) const TRANSPORT: u16 = 0;
+
+/// The address of the first data transfer element (profile).
+pub(crate) const FIRST_DATA_TRANSFER: u16 = 0x100;
+
+/// The address of the first import/export element (profile).
+pub(crate) const FIRST_IMPORT_EXPORT: u16 = 0x200;
+
+/// The address of the first storage element (profile).
+pub(crate) const FIRST_STORAGE: u16 = 0x400;
+
+/// The length of the header of the element status data (SMC-3, "READ ELEMENT STATUS command").
+pub(crate) const HEADER_LENGTH: usize = 8;
+
+/// The length of the header of an element status page.
+pub(crate) const PAGE_HEADER_LENGTH: usize = 8;
+
+/// The length of an element descriptor without the primary volume tag information.
+pub(crate) const DESCRIPTOR_LENGTH: usize = 16;
+
+/// The length of the primary volume tag information: a tag and four reserved bytes.
+pub(crate) const TAG_INFORMATION_LENGTH: usize = 36;
+
+/// PVOLTAG's bit of a page's flags: its descriptors have primary volume tag information.
+pub(crate) const PVOLTAG: u8 = 0x80;
+
+/// FULL's bit of a descriptor's flags: there is a volume in the element.
+pub(crate) const FULL: u8 = 0x01;
+
+/// ACCESS's bit of a descriptor's flags: the medium transport reaches the element.
+pub(crate) const ACCESS: u8 = 0x08;
+
+/// EXENAB's and INENAB's bits of an import/export element's flags: it exports and imports volumes.
+pub(crate) const IMPORTS_AND_EXPORTS: u8 = 0x30;
+
+/// The element type code that asks for elements of all types.
+pub(crate) const ALL_TYPES: u8 = 0;

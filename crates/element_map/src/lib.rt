@@ -1,0 +1,18 @@
+//! The elements of a medium changer, what each holds, and how READ ELEMENT STATUS reports them.
+#![tactic(auto)]
+
+mod address;
+mod element_type;
+mod elements;
+mod layout;
+mod moves;
+mod place;
+mod report;
+mod run;
+mod status;
+
+pub use elements::Elements;
+pub use layout::{DRIVE_LIMIT, PORTAL_LIMIT, SLOT_LIMIT};
+
+#[cfg(test)]
+mod tests;
