@@ -3,15 +3,15 @@ use Rattle.std.specs.Prelude.{false, [], Some, None}
 use Rattle.scsi_cdb.specs.declared.classes.Class.TheVariants as class
 use Rattle.scsi_cdb.specs.declared.action.OutServiceAction.TheVariants as out
 use Rattle.scsi_sense.specs.Conditions.{sense_for}
-use Rattle.scsi_sense.specs.declared.condition.Condition.TheVariants.{PowerOnOrResetOccurred, InvalidCommandOperationCode}
+use Rattle.scsi_sense.specs.declared.condition.Condition.TheVariants.{PowerOnOrResetOccurred, NotReadyToReadyChange, InvalidCommandOperationCode, InvalidFieldInParameterList}
 use Rattle.scsi_sense.specs.declared.status.Status.TheVariants.{Good, CheckCondition, ReservationConflict}
 use Rattle.scsi_nexus.specs.declared.nexus.Nexus.{Nexus}
 use Rattle.permit_tables.specs.declared.res_type.ResType.TheVariants as type
-use Rattle.permit_tables.specs.declared.role.Role.TheVariants.{Other}
+use Rattle.permit_tables.specs.declared.role.Role.TheVariants.{Holder, Registered, Other}
 use Rattle.pr_params.specs.declared.out_params.OutParams.{OutParams}
 use Rattle.pr_core.specs.declared.key_rule.KeyRule.TheVariants.{K1}
-use Rattle.audit_log.specs.declared.stage.Stage.TheVariants.{Spelling, ResetAttention, ReservationCheck, Device}
-use Rattle.audit_log.specs.declared.act.Act.TheVariants.{Command, ReserveOut, Invalid, Loss, Reset, MediumOut}
+use Rattle.audit_log.specs.declared.stage.Stage.TheVariants.{Spelling, ResetAttention, ReservationCheck, OtherAttention, Fields, Device}
+use Rattle.audit_log.specs.declared.act.Act.TheVariants.{Command, ReserveOut, Invalid, Loss, Reset, MediumIn, MediumOut}
 use Rattle.audit_log.specs.declared.record.Record.{Record}
 
 abbrev pub a : Nexus
@@ -79,6 +79,33 @@ was_reset = record lost { number = 40; nexus = None; act = Reset }
 -- the volume is taken out, with the last number that there is
 abbrev pub taken_out : Record
 taken_out = record was_reset { number = 18446744073709551615; act = MediumOut }
+
+-- a volume comes in
+abbrev pub brought_in : Record
+brought_in = record was_reset { number = 41; act = MediumIn }
+
+-- A is told that the medium changed, by a WRITE(6) as the reservation's holder at another port
+abbrev pub medium_changed : Record
+medium_changed = record first_contact {
+  number = 255;
+  nexus = Some (record a { port = 4 });
+  act = Command class.Write;
+  stage = OtherAttention;
+  cell = Some (record { class = class.Write; res_type = type.Eaar; role = Holder });
+  sense = Some (sense_for NotReadyToReadyChange);
+}
+
+-- a REGISTER at port 2 is refused for its parameter list
+abbrev pub refused_field : Record
+refused_field = record wrong_key {
+  number = 10;
+  nexus = Some (record { sas = 0x5000C500112233FF; port = 2 });
+  stage = Fields;
+  cell = Some (record { class = class.Register; res_type = type.Wero; role = Registered });
+  rule = None;
+  status = CheckCondition;
+  sense = Some (sense_for InvalidFieldInParameterList);
+}
 
 -- bytes of A that spell no command
 abbrev pub unknown_opcode : Record

@@ -1,7 +1,7 @@
 ghost use Rattle.std.specs.Prelude.{◌≡◌, codes};
 ghost use Rattle.audit_log.specs.TrailView.{CountsUp};
 ghost use Rattle.audit_log.specs.Lines.{line_of};
-ghost use Rattle.audit_log.specs.Rows.{first_contact, ready, wrong_key, lost, was_reset, taken_out, unknown_opcode};
+ghost use Rattle.audit_log.specs.Rows.{first_contact, ready, wrong_key, lost, was_reset, taken_out, brought_in, medium_changed, refused_field, unknown_opcode};
 
 /// Worked rows: records and their lines.
 pub fn line_rows()
@@ -15,6 +15,11 @@ pub fn line_rows()
     ensures was_reset { line_of was_reset ≡ codes "40 - RESET 6 - - 00" }
     ensures taken_out { line_of taken_out
         ≡ codes "18446744073709551615 - MEDIUM-OUT 6 - - 00" }
+    ensures brought_in { line_of brought_in ≡ codes "41 - MEDIUM-IN 6 - - 00" }
+    ensures medium_changed { line_of medium_changed
+        ≡ codes "255 500000000000000a.4 WRITE(6) 4 WRITE(6)/EAAR/HOLDER - 02" }
+    ensures refused_field { line_of refused_field
+        ≡ codes "10 5000c500112233ff.2 REGISTER 5 REGISTER/WERO/REGISTERED - 02" }
     ensures unknown_opcode { line_of unknown_opcode
         ≡ codes "1 500000000000000a.1 INVALID 1 - - 02" }
 {}

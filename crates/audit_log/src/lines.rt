@@ -1,4 +1,4 @@
-ghost use Rattle.std.specs.Prelude.{◌≡◌, ◌++◌, IfOk, OnOk, string_bytes};
+ghost use Rattle.std.specs.Prelude.{◌≡◌, ◌++◌, IfOk, OnOk, OnErr, string_bytes};
 ghost use Rattle.audit_log.specs.Lines.{line_of, nexus_text, cell_text_or_dash, rule_text, act_text};
 
 use crate::act::Act;
@@ -18,13 +18,22 @@ pub fn line(alloc: Global, entry: &Record) -> Result<String, AllocError>
     ensures { IfOk result (λ text. string_bytes text ≡ line_of entry.now) }
 {
     let mut text = String::new(alloc);
-    write_line(&mut text, entry)?;
+    write_parts(&mut text, entry)?;
     Ok(text)
 }
 
-/// Adds a record's `line` to a text. Where memory runs out, a part of it may have been added.
+/// Adds a record's `line` to a text. Want of memory leaves the text as it was.
+pub fn write_line(alloc: Global, text: &mut String, entry: &Record) -> Result<(), AllocError>
+    ensures ok { OnOk result (string_bytes text.new ≡ string_bytes text.old ++ line_of entry.now) }
+    ensures err { OnErr result (string_bytes text.new ≡ string_bytes text.old) }
+{
+    let whole = line(alloc, entry)?;
+    text.push_str(whole.as_str())
+}
+
+/// The parts of a line, one after another. Where memory runs out, some may have been added.
 #[tactic(auto, unfolding(crate::specs::Lines::line_of))]
-pub fn write_line(text: &mut String, entry: &Record) -> Result<(), AllocError>
+fn write_parts(text: &mut String, entry: &Record) -> Result<(), AllocError>
     ensures { OnOk result (string_bytes text.new ≡ string_bytes text.old ++ line_of entry.now) }
 {
     let number = entry.number;

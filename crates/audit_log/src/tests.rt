@@ -123,7 +123,7 @@ fn writes_a_line_for_each_record(rt: HostRuntime) -> Result<(), Fail> {
 #[test]
 fn adds_a_line_to_a_text(rt: HostRuntime) -> Result<(), Fail> {
     let mut text = String::from_str(rt.alloc(), "7\n")?;
-    write_line(&mut text, &event(8, None, Act::Reset))?;
+    write_line(rt.alloc(), &mut text, &event(8, None, Act::Reset))?;
     assert_eq!(rt; text.as_str(), "7\n8 - RESET 6 - - 00");
     Ok(())
 }

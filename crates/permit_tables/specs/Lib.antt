@@ -2,3 +2,4 @@ pub mod Types
 pub mod Permission
 pub mod Words
 pub mod Text
+pub mod Rows

@@ -1,7 +1,7 @@
 -- The worked cases compute.
 use Rattle.std.proofs.Common.{refl}
 use Rattle.pr_core.specs.State.{keys_after}
-use Rattle.pr_core.specs.Rows.{WorkedRows}
+use Rattle.pr_core.specs.Rows.{WorkedRows, ToldRows, RefusalRows}
 
 pub worked : WorkedRows
 unfolding keys_after
@@ -59,4 +59,51 @@ worked = record {
   all_ports_release = refl;
   all_ports_release_raised = refl;
   all_ports_release_removed = refl;
+}
+
+pub told : ToldRows
+unfolding keys_after
+told = record {
+  release_wear = refl;
+  release_eaar = refl;
+  release_we = refl;
+  release_ea = refl;
+  unregister_we = refl;
+  unregister_we_raised = refl;
+  unregister_ea_raised = refl;
+  unregister_other_raised = refl;
+  unregister_earo_raised = refl;
+  preempt_other_type = refl;
+  preempt_same_type = refl;
+  move_raised = refl;
+  clear_unreserved = refl;
+  clear_unreserved_raised = refl;
+  preempt_and_abort = refl;
+}
+
+pub refused : RefusalRows
+unfolding keys_after
+refused = record {
+  ignore_other_key = refl;
+  ignore_other_key_registers = refl;
+  clear_wrong_key = refl;
+  reserve_unregistered = refl;
+  preempt_and_abort_nobody = refl;
+  move_nothing = refl;
+  move_zero = refl;
+  move_to_port_0 = refl;
+  move_to_port_4 = refl;
+  move_to_port_5 = refl;
+  move_to_nobody = refl;
+  release_by_another = refl;
+  release_by_another_accepted = refl;
+  release_by_another_changes_nothing = refl;
+  release_nothing = refl;
+  reserve_scope = refl;
+  reserve_scope_again = refl;
+  release_scope = refl;
+  preempt_scope = refl;
+  preempt_scope_ignored = refl;
+  reserve_same = refl;
+  generation_wraps = refl;
 }

@@ -4,15 +4,16 @@ use Rattle.scsi_cdb.specs.declared.classes.Class.TheVariants as class
 use Rattle.scsi_cdb.specs.declared.action.OutServiceAction.{OutServiceAction}
 use Rattle.scsi_cdb.specs.declared.action.OutServiceAction.TheVariants as out
 use Rattle.scsi_nexus.specs.declared.nexus.Nexus.{Nexus}
-use Rattle.permit_tables.specs.declared.res_type.ResType.TheVariants.{We, Ea, Wero, Wear, Eaar}
+use Rattle.permit_tables.specs.declared.res_type.ResType.{ResType}
+use Rattle.permit_tables.specs.declared.res_type.ResType.TheVariants.{We, Ea, Wero, Earo, Wear, Eaar}
 use Rattle.permit_tables.specs.declared.role.Role.TheVariants.{Holder, Registered, Other}
 use Rattle.unit_attention.specs.declared.kind.Kind.TheVariants.{ReservationsPreempted, ReservationsReleased, RegistrationsPreempted}
 use Rattle.pr_params.specs.declared.out_params.OutParams.{OutParams}
-use Rattle.pr_core.specs.Acts.{Act, Register, Reserve, Release, Clear, Preempt}
-use Rattle.pr_core.specs.declared.key_rule.KeyRule.TheVariants.{K1, K2, K4, K5, K6}
+use Rattle.pr_core.specs.Acts.{Act, Register, Reserve, Release, Clear, Preempt, Move}
+use Rattle.pr_core.specs.declared.key_rule.KeyRule.TheVariants.{K1, K2, K3, K4, K5, K6}
 use Rattle.pr_core.specs.declared.pr_fault.PrFault.TheVariants.{InvalidField, InvalidParam, InvalidRelease}
 use Rattle.pr_core.specs.declared.verdict.Verdict.TheVariants.{Allowed, Denied, Rule}
-use Rattle.pr_params.specs.declared.param_fault.ParamFault.TheVariants.{Field}
+use Rattle.pr_params.specs.declared.list_fault.ListDefect.TheVariants.{Field}
 use Rattle.pr_core.specs.Targets.{targets}
 use Rattle.pr_core.specs.State.{State, power_on, role, after, after_all}
 use Rattle.pr_core.specs.Judge.{verdict}
@@ -172,3 +173,66 @@ pub record WorkedRows : Type 0 where
   pub all_ports_release : applied everywhere_held a (at_every_port 1 0) ≡ record { keys = (b, 2) ∷ []; reservation = None; generation = 3 }
   pub all_ports_release_raised : raised everywhere_held a (Register 0 (targets a (at_every_port 1 0))) ≡ (b, ReservationsReleased) ∷ []
   pub all_ports_release_removed : removed everywhere_held a (Register 0 (targets a (at_every_port 1 0))) ≡ a_at 2 ∷ a_at 3 ∷ a_at 4 ∷ []
+
+-- A, B and C are registered with keys 1, 2 and 3, and then A reserves this type
+abbrev pub three_and : ResType → State
+three_and t = history (registers a 1 ∷ registers b 2 ∷ registers c 3 ∷ (a, Reserve t) ∷ [])
+
+-- what the acts tell the others
+pub record ToldRows : Type 0 where
+  -- RELEASE of an all registrants type, by any of its holders
+  pub release_wear : raised two_hold a (Release 7) ≡ (b, ReservationsReleased) ∷ []
+  pub release_eaar : raised three_hold b (Release 8) ≡ (a, ReservationsReleased) ∷ (c, ReservationsReleased) ∷ []
+  -- RELEASE of WE or EA tells nobody
+  pub release_we : raised (three_and We) a (Release 1) ≡ []
+  pub release_ea : raised (three_and Ea) a (Release 3) ≡ []
+  -- a holder of WE or EA that unregisters ends the reservation and tells nobody
+  pub unregister_we : after (three_and We) a (Register 0 (a ∷ [])) ≡ record { keys = (b, 2) ∷ (c, 3) ∷ []; reservation = None; generation = 4 }
+  pub unregister_we_raised : raised (three_and We) a (Register 0 (a ∷ [])) ≡ []
+  pub unregister_ea_raised : raised (three_and Ea) a (Register 0 (a ∷ [])) ≡ []
+  -- another than the holder of WERO that unregisters tells nobody
+  pub unregister_other_raised : raised (three_and Wero) b (Register 0 (b ∷ [])) ≡ []
+  -- EARO is registrants only
+  pub unregister_earo_raised : raised (three_and Earo) a (Register 0 (a ∷ [])) ≡ (b, ReservationsReleased) ∷ (c, ReservationsReleased) ∷ []
+  -- a PREEMPT that changes the type tells those who remain, and one that doesn't only those that it removes
+  pub preempt_other_type : raised (three_and Wero) c (Preempt 1 6) ≡ (a, RegistrationsPreempted) ∷ (b, ReservationsReleased) ∷ []
+  pub preempt_same_type : raised (three_and Wero) c (Preempt 1 5) ≡ (a, RegistrationsPreempted) ∷ []
+  -- REGISTER AND MOVE tells nobody, though it unregisters
+  pub move_raised : raised (three_and Wero) a (Move 9 b true) ≡ []
+  -- CLEAR with nothing reserved takes all keys, and tells the others
+  pub clear_unreserved : applied by_list b (command out.Clear 7 0 0) ≡ record { keys = []; reservation = None; generation = 2 }
+  pub clear_unreserved_raised : raised by_list b Clear ≡ (c, ReservationsPreempted) ∷ []
+  -- PREEMPT AND ABORT is the act that PREEMPT is
+  pub preempt_and_abort : act_of (three_and We) b (command out.PreemptAndAbort 2 1 3) ≡ Some (Preempt 1 3)
+
+-- how commands are judged and refused
+pub record RefusalRows : Type 0 where
+  -- REGISTER AND IGNORE EXISTING KEY by a registered nexus with another key
+  pub ignore_other_key : verdict alone a (command out.RegisterAndIgnoreExistingKey 5 6 0) ≡ Allowed
+  pub ignore_other_key_registers : applied alone a (command out.RegisterAndIgnoreExistingKey 5 6 0) ≡ record { keys = (a, 6) ∷ []; reservation = None; generation = 2 }
+  -- a registered sender with a wrong key, and PREEMPT AND ABORT of a key that nobody has
+  pub clear_wrong_key : verdict alone a (command out.Clear 5 0 0) ≡ Rule K3
+  pub reserve_unregistered : verdict alone b (command out.Reserve 0 0 1) ≡ Rule K3
+  pub preempt_and_abort_nobody : verdict held a (command out.PreemptAndAbort 1 9 1) ≡ Rule K5
+  -- REGISTER AND MOVE: no reservation comes before key 0, and that before the port, which is 1 to 4
+  pub move_nothing : refusal alone a (moving 1 0 b true) ≡ Some InvalidField
+  pub move_zero : refusal held a (moving 1 0 b true) ≡ Some InvalidParam
+  pub move_to_port_0 : refusal held a (moving 1 9 (a_at 0) true) ≡ Some InvalidParam
+  pub move_to_port_4 : refusal held a (moving 1 9 (a_at 4) true) ≡ None
+  pub move_to_port_5 : refusal held a (moving 1 9 (a_at 5) true) ≡ Some InvalidParam
+  pub move_to_nobody : refusal held a (record (moving 1 9 b true) { dest = None }) ≡ Some InvalidParam
+  -- RELEASE by a registered nexus that doesn't hold, of another type: nothing changes
+  pub release_by_another : verdict (three_and We) b (command out.Release 2 0 5) ≡ Allowed
+  pub release_by_another_accepted : refusal (three_and We) b (command out.Release 2 0 5) ≡ None
+  pub release_by_another_changes_nothing : applied (three_and We) b (command out.Release 2 0 5) ≡ three_and We
+  pub release_nothing : applied alone a (command out.Release 1 0 9) ≡ alone
+  -- a scope other than 0
+  pub reserve_scope : refusal alone a (command out.Reserve 1 0 0x11) ≡ Some InvalidField
+  pub reserve_scope_again : verdict held a (command out.Reserve 1 0 0x11) ≡ Rule K4
+  pub release_scope : refusal held a (command out.Release 1 0 0x11) ≡ Some InvalidRelease
+  pub preempt_scope : refusal held a (command out.Preempt 1 1 0x11) ≡ Some InvalidField
+  pub preempt_scope_ignored : refusal (three_and We) b (command out.Preempt 2 3 0x11) ≡ None
+  -- RESERVE again by a holder of the same type changes nothing
+  pub reserve_same : applied held a (command out.Reserve 1 0 1) ≡ held
+  -- PRGENERATION goes from FFFFFFFFh to 0
+  pub generation_wraps : (after (record alone { generation = 4294967295 }) a Clear).generation ≡ 0

@@ -5,6 +5,7 @@ use Rattle.std.specs.List.{fold}
 use Rattle.std.specs.FinMap.{put}
 use Rattle.scsi_cdb.specs.declared.classes.Class.{Class}
 use Rattle.scsi_nexus.specs.declared.nexus.Nexus.{Nexus}
+use Rattle.scsi_nexus.specs.Limits.{list_limit}
 use Rattle.scsi_nexus.specs.Order.{nexus_cmp, same_nexus}
 use Rattle.permit_tables.specs.declared.res_type.ResType.{ResType}
 use Rattle.permit_tables.specs.declared.res_type.ResType.TheVariants as restype
@@ -16,9 +17,9 @@ use Rattle.pr_params.specs.Status.{key_in}
 use Rattle.pr_core.specs.Acts.{Act, Register, Reserve, Release, Clear, Preempt, Move}
 use Rattle.pr_core.specs.Targets.{is_among}
 
--- how many registrations a unit has room for (profile)
+-- how many registrations a unit has room for: as many as a list of nexuses (profile)
 abbrev pub capacity : ℕ
-capacity = 256
+capacity = list_limit
 
 -- the registered nexuses, each with its key, ascending
 abbrev pub Keys : Type 0
@@ -67,6 +68,11 @@ cell v n class = record { class = class; res_type = res_type v; role = role v n 
 -- whether a preemption of key k takes the reservation: one of an all registrants type by 0, another by its holder's key
 abbrev pub takes : State → ℕ → Bool
 takes v k = elim v.reservation [ None ↦ false | Some r ↦ if is_all_registrants r.0 then k == 0 else k == key v r.1 ]
+
+-- whether the act a is a preemption that takes the reservation
+abbrev pub is_taking : State → Act → Bool
+is_taking v (Preempt k code) = takes v k
+is_taking v a = false
 
 -- the key of n after the act a of s
 abbrev pub key_after : State → Nexus → Act → Nexus → ℕ

@@ -6,7 +6,6 @@ ghost use Rattle.pr_core.specs.State.{power_on, key, role as role_in, lasting, t
 
 use crate::act::ReservationAct;
 use crate::state::type_in;
-use crate::targets::is_among;
 use permit_tables::{ResType, Role};
 use pr_params::key_of;
 use scsi_nexus::Nexus;
@@ -14,10 +13,10 @@ use std::alloc::{AllocError, Global};
 use std::cmp::Ordering;
 use std::marker::Model;
 
-/// What a list of accepted acts leaves, found by walking the list once: the plain program beside
-/// `PrState`. Each act is looked up nexus by nexus in the table of what it does to keys, so it costs
-/// memory and time that `PrState` doesn't.
-#[derive(Drop)]
+/// What a list of accepted acts leaves, found by walking the list once: the plain program that the
+/// tests hold `PrState` against, their oracle. Each act is looked up nexus by nexus in the table of
+/// what it does to keys, so it costs memory and time that `PrState` doesn't.
+#[derive(Debug, Drop)]
 pub struct WalkedState {
     keys: Vec<(Nexus, u64)>,
     reservation: Option<(ResType, Nexus)>,
@@ -137,31 +136,16 @@ impl WalkedState {
     fn key_after(&self, sender: Nexus, act: ReservationAct<'_>, nexus: Nexus) -> u64
         ensures { result ≡ key_after self.now sender (act_shown act.entry) nexus }
     {
+        let is_taking = match act {
+            ReservationAct::Preempt(preempted, _) => self.takes(preempted),
+            ReservationAct::Register(_, _)
+            | ReservationAct::Reserve(_)
+            | ReservationAct::Release(_)
+            | ReservationAct::Clear
+            | ReservationAct::Move(_, _, _) => false,
+        };
         let key = self.key_of(nexus);
-        match act {
-            ReservationAct::Register(new, targets) => {
-                if is_among(nexus, targets) { new } else { key }
-            }
-            ReservationAct::Clear => 0,
-            ReservationAct::Preempt(preempted, _) => {
-                let falls = if self.takes(preempted) {
-                    nexus != sender && (self.is_all_held() || key == preempted)
-                } else {
-                    key == preempted
-                };
-                if falls { 0 } else { key }
-            }
-            ReservationAct::Move(new, destination, unregisters) => {
-                if nexus == destination {
-                    new
-                } else if nexus == sender && unregisters {
-                    0
-                } else {
-                    key
-                }
-            }
-            ReservationAct::Reserve(_) | ReservationAct::Release(_) => key,
-        }
+        act.key_after(sender, nexus, key, is_taking, self.is_all_held())
     }
 
     /// What an act makes of the reservation by itself, if it does.
@@ -249,7 +233,11 @@ impl WalkedState {
             Some(reservation) => reservation,
             None => lasting_among(&keys, self.reservation),
         };
-        let generation = generation_after(self.generation, act);
+        let generation = if act.is_counted() {
+            self.generation.wrapping_add(1)
+        } else {
+            self.generation
+        };
         Ok(WalkedState {
             keys,
             reservation,
@@ -313,17 +301,4 @@ fn lasting_among(
         key_of(keys, holder) == 0
     };
     if over { None } else { Some((res_type, holder)) }
-}
-
-/// PRGENERATION after an act.
-fn generation_after(generation: u32, act: ReservationAct<'_>) -> u32
-    ensures { result ≡ (if is_counted (act_shown act.entry) then (generation + 1) % 2 ^ 32 else generation) }
-{
-    match act {
-        ReservationAct::Reserve(_) | ReservationAct::Release(_) => generation,
-        ReservationAct::Register(_, _)
-        | ReservationAct::Clear
-        | ReservationAct::Preempt(_, _)
-        | ReservationAct::Move(_, _, _) => generation.wrapping_add(1),
-    }
 }

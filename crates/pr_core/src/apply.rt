@@ -50,6 +50,7 @@ impl PrState {
         if let Some(fault) = self.refusal(nexus, params, targets) {
             return Err(fault);
         }
+        // For the prover: the keys ascend, and there is room for them.
         let _registrations = self.registrations();
         let Some(act) = self.act_of(nexus, params, targets) else {
             return Ok(Raised {

@@ -68,7 +68,13 @@ impl PrState {
                     None
                 }
             }
-            _ if key == 0 || params.rk != key => Some(KeyRule::K3),
+            OutServiceAction::Reserve
+            | OutServiceAction::Release
+            | OutServiceAction::Clear
+            | OutServiceAction::Preempt
+            | OutServiceAction::PreemptAndAbort
+            | OutServiceAction::RegisterAndMove
+                if key == 0 || params.rk != key => { Some(KeyRule::K3) }
             OutServiceAction::Reserve => {
                 if self.holds(nexus) && params.scope_type != self.res_type().code() {
                     Some(KeyRule::K4)

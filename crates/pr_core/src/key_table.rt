@@ -14,7 +14,7 @@ use std::marker::Model;
 pub const REGISTRATIONS: usize = 256;
 
 /// The registered nexuses with their keys, ascending by nexus, in fixed room.
-#[derive(Drop)]
+#[derive(Debug, Default, Drop)]
 pub(crate) struct KeyTable {
     entries: ArrayVec<(Nexus, u64), REGISTRATIONS>,
 }
@@ -169,6 +169,7 @@ impl KeyTable {
             }
             self.put(*nexus, key);
         }
+        // For the prover: there was room for what stands.
         let _entries = self.entries();
         true
     }

@@ -5,7 +5,7 @@ use unit_attention::Kind;
 
 /// What an act tells the other nexuses, and who of them lost a registration by it. Both ascend by
 /// nexus, and no nexus comes twice in either.
-#[derive(Drop)]
+#[derive(Debug, Default, Drop)]
 pub struct Raised {
     /// The unit attention conditions to be raised.
     pub attentions: ArrayVec<(Nexus, Kind), REGISTRATIONS>,

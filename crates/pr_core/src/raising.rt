@@ -13,37 +13,19 @@ use scsi_nexus::{Nexus, NexusList};
 use unit_attention::Kind;
 
 impl PrState {
+    /// The key of a nexus after an act, 0 for none.
+    fn key_after(&self, sender: Nexus, act: ReservationAct<'_>, nexus: Nexus) -> u64
+        ensures { result ≡ key_after self.now sender (act_shown act.entry) nexus }
+    {
+        let key = self.key_of(nexus);
+        act.key_after(sender, nexus, key, self.is_taking(act), self.is_all_held())
+    }
+
     /// Whether an act leaves a nexus without a key.
     fn loses(&self, sender: Nexus, act: ReservationAct<'_>, nexus: Nexus) -> bool
         ensures { result ≡ (key_after self.now sender (act_shown act.entry) nexus == 0) }
     {
-        let key = self.key_of(nexus);
-        match act {
-            ReservationAct::Register(new, targets) => {
-                if is_among(nexus, targets) {
-                    new == 0
-                } else {
-                    key == 0
-                }
-            }
-            ReservationAct::Reserve(_) | ReservationAct::Release(_) => key == 0,
-            ReservationAct::Clear => true,
-            ReservationAct::Preempt(preempted, _) => {
-                let falls = if self.takes(preempted) {
-                    nexus != sender && (self.is_all_held() || key == preempted)
-                } else {
-                    key == preempted
-                };
-                falls || key == 0
-            }
-            ReservationAct::Move(new, destination, unregisters) => {
-                if nexus == destination {
-                    new == 0
-                } else {
-                    (nexus == sender && unregisters) || key == 0
-                }
-            }
-        }
+        self.key_after(sender, act, nexus) == 0
     }
 
     /// Whether one of these nexuses is the reservation's, where that isn't of an all registrants type.
@@ -147,6 +129,7 @@ impl PrState {
         let mut removed = NexusList::new();
         for nexus in list.items() {
             if self.is_removed(sender, act, *nexus) {
+                // The list has room for as many as there are registrations.
                 let _ = removed.push(*nexus);
             }
         }

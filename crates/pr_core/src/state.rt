@@ -1,7 +1,7 @@
 ghost use Rattle.std.specs.Prelude.{◌≡◌, ◌≤◌, ◌==◌, nat_le, length};
 ghost use Rattle.pr_core.specs.Acts.{act_shown, Register};
 ghost use Rattle.std.specs.List.{list_any};
-ghost use Rattle.pr_core.specs.State.{State, capacity, power_on, key, lasting, takes, is_all_held, is_holder, decided, keys_after, after, registrants, IsKeyed, role as role_in, res_type as type_held, cell as cell_in, type_in as type_in_byte};
+ghost use Rattle.pr_core.specs.State.{State, capacity, power_on, key, lasting, takes, is_taking, is_all_held, is_holder, decided, keys_after, after, registrants, IsKeyed, role as role_in, res_type as type_held, cell as cell_in, type_in as type_in_byte};
 ghost use Rattle.pr_core.specs.Table.{IsProper};
 
 use crate::act::ReservationAct;
@@ -23,7 +23,7 @@ use std::marker::Model;
 /// | PREEMPT that takes | none for the others with that key, or all others under an all registrants type | the sender's, of the command's type |
 /// | PREEMPT that doesn't | none for each with that key | ends with its last holder's key |
 /// | REGISTER AND MOVE | the destination's is the new one, the sender's goes with UNREG | the destination's, of the old type |
-#[derive(Drop)]
+#[derive(Debug, Default, Drop)]
 pub struct PrState {
     keys: KeyTable,
     reservation: Option<(ResType, Nexus)>,
@@ -96,6 +96,7 @@ impl PrState {
     {
         let mut list = NexusList::new();
         for (nexus, _) in self.keys.entries() {
+            // The list has room for as many as there are registrations.
             let _ = list.push(*nexus);
         }
         list
@@ -153,6 +154,20 @@ impl PrState {
                     preempted == self.key_of(holder)
                 }
             }
+        }
+    }
+
+    /// Whether an act is a preemption that takes the reservation.
+    pub(crate) fn is_taking(&self, act: ReservationAct<'_>) -> bool
+        ensures { result ≡ is_taking self.now (act_shown act.entry) }
+    {
+        match act {
+            ReservationAct::Preempt(preempted, _) => self.takes(preempted),
+            ReservationAct::Register(_, _)
+            | ReservationAct::Reserve(_)
+            | ReservationAct::Release(_)
+            | ReservationAct::Clear
+            | ReservationAct::Move(_, _, _) => false,
         }
     }
 
@@ -231,11 +246,12 @@ impl PrState {
     pub(crate) fn has_room_for(&self, sender: Nexus, targets: &[Nexus], key: u64) -> bool
         ensures { result ≡ nat_le (length (keys_after self.now sender (Register key targets.now))) capacity }
     {
+        // For the prover: the keys ascend, and there is room for them.
         let _registrations = self.registrations();
         key == 0 || self.keys.has_room_for(targets, key)
     }
 
-    /// Changes the keys by an act.
+    /// Changes the keys by an act, all at once.
     fn change_keys(&mut self, sender: Nexus, act: ReservationAct<'_>)
         requires keyed { IsKeyed (act_shown act) }
         requires room { length (keys_after self.old sender (act_shown act)) ≤ capacity }
@@ -245,6 +261,7 @@ impl PrState {
             ReservationAct::Register(key, targets) => self.keys.register_all(targets, key),
             ReservationAct::Reserve(_) | ReservationAct::Release(_) => {}
             ReservationAct::Clear => {
+                // For the prover: the new table has a name of its own.
                 let none = KeyTable::new();
                 self.keys = none;
             }
@@ -262,6 +279,7 @@ impl PrState {
                 }
             }
             ReservationAct::Move(key, destination, unregisters) => {
+                // For the prover: each branch ends in its own `put`.
                 if unregisters {
                     self.keys.remove(sender);
                     self.keys.put(destination, key);
@@ -285,8 +303,7 @@ impl PrState {
             None => self.lasting(),
         };
         self.reservation = reservation;
-        let counted = !matches!(act, ReservationAct::Reserve(_) | ReservationAct::Release(_));
-        if counted {
+        if act.is_counted() {
             self.generation = self.generation.wrapping_add(1);
         }
     }

@@ -1,11 +1,12 @@
 -- TransportIDs one behind another.
-use Rattle.std.proofs.Common.{◌≡◌, ℕ, suc, ◌+◌, ◌-◌, ◌/◌, ◌%◌, ◌≤◌, ◌&&◌, ◌||◌, not, Bool, true, false, cond, List, [], ◌∷◌, ◌++◌, append_assoc, length, take, drop, map, length-drop, refl, ap, subst, ◌∙◌, sym, arith, Some, None}
+use Rattle.std.proofs.Common.{◌≡◌, ℕ, suc, ◌+◌, ◌-◌, ◌*◌, ◌/◌, ◌%◌, ◌≤◌, ◌&&◌, ◌||◌, not, Bool, true, false, cond, List, [], ◌∷◌, ◌++◌, append_assoc, length, take, drop, map, length-drop, refl, ap, subst, ◌∙◌, sym, arith, Some, None}
 use Rattle.std.proofs.lemmas.Grind.{common_steps}
 use Rattle.std.specs.List.{list_all}
 use Rattle.scsi_cdb.specs.declared.action.OutServiceAction.{OutServiceAction}
+use Rattle.scsi_nexus.specs.Limits.{list_limit}
 use Rattle.scsi_nexus.specs.TransportId.{IsSas, sas_address}
 use Rattle.pr_params.specs.Lists.{ids, is_sas, may_list, is_listed_length, listed_length, listed_ids, listed_defect}
-use Rattle.pr_params.specs.declared.param_fault.ParamFault.TheVariants.{Field, TransportId}
+use Rattle.pr_params.specs.declared.list_fault.ListDefect.TheVariants.{Field, TransportId}
 use Rattle.pr_params.proofs.ListLaws.{whole_rest}
 
 -- the first TransportID, and those behind it
@@ -56,8 +57,8 @@ pub ids-listed : (bytes : List ℕ) → length bytes ≡ 28 + listed_length byte
 ids-listed bytes whole =
     ap (λ n. ids (n / 24) (listed_bytes bytes)) (length-listed bytes whole) ∙ ap (ids (listed_length bytes / 24)) (whole_rest 28 bytes)
 
--- a length of whole TransportIDs, at most 256 of them
-right : (n : ℕ) → n % 24 ≡ 0 → n ≤ 6144 → is_listed_length n ≡ true
+-- a length of whole TransportIDs, of which there are not too many
+right : (n : ℕ) → n % 24 ≡ 0 → n ≤ 24 * list_limit → is_listed_length n ≡ true
 right n pieces room = grind (arith, common_steps)
 
 -- the last of three tests decides where the first two passed
@@ -69,10 +70,10 @@ by_tests true true true f t n may h = refl
 
 -- where the service action may list and the length is right, the TransportIDs alone decide
 pub defect-listed : (act : OutServiceAction) (bytes : List ℕ) → may_list act ≡ true → length bytes ≡ 28 + listed_length bytes
-    → length (listed_bytes bytes) % 24 ≡ 0 → length (listed_bytes bytes) ≤ 6144
+    → length (listed_bytes bytes) % 24 ≡ 0 → length (listed_bytes bytes) ≤ 24 * list_limit
     → listed_defect act bytes ≡ cond (list_all is_sas (listed_ids bytes)) None (Some TransportId)
 defect-listed act bytes may whole pieces room =
     let n : length (listed_bytes bytes) ≡ listed_length bytes = length-listed bytes whole in
     let pieces' : listed_length bytes % 24 ≡ 0 = subst (λ k. k % 24 ≡ 0) n pieces in
-    let room' : listed_length bytes ≤ 6144 = subst (λ k. k ≤ 6144) n room in
+    let room' : listed_length bytes ≤ 24 * list_limit = subst (λ k. k ≤ 24 * list_limit) n room in
     by_tests (may_list act) (is_listed_length (listed_length bytes)) (list_all is_sas (listed_ids bytes)) (Some Field) (Some TransportId) None may (right _ pieces' room')

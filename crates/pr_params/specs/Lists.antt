@@ -1,14 +1,16 @@
 -- The parameter lists of PERSISTENT RESERVE OUT (SPC-4, "PERSISTENT RESERVE OUT parameter list").
-use Rattle.std.specs.Prelude.{ℕ, zero, suc, ◌+◌, ◌/◌, ◌%◌, ◌^◌, Bool, true, false, ◌==◌, ◌&&◌, ◌||◌, not, nat_le, if◌then◌else◌, List, [], ◌∷◌, length, take, drop, map, slice_index, Option, None, Some, is_none, Result, Ok, Err}
+use Rattle.std.specs.Prelude.{ℕ, zero, suc, ◌+◌, ◌*◌, ◌/◌, ◌%◌, ◌^◌, Bool, true, false, ◌==◌, ◌&&◌, ◌||◌, not, nat_le, if◌then◌else◌, List, [], ◌∷◌, length, take, drop, map, slice_index, Option, None, Some, is_none, Result, Ok, Err}
 use Rattle.std.specs.List.{list_all}
 use Rattle.byteorder.specs.Endian.{big_number}
 use Rattle.scsi_cdb.specs.declared.action.OutServiceAction.{OutServiceAction}
 use Rattle.scsi_cdb.specs.declared.action.OutServiceAction.TheVariants.{Register, RegisterAndIgnoreExistingKey, RegisterAndMove}
 use Rattle.scsi_nexus.specs.declared.nexus.Nexus.{Nexus}
+use Rattle.scsi_nexus.specs.Limits.{list_limit}
 use Rattle.scsi_nexus.specs.TransportId.{sas_format, sas_address}
 use Rattle.pr_params.specs.declared.out_params.OutParams.{OutParams}
-use Rattle.pr_params.specs.declared.param_fault.ParamFault.{ParamFault}
-use Rattle.pr_params.specs.declared.param_fault.ParamFault.TheVariants.{ListLength, Field, TransportId}
+use Rattle.pr_params.specs.declared.list_fault.ListLengthFault.{ListLengthFault}
+use Rattle.pr_params.specs.declared.list_fault.ListDefect.{ListDefect}
+use Rattle.pr_params.specs.declared.list_fault.ListDefect.TheVariants.{Field, TransportId}
 
 -- the number in the n bytes from place i, the highest first
 abbrev pub number_at : ℕ → ℕ → List ℕ → ℕ
@@ -71,19 +73,19 @@ abbrev pub may_list : OutServiceAction → Bool
 may_list RegisterAndIgnoreExistingKey = false
 may_list act = true
 
--- whole TransportIDs, at most 256 of them (profile)
+-- whole TransportIDs, at most as many as a list of nexuses has room for (profile)
 abbrev pub is_listed_length : ℕ → Bool
-is_listed_length n = n % 24 == 0 && nat_le n 6144
+is_listed_length n = n % 24 == 0 && nat_le n (24 * list_limit)
 
 -- the defect of what SPEC_I_PT names: the service action, the length, or a TransportID that isn't a SAS one
-abbrev pub listed_defect : OutServiceAction → List ℕ → Option ParamFault
+abbrev pub listed_defect : OutServiceAction → List ℕ → Option ListDefect
 listed_defect act bytes =
     if not (may_list act) || not (is_listed_length (listed_length bytes)) then Some Field
     else if not (list_all is_sas (listed_ids bytes)) then Some TransportId
     else None
 
 -- the defect of a list of either REGISTER: APTPL (profile), or one of what SPEC_I_PT names
-abbrev pub register_defect : OutServiceAction → List ℕ → Option ParamFault
+abbrev pub register_defect : OutServiceAction → List ℕ → Option ListDefect
 register_defect act bytes =
     if has_aptpl bytes then Some Field else if has_spec_i_pt bytes then listed_defect act bytes else None
 
@@ -127,7 +129,7 @@ abbrev pub moved_to : List ℕ → Option Nexus
 moved_to bytes = if is_sas (drop 24 bytes) then Some (record { sas = sas_address (drop 24 bytes); port = number_at 18 2 bytes }) else None
 
 -- the defect of a REGISTER AND MOVE list with these flags that names this nexus: APTPL, else a bad TransportID
-abbrev pub move_defect : ℕ → Option Nexus → Option ParamFault
+abbrev pub move_defect : ℕ → Option Nexus → Option ListDefect
 move_defect flags dest = if bit flags 0 then Some Field else if is_none dest then Some TransportId else None
 
 -- the command with a REGISTER AND MOVE list
@@ -152,7 +154,10 @@ params_of RegisterAndIgnoreExistingKey scope_type bytes = register_params Regist
 params_of RegisterAndMove scope_type bytes = move_params scope_type bytes
 params_of act scope_type bytes = basic_params act scope_type bytes
 
+abbrev pub length_fault : ListLengthFault
+length_fault = record {}
+
 -- the command with its list, or the fault of its length
-abbrev pub reading : OutServiceAction → (scope_type list_length : ℕ) → List ℕ → Result OutParams ParamFault
+abbrev pub reading : OutServiceAction → (scope_type list_length : ℕ) → List ℕ → Result OutParams ListLengthFault
 reading act scope_type list_length bytes =
-    if is_length_right act list_length bytes then Ok (params_of act scope_type bytes) else Err ListLength
+    if is_length_right act list_length bytes then Ok (params_of act scope_type bytes) else Err length_fault

@@ -5,8 +5,8 @@ use Rattle.scsi_cdb.specs.declared.action.OutServiceAction.TheVariants as out
 use Rattle.scsi_nexus.specs.declared.nexus.Nexus.{Nexus}
 use Rattle.permit_tables.specs.declared.res_type.ResType.TheVariants.{We, Wero, Wear}
 use Rattle.pr_params.specs.declared.out_params.OutParams.{OutParams}
-use Rattle.pr_params.specs.declared.param_fault.ParamFault.TheVariants.{ListLength, Field, TransportId}
-use Rattle.pr_params.specs.Lists.{reading}
+use Rattle.pr_params.specs.declared.list_fault.ListDefect.TheVariants.{Field, TransportId}
+use Rattle.pr_params.specs.Lists.{reading, length_fault}
 use Rattle.pr_params.specs.Status.{keys_data, reservation_data, full_status_data}
 
 abbrev pub a : Nexus
@@ -47,6 +47,12 @@ plain act rk sark scope_type = record {
 abbrev pub cut_id : ℕ → List ℕ
 cut_id first = first ∷ 0 ∷ 0 ∷ 0 ∷ 0x50 ∷ 0 ∷ 0 ∷ 0 ∷ 0 ∷ 0 ∷ 0 ∷ 0x0C ∷ replicate 11 0
 
+-- a full status descriptor of the address 50000000000000XXh: a low key, R_HOLDER, scope and type, a port, XX
+abbrev pub descriptor : (key holder scope_type port last : ℕ) → List ℕ
+descriptor key holder scope_type port last =
+    low_key key ++ 0 ∷ 0 ∷ 0 ∷ 0 ∷ holder ∷ scope_type ∷ 0 ∷ 0 ∷ 0 ∷ 0 ∷ 0 ∷ port ∷ 0 ∷ 0 ∷ 0 ∷ 0x18
+    ∷ 0x06 ∷ 0 ∷ 0 ∷ 0 ∷ 0x50 ∷ 0 ∷ 0 ∷ 0 ∷ 0 ∷ 0 ∷ 0 ∷ last ∷ replicate 12 0
+
 -- a list with SPEC_I_PT, key 7 for the unregistered, a length and what follows
 abbrev pub list_of : (flags listed_length : ℕ) → List ℕ → List ℕ
 list_of flags listed_length behind =
@@ -57,24 +63,24 @@ pub record ParameterListRows : Type 0 where
   pub registers : reading out.Register 0 24 (basic_list (low_key 0) (0x11 ∷ 0x22 ∷ 0x33 ∷ 0x44 ∷ 0x55 ∷ 0x66 ∷ 0x77 ∷ 0x88 ∷ []) 0)
       ≡ Ok (plain out.Register 0 0x1122334455667788 0)
   -- 23 bytes, and a length that isn't the data's
-  pub short : reading out.Register 0 23 (replicate 23 0) ≡ Err ListLength
-  pub other : reading out.Clear 0 25 (replicate 24 0) ≡ Err ListLength
-  pub huge : reading out.Clear 0 0xFFFFFFFF [] ≡ Err ListLength
+  pub short : reading out.Register 0 23 (replicate 23 0) ≡ Err length_fault
+  pub other : reading out.Clear 0 25 (replicate 24 0) ≡ Err length_fault
+  pub huge : reading out.Clear 0 0xFFFFFFFF [] ≡ Err length_fault
   -- a longer list without SPEC_I_PT, and with an act that ignores the bit
-  pub longer : reading out.Register 0 28 (list_of 0 0 []) ≡ Err ListLength
-  pub longer_clear : reading out.Clear 0 28 (list_of 0x08 0 []) ≡ Err ListLength
+  pub longer : reading out.Register 0 28 (list_of 0 0 []) ≡ Err length_fault
+  pub longer_clear : reading out.Clear 0 28 (list_of 0x08 0 []) ≡ Err length_fault
   -- ALL_TG_PT
   pub all_ports : reading out.Register 0 24 (basic_list (low_key 0) (low_key 7) 0x04)
       ≡ Ok (record (plain out.Register 0 7 0) { all_ports = true })
   -- SPEC_I_PT with one TransportID, and the same without its last byte
   pub listed : reading out.Register 0 52 (list_of 0x08 0x18 (cut_id 0x06 ++ 0 ∷ []))
       ≡ Ok (record (plain out.Register 0 7 0) { listed = true; targets = record { items = 0x500000000000000C ∷ [] } })
-  pub listed_cut : reading out.Register 0 51 (list_of 0x08 0x18 (cut_id 0x06)) ≡ Err ListLength
+  pub listed_cut : reading out.Register 0 51 (list_of 0x08 0x18 (cut_id 0x06)) ≡ Err length_fault
   -- SPEC_I_PT where the length field isn't whole
-  pub no_length : reading out.Register 0 24 (basic_list (low_key 0) (low_key 7) 0x08) ≡ Err ListLength
-  pub cut_length : reading out.Register 0 25 (basic_list (low_key 0) (low_key 7) 0x08 ++ replicate 1 0) ≡ Err ListLength
-  pub shorter_length : reading out.Register 0 27 (basic_list (low_key 0) (low_key 7) 0x08 ++ replicate 3 0) ≡ Err ListLength
-  pub huge_length : reading out.Register 0 28 (basic_list (low_key 0) (low_key 7) 0x08 ++ replicate 4 0xFF) ≡ Err ListLength
+  pub no_length : reading out.Register 0 24 (basic_list (low_key 0) (low_key 7) 0x08) ≡ Err length_fault
+  pub cut_length : reading out.Register 0 25 (basic_list (low_key 0) (low_key 7) 0x08 ++ replicate 1 0) ≡ Err length_fault
+  pub shorter_length : reading out.Register 0 27 (basic_list (low_key 0) (low_key 7) 0x08 ++ replicate 3 0) ≡ Err length_fault
+  pub huge_length : reading out.Register 0 28 (basic_list (low_key 0) (low_key 7) 0x08 ++ replicate 4 0xFF) ≡ Err length_fault
   -- SPEC_I_PT that names nobody; whose length is no whole TransportIDs; with a TransportID of another format
   pub nobody : reading out.Register 0 28 (list_of 0x08 0 []) ≡ Ok (record (plain out.Register 0 7 0) { listed = true })
   pub no_whole : reading out.Register 0 29 (list_of 0x08 1 (0 ∷ []))
@@ -98,7 +104,7 @@ pub record ParameterListRows : Type 0 where
   pub moves_other : reading out.RegisterAndMove 0 48 (move_list 2 0x46)
       ≡ Ok (record (plain out.RegisterAndMove 1 9 0) { unreg = true; defect = Some TransportId })
   -- 24 bytes whose TransportID has the length FFFFFFFFh
-  pub moves_huge : reading out.RegisterAndMove 0 24 (replicate 20 0 ++ replicate 4 0xFF) ≡ Err ListLength
+  pub moves_huge : reading out.RegisterAndMove 0 24 (replicate 20 0 ++ replicate 4 0xFF) ≡ Err length_fault
 
 pub record StatusDataRows : Type 0 where
   pub no_keys : keys_data 0 [] ≡ replicate 8 0
@@ -112,3 +118,14 @@ pub record StatusDataRows : Type 0 where
   pub one_holder : full_status_data 4 ((a, 1) ∷ []) (Some (We, a))
       ≡ 0 ∷ 0 ∷ 0 ∷ 4 ∷ 0 ∷ 0 ∷ 0 ∷ 0x30 ∷ 0 ∷ 0 ∷ 0 ∷ 0 ∷ 0 ∷ 0 ∷ 0 ∷ 1 ∷ 0 ∷ 0 ∷ 0 ∷ 0 ∷ 1 ∷ 1 ∷ 0 ∷ 0 ∷ 0 ∷ 0 ∷ 0 ∷ 1 ∷ 0 ∷ 0 ∷ 0 ∷ 0x18
       ∷ 6 ∷ 0 ∷ 0 ∷ 0 ∷ 0x50 ∷ 0 ∷ 0 ∷ 0 ∷ 0 ∷ 0 ∷ 0 ∷ 0x0A ∷ 0 ∷ 0 ∷ 0 ∷ 0 ∷ 0 ∷ 0 ∷ 0 ∷ 0 ∷ 0 ∷ 0 ∷ 0 ∷ 0 ∷ []
+  -- WEAR: each registered nexus holds, whoever made the reservation
+  pub all_hold : full_status_data 5 ((a, 1) ∷ (b, 2) ∷ []) (Some (Wear, a))
+      ≡ 0 ∷ 0 ∷ 0 ∷ 5 ∷ 0 ∷ 0 ∷ 0 ∷ 0x60 ∷ (descriptor 1 1 7 1 0x0A ++ descriptor 2 1 7 1 0x0B)
+  -- WE: its nexus holds alone
+  pub one_of_two_holds : full_status_data 5 ((a, 1) ∷ (b, 2) ∷ []) (Some (We, a))
+      ≡ 0 ∷ 0 ∷ 0 ∷ 5 ∷ 0 ∷ 0 ∷ 0 ∷ 0x60 ∷ (descriptor 1 1 1 1 0x0A ++ descriptor 2 0 0 1 0x0B)
+  -- nothing reserved, and a port other than 1
+  pub at_another_port : full_status_data 1 ((record a { port = 4 }, 9) ∷ []) None ≡ 0 ∷ 0 ∷ 0 ∷ 1 ∷ 0 ∷ 0 ∷ 0 ∷ 0x30 ∷ descriptor 9 0 0 4 0x0A
+  -- a port is no holder beside another of the same address
+  pub holder_at_another_port : full_status_data 2 ((a, 1) ∷ (record a { port = 2 }, 1) ∷ []) (Some (Wero, record a { port = 2 }))
+      ≡ 0 ∷ 0 ∷ 0 ∷ 2 ∷ 0 ∷ 0 ∷ 0 ∷ 0x60 ∷ (descriptor 1 0 0 1 0x0A ++ descriptor 1 1 5 2 0x0A)

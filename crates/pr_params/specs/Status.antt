@@ -14,6 +14,10 @@ use Rattle.permit_tables.specs.Types.{code_of, is_all_registrants}
 abbrev pub Pairs : Type 0
 Pairs = List (Nexus × ℕ)
 
+-- of how many registrations data is written at most (profile)
+abbrev pub pair_limit : ℕ
+pair_limit = 65536
+
 -- the key of a nexus, 0 for none
 abbrev pub key_in : Pairs → Nexus → ℕ
 key_in pairs n = unwrap_or (find nexus_cmp n pairs) 0

@@ -1,11 +1,11 @@
 ghost use Rattle.std.specs.Prelude.{◌≡◌, ◌≤◌, length, IfOk};
-ghost use Rattle.pr_params.specs.Status.{full_status_of, full_status_data, holding_bytes};
+ghost use Rattle.pr_params.specs.Status.{pair_limit, full_status_of, full_status_data, holding_bytes};
 
 use crate::layout::{
     FULL_STATUS_ADDITIONAL_LENGTH, FULL_STATUS_FLAGS, FULL_STATUS_LENGTH, FULL_STATUS_PORT,
     FULL_STATUS_SCOPE_TYPE, FULL_STATUS_TRANSPORT_ID,
 };
-use crate::status_data::{PAIRS, begin};
+use crate::status_data::begin;
 use byteorder::{BigEndian, ByteOrder};
 use permit_tables::ResType;
 use scsi_nexus::{Nexus, TRANSPORT_ID_LENGTH, TransportId};
@@ -20,7 +20,7 @@ pub fn write_full_status(
     pairs: &[(Nexus, u64)],
     reservation: Option<(ResType, Nexus)>,
 ) -> Result<Vec<u8>, AllocError>
-    requires { length pairs.now ≤ PAIRS }
+    requires { length pairs.now ≤ pair_limit }
     ensures { IfOk result (λ bytes. bytes.items ≡ full_status_data generation pairs.now reservation) }
 {
     let mut data = begin(alloc, generation, (FULL_STATUS_LENGTH * pairs.len()) as u32)?;

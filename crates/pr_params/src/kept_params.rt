@@ -1,7 +1,7 @@
 ghost use Rattle.std.specs.Prelude.{◌≡◌, IfOk};
 
+use crate::list_fault::ListDefect;
 use crate::out_params::OutParams;
-use crate::param_fault::ParamFault;
 use scsi_cdb::OutServiceAction;
 use scsi_nexus::Nexus;
 use std::alloc::{AllocError, Global};
@@ -23,7 +23,7 @@ struct Kept {
     act: OutServiceAction,
     scope_type: u8,
     unreg: bool,
-    defect: Option<ParamFault>,
+    defect: Option<ListDefect>,
     all_ports: bool,
     listed: bool,
     targets: Vec<u64>,

@@ -1,5 +1,5 @@
 use crate::layout::TARGETS;
-use crate::param_fault::ParamFault;
+use crate::list_fault::ListDefect;
 use arrayvec::ArrayVec;
 use scsi_cdb::OutServiceAction;
 use scsi_nexus::Nexus;
@@ -20,8 +20,8 @@ pub struct OutParams {
     pub scope_type: u8,
     /// UNREG of REGISTER AND MOVE: the sender is unregistered.
     pub unreg: bool,
-    /// What is wrong with the list though its length is right: `Field` or `TransportId`.
-    pub defect: Option<ParamFault>,
+    /// What is wrong with the list though its length is right.
+    pub defect: Option<ListDefect>,
     /// ALL_TG_PT of either REGISTER: the sender's address, and each listed one, at every target
     /// port.
     pub all_ports: bool,

@@ -6,8 +6,8 @@ use crate::layout::{
     APTPL, BASIC_LENGTH, MOVE_FLAGS, RELATIVE_TARGET_PORT, RESERVATION_KEY,
     SERVICE_ACTION_RESERVATION_KEY, TRANSPORT_ID, TRANSPORT_ID_LENGTH_FIELD, UNREG,
 };
+use crate::list_fault::{ListDefect, ListLengthFault};
 use crate::out_params::OutParams;
-use crate::param_fault::ParamFault;
 use crate::register_list::{has_register_length, read_register};
 use arrayvec::ArrayVec;
 use byteorder::{BigEndian, ByteOrder};
@@ -15,18 +15,18 @@ use scsi_cdb::OutServiceAction;
 use scsi_nexus::{Nexus, TransportId};
 
 /// A PERSISTENT RESERVE OUT command from its service action, its byte of scope and type, its
-/// PARAMETER LIST LENGTH and the data sent with it. `ListLength` is the only error; what else is
-/// wrong stands in `defect` (SPC-4, "PERSISTENT RESERVE OUT parameter list").
+/// PARAMETER LIST LENGTH and the data sent with it, unless its length is wrong; what else is wrong
+/// stands in `defect` (SPC-4, "PERSISTENT RESERVE OUT parameter list").
 pub fn read_out(
     act: OutServiceAction,
     scope_type: u8,
     list_length: u32,
     bytes: &[u8],
-) -> Result<OutParams, ParamFault>
+) -> Result<OutParams, ListLengthFault>
     ensures { result ≡ reading act scope_type list_length bytes.now }
 {
     if bytes.len() != list_length as usize || !has_format_length(act, bytes) {
-        return Err(ParamFault::ListLength);
+        return Err(ListLengthFault);
     }
     match act {
         OutServiceAction::RegisterAndMove => Ok(read_move(scope_type, bytes)),
@@ -121,13 +121,13 @@ fn destination(bytes: &[u8]) -> Option<Nexus>
 }
 
 /// What is wrong with a REGISTER AND MOVE list that has these flags and names this nexus.
-fn defect_of_move(flags: u8, dest: Option<Nexus>) -> Option<ParamFault>
+fn defect_of_move(flags: u8, dest: Option<Nexus>) -> Option<ListDefect>
     ensures { result ≡ move_defect flags dest }
 {
     if is_set(flags, APTPL) {
-        Some(ParamFault::Field)
+        Some(ListDefect::Field)
     } else if dest.is_none() {
-        Some(ParamFault::TransportId)
+        Some(ListDefect::TransportId)
     } else {
         None
     }

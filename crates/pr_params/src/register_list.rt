@@ -1,5 +1,6 @@
-ghost use Rattle.std.specs.Prelude.{◌≡◌, ◌≤◌, ◌+◌, ◌/◌, ◌%◌, map, length, is_some, IfSome, IfOk, MatchResult, IsTrue};
+ghost use Rattle.std.specs.Prelude.{◌≡◌, ◌≤◌, ◌+◌, ◌*◌, ◌/◌, ◌%◌, map, length, is_some, IfSome, IfOk, MatchResult, IsTrue};
 ghost use Rattle.std.specs.List.{list_all};
+ghost use Rattle.scsi_nexus.specs.Limits.{list_limit};
 ghost use Rattle.scsi_nexus.specs.TransportId.{sas_address};
 ghost use Rattle.pr_params.specs.Lists.{is_register_length, listed_length, register_defect, register_targets, register_params, may_list, listed_defect, listed_ids, ids, is_sas};
 
@@ -8,8 +9,8 @@ use crate::layout::{
     ALL_TG_PT, APTPL, BASIC_FLAGS, BASIC_LENGTH, LISTED_IDS, LISTED_LENGTH, LISTED_LENGTH_FIELD,
     RESERVATION_KEY, SERVICE_ACTION_RESERVATION_KEY, SPEC_I_PT, TARGETS,
 };
+use crate::list_fault::ListDefect;
 use crate::out_params::OutParams;
-use crate::param_fault::ParamFault;
 use arrayvec::ArrayVec;
 use byteorder::{BigEndian, ByteOrder};
 use scsi_cdb::OutServiceAction;
@@ -60,14 +61,14 @@ pub(crate) fn read_register(act: OutServiceAction, scope_type: u8, bytes: &[u8])
 fn named_addresses(
     act: OutServiceAction,
     bytes: &[u8],
-) -> Result<ArrayVec<u64, TARGETS>, ParamFault>
+) -> Result<ArrayVec<u64, TARGETS>, ListDefect>
     requires { IsTrue (is_register_length bytes.now) }
     ensures defect { MatchResult result (λ _. register_defect act bytes.now ≡ None) (λ fault. register_defect act bytes.now ≡ Some fault) }
     ensures targets { IfOk result (λ targets. targets.items ≡ register_targets act bytes.now) }
 {
     let flags = bytes[BASIC_FLAGS];
     if is_set(flags, APTPL) {
-        Err(ParamFault::Field)
+        Err(ListDefect::Field)
     } else if is_set(flags, SPEC_I_PT) {
         listed_addresses(act, bytes)
     } else {
@@ -79,18 +80,18 @@ fn named_addresses(
 fn listed_addresses(
     act: OutServiceAction,
     bytes: &[u8],
-) -> Result<ArrayVec<u64, TARGETS>, ParamFault>
+) -> Result<ArrayVec<u64, TARGETS>, ListDefect>
     requires { length bytes.now ≡ 28 + listed_length bytes.now }
     ensures defect { MatchResult result (λ _. listed_defect act bytes.now ≡ None) (λ fault. listed_defect act bytes.now ≡ Some fault) }
     ensures targets { IfOk result (λ targets. targets.items ≡ map sas_address (listed_ids bytes.now)) }
 {
     let ids = &bytes[LISTED_IDS..];
     if !may_list(act) || ids.len() % TRANSPORT_ID_LENGTH != 0 || ids.len() > LISTED_LENGTH {
-        return Err(ParamFault::Field);
+        return Err(ListDefect::Field);
     }
     match addresses(ids) {
         Some(targets) => Ok(targets),
-        None => Err(ParamFault::TransportId),
+        None => Err(ListDefect::TransportId),
     }
 }
 
@@ -113,7 +114,7 @@ fn may_list(act: OutServiceAction) -> bool
 /// The addresses of whole TransportIDs, in their order, if each is a SAS one.
 fn addresses(bytes: &[u8]) -> Option<ArrayVec<u64, TARGETS>>
     requires whole { length bytes.now % 24 ≡ 0 }
-    requires room { length bytes.now ≤ 6144 }
+    requires room { length bytes.now ≤ 24 * list_limit }
     ensures all { is_some result ≡ list_all is_sas (ids (length bytes.now / 24) bytes.now) }
     ensures addresses { IfSome result (λ targets. targets.items ≡ map sas_address (ids (length bytes.now / 24) bytes.now)) }
 {

@@ -1,16 +1,13 @@
 ghost use Rattle.std.specs.Prelude.{◌≡◌, ◌==◌, ◌≤◌, ◌+◌, ◌∷◌, ◌++◌, length, replicate, IfOk};
 ghost use Rattle.byteorder.specs.Endian.{big_bytes};
 ghost use Rattle.permit_tables.specs.Types.{code_of};
-ghost use Rattle.pr_params.specs.Status.{header, key_in, shown_key, keys_data, reservation_data, capabilities_data};
+ghost use Rattle.pr_params.specs.Status.{pair_limit, header, key_in, shown_key, keys_data, reservation_data, capabilities_data};
 
 use crate::layout::{HEADER_LENGTH, KEY_LENGTH, RESERVATION_LENGTH, RESERVATION_SCOPE_TYPE};
 use byteorder::{BigEndian, ByteOrder};
 use permit_tables::ResType;
 use scsi_nexus::Nexus;
 use std::alloc::{AllocError, Global};
-
-/// How many registrations a writer takes at most (profile).
-pub const PAIRS: usize = 65_536;
 
 /// PRGENERATION and ADDITIONAL LENGTH, with room for what follows.
 pub(crate) fn begin(
@@ -32,7 +29,7 @@ pub fn write_keys(
     generation: u32,
     pairs: &[(Nexus, u64)],
 ) -> Result<Vec<u8>, AllocError>
-    requires { length pairs.now ≤ PAIRS }
+    requires { length pairs.now ≤ pair_limit }
     ensures { IfOk result (λ bytes. bytes.items ≡ keys_data generation pairs.now) }
 {
     let mut data = begin(alloc, generation, (KEY_LENGTH * pairs.len()) as u32)?;

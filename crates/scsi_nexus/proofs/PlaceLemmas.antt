@@ -1,17 +1,18 @@
 -- What ascending entries say of a nexus compared with one of them.
-use Rattle.std.proofs.Common.{◌≡◌, ℕ, zero, suc, ◌+◌, ◌<◌, ◌≤◌, inl, inr, Bool, true, false, T, ◌&&◌, cond, List, [], ◌∷◌, length, get_or, Some, None, refl, sym, ap, ◌∙◌, arith}
-use Rattle.std.proofs.Math.Nat.{eq-or-lt_of_le}
+use Rattle.std.proofs.Common.{◌≡◌, ℕ, zero, suc, ◌+◌, ◌<◌, ◌≤◌, Bool, true, false, T, ◌&&◌, cond, List, [], ◌∷◌, length, get_or, Result, Ok, Err, Some, None, refl, sym, ap, ◌∙◌, arith}
 use Rattle.std.proofs.lemmas.List.{get_or_default}
 use Rattle.std.specs.declared.cmp.Ordering.{Ordering}
 use Rattle.std.specs.declared.cmp.Ordering.TheVariants.{Less, Equal, Greater}
-use Rattle.std.specs.Ordering.{is_lt, is_eq, ordering_reverse}
+use Rattle.std.specs.Ordering.{is_lt, is_eq, ordering_reverse, ordering_index}
 use Rattle.std.specs.Prelude.{insert}
+use Rattle.std.specs.List.Sorted.{IsNonDecreasingBy, IsSearchInRange, IsBinarySearchResult}
+use Rattle.std.proofs.lemmas.List.Sorted.{searchable_from_sorted}
 use Rattle.std.proofs.Math.ListN.{set}
 use Rattle.std.specs.FinMap.{is_sorted, find, put}
 use Rattle.std.specs.FinMap.Entries.{below_all, by_order}
 use Rattle.scsi_nexus.specs.declared.nexus.Nexus.{Nexus}
 use Rattle.scsi_nexus.specs.Order.{nexus_cmp}
-use Rattle.scsi_nexus.specs.Place.{IsAbove, IsBelow, IsAt}
+use Rattle.scsi_nexus.specs.Place.{IsAbove, IsBelow, IsAt, IsPlaceOf}
 use Rattle.scsi_nexus.proofs.NexusLaws.{nexus_total}
 
 pub T-left : (a b : Bool) → T (a && b) → T a
@@ -42,25 +43,6 @@ earlier_below (e ∷ x) (suc i) (suc j) d h lt within = earlier_below x i j d (T
 turned : (a b : Nexus) (o : Ordering) → nexus_cmp a b ≡ o → nexus_cmp b a ≡ ordering_reverse o
 turned a b o h = nexus_total.antisymm b a ∙ ap ordering_reverse h
 
--- above the i-th entry, and so above all before it
-pub above_from : {X : Type 0} (n : Nexus) (x : List (Nexus × X)) (i : ℕ) (e : Nexus × X) → T (is_sorted nexus_cmp x) → i < length x → nexus_cmp n (get_or x i e).0 ≡ Greater → IsAbove n x (i + 1)
-above_from {X} n x i e h lt g j d le =
-    let at_i : nexus_cmp n (get_or x i d).0 ≡ Greater = ap (λ (f : Nexus × X). nexus_cmp n f.0) (get_or_default x i d e lt) ∙ g in
-    let upto : j ≤ i = omega arith in
-    elim (eq-or-lt_of_le upto) [
-      | inl same ↦ ap (λ k. nexus_cmp n (get_or x k d).0) same ∙ at_i
-      | inr before ↦ turned (get_or x j d).0 n Less (nexus_total.trans (get_or x j d).0 (get_or x i d).0 n (earlier_below x j i d h before lt) (turned n (get_or x i d).0 Greater at_i))
-    ]
-
--- below the i-th entry, and so below all after it
-pub below_from : {X : Type 0} (n : Nexus) (x : List (Nexus × X)) (i : ℕ) (e : Nexus × X) → T (is_sorted nexus_cmp x) → i < length x → nexus_cmp n (get_or x i e).0 ≡ Less → IsBelow n x i
-below_from {X} n x i e h lt l j d le within =
-    let at_i : nexus_cmp n (get_or x i d).0 ≡ Less = ap (λ (f : Nexus × X). nexus_cmp n f.0) (get_or_default x i d e lt) ∙ l in
-    elim (eq-or-lt_of_le le) [
-      | inl same ↦ ap (λ k. nexus_cmp n (get_or x k d).0) (sym same) ∙ at_i
-      | inr after ↦ nexus_total.trans n (get_or x i d).0 (get_or x j d).0 at_i (earlier_below x i j d h after within)
-    ]
-
 -- that of the i-th entry, whatever is read past the end
 pub at_place : {X : Type 0} (n : Nexus) (x : List (Nexus × X)) (i : ℕ) (e : Nexus × X) → i < length x → nexus_cmp n (get_or x i e).0 ≡ Equal → IsAt n x i
 at_place {X} n x i e lt q d = ap (λ (f : Nexus × X). nexus_cmp n f.0) (get_or_default x i d e lt) ∙ q
@@ -69,6 +51,19 @@ at_place {X} n x i e lt q d = ap (λ (f : Nexus × X). nexus_cmp n f.0) (get_or_
 pub above_before : {X : Type 0} (n : Nexus) (x : List (Nexus × X)) (i : ℕ) → T (is_sorted nexus_cmp x) → i < length x → IsAt n x i → IsAbove n x i
 above_before n x i h lt at j d before =
     nexus_total.congr n (get_or x i d).0 (get_or x j d).0 (at d) ∙ turned (get_or x j d).0 (get_or x i d).0 Less (earlier_below x j i d h before lt)
+
+-- entries that ascend rise when compared with a nexus
+comparisons_rise : {X : Type 0} (n : Nexus) (x : List (Nexus × X)) → T (is_sorted nexus_cmp x) → IsNonDecreasingBy (λ e. ordering_index (nexus_cmp e.0 n)) x
+comparisons_rise n x h = searchable_from_sorted nexus_total (λ e. e.0) x n (λ k d low within. ap is_lt (turned (get_or x k d).0 (get_or x (k + 1) d).0 Less (earlier_below x k (k + 1) d h (omega arith) within)))
+
+-- what a binary search by nexus answers is the place of the nexus
+pub placed : {X : Type 0} (n : Nexus) (x : List (Nexus × X)) (r : Result ℕ ℕ) → T (is_sorted nexus_cmp x) → IsSearchInRange r (length x) → IsBinarySearchResult (λ e. nexus_cmp e.0 n) x r → IsPlaceOf n x r
+placed n x (Ok i) h within at =
+    let here : IsAt n x i = λ d. turned (get_or x i d).0 n Equal (at d) in
+    (within, above_before n x i h within here, here)
+placed n x (Err i) h within parted =
+    let sides = parted (comparisons_rise n x h) in
+    (within, λ j d before. turned (get_or x j d).0 n Less (sides.0 j d (omega arith) before), λ j d after inside. turned (get_or x j d).0 n Greater (sides.1 j d after inside))
 
 rest_above : {X : Type 0} (n : Nexus) (e : Nexus × X) (x : List (Nexus × X)) (i : ℕ) → IsAbove n (e ∷ x) (suc i) → IsAbove n x i
 rest_above n e x i above j d lt = above (suc j) d (omega arith)

@@ -1,3 +1,5 @@
+pub mod Limits
 pub mod Order
 pub mod TransportId
 pub mod Place
+pub mod Rows

@@ -2,19 +2,19 @@
 //! lists of such nexuses, and the TransportIDs that name the addresses in parameter data.
 #![tactic(auto)]
 
-mod id_fault;
+mod laws;
 mod layout;
 mod nexus;
 mod nexus_list;
 mod place;
 mod transport_id;
 
-pub use id_fault::IdFault;
+pub use laws::nexus_rows;
 pub use layout::TRANSPORT_ID_LENGTH;
 pub use nexus::Nexus;
-pub use nexus_list::{LIST_CAPACITY, NexusList};
+pub use nexus_list::{LIST_CAPACITY, ListFull, NexusList};
 pub use place::place_of;
-pub use transport_id::{TransportId, transport_id_reads_back};
+pub use transport_id::{TransportId, TransportIdFault, transport_id_reads_back};
 
 #[cfg(test)]
 mod tests;

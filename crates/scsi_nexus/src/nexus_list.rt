@@ -1,15 +1,21 @@
-ghost use Rattle.std.specs.Prelude.{◌≡◌, ◌≤◌, ◌↔◌, List, [], ◌∷◌, ◌++◌, length, IsErr, IsOkUnless, OnOk, OnErr};
+ghost use Rattle.std.specs.Prelude.{◌≡◌, ◌≤◌, ◌↔◌, List, [], ◌∷◌, ◌++◌, length, IsErr, OnOk, OnErr};
+ghost use Rattle.scsi_nexus.specs.Limits.{list_limit};
 
-use crate::id_fault::IdFault;
 use crate::nexus::Nexus;
 use arrayvec::ArrayVec;
 use std::marker::Model;
+use thiserror::Error;
 
 /// How many nexuses a list has room for (profile).
 pub const LIST_CAPACITY: usize = 256;
 
+/// The list has no room for one more nexus.
+#[derive(Clone, Copy, Debug, Drop, PartialEq, Eq, Error)]
+#[error("no room for one more nexus")]
+pub struct ListFull;
+
 /// A list of nexuses in fixed room, which takes no memory.
-#[derive(Drop)]
+#[derive(Debug, Default, Drop)]
 pub struct NexusList {
     nexuses: ArrayVec<Nexus, LIST_CAPACITY>,
 }
@@ -18,7 +24,7 @@ impl Model for NexusList {
     ghost use Rattle.std.specs.Prelude.{List, ◌≤◌, length};
     ghost use Rattle.std.specs.Coded.{coded_list};
     ghost use Rattle.scsi_nexus.specs.declared.nexus.Nexus.{Nexus};
-    ghost use Rattle.scsi_nexus.specs.declared.nexus_list.TheConstants.{LIST_CAPACITY};
+    ghost use Rattle.scsi_nexus.specs.Limits.{list_limit};
     ghost use Rattle.scsi_nexus.specs.Order.{coded_nexus};
 
     ghost Value = { List Nexus };
@@ -27,7 +33,7 @@ impl Model for NexusList {
 
     ghost view = { λ list. list.nexuses.items };
 
-    ghost invariant = { λ list. length list.nexuses.items ≤ LIST_CAPACITY };
+    ghost invariant = { λ list. length list.nexuses.items ≤ list_limit };
 }
 
 impl NexusList {
@@ -41,14 +47,13 @@ impl NexusList {
     }
 
     /// Adds a nexus at the end. A full list is unchanged.
-    pub fn push(&mut self, nexus: Nexus) -> Result<(), IdFault>
+    pub fn push(&mut self, nexus: Nexus) -> Result<(), ListFull>
         ensures ok { OnOk result (self.new ≡ self.old ++ nexus ∷ []) }
-        ensures full { IsErr result ↔ (length self.old ≡ LIST_CAPACITY) }
-        ensures only { IsOkUnless result IdFault.Full }
+        ensures full { IsErr result ↔ (length self.old ≡ list_limit) }
         ensures err { OnErr result (self.new ≡ self.old) }
     {
         if self.nexuses.is_full() {
-            return Err(IdFault::Full);
+            return Err(ListFull);
         }
         self.nexuses.push(nexus);
         Ok(())
@@ -57,7 +62,7 @@ impl NexusList {
     /// The nexuses, in the order in which they were added.
     pub fn items(&self) -> &[Nexus]
         ensures items { result.now ≡ self.now }
-        ensures room { length self.now ≤ LIST_CAPACITY }
+        ensures room { length self.now ≤ list_limit }
     {
         self.nexuses.as_slice()
     }

@@ -4,7 +4,6 @@ ghost use Rattle.scsi_nexus.specs.Order.{nexus_cmp};
 ghost use Rattle.scsi_nexus.specs.Place.{IsPlaceOf};
 
 use crate::nexus::Nexus;
-use std::cmp::Ordering;
 
 /// Where a nexus stands among entries that ascend by nexus, or where it would stand. The cost grows
 /// with the logarithm of their number.
@@ -12,15 +11,5 @@ pub fn place_of<V>(entries: &[(Nexus, V)], nexus: Nexus) -> Result<usize, usize>
     requires { T (is_sorted nexus_cmp entries.now) }
     ensures { IsPlaceOf nexus entries.now result }
 {
-    let mut low = 0;
-    let mut high = entries.len();
-    while low < high {
-        let middle = low + (high - low) / 2;
-        match nexus.cmp(&entries[middle].0) {
-            Ordering::Less => high = middle,
-            Ordering::Equal => return Ok(middle),
-            Ordering::Greater => low = middle + 1,
-        }
-    }
-    Err(low)
+    entries.binary_search_by_key(&nexus, |entry| entry.0)
 }

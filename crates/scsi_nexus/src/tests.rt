@@ -18,9 +18,13 @@ fn reads_a_written_transport_id(rt: HostRuntime) -> Result<(), Fail> {
 #[test]
 fn refuses_other_lengths_before_other_formats(rt: HostRuntime) {
     let rows = [
-        ("short and not SAS", &[5; 23][..], Err(IdFault::Length)),
-        ("not SAS", &[0x46; 24][..], Err(IdFault::Format)),
-        ("long", &[6; 25][..], Err(IdFault::Length)),
+        (
+            "short and not SAS",
+            &[5; 23][..],
+            Err(TransportIdFault::Length),
+        ),
+        ("not SAS", &[0x46; 24][..], Err(TransportIdFault::Format)),
+        ("long", &[6; 25][..], Err(TransportIdFault::Length)),
         ("reserved bytes", &[6; 24][..], Ok(0x0606_0606_0606_0606)),
     ];
     for (text, bytes, expected) in rows {
@@ -40,7 +44,7 @@ fn keeps_nexuses_in_the_order_of_their_coming(rt: HostRuntime) {
             Ok(())
         );
     }
-    assert_eq!(rt; list.push(Nexus { sas: 2, port: 1 }), Err(IdFault::Full));
+    assert_eq!(rt; list.push(Nexus { sas: 2, port: 1 }), Err(ListFull));
     assert_eq!(rt; list.items().len(), 256);
     assert_eq!(rt; list.items().first(), Some(&Nexus { sas: 1, port: 255 }));
     assert!(rt; Nexus { sas: 1, port: 2 } < Nexus { sas: 2, port: 1 });

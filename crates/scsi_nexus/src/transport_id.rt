@@ -1,27 +1,39 @@
 ghost use Rattle.std.specs.Prelude.{◌≡◌, ◌≢◌, ℕ, ◌^◌, ◌<◌, ◌↔◌, length, OkIff};
 ghost use Rattle.scsi_nexus.specs.TransportId.{transport_id, sas_address, IsSas, IsOtherFormat};
 
-use crate::id_fault::IdFault;
 use crate::layout::{SAS_ADDRESS, SAS_FORMAT, TRANSPORT_ID_LENGTH};
 use byteorder::{BigEndian, ByteOrder};
+use thiserror::Error;
+
+/// Why bytes are no TransportID of a SAS initiator port, in the order of the tests.
+#[derive(Clone, Copy, Debug, Drop, PartialEq, Eq, Error)]
+pub enum TransportIdFault {
+    /// They are not exactly one TransportID of 24 bytes.
+    #[error("not 24 bytes long")]
+    Length,
+    /// The first byte isn't 06h: format code 00b with protocol identifier 6h.
+    #[error("not in the SAS format")]
+    Format,
+}
 
 /// The TransportID of a SAS initiator port (SPC-4, "TransportID for initiator ports using SCSI over
 /// SAS").
+#[derive(Clone, Copy, Debug, Default)]
 pub struct TransportId;
 
 impl TransportId {
     /// The SAS address, from the bytes of exactly one TransportID. Reserved bytes are ignored
     /// (profile).
-    pub fn read(bytes: &[u8]) -> Result<u64, IdFault>
+    pub fn read(bytes: &[u8]) -> Result<u64, TransportIdFault>
         ensures address { OkIff result (IsSas bytes.now) (sas_address bytes.now) }
-        ensures length { (result ≡ Err IdFault.Length) ↔ (length bytes.now ≢ 24) }
-        ensures format { (result ≡ Err IdFault.Format) ↔ IsOtherFormat bytes.now }
+        ensures length { (result ≡ Err TransportIdFault.Length) ↔ (length bytes.now ≢ 24) }
+        ensures format { (result ≡ Err TransportIdFault.Format) ↔ IsOtherFormat bytes.now }
     {
         if bytes.len() != TRANSPORT_ID_LENGTH {
-            return Err(IdFault::Length);
+            return Err(TransportIdFault::Length);
         }
         if bytes[0] != SAS_FORMAT {
-            return Err(IdFault::Format);
+            return Err(TransportIdFault::Format);
         }
         Ok(BigEndian::read_u64(&bytes[SAS_ADDRESS..]))
     }

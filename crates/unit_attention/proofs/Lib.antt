@@ -1,2 +1,3 @@
 pub mod PendingLemmas
 pub mod SlotLemmas
+pub mod SlotOf

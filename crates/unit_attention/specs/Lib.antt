@@ -1,2 +1,3 @@
 pub mod Pending
 pub mod Queues
+pub mod Rows

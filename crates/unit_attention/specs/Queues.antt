@@ -7,6 +7,10 @@ use Rattle.unit_attention.specs.declared.kind.Kind.{Kind}
 use Rattle.unit_attention.specs.declared.kind.Kind.TheVariants.{PowerOn, BusDeviceReset, NexusLoss}
 use Rattle.unit_attention.specs.Pending.{with_kind, without_kind, oldest_reset, oldest_other}
 
+-- how many nexuses a unit has slots for (profile)
+abbrev pub slot_limit : ℕ
+slot_limit = 128
+
 -- a slot for each nexus
 abbrev pub Slots : Type 0
 Slots = List (Nexus × List Kind)

@@ -2,8 +2,10 @@
 #![tactic(auto)]
 
 mod kind;
+mod laws;
 mod pending;
 mod queues;
 
 pub use kind::Kind;
+pub use laws::attention_rows;
 pub use queues::{NoSlot, Queues, SLOTS};

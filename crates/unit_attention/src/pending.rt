@@ -6,7 +6,7 @@ use std::marker::Model;
 const KINDS: usize = 8;
 
 /// The kinds that wait for one nexus, oldest first, each once at most.
-#[derive(Default, Drop)]
+#[derive(Debug, Default, Drop)]
 pub(crate) struct Pending {
     kinds: ArrayVec<Kind, KINDS>,
 }

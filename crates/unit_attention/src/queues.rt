@@ -3,16 +3,18 @@ use crate::pending::Pending;
 use arrayvec::ArrayVec;
 use scsi_nexus::{Nexus, place_of};
 use std::marker::Model;
+use thiserror::Error;
 
 /// How many nexuses a unit has slots for.
 pub const SLOTS: usize = 128;
 
 /// Every slot is used.
-#[derive(Clone, Copy, Debug, PartialEq, Eq)]
+#[derive(Clone, Copy, Debug, Drop, PartialEq, Eq, Error)]
+#[error("no slot is left for another nexus")]
 pub struct NoSlot;
 
 /// What waits for each nexus that had contact with a unit.
-#[derive(Drop)]
+#[derive(Debug, Default, Drop)]
 pub struct Queues {
     slots: ArrayVec<(Nexus, Pending), SLOTS>,
 }
@@ -31,10 +33,10 @@ impl Model for Queues {
 }
 
 impl Queues {
-    ghost use Rattle.std.specs.Prelude.{◌≡◌, ◌==◌, ◌↔◌, false, [], map, length, OnOk, OnErr, IsErr, IfOk, None};
+    ghost use Rattle.std.specs.Prelude.{◌≡◌, ◌≤◌, ◌==◌, ◌↔◌, false, [], map, length, OnOk, OnErr, IsErr, IfOk, None};
     ghost use Rattle.std.specs.Option.{option_copied};
     ghost use Rattle.scsi_nexus.specs.Place.{IsPlaceOf};
-    ghost use Rattle.unit_attention.specs.Queues.{IsSlotAt, slot_of, has_slot, contacted, raised, cleared, lost, was_reset, first_reset_of, first_other_of};
+    ghost use Rattle.unit_attention.specs.Queues.{slot_limit, IsSlotAt, slot_of, has_slot, contacted, raised, cleared, lost, was_reset, first_reset_of, first_other_of};
 
     /// No slot is used.
     pub fn new() -> Queues
@@ -69,16 +71,24 @@ impl Queues {
 
     /// Whether all slots are used.
     pub fn is_full(&self) -> bool
-        ensures { result ≡ (length self.now == SLOTS) }
+        ensures { result ≡ (length self.now == slot_limit) }
     {
         self.slots.is_full()
+    }
+
+    /// How many nexuses have a slot.
+    pub fn used(&self) -> usize
+        ensures used { result ≡ length self.now }
+        ensures bound { result ≤ slot_limit }
+    {
+        self.slots.len()
     }
 
     /// Gives a nexus without a slot one, where 29h/00h waits. Nothing changes where it has one, nor
     /// where all slots are used.
     pub fn contact(&mut self, nexus: Nexus) -> Result<(), NoSlot>
         ensures ok { OnOk result (self.new ≡ contacted self.old nexus) }
-        ensures no_slot { IsErr result ↔ ((has_slot self.old nexus ≡ false) × (length self.old ≡ SLOTS)) }
+        ensures no_slot { IsErr result ↔ ((has_slot self.old nexus ≡ false) × (length self.old ≡ slot_limit)) }
         ensures err { OnErr result (self.new ≡ self.old) }
     {
         match self.place(nexus) {

@@ -3,7 +3,7 @@
 use crate::tests::rows::{A, B, C, command, keys_of, moving, refused, register, reserve, sent};
 use crate::*;
 use permit_tables::ResType;
-use pr_params::{OutParams, ParamFault, read_out, write_keys};
+use pr_params::{ListLengthFault, OutParams, read_out, write_keys};
 use scsi_cdb::OutServiceAction;
 use scsi_nexus::Nexus;
 use std::process::Abort;
@@ -98,7 +98,7 @@ fn listed_from_registered(rt: HostRuntime) {
     assert_eq!(rt; state.generation(), 1);
     assert_eq!(rt;
         read_out(OutServiceAction::Register, 0, 51, &list[..51]).err(),
-        Some(ParamFault::ListLength)
+        Some(ListLengthFault)
     );
 }
 

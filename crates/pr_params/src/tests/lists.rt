@@ -1,5 +1,5 @@
 use super::B;
-use crate::{OutParams, ParamFault, TARGETS, read_out};
+use crate::{ListDefect, ListLengthFault, OutParams, TARGETS, read_out};
 use arrayvec::ArrayVec;
 use scsi_cdb::OutServiceAction;
 use std::alloc::{AllocError, Global};
@@ -43,8 +43,8 @@ fn listing(alloc: Global, count: u16, last: u8) -> Result<Vec<u8>, AllocError> {
 }
 
 /// What a REGISTER list with these bytes asks.
-fn read_register(bytes: &[u8]) -> Result<OutParams, ParamFault> {
-    let length = u32::try_from(bytes.len()).map_err(|_| ParamFault::ListLength)?;
+fn read_register(bytes: &[u8]) -> Result<OutParams, ListLengthFault> {
+    let length = u32::try_from(bytes.len()).map_err(|_| ListLengthFault)?;
     read_out(OutServiceAction::Register, 0, length, bytes)
 }
 
@@ -54,7 +54,7 @@ fn flags_of_a_register_list(rt: HostRuntime) {
     assert_eq!(rt; read_register(&register(0)), Ok(registering(0)));
     assert_eq!(rt; read_register(&register(4)), Ok(registering(4)));
     let persistent = OutParams {
-        defect: Some(ParamFault::Field),
+        defect: Some(ListDefect::Field),
         ..registering(1)
     };
     assert_eq!(rt; read_register(&register(1)), Ok(persistent));
@@ -85,13 +85,13 @@ fn lists_with_a_defect(rt: HostRuntime) -> Result<(), Fail> {
     let mut no_whole = Vec::from_slice(rt.alloc(), &register(8))?;
     no_whole.extend_from_slice(&[0, 0, 0, 1, 6])?;
     let rows = [
-        ("257 addresses", too_many, ParamFault::Field),
+        ("257 addresses", too_many, ListDefect::Field),
         (
             "another format behind a good one",
             second_bad,
-            ParamFault::TransportId,
+            ListDefect::TransportId,
         ),
-        ("a length of 1", no_whole, ParamFault::Field),
+        ("a length of 1", no_whole, ListDefect::Field),
     ];
     for (text, bytes, fault) in rows {
         let expected = OutParams {
@@ -103,7 +103,7 @@ fn lists_with_a_defect(rt: HostRuntime) -> Result<(), Fail> {
     let act = OutServiceAction::RegisterAndIgnoreExistingKey;
     let expected = OutParams {
         act,
-        defect: Some(ParamFault::Field),
+        defect: Some(ListDefect::Field),
         ..registering(8)
     };
     assert_eq!(rt;
@@ -119,16 +119,16 @@ fn lists_of_a_wrong_length(rt: HostRuntime) {
         0, 0, 0, 0, 0, 0, 0, 0, 0, 0, 0, 0, 0, 0, 0, 7, 0, 0, 0, 0, 8, 0, 0, 0, 0, 0, 0, 0x18, 6,
         0, 0, 0, 0x50, 0, 0, 0, 0, 0, 0, 0x0c, 0, 0, 0, 0, 0, 0, 0, 0, 0, 0, 0, 0,
     ];
-    assert_eq!(rt; read_register(&list[..24]), Err(ParamFault::ListLength));
-    assert_eq!(rt; read_register(&list[..25]), Err(ParamFault::ListLength));
-    assert_eq!(rt; read_register(&list[..27]), Err(ParamFault::ListLength));
-    assert_eq!(rt; read_register(&list[..51]), Err(ParamFault::ListLength));
+    assert_eq!(rt; read_register(&list[..24]), Err(ListLengthFault));
+    assert_eq!(rt; read_register(&list[..25]), Err(ListLengthFault));
+    assert_eq!(rt; read_register(&list[..27]), Err(ListLengthFault));
+    assert_eq!(rt; read_register(&list[..51]), Err(ListLengthFault));
     assert!(rt; read_register(&list).is_ok());
     list[24] = 0xff;
     list[25] = 0xff;
     list[26] = 0xff;
     list[27] = 0xff;
-    assert_eq!(rt; read_register(&list), Err(ParamFault::ListLength));
+    assert_eq!(rt; read_register(&list), Err(ListLengthFault));
 }
 
 #[test]
@@ -165,29 +165,29 @@ fn register_and_move_list(rt: HostRuntime) {
         sark: 9,
         act: moving,
         unreg: true,
-        defect: Some(ParamFault::TransportId),
+        defect: Some(ListDefect::TransportId),
         ..registering(0)
     };
     assert_eq!(rt; read_out(moving, 0, 48, &list), Ok(other));
-    let length = Err(ParamFault::ListLength);
+    let length = Err(ListLengthFault);
     assert_eq!(rt; read_out(moving, 0, 47, &list), length);
 }
 
 #[test]
 fn huge_list_length(rt: HostRuntime) {
-    let length = Err(ParamFault::ListLength);
+    let length = Err(ListLengthFault);
     assert_eq!(rt; read_out(OutServiceAction::Clear, 0, u32::MAX, &[]), length);
     let mut list = [0; 24];
     list[20] = 0xff;
     list[21] = 0xff;
     list[22] = 0xff;
     list[23] = 0xff;
-    let length = Err(ParamFault::ListLength);
+    let length = Err(ListLengthFault);
     assert_eq!(rt;
         read_out(OutServiceAction::RegisterAndMove, 0, 24, &list),
         length
     );
-    let length = Err(ParamFault::ListLength);
+    let length = Err(ListLengthFault);
     assert_eq!(rt;
         read_out(OutServiceAction::Register, 0, 23, &list[..23]),
         length

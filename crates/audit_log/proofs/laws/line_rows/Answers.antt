@@ -30,3 +30,15 @@ returns-clause-taken_out c = refl
 pub returns-clause-unknown_opcode : goal.returns-clause-unknown_opcode
 unfolding line_of digits
 returns-clause-unknown_opcode c = refl
+
+pub returns-clause-brought_in : goal.returns-clause-brought_in
+unfolding line_of digits
+returns-clause-brought_in c = refl
+
+pub returns-clause-medium_changed : goal.returns-clause-medium_changed
+unfolding line_of digits
+returns-clause-medium_changed c = refl
+
+pub returns-clause-refused_field : goal.returns-clause-refused_field
+unfolding line_of digits
+returns-clause-refused_field c = refl

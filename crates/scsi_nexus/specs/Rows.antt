@@ -1,0 +1,26 @@
+-- Worked nexuses and TransportIDs.
+use Rattle.std.specs.Prelude.{◌≡◌, ℕ, true, false, [], ◌∷◌, replicate}
+use Rattle.std.specs.declared.cmp.Ordering.TheVariants.{Less, Equal, Greater}
+use Rattle.scsi_nexus.specs.declared.nexus.Nexus.{Nexus}
+use Rattle.scsi_nexus.specs.Order.{nexus_cmp, same_nexus}
+use Rattle.scsi_nexus.specs.TransportId.{transport_id, sas_address}
+use Rattle.scsi_nexus.specs.Limits.{list_limit}
+
+abbrev pub nexus : (sas port : ℕ) → Nexus
+nexus sas port = record { sas = sas; port = port }
+
+pub record NexusRows : Type 0 where
+  -- the address decides before the port, and both tell nexuses apart
+  pub lower_address : nexus_cmp (nexus 0x500000000000000A 4) (nexus 0x500000000000000B 1) ≡ Less
+  pub higher_port : nexus_cmp (nexus 0x500000000000000A 2) (nexus 0x500000000000000A 1) ≡ Greater
+  pub itself : nexus_cmp (nexus 0x500000000000000A 2) (nexus 0x500000000000000A 2) ≡ Equal
+  pub other_port : same_nexus (nexus 0x500000000000000A 1) (nexus 0x500000000000000A 2) ≡ false
+  pub other_address : same_nexus (nexus 0x500000000000000A 1) (nexus 0x500000000000000B 1) ≡ false
+  pub same : same_nexus (nexus 0x500000000000000A 1) (nexus 0x500000000000000A 1) ≡ true
+  pub limit : list_limit ≡ 256
+
+pub record TransportIdRows : Type 0 where
+  pub written : transport_id 0x5000C500112233FF
+      ≡ 0x06 ∷ 0 ∷ 0 ∷ 0 ∷ 0x50 ∷ 0x00 ∷ 0xC5 ∷ 0x00 ∷ 0x11 ∷ 0x22 ∷ 0x33 ∷ 0xFF ∷ 0 ∷ 0 ∷ 0 ∷ 0 ∷ 0 ∷ 0 ∷ 0 ∷ 0 ∷ 0 ∷ 0 ∷ 0 ∷ 0 ∷ []
+  -- whatever the reserved bytes are
+  pub read : sas_address (0x06 ∷ 1 ∷ 2 ∷ 3 ∷ 0x50 ∷ 0x00 ∷ 0xC5 ∷ 0x00 ∷ 0x11 ∷ 0x22 ∷ 0x33 ∷ 0xFF ∷ replicate 12 9) ≡ 0x5000C500112233FF
