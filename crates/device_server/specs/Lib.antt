@@ -3,5 +3,8 @@ pub mod Outcomes
 pub mod Mode
 pub mod Fields
 pub mod Drive
+pub mod Changer
 pub mod View
 pub mod Rows
+pub mod ChangerRows
+pub mod Ends

@@ -2,7 +2,7 @@
 use Rattle.std.specs.Prelude.{◌≡◌, ℕ, pos, negsuc, Bool, true, false, List, [], ◌∷◌, ◌++◌, replicate, Some, None, Ok, Err}
 use Rattle.scsi_cdb.specs.declared.kind.Kind.TheVariants as kind
 use Rattle.scsi_cdb.specs.declared.request.Request.{Request}
-use Rattle.scsi_cdb.specs.declared.request.Request.TheVariants.{TestUnitReady, ReadBlockLimits, Read, Write, WriteFilemarks, Space, ModeSelect, ModeSense, LoadUnload, Locate, ReadPosition, MoveMedium, ReadElementStatus}
+use Rattle.scsi_cdb.specs.declared.request.Request.TheVariants.{TestUnitReady, ReadBlockLimits, Read, Write, WriteFilemarks, Space, ModeSelect, Erase, ModeSense, LoadUnload, Locate, ReadPosition, MoveMedium, ReadElementStatus}
 use Rattle.scsi_sense.specs.declared.condition.Condition.TheVariants.{InvalidFieldInCdb, InvalidFieldInParameterList, ParameterListLengthError, SavingParametersNotSupported}
 use Rattle.scsi_sense.specs.FixedSense.{fixed_sense}
 use Rattle.tape_medium.specs.Object.{Block, Mark}
@@ -14,7 +14,7 @@ use Rattle.device_server.specs.declared.fault.PutFault.TheVariants as put_fault
 use Rattle.device_server.specs.declared.outcome.Outcome.{Outcome}
 use Rattle.device_server.specs.Fields.{field_fault_of}
 use Rattle.device_server.specs.Drive.{empty_drive}
-use Rattle.device_server.specs.View.{DeviceView, Drive, performed, taken, put, reset_of}
+use Rattle.device_server.specs.View.{DeviceView, Drive, kind_of, drives_of, held_in, performed, taken, put, marked, reset_of}
 
 -- what a host gets, and the device that is left
 pub record Answer : Type 0 where
@@ -174,6 +174,8 @@ pub record RefusedFields : Type 0 where
   pub address_type : field_fault_of kind.Drive (Locate true false 0) [] ≡ Some InvalidFieldInCdb
   pub partition : field_fault_of kind.Drive (Locate false true 0) [] ≡ Some InvalidFieldInCdb
   pub inverted : field_fault_of kind.Changer (MoveMedium 0 0 0 true) [] ≡ Some InvalidFieldInCdb
+  pub identifiers : field_fault_of kind.Changer (ReadElementStatus false 4 0 1 false true 255) [] ≡ Some InvalidFieldInCdb
+  pub greatest_type : field_fault_of kind.Changer (ReadElementStatus true 4 0 1 true false 255) [] ≡ None
   pub element_type : field_fault_of kind.Changer (ReadElementStatus false 5 0 1 false false 255) [] ≡ Some InvalidFieldInCdb
 
 -- MODE SELECT's list, in the order of the tests
@@ -224,6 +226,10 @@ pub record RefusedWrites (tag : VolumeTag) : Type 0 where
       ≡ checks (protected tag (block_and_mark 1)) [] (sense 0x70 0x07 0x00 0x00 0x00 0x00 0x27 0x00)
   pub protected_marks : asked (protected tag (block_and_mark 1)) (WriteFilemarks false 1)
       ≡ checks (protected tag (block_and_mark 1)) [] (sense 0x70 0x07 0x00 0x00 0x00 0x00 0x27 0x00)
+  pub protected_erase : asked (protected tag (block_and_mark 1)) Erase
+      ≡ checks (protected tag (block_and_mark 1)) [] (sense 0x70 0x07 0x00 0x00 0x00 0x00 0x27 0x00)
+  pub erase : asked (loaded tag 0 (block_and_mark 1)) Erase
+      ≡ gives (loaded tag 0 (record { objects = Block (replicate 400 7) ∷ []; position = 1; capacity = 1000 })) []
   pub protected_nothing : asked (protected tag (block_and_mark 1)) (WriteFilemarks false 0)
       ≡ gives (protected tag (block_and_mark 1)) []
 
@@ -251,3 +257,9 @@ pub record VolumesOfADrive (tag : VolumeTag) : Type 0 where
   pub taken_out : taken (loaded tag 0 (block_and_mark 2)) 0 ≡ Ok (volume tag (block_and_mark 0), Drive empty_drive)
   pub taken_from_empty : taken (Drive empty_drive) 0 ≡ Err take_fault.Empty
   pub taken_elsewhere : taken (loaded tag 0 (block_and_mark 2)) 1 ≡ Err take_fault.BadPlace
+  pub kind : kind_of (loaded tag 0 (block_and_mark 2)) ≡ kind.Drive
+  pub drives : drives_of (loaded tag 0 (block_and_mark 2)) ≡ 0
+  pub held : held_in (unloaded tag 0 (block_and_mark 0)) 0 ≡ Some tag
+  pub held_in_empty : held_in (Drive empty_drive) 0 ≡ None
+  pub held_elsewhere : held_in (loaded tag 0 (block_and_mark 2)) 1 ≡ None
+  pub not_marked : marked (loaded tag 0 (block_and_mark 2)) 0 (Some tag) ≡ Err record {}

@@ -1,11 +1,9 @@
 -- What contracts see of a device, its step by each command, and the volumes that go in and out.
-use Rattle.std.specs.Prelude.{ℕ, ◌==◌, true, false, List, [], length, Option, None, Some, Result, Ok, Err, if◌then◌else◌}
+use Rattle.std.specs.Prelude.{ℕ, ◌==◌, true, false, List, length, Option, None, Some, Result, Ok, Err, if◌then◌else◌}
 use Rattle.scsi_cdb.specs.declared.kind.Kind.{Kind}
 use Rattle.scsi_cdb.specs.declared.kind.Kind.TheVariants as kind
 use Rattle.scsi_cdb.specs.declared.request.Request.{Request}
-use Rattle.scsi_cdb.specs.declared.request.Request.TheVariants.{TestUnitReady}
 use Rattle.scsi_sense.specs.declared.condition.Condition.{Condition}
-use Rattle.scsi_sense.specs.declared.condition.Condition.TheVariants.{InvalidCommandOperationCode}
 use Rattle.tape_medium.specs.declared.volume.VolumeTag.{VolumeTag}
 use Rattle.tape_medium.specs.declared.volume.Volume.{Volume}
 use Rattle.tape_medium.specs.declared.elements.MapFault.{MapFault}
@@ -17,8 +15,9 @@ use Rattle.device_server.specs.declared.fault.TakeFault.TheVariants as take_faul
 use Rattle.device_server.specs.declared.fault.PutFault.{PutFault}
 use Rattle.device_server.specs.declared.fault.PutFault.TheVariants as put_fault
 use Rattle.device_server.specs.declared.fault.BadPlace.{BadPlace}
-use Rattle.device_server.specs.Outcomes.{done, refused}
+use Rattle.device_server.specs.Outcomes.{refused}
 use Rattle.device_server.specs.Fields.{field_fault_of}
+use Rattle.device_server.specs.Changer.{changer_step}
 use Rattle.device_server.specs.Drive.{DriveView, drive_step, drive_reset, rewound}
 
 -- a drive, or a changer with its elements
@@ -81,14 +80,9 @@ marked (Changer e) place tag = elim (notes e place tag) [ Ok after ↦ Ok (Chang
 abbrev pub field_fault : DeviceView → Request → List ℕ → Option Condition
 field_fault device request bytes = field_fault_of (kind_of device) request bytes
 
--- a changer's (SMC-3, "TEST UNIT READY command"); a command that a unit's device doesn't have isn't its own
-abbrev pub changer_step : Elements → Request → List ℕ → Elements × Outcome
-changer_step e TestUnitReady bytes = (e, done [])
-changer_step e request bytes = (e, refused InvalidCommandOperationCode)
-
 abbrev pub stepped : DeviceView → Request → List ℕ → DeviceView × Outcome
 stepped (Drive d) request bytes = let step = drive_step d request bytes in (Drive step.0, step.1)
-stepped (Changer e) request bytes = let step = changer_step e request bytes in (Changer step.0, step.1)
+stepped (Changer e) request bytes = let step = changer_step e request in (Changer step.0, step.1)
 
 abbrev pub performed : DeviceView → Request → List ℕ → DeviceView × Outcome
 performed device request bytes = elim (field_fault device request bytes) [

@@ -2,6 +2,7 @@ ghost use Rattle.std.specs.Prelude.{◌≡◌};
 ghost use Rattle.device_server.specs.Fields.{field_fault_of, invalid_where, is_space_code, is_page_of, mode_sense_fault, write_fault, mode_select_fault};
 ghost use Rattle.device_server.specs.Mode.{list_fault};
 
+use byteorder::{BigEndian, ByteOrder};
 use scsi_cdb::{Kind, Request};
 use scsi_sense::Condition;
 use tape_medium::BLOCK_LIMIT;
@@ -23,6 +24,11 @@ const LAST_ELEMENT_TYPE: u8 = 4;
 const MODE_HEADER: usize = 4;
 
 const BLOCK_DESCRIPTOR: usize = 8;
+
+/// The places of the BLOCK DESCRIPTOR LENGTH in the header and of the BLOCK LENGTH, of three bytes, in a list with a descriptor.
+const DESCRIPTOR_LENGTH: usize = 3;
+
+const BLOCK_LENGTH: usize = 9;
 
 /// What is refused of a device's command by the fields of its CDB and of the data sent with it alone, the first in order (SPC-4,
 /// SSC-4 and SMC-3, the clauses of the commands).
@@ -71,7 +77,18 @@ pub fn field_fault(kind: Kind, request: &Request, bytes: &[u8]) -> Option<Condit
             device_identifiers,
             ..
         } => invalid_where(*element_type_code > LAST_ELEMENT_TYPE || *device_identifiers),
-        _ => None,
+        Request::TestUnitReady
+        | Request::Rewind
+        | Request::RequestSense { .. }
+        | Request::ReadBlockLimits
+        | Request::InitializeElementStatus
+        | Request::Inquiry { .. }
+        | Request::Erase
+        | Request::PreventAllowMediumRemoval { .. }
+        | Request::ReadPosition
+        | Request::PersistentReserveIn { .. }
+        | Request::PersistentReserveOut { .. }
+        | Request::ReportLuns { .. } => None,
     }
 }
 
@@ -137,16 +154,14 @@ fn list_fault(told: usize, list: &[u8]) -> Option<Condition>
     if list.len() != told || told < MODE_HEADER {
         return Some(Condition::ParameterListLengthError);
     }
-    let descriptor = usize::from(list[3]);
+    let descriptor = usize::from(list[DESCRIPTOR_LENGTH]);
     if descriptor != 0 && descriptor != BLOCK_DESCRIPTOR {
         return Some(Condition::InvalidFieldInParameterList);
     }
     if told != MODE_HEADER + descriptor {
         return Some(Condition::ParameterListLengthError);
     }
-    if descriptor == BLOCK_DESCRIPTOR
-        && u32::from_be_bytes([0, list[9], list[10], list[11]]) > BLOCK_LIMIT
-    {
+    if descriptor == BLOCK_DESCRIPTOR && BigEndian::read_u24(&list[BLOCK_LENGTH..]) > BLOCK_LIMIT {
         return Some(Condition::InvalidFieldInParameterList);
     }
     None

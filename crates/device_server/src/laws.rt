@@ -1,7 +1,9 @@
-//! Worked rows that the definitions compute to. Each function has an empty body: its clause is the row.
+//! Worked rows that the definitions compute to, and laws of every step. Each function has an empty body: its clause is the row or the law.
 
 ghost use Rattle.tape_medium.specs.declared.volume.VolumeTag.{VolumeTag};
 ghost use Rattle.device_server.specs.Rows.{ReadsOfOtherLength, SuppressedLengths, SpacesBothWays, PositionsRead, ModesOfADrive, RefusedFields, RefusedLists, FixedTransfers, RefusedWrites, VolumesOfADrive};
+ghost use Rattle.device_server.specs.ChangerRows.{StatusOfAChanger, ModesOfAChanger, MovesOfAChanger, MovesOfADrive, PlacesOfAChanger};
+ghost use Rattle.device_server.specs.Ends.{EndsItsOwnWay, StaysTheSameDevice, StaysTheSameByReset};
 
 /// Reads of one block that ask for more or fewer bytes than it has, and reads at a filemark and at the end of data.
 pub fn reads_of_other_length()
@@ -39,4 +41,37 @@ pub fn refused_fields()
 /// Volumes that go in and out, and are loaded and unloaded.
 pub fn volumes()
     ensures { (tag : VolumeTag) → VolumesOfADrive tag }
+{}
+
+/// READ ELEMENT STATUS, and the commands that a changer is always ready for.
+pub fn status_of_a_changer()
+    ensures { (a : VolumeTag) → StatusOfAChanger a }
+{}
+
+/// MODE SENSE of a changer.
+pub fn modes_of_a_changer()
+    ensures { (a : VolumeTag) → ModesOfAChanger a }
+{}
+
+/// MOVE MEDIUM between storage and import/export elements, and of a drive.
+pub fn moves_of_a_changer()
+    ensures elements { (a b : VolumeTag) → MovesOfAChanger a b }
+    ensures drives { (a b : VolumeTag) → MovesOfADrive a b }
+{}
+
+/// The places of a changer.
+pub fn places_of_a_changer()
+    ensures { (a b : VolumeTag) → PlacesOfAChanger a b }
+{}
+
+/// Law: a device ends each command GOOD without sense data or by CHECK CONDITION with it, and only a MODE SELECT that is GOOD
+/// changes the mode parameters.
+pub fn ends_its_own_way()
+    ensures { EndsItsOwnWay }
+{}
+
+/// Law: a device stays of its kind, with as many data transfer elements, whatever it carries out and through a reset.
+pub fn stays_the_same_device()
+    ensures performed { StaysTheSameDevice }
+    ensures reset { StaysTheSameByReset }
 {}

@@ -2,7 +2,7 @@ use std::alloc::{AllocError, Global};
 use std::marker::Model;
 
 /// The data of an answer. Contracts see its bytes.
-#[derive(Drop)]
+#[derive(Debug, Drop)]
 pub struct Payload {
     bytes: Vec<u8>,
 }

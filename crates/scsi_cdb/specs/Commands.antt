@@ -11,7 +11,7 @@ use Rattle.scsi_cdb.specs.declared.fault.CdbFault.TheVariants.{Opcode, ShortCdb,
 use Rattle.scsi_cdb.specs.declared.kind.Kind.{Kind}
 use Rattle.scsi_cdb.specs.declared.kind.Kind.TheVariants.{Drive, Changer}
 use Rattle.scsi_cdb.specs.declared.request.Request.{Request}
-use Rattle.scsi_cdb.specs.declared.request.Request.TheVariants.{TestUnitReady, Rewind, RequestSense, ReadBlockLimits, Read, Write, WriteFilemarks, Space, Inquiry, ModeSelect, Erase, ModeSense, LoadUnload, PreventAllowMediumRemoval, Locate, ReadPosition, PersistentReserveIn, PersistentReserveOut, ReportLuns}
+use Rattle.scsi_cdb.specs.declared.request.Request.TheVariants.{TestUnitReady, Rewind, RequestSense, ReadBlockLimits, InitializeElementStatus, Read, Write, WriteFilemarks, Space, Inquiry, ModeSelect, Erase, ModeSense, LoadUnload, PreventAllowMediumRemoval, Locate, ReadPosition, PersistentReserveIn, PersistentReserveOut, ReportLuns, MoveMedium, ReadElementStatus}
 
 -- which kinds of unit have a command: both, the drives, the changer
 pub data Units : Type 0 where
@@ -76,6 +76,7 @@ table =
     ∷ row 0x01 6 Drives (λ c. Some Rewind)
     ∷ row 0x03 6 Both (λ c. Some (RequestSense (bit c 1 0) (byte c 4)))
     ∷ row 0x05 6 Drives (λ c. Some ReadBlockLimits)
+    ∷ row 0x07 6 Changers (λ c. Some InitializeElementStatus)
     ∷ row 0x08 6 Drives (λ c. Some (Read (bit c 1 1) (bit c 1 0) (three_bytes c 2)))
     ∷ row 0x0A 6 Drives (λ c. Some (Write (bit c 1 0) (three_bytes c 2)))
     ∷ row 0x10 6 Drives (λ c. Some (WriteFilemarks (bit c 1 1) (three_bytes c 2)))
@@ -83,7 +84,7 @@ table =
     ∷ row 0x12 6 Both (λ c. Some (Inquiry (bit c 1 0) (byte c 2) (two_bytes c 3)))
     ∷ row 0x15 6 Drives (λ c. Some (ModeSelect (bit c 1 0) (byte c 4)))
     ∷ row 0x19 6 Drives (λ c. Some Erase)
-    ∷ row 0x1A 6 Drives (λ c. Some (ModeSense (bit c 1 3) (bits c 2 7 6) (bits c 2 5 0) (byte c 3) (byte c 4)))
+    ∷ row 0x1A 6 Both (λ c. Some (ModeSense (bit c 1 3) (bits c 2 7 6) (bits c 2 5 0) (byte c 3) (byte c 4)))
     ∷ row 0x1B 6 Drives (λ c. Some (LoadUnload (bit c 4 3) (bit c 4 2) (bit c 4 0)))
     ∷ row 0x1E 6 Both (λ c. Some (PreventAllowMediumRemoval (bits c 4 1 0)))
     ∷ row 0x2B 10 Drives (λ c. Some (Locate (bit c 1 2) (bit c 1 1) (four_bytes c 3)))
@@ -91,6 +92,9 @@ table =
     ∷ row 0x5E 10 Both (λ c. reserve_in (in_service_action (bits c 1 4 0)) (two_bytes c 7))
     ∷ row 0x5F 10 Both (λ c. reserve_out (out_service_action (bits c 1 4 0)) (byte c 2) (four_bytes c 5))
     ∷ row 0xA0 12 Both (λ c. Some (ReportLuns (byte c 2) (four_bytes c 6)))
+    ∷ row 0xA5 12 Changers (λ c. Some (MoveMedium (two_bytes c 2) (two_bytes c 4) (two_bytes c 6) (bit c 10 0)))
+    ∷ row 0xB8 12 Changers (λ c. Some (ReadElementStatus
+    (bit c 1 4) (bits c 1 3 0) (two_bytes c 2) (two_bytes c 4) (bit c 6 1) (bit c 6 0) (three_bytes c 7)))
     ∷ []
 
 -- the command of an operation code, and that command where units of the kind have it
@@ -107,6 +111,10 @@ row_of kind opcode = where_had kind (command_of opcode)
 abbrev pub fields_in : Option Row → List ℕ → Option Request
 fields_in None cdb = None
 fields_in (Some r) cdb = r.fields cdb
+
+abbrev pub length_in : Option Row → ℕ
+length_in None = 0
+length_in (Some r) = r.length
 
 -- NACA is bit 2 of the CONTROL byte, the last of the command's length
 abbrev pub naca : Row → List ℕ → Bool

@@ -1,6 +1,6 @@
 -- The bytes of a request: what is no field of it is zero.
 use Rattle.std.specs.Prelude.{◌≡◌, ℕ, ◌+◌, ◌-◌, ◌*◌, ◌/◌, ◌%◌, ◌^◌, ◌<◌, Bool, ℤ, pos, negsuc, ◌<ℤ◌, ◌≤ℤ◌, neg_ℤ, List, [], ◌∷◌, ◌++◌, length, replicate, slice_index, IsSome, Ok, if◌then◌else◌}
-use Rattle.scsi_cdb.specs.Commands.{row_of, reading}
+use Rattle.scsi_cdb.specs.Commands.{command_of, row_of, length_in, reading}
 use Rattle.scsi_cdb.specs.declared.action.InServiceAction.{InServiceAction}
 use Rattle.scsi_cdb.specs.declared.action.InServiceAction.TheVariants as in_act
 use Rattle.scsi_cdb.specs.declared.action.OutServiceAction.{OutServiceAction}
@@ -78,6 +78,10 @@ spelling (MoveMedium transport source destination invert) =
     padded (0xA5 ∷ 0 ∷ (two transport ++ two source ++ two destination ++ 0 ∷ 0 ∷ at 0 invert ∷ []))
 spelling (ReadElementStatus voltag type_code start count curdata dvcid n) =
     padded (0xB8 ∷ (at 4 voltag + from 3 0 type_code) ∷ (two start ++ two count ++ (at 1 curdata + at 0 dvcid) ∷ three n))
+
+-- how many bytes the CDB of a request has: the length of its command
+abbrev pub length_of : Request → ℕ
+length_of r = length_in (command_of (slice_index (spelling r) 0))
 
 -- the fields fit their bits
 abbrev pub Fits : Request → Type 0

@@ -1,8 +1,9 @@
-ghost use Rattle.std.specs.Prelude.{◌≡◌, ◌<◌, IfSome, IfOk};
+ghost use Rattle.std.specs.Prelude.{◌≡◌, ◌<◌, ◌≤◌, length, IfSome, IfOk};
 ghost use Rattle.std.specs.Option.{option_map};
 ghost use Rattle.scsi_cdb.specs.Commands.{Row, command_of, row_of, fields_in, reading};
 ghost use Rattle.scsi_cdb.specs.Spelling.{Fits};
 
+use crate::changer::{move_medium_at, read_element_status_at};
 use crate::fault::CdbFault;
 use crate::fields::bit_at;
 use crate::kind::Kind;
@@ -42,9 +43,10 @@ fn length_of(kind: Kind, opcode: u8) -> Option<usize>
     ensures some { IfSome result (λ n. 0 < n) }
 {
     match (kind, opcode) {
-        (_, TEST_UNIT_READY | REQUEST_SENSE | INQUIRY | PREVENT_ALLOW_MEDIUM_REMOVAL) => {
-            Some(SIX_BYTES)
-        }
+        (
+            _,
+            TEST_UNIT_READY | REQUEST_SENSE | INQUIRY | MODE_SENSE_6 | PREVENT_ALLOW_MEDIUM_REMOVAL,
+        ) => Some(SIX_BYTES),
         (_, PERSISTENT_RESERVE_IN | PERSISTENT_RESERVE_OUT) => Some(TEN_BYTES),
         (_, REPORT_LUNS) => Some(TWELVE_BYTES),
         (
@@ -57,10 +59,11 @@ fn length_of(kind: Kind, opcode: u8) -> Option<usize>
             | SPACE_6
             | MODE_SELECT_6
             | ERASE_6
-            | MODE_SENSE_6
             | LOAD_UNLOAD,
         ) => Some(SIX_BYTES),
         (Kind::Drive, LOCATE_10 | READ_POSITION) => Some(TEN_BYTES),
+        (Kind::Changer, INITIALIZE_ELEMENT_STATUS) => Some(SIX_BYTES),
+        (Kind::Changer, MOVE_MEDIUM | READ_ELEMENT_STATUS) => Some(TWELVE_BYTES),
         _ => None,
     }
 }
@@ -68,6 +71,7 @@ fn length_of(kind: Kind, opcode: u8) -> Option<usize>
 /// What a CDB of the command says, where its service action is one of the command's own.
 #[tactic(auto, unfolding(crate::specs::Commands::command_of))]
 fn fields_of(opcode: u8, cdb: &[u8]) -> Option<Request>
+    requires { IfSome (command_of opcode) (λ (r : Row). r.length ≤ length cdb.now) }
     ensures value { result ≡ fields_in (command_of opcode) cdb.now }
     ensures fits { IfSome result Fits }
 {
@@ -76,6 +80,7 @@ fn fields_of(opcode: u8, cdb: &[u8]) -> Option<Request>
         REWIND => Some(Request::Rewind),
         REQUEST_SENSE => Some(request_sense_at(cdb)),
         READ_BLOCK_LIMITS => Some(Request::ReadBlockLimits),
+        INITIALIZE_ELEMENT_STATUS => Some(Request::InitializeElementStatus),
         READ_6 => Some(read_at(cdb)),
         WRITE_6 => Some(write_at(cdb)),
         WRITE_FILEMARKS_6 => Some(write_filemarks_at(cdb)),
@@ -91,6 +96,8 @@ fn fields_of(opcode: u8, cdb: &[u8]) -> Option<Request>
         PERSISTENT_RESERVE_IN => reserve_in_at(cdb),
         PERSISTENT_RESERVE_OUT => reserve_out_at(cdb),
         REPORT_LUNS => Some(report_luns_at(cdb)),
+        MOVE_MEDIUM => Some(move_medium_at(cdb)),
+        READ_ELEMENT_STATUS => Some(read_element_status_at(cdb)),
         _ => None,
     }
 }

@@ -1,11 +1,12 @@
-//! Fields of a CDB by their places: read, where a byte past the end reads as 0, and written.
-ghost use Rattle.std.specs.Prelude.{◌≡◌, ◌<◌, ◌≤◌, ◌^◌, length, pos, neg_ℤ, ◌≤ℤ◌, ◌<ℤ◌};
+//! Fields of a CDB by their places, read and written. A single byte past the end reads as 0.
+ghost use Rattle.std.specs.Prelude.{◌≡◌, ◌<◌, ◌≤◌, ◌+◌, ◌^◌, length, pos, neg_ℤ, ◌≤ℤ◌, ◌<ℤ◌};
 ghost use Rattle.scsi_cdb.specs.Bits.{bit, bits, byte, two_bytes, three_bytes, four_bytes, signed_three_bytes};
 ghost use Rattle.scsi_cdb.specs.Spelling.{at, padded};
 
 use crate::layout::{
     CDB_LENGTH, FIRST_NEGATIVE_OF_24_BITS, NUMBERS_OF_24_BITS, SERVICE_ACTION, SERVICE_ACTION_BITS,
 };
+use byteorder::{BigEndian, ByteOrder};
 
 pub fn byte_at(cdb: &[u8], place: usize) -> u8
     ensures { result ≡ byte cdb.now place }
@@ -24,28 +25,23 @@ pub fn bit_at(cdb: &[u8], place: usize, number: u8) -> bool
 }
 
 pub fn u16_at(cdb: &[u8], place: usize) -> u16
-    requires { place < 16 }
+    requires { place + 2 ≤ length cdb.now }
     ensures { result ≡ two_bytes cdb.now place }
 {
-    u16::from_be_bytes([byte_at(cdb, place), byte_at(cdb, place + 1)])
+    BigEndian::read_u16(&cdb[place..])
 }
 
 pub fn u24_at(cdb: &[u8], place: usize) -> u32
-    requires { place < 16 }
+    requires { place + 3 ≤ length cdb.now }
     ensures value { result ≡ three_bytes cdb.now place }
     ensures fits { result < 2 ^ 24 }
 {
-    u32::from_be_bytes([
-        0,
-        byte_at(cdb, place),
-        byte_at(cdb, place + 1),
-        byte_at(cdb, place + 2),
-    ])
+    BigEndian::read_u24(&cdb[place..])
 }
 
 /// A count of three bytes with its sign, as two's complement.
 pub fn count_at(cdb: &[u8], place: usize) -> i32
-    requires { place < 16 }
+    requires { place + 3 ≤ length cdb.now }
     ensures value { result ≡ signed_three_bytes cdb.now place }
     ensures low { neg_ℤ (pos (2 ^ 23)) ≤ℤ result }
     ensures high { result <ℤ pos (2 ^ 23) }
@@ -59,15 +55,10 @@ pub fn count_at(cdb: &[u8], place: usize) -> i32
 }
 
 pub fn u32_at(cdb: &[u8], place: usize) -> u32
-    requires { place < 16 }
+    requires { place + 4 ≤ length cdb.now }
     ensures { result ≡ four_bytes cdb.now place }
 {
-    u32::from_be_bytes([
-        byte_at(cdb, place),
-        byte_at(cdb, place + 1),
-        byte_at(cdb, place + 2),
-        byte_at(cdb, place + 3),
-    ])
+    BigEndian::read_u32(&cdb[place..])
 }
 
 pub fn service_action_at(cdb: &[u8]) -> u8

@@ -1,11 +1,11 @@
 ghost use Rattle.std.specs.Prelude.{◌≡◌, Ok, Err, [], ◌∷◌, pos, negsuc, true, false};
 ghost use Rattle.scsi_cdb.specs.Commands.{reading};
-ghost use Rattle.scsi_cdb.specs.Spelling.{ReadsBack, spelling, padded};
+ghost use Rattle.scsi_cdb.specs.Spelling.{ReadsBack, spelling, padded, length_of};
 ghost use Rattle.scsi_cdb.specs.declared.action.InServiceAction.TheVariants.{ReadKeys, ReadFullStatus};
 ghost use Rattle.scsi_cdb.specs.declared.action.OutServiceAction.TheVariants.{RegisterAndMove};
 ghost use Rattle.scsi_cdb.specs.declared.fault.CdbFault.TheVariants.{Opcode, ShortCdb, ServiceAction, Naca};
 ghost use Rattle.scsi_cdb.specs.declared.kind.Kind.TheVariants.{Drive, Changer};
-ghost use Rattle.scsi_cdb.specs.declared.request.Request.TheVariants.{TestUnitReady, Rewind, RequestSense, ReadBlockLimits, Read, Write, WriteFilemarks, Space, Inquiry, ModeSelect, Erase, ModeSense, LoadUnload, PreventAllowMediumRemoval, Locate, ReadPosition, PersistentReserveIn, PersistentReserveOut, ReportLuns, MoveMedium, ReadElementStatus};
+ghost use Rattle.scsi_cdb.specs.declared.request.Request.TheVariants.{TestUnitReady, Rewind, RequestSense, ReadBlockLimits, InitializeElementStatus, Read, Write, WriteFilemarks, Space, Inquiry, ModeSelect, Erase, ModeSense, LoadUnload, PreventAllowMediumRemoval, Locate, ReadPosition, PersistentReserveIn, PersistentReserveOut, ReportLuns, MoveMedium, ReadElementStatus};
 
 /// Law: a unit that has the command decodes what was encoded, where the fields fit their bits.
 #[tactic(auto, unfolding(crate::specs::Commands::command_of))]
@@ -83,4 +83,44 @@ pub fn worked_rows_of_drives()
     ensures rewind_of_one_byte { reading Drive (1 ∷ []) ≡ Err ShortCdb }
     ensures rewind_of_a_changer { reading Changer (1 ∷ []) ≡ Err Opcode }
     ensures move_medium_of_a_drive { reading Drive (0xA5 ∷ 0 ∷ 0 ∷ 0 ∷ 4 ∷ 0 ∷ 1 ∷ 0 ∷ 0 ∷ 0 ∷ 0 ∷ 0 ∷ []) ≡ Err Opcode }
+{}
+
+/// Worked rows of the commands that changers alone have, and of MODE SENSE there.
+#[tactic(auto, unfolding(crate::specs::Commands::command_of))]
+pub fn worked_rows_of_changers()
+    ensures initialize { reading Changer (7 ∷ 0 ∷ 0 ∷ 0 ∷ 0 ∷ 0 ∷ []) ≡ Ok InitializeElementStatus }
+    ensures mode_sense { reading Changer (0x1A ∷ 0 ∷ 0x5D ∷ 3 ∷ 0x18 ∷ 0 ∷ []) ≡ Ok (ModeSense false 1 0x1D 3 24) }
+    ensures move_medium { reading Changer (0xA5 ∷ 0 ∷ 1 ∷ 2 ∷ 4 ∷ 3 ∷ 1 ∷ 5 ∷ 0 ∷ 0 ∷ 0xFE ∷ 0 ∷ [])
+        ≡ Ok (MoveMedium 0x0102 0x0403 0x0105 false) }
+    ensures inverted { reading Changer (0xA5 ∷ 0 ∷ 0 ∷ 0 ∷ 4 ∷ 0 ∷ 1 ∷ 0 ∷ 0 ∷ 0 ∷ 1 ∷ 0 ∷ [])
+        ≡ Ok (MoveMedium 0 0x400 0x100 true) }
+    ensures all_elements { reading Changer (0xB8 ∷ 0 ∷ 0 ∷ 0 ∷ 0xFF ∷ 0xFF ∷ 0 ∷ 0 ∷ 0x10 ∷ 0 ∷ 0 ∷ 0 ∷ [])
+        ≡ Ok (ReadElementStatus false 0 0 0xFFFF false false 0x1000) }
+    ensures tags_of_two_slots { reading Changer (0xB8 ∷ 0xF2 ∷ 4 ∷ 1 ∷ 0 ∷ 2 ∷ 2 ∷ 1 ∷ 2 ∷ 3 ∷ 0 ∷ 0 ∷ [])
+        ≡ Ok (ReadElementStatus true 2 0x401 2 true false 0x010203) }
+    ensures identifiers_of_drives { reading Changer (0xB8 ∷ 0x04 ∷ 1 ∷ 0 ∷ 0 ∷ 1 ∷ 1 ∷ 0 ∷ 0 ∷ 0xFF ∷ 0 ∷ 0 ∷ [])
+        ≡ Ok (ReadElementStatus false 4 0x100 1 false true 255) }
+    ensures naca { reading Changer (0xA5 ∷ 0 ∷ 0 ∷ 0 ∷ 4 ∷ 0 ∷ 1 ∷ 0 ∷ 0 ∷ 0 ∷ 0 ∷ 4 ∷ []) ≡ Err Naca }
+    ensures short_move { reading Changer (0xA5 ∷ 0 ∷ 0 ∷ 0 ∷ 4 ∷ 0 ∷ 1 ∷ 0 ∷ 0 ∷ 0 ∷ 0 ∷ []) ≡ Err ShortCdb }
+    ensures short_status { reading Changer (0xB8 ∷ 0 ∷ 0 ∷ 0 ∷ 4 ∷ 0 ∷ 1 ∷ 0 ∷ 0 ∷ 0 ∷ 0 ∷ []) ≡ Err ShortCdb }
+    ensures short_initialize { reading Changer (7 ∷ 0 ∷ 0 ∷ 0 ∷ 0 ∷ []) ≡ Err ShortCdb }
+    ensures initialize_of_a_drive { reading Drive (7 ∷ 0 ∷ 0 ∷ 0 ∷ 0 ∷ 0 ∷ []) ≡ Err Opcode }
+    ensures status_of_a_drive { reading Drive (0xB8 ∷ []) ≡ Err Opcode }
+    ensures mode_select_of_a_changer { reading Changer (0x15 ∷ 0 ∷ 0 ∷ 0 ∷ 0 ∷ 0 ∷ []) ≡ Err Opcode }
+{}
+
+/// Worked rows of the lengths of CDBs.
+#[tactic(auto, unfolding(crate::specs::Commands::command_of))]
+pub fn worked_lengths()
+    ensures test_unit_ready { length_of TestUnitReady ≡ 6 }
+    ensures erase { length_of Erase ≡ 6 }
+    ensures mode_sense { length_of (ModeSense false 0 0x3F 0 255) ≡ 6 }
+    ensures prevent { length_of (PreventAllowMediumRemoval 1) ≡ 6 }
+    ensures locate { length_of (Locate false false 5) ≡ 10 }
+    ensures read_position { length_of ReadPosition ≡ 10 }
+    ensures read_keys { length_of (PersistentReserveIn ReadKeys 255) ≡ 10 }
+    ensures register_and_move { length_of (PersistentReserveOut RegisterAndMove 0 48) ≡ 10 }
+    ensures report_luns { length_of (ReportLuns 0 256) ≡ 12 }
+    ensures move_medium { length_of (MoveMedium 0 0x400 0x100 false) ≡ 12 }
+    ensures element_status { length_of (ReadElementStatus false 0 0 0xFFFF false false 255) ≡ 12 }
 {}

@@ -186,13 +186,29 @@ pub const RESERVE_OUT_SCOPE_TYPE: usize = 2;
 
 pub const RESERVE_OUT_PARAMETER_LIST_LENGTH: usize = 5;
 
-// MOVE MEDIUM, byte 10.
+// MOVE MEDIUM: places, and byte 10.
+pub const MEDIUM_TRANSPORT_ELEMENT_ADDRESS: usize = 2;
+
+pub const SOURCE_ELEMENT_ADDRESS: usize = 4;
+
+pub const DESTINATION_ELEMENT_ADDRESS: usize = 6;
+
+pub const MOVE_MEDIUM_FLAGS: usize = 10;
+
 pub const INVERT_BIT: u8 = 0;
 
-// READ ELEMENT STATUS, byte 1, then byte 6.
+// READ ELEMENT STATUS, byte 1, then places, and byte 6.
 pub const VOLTAG_BIT: u8 = 4;
 
 pub const ELEMENT_TYPE_BITS: u8 = 0x0F;
+
+pub const STARTING_ELEMENT_ADDRESS: usize = 2;
+
+pub const NUMBER_OF_ELEMENTS: usize = 4;
+
+pub const ELEMENT_STATUS_ALLOCATION_LENGTH: usize = 7;
+
+pub const ELEMENT_STATUS_FLAGS: usize = 6;
 
 pub const CURDATA_BIT: u8 = 1;
 

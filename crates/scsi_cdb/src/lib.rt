@@ -2,6 +2,7 @@
 #![tactic(auto)]
 
 mod action;
+mod changer;
 mod classes;
 mod classify;
 mod decoding;
@@ -21,8 +22,10 @@ pub use action::{InServiceAction, OutServiceAction};
 pub use classes::Class;
 pub use classify::class;
 pub use decoding::decode;
-pub use encoding::encode;
+pub use encoding::{cdb_length, encode};
 pub use fault::CdbFault;
 pub use kind::Kind;
-pub use laws::{request_reads_back, worked_rows, worked_rows_of_drives};
+pub use laws::{
+    request_reads_back, worked_lengths, worked_rows, worked_rows_of_changers, worked_rows_of_drives,
+};
 pub use request::Request;

@@ -1,5 +1,5 @@
 //! What the CDBs of the primary commands say (SPC-4).
-ghost use Rattle.std.specs.Prelude.{◌≡◌, IfSome};
+ghost use Rattle.std.specs.Prelude.{◌≡◌, ◌≤◌, length, IfSome};
 ghost use Rattle.scsi_cdb.specs.Bits.{bit, bits, byte, two_bytes, four_bytes};
 ghost use Rattle.scsi_cdb.specs.Commands.{in_service_action, out_service_action, reserve_in, reserve_out};
 ghost use Rattle.scsi_cdb.specs.Spelling.{Fits};
@@ -21,6 +21,7 @@ pub fn request_sense_at(cdb: &[u8]) -> Request
 }
 
 pub fn inquiry_at(cdb: &[u8]) -> Request
+    requires { 6 ≤ length cdb.now }
     ensures value { result ≡ Inquiry (bit cdb.now 1 0) (byte cdb.now 2) (two_bytes cdb.now 3) }
     ensures fits { Fits result }
 {
@@ -66,6 +67,7 @@ pub fn prevent_allow_medium_removal_at(cdb: &[u8]) -> Request
 }
 
 pub fn reserve_in_at(cdb: &[u8]) -> Option<Request>
+    requires { 10 ≤ length cdb.now }
     ensures value { result ≡
         reserve_in (in_service_action (bits cdb.now 1 4 0)) (two_bytes cdb.now 7) }
     ensures fits { IfSome result Fits }
@@ -77,6 +79,7 @@ pub fn reserve_in_at(cdb: &[u8]) -> Option<Request>
 }
 
 pub fn reserve_out_at(cdb: &[u8]) -> Option<Request>
+    requires { 10 ≤ length cdb.now }
     ensures value { result ≡ reserve_out
         (out_service_action (bits cdb.now 1 4 0)) (byte cdb.now 2) (four_bytes cdb.now 5) }
     ensures fits { IfSome result Fits }
@@ -89,6 +92,7 @@ pub fn reserve_out_at(cdb: &[u8]) -> Option<Request>
 }
 
 pub fn report_luns_at(cdb: &[u8]) -> Request
+    requires { 12 ≤ length cdb.now }
     ensures value { result ≡ ReportLuns (byte cdb.now 2) (four_bytes cdb.now 6) }
     ensures fits { Fits result }
 {

@@ -1,5 +1,5 @@
 //! What the CDBs of the stream commands say: those of drives alone (SSC-4).
-ghost use Rattle.std.specs.Prelude.{◌≡◌, IfSome};
+ghost use Rattle.std.specs.Prelude.{◌≡◌, ◌≤◌, length, IfSome};
 ghost use Rattle.scsi_cdb.specs.Bits.{bit, bits, three_bytes, four_bytes, signed_three_bytes};
 ghost use Rattle.scsi_cdb.specs.Commands.{read_position};
 ghost use Rattle.scsi_cdb.specs.Spelling.{Fits};
@@ -10,6 +10,7 @@ use crate::layout::*;
 use crate::request::Request;
 
 pub fn read_at(cdb: &[u8]) -> Request
+    requires { 6 ≤ length cdb.now }
     ensures value { result ≡ Read (bit cdb.now 1 1) (bit cdb.now 1 0) (three_bytes cdb.now 2) }
     ensures fits { Fits result }
 {
@@ -21,6 +22,7 @@ pub fn read_at(cdb: &[u8]) -> Request
 }
 
 pub fn write_at(cdb: &[u8]) -> Request
+    requires { 6 ≤ length cdb.now }
     ensures value { result ≡ Write (bit cdb.now 1 0) (three_bytes cdb.now 2) }
     ensures fits { Fits result }
 {
@@ -31,6 +33,7 @@ pub fn write_at(cdb: &[u8]) -> Request
 }
 
 pub fn write_filemarks_at(cdb: &[u8]) -> Request
+    requires { 6 ≤ length cdb.now }
     ensures value { result ≡ WriteFilemarks (bit cdb.now 1 1) (three_bytes cdb.now 2) }
     ensures fits { Fits result }
 {
@@ -41,6 +44,7 @@ pub fn write_filemarks_at(cdb: &[u8]) -> Request
 }
 
 pub fn space_at(cdb: &[u8]) -> Request
+    requires { 6 ≤ length cdb.now }
     ensures value { result ≡ Space (bits cdb.now 1 3 0) (signed_three_bytes cdb.now 2) }
     ensures fits { Fits result }
 {
@@ -62,6 +66,7 @@ pub fn load_unload_at(cdb: &[u8]) -> Request
 }
 
 pub fn locate_at(cdb: &[u8]) -> Request
+    requires { 10 ≤ length cdb.now }
     ensures value { result ≡ Locate (bit cdb.now 1 2) (bit cdb.now 1 1) (four_bytes cdb.now 3) }
     ensures fits { Fits result }
 {

@@ -3,7 +3,7 @@ use crate::classes::Class;
 use crate::fault::CdbFault;
 use crate::kind::Kind;
 use crate::request::Request;
-use crate::{class, decode, encode};
+use crate::{cdb_length, class, decode, encode};
 
 const READ_KEYS: Request = Request::PersistentReserveIn {
     service_action: InServiceAction::ReadKeys,
@@ -46,6 +46,8 @@ fn encodes_what_a_host_would_send(rt: HostRuntime) {
     };
     let bytes = b"\xb8\0\0\0\xff\xff\x02\0\x10\0\0\0\0\0\0\0";
     assert_eq!(rt; encode(&all_elements).as_slice(), bytes.as_slice());
+    assert_eq!(rt; cdb_length(&all_elements), 12);
+    assert_eq!(rt; cdb_length(&READ_KEYS), 10);
     assert_eq!(rt; class(&all_elements), Class::ReadElementStatusCurdata);
     assert_eq!(rt; class(&READ_KEYS), Class::PersistentReserveIn);
 }
@@ -157,6 +159,34 @@ fn decodes_what_drives_are_set_up_with(rt: HostRuntime) {
     for (text, cdb, expected) in rows {
         assert_eq!(rt; decode(Kind::Drive, cdb), Ok(expected), "{text}");
     }
+}
+
+#[test]
+fn decodes_what_changers_are_told(rt: HostRuntime) {
+    let storage_to_drive = Request::MoveMedium {
+        medium_transport_element_address: 0,
+        source_element_address: 0x400,
+        destination_element_address: 0x100,
+        invert: false,
+    };
+    let tags_of_storage = Request::ReadElementStatus {
+        volume_tags: true,
+        element_type_code: 2,
+        starting_element_address: 0x400,
+        number_of_elements: 8,
+        current_data: true,
+        device_identifiers: false,
+        allocation_length: 4096,
+    };
+    let move_medium = b"\xa5\0\0\0\x04\0\x01\0\0\0\0\0";
+    let status = b"\xb8\x12\x04\0\0\x08\x02\0\x10\0\0\0";
+    let initialize = b"\x07\0\0\0\0\0";
+    assert_eq!(rt; decode(Kind::Changer, move_medium), Ok(storage_to_drive));
+    assert_eq!(rt; decode(Kind::Changer, status), Ok(tags_of_storage));
+    assert_eq!(rt;
+        decode(Kind::Changer, initialize),
+        Ok(Request::InitializeElementStatus)
+    );
 }
 
 #[test]

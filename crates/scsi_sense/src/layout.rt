@@ -2,14 +2,18 @@
 
 pub const SENSE_LENGTH: usize = 18;
 
-// Byte 0.
+// VALID and RESPONSE CODE.
+pub const RESPONSE_CODE: usize = 0;
+
 pub const VALID_BIT: u8 = 7;
 
 pub const RESPONSE_CODE_BITS: u8 = 0x7F;
 
 pub const CURRENT_FIXED: u8 = 0x70;
 
-// Byte 2.
+// FILEMARK, EOM, ILI and SENSE KEY.
+pub const MARKS_AND_KEY: usize = 2;
+
 pub const FILEMARK_BIT: u8 = 7;
 
 pub const EOM_BIT: u8 = 6;
@@ -18,8 +22,17 @@ pub const ILI_BIT: u8 = 5;
 
 pub const SENSE_KEY_BITS: u8 = 0x0F;
 
-/// Byte 7: the bytes that follow it.
-pub const ADDITIONAL_SENSE_LENGTH: u8 = 0x0A;
+/// INFORMATION, of four bytes.
+pub const INFORMATION: usize = 3;
+
+// ADDITIONAL SENSE LENGTH: how many bytes follow it.
+pub const ADDITIONAL_SENSE_LENGTH: usize = 7;
+
+pub const BYTES_THAT_FOLLOW: u8 = 0x0A;
+
+pub const ADDITIONAL_SENSE_CODE: usize = 12;
+
+pub const ADDITIONAL_SENSE_CODE_QUALIFIER: usize = 13;
 
 // Sense keys (SPC-4, "Sense key and additional sense code definitions").
 pub const NO_SENSE: u8 = 0x0;

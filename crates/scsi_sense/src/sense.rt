@@ -4,9 +4,10 @@ ghost use Rattle.scsi_sense.specs.Bits.{bit, flag};
 use crate::condition::Condition;
 use crate::fault::SenseFault;
 use crate::layout::*;
+use byteorder::{BigEndian, ByteOrder};
 
 /// What CHECK CONDITION and REQUEST SENSE report (SPC-4, "Fixed format sense data").
-#[derive(Clone, Copy, Debug, PartialEq, Eq)]
+#[derive(Clone, Copy, Debug, Default, PartialEq, Eq)]
 pub struct Sense {
     /// INFORMATION is defined.
     pub valid: bool,
@@ -82,17 +83,19 @@ impl Sense {
     pub fn to_bytes(&self) -> [u8; SENSE_LENGTH]
         ensures { result ≡ fixed_sense self.now }
     {
-        let code = flag_at(VALID_BIT, self.valid) + CURRENT_FIXED;
         let marks = flag_at(FILEMARK_BIT, self.filemark)
             + flag_at(EOM_BIT, self.eom)
-            + flag_at(ILI_BIT, self.ili)
-            + (self.key & SENSE_KEY_BITS);
-        let information = if self.valid { self.information } else { 0 };
-        let [i3, i2, i1, i0] = information.to_be_bytes();
-        let (length, asc, ascq) = (ADDITIONAL_SENSE_LENGTH, self.asc, self.ascq);
-        [
-            code, 0, marks, i3, i2, i1, i0, length, 0, 0, 0, 0, asc, ascq, 0, 0, 0, 0,
-        ]
+            + flag_at(ILI_BIT, self.ili);
+        let mut bytes = [0; SENSE_LENGTH];
+        bytes[RESPONSE_CODE] = flag_at(VALID_BIT, self.valid) + CURRENT_FIXED;
+        bytes[MARKS_AND_KEY] = marks + (self.key & SENSE_KEY_BITS);
+        if self.valid {
+            BigEndian::write_u32(&mut bytes[INFORMATION..], self.information);
+        }
+        bytes[ADDITIONAL_SENSE_LENGTH] = BYTES_THAT_FOLLOW;
+        bytes[ADDITIONAL_SENSE_CODE] = self.asc;
+        bytes[ADDITIONAL_SENSE_CODE_QUALIFIER] = self.ascq;
+        bytes
     }
 
     /// The sense that the bytes spell, with or without VALID. What follows the 18 bytes, and each
@@ -103,18 +106,18 @@ impl Sense {
         if bytes.len() < SENSE_LENGTH {
             return Err(SenseFault::Short);
         }
-        if bytes[0] & RESPONSE_CODE_BITS != CURRENT_FIXED {
+        if bytes[RESPONSE_CODE] & RESPONSE_CODE_BITS != CURRENT_FIXED {
             return Err(SenseFault::NotFixed);
         }
         Ok(Sense {
-            valid: is_set(bytes[0], VALID_BIT),
-            filemark: is_set(bytes[2], FILEMARK_BIT),
-            eom: is_set(bytes[2], EOM_BIT),
-            ili: is_set(bytes[2], ILI_BIT),
-            key: bytes[2] & SENSE_KEY_BITS,
-            information: u32::from_be_bytes([bytes[3], bytes[4], bytes[5], bytes[6]]),
-            asc: bytes[12],
-            ascq: bytes[13],
+            valid: is_set(bytes[RESPONSE_CODE], VALID_BIT),
+            filemark: is_set(bytes[MARKS_AND_KEY], FILEMARK_BIT),
+            eom: is_set(bytes[MARKS_AND_KEY], EOM_BIT),
+            ili: is_set(bytes[MARKS_AND_KEY], ILI_BIT),
+            key: bytes[MARKS_AND_KEY] & SENSE_KEY_BITS,
+            information: BigEndian::read_u32(&bytes[INFORMATION..]),
+            asc: bytes[ADDITIONAL_SENSE_CODE],
+            ascq: bytes[ADDITIONAL_SENSE_CODE_QUALIFIER],
         })
     }
 

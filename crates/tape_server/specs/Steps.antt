@@ -1,5 +1,7 @@
 -- Parts of a drive's step by one command.
-use Rattle.std.specs.Prelude.{ℕ, ◌==◌, Bool, false, List, [], length, Option, Some, None, if◌then◌else◌}
+use Rattle.std.specs.Prelude.{◌≡◌, ℕ, ◌<◌, ◌==◌, Bool, true, false, List, [], length, Option, Some, None, Result, IsOk, if◌then◌else◌}
+use Rattle.tape_medium.specs.TapeView.{TapeView}
+use Rattle.tape_medium.specs.declared.fault.TapeFault.{TapeFault}
 use Rattle.tape_medium.specs.Object.{Object, Block, Mark}
 use Rattle.tape_medium.specs.Tape.{item_of}
 use Rattle.tape_medium.specs.declared.item.Item.{Item}
@@ -11,6 +13,16 @@ use Rattle.device_server.specs.Senses.{past_the_end}
 -- the end of a write for which there is no room
 abbrev pub not_written : (told : ℕ) → Outcome
 not_written told = ended (past_the_end told) []
+
+-- memory is wanted only for objects that are put on the tape, so what is refused needs none
+abbrev pub IsWritten : (told : ℕ) → (protected : Bool) → Result TapeView TapeFault → Type 0
+IsWritten told protected written = (0 < told) × (protected ≡ false) × IsOk written
+
+-- and only for a block that is read
+abbrev pub is_block : Option Object → Bool
+is_block None = false
+is_block (Some Mark) = false
+is_block (Some (Block bytes)) = true
 
 -- a block of one size
 abbrev pub is_item_of : (size : ℕ) → Item → Bool

@@ -81,7 +81,24 @@ impl TapeDrive {
                 *allocation_length,
             )?)),
             Request::LoadUnload { load, .. } => Ok(self.load(alloc, *load)),
-            _ => self.in_bay(alloc, request, bytes),
+            Request::TestUnitReady
+            | Request::Rewind
+            | Request::RequestSense { .. }
+            | Request::InitializeElementStatus
+            | Request::Read { .. }
+            | Request::Write { .. }
+            | Request::WriteFilemarks { .. }
+            | Request::Space { .. }
+            | Request::Inquiry { .. }
+            | Request::Erase
+            | Request::PreventAllowMediumRemoval { .. }
+            | Request::Locate { .. }
+            | Request::ReadPosition
+            | Request::PersistentReserveIn { .. }
+            | Request::PersistentReserveOut { .. }
+            | Request::ReportLuns { .. }
+            | Request::MoveMedium { .. }
+            | Request::ReadElementStatus { .. } => self.in_bay(alloc, request, bytes),
         }
     }
 
@@ -151,6 +168,17 @@ impl TapeDrive {
                 )
             }
         }
+    }
+}
+
+impl Default for TapeDrive {
+    ghost use Rattle.std.specs.Prelude.{◌≡◌};
+    ghost use Rattle.device_server.specs.Drive.{empty_drive};
+
+    ghost is_default = { λ d. d ≡ empty_drive };
+
+    fn default() -> TapeDrive {
+        TapeDrive::new()
     }
 }
 
@@ -290,6 +318,20 @@ fn on_tape(
             ..
         } => Ok(locate(alloc, tape, *logical_object_identifier)),
         Request::ReadPosition => Ok(Outcome::good(position_data(alloc, tape.position())?)),
-        _ => Ok(Outcome::check(alloc, Condition::InvalidCommandOperationCode)),
+        Request::RequestSense { .. }
+        | Request::ReadBlockLimits
+        | Request::InitializeElementStatus
+        | Request::Inquiry { .. }
+        | Request::ModeSelect { .. }
+        | Request::ModeSense { .. }
+        | Request::LoadUnload { .. }
+        | Request::PreventAllowMediumRemoval { .. }
+        | Request::PersistentReserveIn { .. }
+        | Request::PersistentReserveOut { .. }
+        | Request::ReportLuns { .. }
+        | Request::MoveMedium { .. }
+        | Request::ReadElementStatus { .. } => {
+            Ok(Outcome::check(alloc, Condition::InvalidCommandOperationCode))
+        }
     }
 }

@@ -3,11 +3,17 @@
 ghost use Rattle.std.specs.Prelude.{◌≡◌, None, IfOk, take};
 ghost use Rattle.device_server.specs.Mode.{list_fault, block_length_after, mode_data};
 
+use byteorder::{BigEndian, ByteOrder};
 use device_server::Payload;
 use std::alloc::{AllocError, Global};
 
 /// The length of a block descriptor, in bytes.
 const BLOCK_DESCRIPTOR: u8 = 8;
+
+/// The places of the BLOCK DESCRIPTOR LENGTH in the header and of the BLOCK LENGTH, of three bytes, in a list with a descriptor.
+const DESCRIPTOR_LENGTH: usize = 3;
+
+const BLOCK_LENGTH: usize = 9;
 
 /// WP, in the device specific parameter.
 const WRITE_PROTECTED: u8 = 0x80;
@@ -17,10 +23,10 @@ pub(crate) fn block_length_after(before: u32, told: u8, list: &[u8]) -> u32
     requires { list_fault told list.now ≡ None }
     ensures { result ≡ block_length_after before told list.now }
 {
-    if told == 0 || list[3] != BLOCK_DESCRIPTOR {
+    if told == 0 || list[DESCRIPTOR_LENGTH] != BLOCK_DESCRIPTOR {
         return before;
     }
-    u32::from_be_bytes([0, list[9], list[10], list[11]])
+    BigEndian::read_u24(&list[BLOCK_LENGTH..])
 }
 
 /// The data of MODE SENSE, cut at the allocation length.

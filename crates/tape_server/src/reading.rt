@@ -1,12 +1,12 @@
 //! READ (SSC-4, "READ(6) command").
 
-ghost use Rattle.std.specs.Prelude.{◌≡◌, ◌+◌, ◌*◌, ◌++◌, ◌≤◌, length, vec_len, vec_capacity, IfOk, OnErr, if◌then◌else◌};
+ghost use Rattle.std.specs.Prelude.{◌≡◌, ◌+◌, ◌*◌, ◌++◌, ◌≤◌, length, vec_len, vec_capacity, IfOk, OnErr, IsTrue, if◌then◌else◌};
 ghost use Rattle.std.specs.List.{flat_map};
 ghost use Rattle.scsi_sense.specs.declared.condition.Condition.TheVariants.{InvalidFieldInCdb};
 ghost use Rattle.tape_medium.specs.Tape.{ahead, object_at, passed, item_of, bytes_of};
 ghost use Rattle.device_server.specs.Outcomes.{refused};
 ghost use Rattle.device_server.specs.Drive.{reads, reads_fixed, one_block, unless_nothing, is_fixed_transfer, run, bytes_of_object, ended_by, after_run, end_of_run};
-ghost use Rattle.tape_server.specs.Steps.{is_item_of, met, whole_bytes};
+ghost use Rattle.tape_server.specs.Steps.{is_block, is_item_of, met, whole_bytes};
 
 use crate::sense::{at_end_of_data, at_mark, of_other_length};
 use device_server::{Outcome, Payload};
@@ -23,6 +23,7 @@ pub(crate) fn read_block(
     transfer_length: u32,
 ) -> Result<Outcome, AllocError>
     ensures ok { IfOk result (λ outcome. unless_nothing transfer_length tape.old (reads suppress_incorrect_length block_length transfer_length tape.old) ≡ (tape.new, outcome)) }
+    ensures memory { OnErr result (IsTrue (is_block (object_at tape.old))) }
     ensures err { OnErr result (tape.new ≡ tape.old) }
 {
     if transfer_length == 0 {

@@ -300,6 +300,27 @@ fn refuses_what_does_not_fit_or_is_protected(rt: HostRuntime) -> Result<(), Fail
 }
 
 #[test]
+fn answers_where_there_is_no_room_for_filemarks(rt: HostRuntime) -> Result<(), Fail> {
+    let mut host = Host::with_volume(&rt, rt.alloc(), 9);
+    host.ask(&rt, filemarks(1_000_000), b"", GOOD)?;
+    let sense = b"\xf0\0\x4d\0\0\0\x01\x0a\0\0\0\0\0\x02\0\0\0\0";
+    host.ask(&rt, filemarks(1), b"", sense)?;
+    host.send(&rt, write(false, 1), &[9], b"", sense)?;
+    Ok(())
+}
+
+#[test]
+fn answers_where_there_is_no_room_for_blocks(rt: HostRuntime) -> Result<(), Fail> {
+    let mut host = Host::with_volume(&rt, rt.alloc(), 1000);
+    let blocks = [9; 1024];
+    host.send(&rt, mode_select(12), BLOCKS_OF_512, b"", GOOD)?;
+    let sense = b"\xf0\0\x4d\0\0\0\x02\x0a\0\0\0\0\0\x02\0\0\0\0";
+    host.send(&rt, write(true, 2), &blocks, b"", sense)?;
+    host.send(&rt, write(true, 1), &blocks[512..], b"", GOOD)?;
+    Ok(())
+}
+
+#[test]
 fn selects_and_senses_the_mode(rt: HostRuntime) -> Result<(), Fail> {
     let alloc = rt.alloc();
     let drive = TapeDrive::new();

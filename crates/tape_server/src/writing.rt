@@ -6,7 +6,7 @@ ghost use Rattle.tape_medium.specs.Tape.{writes_block, writes_blocks, writes_mar
 ghost use Rattle.scsi_sense.specs.declared.condition.Condition.TheVariants.{InvalidFieldInCdb};
 ghost use Rattle.device_server.specs.Outcomes.{done, refused};
 ghost use Rattle.device_server.specs.Drive.{wrote, unless_protected, unless_nothing, is_fixed_transfer};
-ghost use Rattle.tape_server.specs.Steps.{not_written};
+ghost use Rattle.tape_server.specs.Steps.{not_written, IsWritten};
 
 use crate::reading::is_fixed_transfer;
 use crate::sense::past_the_end;
@@ -24,6 +24,7 @@ pub(crate) fn write_block(
     bytes: &[u8],
 ) -> Result<Outcome, AllocError>
     ensures ok { IfOk result (λ outcome. unless_nothing transfer_length tape.old (unless_protected protected tape.old (wrote tape.old transfer_length (writes_block tape.old bytes.now))) ≡ (tape.new, outcome)) }
+    ensures memory { OnErr result (IsWritten transfer_length protected (writes_block tape.old bytes.now)) }
     ensures err { OnErr result (tape.new ≡ tape.old) }
 {
     if transfer_length == 0 {
@@ -51,6 +52,7 @@ pub(crate) fn write_blocks(
     ensures ok { IfOk result (λ outcome. (if is_fixed_transfer block_length count && length bytes.now == count * block_length
         then unless_nothing count tape.old (unless_protected protected tape.old (wrote tape.old count (writes_blocks tape.old bytes.now block_length)))
         else (tape.old, refused InvalidFieldInCdb)) ≡ (tape.new, outcome)) }
+    ensures memory { OnErr result (IsWritten count protected (writes_blocks tape.old bytes.now block_length)) }
     ensures err { OnErr result (tape.new ≡ tape.old) }
 {
     if !is_fixed_transfer(block_length, count) {
@@ -80,6 +82,7 @@ pub(crate) fn write_filemarks(
     filemark_count: u32,
 ) -> Result<Outcome, AllocError>
     ensures ok { IfOk result (λ outcome. unless_nothing filemark_count tape.old (unless_protected protected tape.old (wrote tape.old filemark_count (writes_marks tape.old filemark_count))) ≡ (tape.new, outcome)) }
+    ensures memory { OnErr result (IsWritten filemark_count protected (writes_marks tape.old filemark_count)) }
     ensures err { OnErr result (tape.new ≡ tape.old) }
 {
     if filemark_count == 0 {
