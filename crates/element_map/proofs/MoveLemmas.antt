@@ -1,39 +1,9 @@
 -- A volume that was taken out at a source goes into an empty destination.
-use Rattle.std.proofs.Common.{◌≡◌, ℕ, zero, suc, false, List, [], ◌∷◌, get_or, set, length-set, Option, Some, None, Result, Ok, Err, is_some, option_map, refl, ap, sym, ◌∙◌}
+use Rattle.std.proofs.Common.{◌≡◌, ℕ, false, Option, Some, None, Result, Ok, Err, is_some, option_map, refl, ap, sym, ◌∙◌}
 use Rattle.tape_medium.specs.declared.volume.Volume.{Volume}
 use Rattle.tape_medium.specs.declared.elements.MapFault.{MapFault}
-use Rattle.tape_medium.specs.Elements.{Elements, Element, Transport, DataTransfer, ImportExport, Storage, Nowhere, element_at, held_in, holding, taken, put, takes, puts}
-
--- no address names another element for what an element holds
-element_at-holding : (e : Elements) (from : Element) (held : Option Volume) (address : ℕ) → element_at (holding e from held) address ≡ element_at e address
-element_at-holding e Transport held address = refl
-element_at-holding e (DataTransfer i) held address = refl
-element_at-holding e (ImportExport i) held address = simp length-set
-element_at-holding e (Storage i) held address = simp length-set
-element_at-holding e Nowhere held address = refl
-
--- an empty place stays empty where another is emptied, and where it is the same
-empty-set : {X : Type 0} (places : List (Option X)) (i j : ℕ) → get_or places j None ≡ None → get_or (set places i None) j None ≡ None
-empty-set [] i j h = refl
-empty-set (place ∷ places) zero zero h = refl
-empty-set (place ∷ places) zero (suc j) h = h
-empty-set (place ∷ places) (suc i) zero h = h
-empty-set (place ∷ places) (suc i) (suc j) h = empty-set places i j h
-
-held_in-holding : (e : Elements) (from to : Element) → held_in e to ≡ Some None → held_in (holding e from None) to ≡ Some None
-held_in-holding e Transport to h = h
-held_in-holding e (DataTransfer i) to h = h
-held_in-holding e (ImportExport i) Transport h = cc
-held_in-holding e (ImportExport i) (DataTransfer j) h = cc
-held_in-holding e (ImportExport i) (ImportExport j) h = let empty : get_or e.import_export j None ≡ None = cc in ap Some (empty-set e.import_export i j empty)
-held_in-holding e (ImportExport i) (Storage j) h = h
-held_in-holding e (ImportExport i) Nowhere h = cc
-held_in-holding e (Storage i) Transport h = cc
-held_in-holding e (Storage i) (DataTransfer j) h = cc
-held_in-holding e (Storage i) (ImportExport j) h = h
-held_in-holding e (Storage i) (Storage j) h = let empty : get_or e.storage j None ≡ None = cc in ap Some (empty-set e.storage i j empty)
-held_in-holding e (Storage i) Nowhere h = cc
-held_in-holding e Nowhere to h = h
+use Rattle.tape_medium.proofs.ElementLemmas.{element_at-holding, held_in-holding}
+use Rattle.tape_medium.specs.Elements.{Elements, Element, element_at, held_in, holding, taken, put, takes, puts}
 
 -- what a take gives, or else `other`
 abbrev given : Result (Elements × Volume) MapFault → Elements × Volume → Elements × Volume

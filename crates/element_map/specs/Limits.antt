@@ -1,9 +1,18 @@
-use Rattle.std.specs.Prelude.{◌≤◌, List, length, Option}
+use Rattle.std.specs.Prelude.{ℕ, ◌≤◌, List, length, Option}
 use Rattle.tape_medium.specs.declared.volume.VolumeTag.{VolumeTag}
 use Rattle.tape_medium.specs.declared.volume.Volume.{Volume}
 
 -- how many elements of each type there are at most (profile)
+abbrev pub drive_limit : ℕ
+drive_limit = 4
+
+abbrev pub portal_limit : ℕ
+portal_limit = 16
+
+abbrev pub slot_limit : ℕ
+slot_limit = 1024
+
 pub record IsWithinLimits (data_transfer : List (Option VolumeTag)) (import_export storage : List (Option Volume)) : Type 0 where
-  pub drives : length data_transfer ≤ 4
-  pub portals : length import_export ≤ 16
-  pub slots : length storage ≤ 1024
+  pub drives : length data_transfer ≤ drive_limit
+  pub portals : length import_export ≤ portal_limit
+  pub slots : length storage ≤ slot_limit

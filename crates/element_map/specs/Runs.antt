@@ -21,6 +21,13 @@ first_of DataTransfer = first_data_transfer
 first_of ImportExport = first_import_export
 first_of Storage = first_storage
 
+-- how many elements of a type there are; the one medium transport element is always there
+abbrev pub count_of : Elements → ElementType → ℕ
+count_of e MediumTransport = 1
+count_of e DataTransfer = length e.data_transfer
+count_of e ImportExport = length e.import_export
+count_of e Storage = length e.storage
+
 -- FULL, ACCESS, and EXENAB with INENAB, as the type has them
 abbrev pub flags_in : ElementType → Bool → ℕ
 flags_in MediumTransport full = if full then 0x01 else 0

@@ -8,7 +8,7 @@ use crate::layout::{
 
 /// The type of an element (SMC-3, "READ ELEMENT STATUS command").
 #[derive(Clone, Copy, Debug, PartialEq, Eq)]
-pub(crate) enum ElementType {
+pub enum ElementType {
     MediumTransport,
     DataTransfer,
     ImportExport,
@@ -29,7 +29,7 @@ impl ElementType {
     }
 
     /// The address of the first element of the type.
-    pub(crate) fn first_address(self) -> u16
+    pub fn first_address(self) -> u16
         ensures { result ≡ first_of self }
     {
         match self {

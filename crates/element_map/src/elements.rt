@@ -2,8 +2,11 @@
 
 ghost use Rattle.std.specs.Prelude.{◌≡◌, ◌≤◌, length, Ok, Err, OnOk, OnErr, IfOk, IfErr};
 ghost use Rattle.tape_medium.specs.Elements.{empty_elements, reads, takes, puts, notes};
+ghost use Rattle.element_map.specs.Limits.{drive_limit, portal_limit, slot_limit};
+ghost use Rattle.element_map.specs.Runs.{count_of};
 
 use crate::address::Element;
+use crate::element_type::ElementType;
 use crate::place::{empty_places, put_in, tag_of, take_out};
 use std::alloc::{AllocError, Global};
 use std::marker::Model;
@@ -40,10 +43,10 @@ impl Elements {
     /// So many data transfer, storage and import/export elements, all empty.
     pub fn new(alloc: Global, drives: u16, slots: u16, portals: u16) -> Result<Elements, AllocError>
         requires some_drive { 1 ≤ drives }
-        requires drives { drives ≤ 4 }
+        requires drives { drives ≤ drive_limit }
         requires some_slot { 1 ≤ slots }
-        requires slots { slots ≤ 1024 }
-        requires portals { portals ≤ 16 }
+        requires slots { slots ≤ slot_limit }
+        requires portals { portals ≤ portal_limit }
         ensures { IfOk result (λ e. e ≡ empty_elements drives portals slots) }
     {
         Ok(Elements {
@@ -58,6 +61,19 @@ impl Elements {
         ensures { result ≡ length self.now.data_transfer }
     {
         self.data_transfer.len() as u16
+    }
+
+    /// How many elements of a type there are, from `ElementType::first_address` on. There is one medium transport element.
+    pub fn count(&self, element_type: ElementType) -> u16
+        ensures number { result ≡ count_of self.now element_type }
+        ensures within { result ≤ slot_limit }
+    {
+        match element_type {
+            ElementType::MediumTransport => 1,
+            ElementType::DataTransfer => self.drives(),
+            ElementType::ImportExport => self.import_export.len() as u16,
+            ElementType::Storage => self.storage.len() as u16,
+        }
     }
 
     /// The tag of the volume in an element. `BadAddress` where no element has the address.

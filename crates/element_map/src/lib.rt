@@ -11,6 +11,7 @@ mod report;
 mod run;
 mod status;
 
+pub use element_type::ElementType;
 pub use elements::Elements;
 pub use layout::{DRIVE_LIMIT, PORTAL_LIMIT, SLOT_LIMIT};
 

@@ -55,17 +55,12 @@ impl Run {
 }
 
 impl Elements {
-    /// How many elements of a type there are.
-    pub(crate) fn number_of(&self, element_type: ElementType) -> usize
+    /// How many elements of a type there are, a tag for each.
+    fn number_of(&self, element_type: ElementType) -> usize
         ensures number { result ≡ length (tags_of self.now element_type) }
         ensures within { result ≤ 1024 }
     {
-        match element_type {
-            ElementType::MediumTransport => 1,
-            ElementType::DataTransfer => self.data_transfer.len(),
-            ElementType::ImportExport => self.import_export.len(),
-            ElementType::Storage => self.storage.len(),
-        }
+        usize::from(self.count(element_type))
     }
 
     /// The tag of the volume in an element.

@@ -1,4 +1,4 @@
-use crate::Elements;
+use crate::{DRIVE_LIMIT, ElementType, Elements, PORTAL_LIMIT, SLOT_LIMIT};
 use std::alloc::{AllocError, Global};
 use std::process::Abort;
 use std::test::Fail;
@@ -35,6 +35,25 @@ fn joined(alloc: Global, parts: &[&[u8]]) -> Result<Vec<u8>, AllocError> {
         bytes.extend_from_slice(part)?;
     }
     Ok(bytes)
+}
+
+#[test]
+fn counts_the_most_elements(rt: HostRuntime) -> Result<(), Fail> {
+    let elements = Elements::new(rt.alloc(), DRIVE_LIMIT, SLOT_LIMIT, PORTAL_LIMIT)?;
+    let rows = [
+        (ElementType::MediumTransport, 0x0000, 1),
+        (ElementType::DataTransfer, 0x0100, 4),
+        (ElementType::ImportExport, 0x0200, 16),
+        (ElementType::Storage, 0x0400, 1024),
+    ];
+    for (element_type, first, count) in rows {
+        assert_eq!(rt;
+            (element_type.first_address(), elements.count(element_type)),
+            (first, count),
+            "{element_type:?}"
+        );
+    }
+    Ok(())
 }
 
 #[test]

@@ -3,3 +3,5 @@ pub mod WriteLemmas
 pub mod BlockLemmas
 pub mod WayLemmas
 pub mod PlainLemmas
+pub mod ElementLemmas
+pub mod VolumeLemmas

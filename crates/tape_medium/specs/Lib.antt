@@ -5,6 +5,7 @@ pub mod Tape
 pub mod Space
 pub mod Elements
 pub mod ElementStatus
+pub mod Volumes
 pub mod Rows
 pub mod Store
 pub mod Found

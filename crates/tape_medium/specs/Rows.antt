@@ -1,9 +1,11 @@
-use Rattle.std.specs.Prelude.{◌≡◌, ℕ, pos, negsuc, [], ◌∷◌, ◌++◌, replicate, Some, None, Ok, Err, false}
+use Rattle.std.specs.Prelude.{◌≡◌, ℕ, pos, negsuc, [], ◌∷◌, ◌++◌, replicate, Option, Some, None, Ok, Err, true, false}
 use Rattle.tape_medium.specs.Object.{Block, Mark}
 use Rattle.tape_medium.specs.TapeView.{TapeView}
 use Rattle.tape_medium.specs.Tape.{blank, moved_to, writes_block, object_at, item_of, bytes_of, passed}
 use Rattle.tape_medium.specs.Space.{spaced}
-use Rattle.tape_medium.specs.Elements.{Elements, moves, move_refusal}
+use Rattle.tape_medium.specs.Elements.{Elements, takes, puts, notes, moves, move_refusal}
+use Rattle.tape_medium.specs.Volumes.{volumes}
+use Rattle.tape_medium.specs.declared.volume.Volume.{Volume}
 use Rattle.tape_medium.specs.ElementStatus.{element_status}
 use Rattle.tape_medium.specs.declared.item.Item.TheVariants as item
 use Rattle.tape_medium.specs.declared.fault.TapeFault.TheVariants.{Overflow}
@@ -83,3 +85,50 @@ pub record MovesOfOneDrive (tag : VolumeTag) : Type 0 where
   pub other_transport : move_refusal (one_drive tag) 1 0x400 0x100 ≡ Some BadAddress
   pub second_drive : move_refusal (one_drive tag) 0 0x400 0x101 ≡ Some BadAddress
   pub full : move_refusal (one_drive tag) 0 0x400 0x400 ≡ Some DestinationFull
+
+-- an empty and a full import/export element: FULL, ACCESS, EXENAB and INENAB, and with VOLTAG the tag, zeros where there is none
+abbrev pub cartridge : VolumeTag → Volume
+cartridge tag = record { tag = tag; protected = false; tape = blank 10 }
+
+-- VTL001L8, then spaces
+abbrev pub told_tag : VolumeTag
+told_tag = record { 0 = 0x56 ∷ 0x54 ∷ 0x4c ∷ 0x30 ∷ 0x30 ∷ 0x31 ∷ 0x4c ∷ 0x38 ∷ replicate 24 0x20 }
+
+abbrev pub one_port : VolumeTag → Elements
+one_port tag =
+    record { data_transfer = Some tag ∷ []; import_export = None ∷ Some (cartridge tag) ∷ []; storage = None ∷ [] }
+
+pub record StatusOfAPort (tag : VolumeTag) : Type 0 where
+  pub flags : element_status (one_port tag) 3 0 0xffff false
+      ≡ 0x02 ∷ 0x00 ∷ 0x00 ∷ 0x02 ∷ 0x00 ∷ 0x00 ∷ 0x00 ∷ 0x28 ∷ []
+      ++ 0x03 ∷ 0x00 ∷ 0x00 ∷ 0x10 ∷ 0x00 ∷ 0x00 ∷ 0x00 ∷ 0x20 ∷ [] ++ 0x02 ∷ 0x00 ∷ 0x38 ∷ [] ++ replicate 13 0
+      ++ 0x02 ∷ 0x01 ∷ 0x39 ∷ [] ++ replicate 13 0
+  pub tags : element_status (one_port told_tag) 3 0x201 1 true
+      ≡ 0x02 ∷ 0x01 ∷ 0x00 ∷ 0x01 ∷ 0x00 ∷ 0x00 ∷ 0x00 ∷ 0x3c ∷ []
+      ++ 0x03 ∷ 0x80 ∷ 0x00 ∷ 0x34 ∷ 0x00 ∷ 0x00 ∷ 0x00 ∷ 0x34 ∷ []
+      ++ 0x02 ∷ 0x01 ∷ 0x39 ∷ [] ++ replicate 9 0 ++ (0x56 ∷ 0x54 ∷ 0x4c ∷ 0x30 ∷ 0x30 ∷ 0x31 ∷ 0x4c ∷ 0x38 ∷ replicate 24 0x20) ++ replicate 8 0
+  pub no_tag : element_status (one_port tag) 3 0x200 1 true
+      ≡ 0x02 ∷ 0x00 ∷ 0x00 ∷ 0x01 ∷ 0x00 ∷ 0x00 ∷ 0x00 ∷ 0x3c ∷ []
+      ++ 0x03 ∷ 0x80 ∷ 0x00 ∷ 0x34 ∷ 0x00 ∷ 0x00 ∷ 0x00 ∷ 0x34 ∷ []
+      ++ 0x02 ∷ 0x00 ∷ 0x38 ∷ [] ++ replicate 49 0
+  pub full_drive : element_status (one_port tag) 4 0 1 false
+      ≡ 0x01 ∷ 0x00 ∷ 0x00 ∷ 0x01 ∷ 0x00 ∷ 0x00 ∷ 0x00 ∷ 0x18 ∷ []
+      ++ 0x04 ∷ 0x00 ∷ 0x00 ∷ 0x10 ∷ 0x00 ∷ 0x00 ∷ 0x00 ∷ 0x10 ∷ [] ++ 0x01 ∷ 0x00 ∷ 0x09 ∷ [] ++ replicate 13 0
+
+-- the volumes of two import/export and two storage elements; the tag of the one in the drive isn't one of them
+abbrev pub changer : (port other first second : Option Volume) → Elements
+changer port other first second =
+    record { data_transfer = Some (record { 0 = replicate 32 0x41 }) ∷ []; import_export = port ∷ other ∷ []; storage = first ∷ second ∷ [] }
+
+pub record VolumesOfAChanger (a b : VolumeTag) : Type 0 where
+  pub both : volumes (changer None (Some (cartridge b)) None (Some (cartridge a))) ≡ cartridge b ∷ cartridge a ∷ []
+  pub none : volumes (changer None None None None) ≡ []
+  pub two_slots : volumes (changer None None (Some (cartridge a)) (Some (cartridge b))) ≡ cartridge a ∷ cartridge b ∷ []
+  pub taken : takes (changer None (Some (cartridge b)) None (Some (cartridge a))) 0x201
+      ≡ Ok (changer None None None (Some (cartridge a)), cartridge b)
+  pub put : puts (changer None None None (Some (cartridge a))) 0x400 (cartridge b)
+      ≡ Ok (changer None None (Some (cartridge b)) (Some (cartridge a)))
+  pub moved : moves (changer None (Some (cartridge b)) None (Some (cartridge a))) 0x201 0x400
+      ≡ Ok (changer None None (Some (cartridge b)) (Some (cartridge a)))
+  pub noted : notes (changer (Some (cartridge b)) None None None) 0x100 (Some (record { 0 = replicate 32 0x41 }))
+      ≡ Ok (changer (Some (cartridge b)) None None None)

@@ -1,6 +1,6 @@
 //! The two vectors of a store: the bytes of all blocks, and the end of each object in them.
 
-ghost use Rattle.std.specs.Prelude.{◌≡◌, ◌+◌, ◌*◌, ◌<◌, ◌≤◌, ◌^◌, ◌++◌, ◌∷◌, [], vec_len, vec_capacity, take, length, replicate, slice_range, OnOk};
+ghost use Rattle.std.specs.Prelude.{◌≡◌, ◌+◌, ◌*◌, ◌<◌, ◌≤◌, ◌^◌, ◌++◌, ◌∷◌, [], vec_len, vec_capacity, take, length, replicate, slice_range, max, OnOk};
 ghost use Rattle.tape_medium.specs.Store.{block_ends, end_after};
 
 use std::alloc::AllocError;
@@ -21,12 +21,23 @@ pub(crate) fn part(bytes: &[u8], start: usize, end: usize) -> &[u8]
     &bytes[start..end]
 }
 
-/// Makes room for `total` bytes in all, those that a write will drop included.
-pub(crate) fn reserve_bytes(bytes: &mut Vec<u8>, total: usize) -> Result<(), AllocError>
+/// Makes room for `total` bytes in all, those that a write will drop included: for twice as many as there was room for, so that a
+/// tape is moved but seldom, yet for no more than it takes.
+pub(crate) fn reserve_bytes(
+    bytes: &mut Vec<u8>,
+    total: usize,
+    capacity: usize,
+) -> Result<(), AllocError>
+    requires { total ≤ capacity }
     ensures items { bytes.new.items ≡ bytes.old.items }
     ensures ok { OnOk result (total ≤ vec_capacity bytes.new) }
+    ensures within { vec_capacity bytes.new ≤ max (vec_capacity bytes.old) capacity }
 {
-    bytes.reserve(total.saturating_sub(bytes.len()))
+    if total <= bytes.capacity() {
+        return Ok(());
+    }
+    let room = bytes.capacity().saturating_mul(2).max(total).min(capacity);
+    bytes.reserve_exact(room.saturating_sub(bytes.len()))
 }
 
 /// Makes room for `total` ends in all.

@@ -1,6 +1,7 @@
-//! Worked rows that the definitions compute to. Each function has an empty body: its clause is the row.
+//! Worked rows that the definitions compute to, and laws of every call. Each function has an empty body: its clause is the row or the law.
 
-ghost use Rattle.tape_medium.specs.Rows.{ReadsOfOtherLength, SpacesBothWays, OverflowKeepsTape, ElementStatusOfOneDrive, MovesOfOneDrive};
+ghost use Rattle.tape_medium.specs.Rows.{ReadsOfOtherLength, SpacesBothWays, OverflowKeepsTape, ElementStatusOfOneDrive, MovesOfOneDrive, VolumesOfAChanger, StatusOfAPort};
+ghost use Rattle.tape_medium.specs.Volumes.{TakesOne, AddsOne, KeepsAll, NotesMoveNothing};
 ghost use Rattle.tape_medium.specs.declared.volume.VolumeTag.{VolumeTag};
 
 /// Reads that ask for more or fewer bytes than a block has, and reads at a filemark and at the end of data.
@@ -22,4 +23,15 @@ pub fn overflow_keeps_tape()
 pub fn element_status()
     ensures status { ElementStatusOfOneDrive }
     ensures moves { (tag : VolumeTag) → MovesOfOneDrive tag }
+    ensures port { (tag : VolumeTag) → StatusOfAPort tag }
+{}
+
+/// Law: no volume is lost and none comes from nowhere. Taking out takes just one out of a changer's elements, putting in adds just one, a
+/// move leaves the same ones in other places, and a tag that is noted moves none.
+pub fn volumes_stay()
+    ensures takes { TakesOne }
+    ensures adds { AddsOne }
+    ensures moves { KeepsAll }
+    ensures notes { NotesMoveNothing }
+    ensures row { (a b : VolumeTag) → VolumesOfAChanger a b }
 {}

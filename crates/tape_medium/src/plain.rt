@@ -1,5 +1,5 @@
-//! The tape as a plain list of objects, each block in memory of its own: the same calls by the same definitions, for
-//! runs beside the byte store.
+//! The tape as a plain list of objects, each block in memory of its own: the same calls by the same definitions. It is the
+//! oracle of tests, which run it beside `crate::Tape` and compare; nothing else uses it.
 
 ghost use Rattle.std.specs.Prelude.{◌≡◌, ◌<◌, ◌≤◌, ◌+◌, ◌/◌, ◌%◌, ◌++◌, ◌↔◌, length, replicate, take, OnOk, OnErr, IfOk, IfErr, IsTrue, IsOk, Ok, vec_len, vec_capacity, IsOkUnless, Some, slice_get, slice_index_or};
 ghost use Rattle.tape_medium.specs.Limits.{capacity_limit, object_limit};

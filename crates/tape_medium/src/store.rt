@@ -93,18 +93,24 @@ impl Store {
         self.ends.truncate(at);
     }
 
-    /// Puts a block behind the first `at` objects, in place of what lay there.
-    pub(crate) fn put_block(&mut self, at: usize, block: &[u8]) -> Result<(), AllocError>
+    /// Puts a block behind the first `at` objects, in place of what lay there, within `capacity` bytes.
+    pub(crate) fn put_block(
+        &mut self,
+        at: usize,
+        block: &[u8],
+        capacity: usize,
+    ) -> Result<(), AllocError>
         requires within { at ≤ length self.old }
         requires some { 0 < length block.now }
-        requires fits { bytes_in (take at self.old) + length block.now < 2 ^ 32 }
+        requires fits { bytes_in (take at self.old) + length block.now ≤ capacity }
+        requires small { capacity < 2 ^ 32 }
         requires few { at + 1 < 2 ^ 32 }
         ensures ok { OnOk result (self.new ≡ take at self.old ++ Block block.now ∷ []) }
         ensures err { OnErr result (self.new ≡ self.old) }
     {
         let start = self.bytes_before(at);
         let end = start + block.len();
-        reserve_bytes(&mut self.bytes, end)?;
+        reserve_bytes(&mut self.bytes, end, capacity)?;
         reserve_ends(&mut self.ends, at + 1)?;
         put_bytes(&mut self.bytes, start, block);
         put_end(&mut self.ends, at, end as u32);
@@ -126,24 +132,26 @@ impl Store {
         Ok(())
     }
 
-    /// Puts blocks of `size` bytes behind the first `at` objects, in place of what lay there.
+    /// Puts blocks of `size` bytes behind the first `at` objects, in place of what lay there, within `capacity` bytes.
     pub(crate) fn put_blocks(
         &mut self,
         at: usize,
         bytes: &[u8],
         size: u32,
+        capacity: usize,
     ) -> Result<(), AllocError>
         requires within { at ≤ length self.old }
         requires some { 0 < size }
         requires whole { length bytes.now % size ≡ 0 }
-        requires fits { bytes_in (take at self.old) + length bytes.now < 2 ^ 32 }
+        requires fits { bytes_in (take at self.old) + length bytes.now ≤ capacity }
+        requires small { capacity < 2 ^ 32 }
         requires few { at + length bytes.now / size < 2 ^ 32 }
         ensures ok { OnOk result (self.new ≡ take at self.old ++ blocks size (length bytes.now / size) bytes.now) }
         ensures err { OnErr result (self.new ≡ self.old) }
     {
         let count = bytes.len() / size as usize;
         let start = self.bytes_before(at);
-        reserve_bytes(&mut self.bytes, start + bytes.len())?;
+        reserve_bytes(&mut self.bytes, start + bytes.len(), capacity)?;
         reserve_ends(&mut self.ends, at + count)?;
         put_bytes(&mut self.bytes, start, bytes);
         put_block_ends(&mut self.ends, at, start as u32, size, count);

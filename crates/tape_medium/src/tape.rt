@@ -1,6 +1,6 @@
 //! The tape.
 
-ghost use Rattle.std.specs.Prelude.{◌≡◌, ◌<◌, ◌≤◌, ◌+◌, ◌++◌, ◌↔◌, length, OnOk, OnErr, IfOk, IfErr, IsOk, IsTrue, Ok, vec_len, vec_capacity, IsOkUnless};
+ghost use Rattle.std.specs.Prelude.{◌≡◌, ◌<◌, ◌≤◌, ◌+◌, ◌++◌, ◌↔◌, length, OnOk, OnErr, IfOk, IfErr, IsOk, IsErrOf, IsTrue, Ok, vec_len, vec_capacity, IsOkUnless};
 ghost use Rattle.tape_medium.specs.Limits.{capacity_limit, object_limit};
 ghost use Rattle.tape_medium.specs.Along.{code_of};
 ghost use Rattle.tape_medium.specs.Space.{spaced};
@@ -113,7 +113,11 @@ impl Tape {
         if self.position + 1 > OBJECT_LIMIT as usize {
             return Err(TapeFault::Overflow);
         }
-        if self.store.put_block(self.position, block).is_err() {
+        if self
+            .store
+            .put_block(self.position, block, self.capacity)
+            .is_err()
+        {
             return Err(TapeFault::NoMemory);
         }
         self.position += 1;
@@ -121,11 +125,12 @@ impl Tape {
     }
 
     /// Writes whole blocks of `size` bytes at the position, all or none, and drops all that lay after. No bytes are
-    /// no blocks, and change nothing.
+    /// no blocks: they change nothing, and take no memory.
     #[tactic(auto, using(crate::proofs::BlockLemmas::block_sizes))]
     pub fn write_blocks(&mut self, bytes: &[u8], size: u32) -> Result<(), TapeFault>
         ensures ok { OnOk result (writes_blocks self.old bytes.now size ≡ Ok self.new) }
         ensures fault { IfErr result (IsFaultOf (writes_blocks self.old bytes.now size)) }
+        ensures memory { IsErrOf result TapeFault.NoMemory → 0 < length bytes.now }
         ensures err { OnErr result (self.new ≡ self.old) }
     {
         if size == 0 || size > BLOCK_LIMIT {
@@ -144,7 +149,10 @@ impl Tape {
         if self.position + count > OBJECT_LIMIT as usize {
             return Err(TapeFault::Overflow);
         }
-        match self.store.put_blocks(self.position, bytes, size) {
+        match self
+            .store
+            .put_blocks(self.position, bytes, size, self.capacity)
+        {
             Ok(()) => {}
             Err(_) => return Err(TapeFault::NoMemory),
         }
@@ -153,10 +161,11 @@ impl Tape {
     }
 
     /// Writes `count` filemarks at the position and drops all that lay after (SSC-4, "WRITE FILEMARKS(6) command").
-    /// A count of 0 changes nothing.
+    /// A count of 0 changes nothing, and takes no memory.
     pub fn write_marks(&mut self, count: u32) -> Result<(), TapeFault>
         ensures ok { OnOk result (writes_marks self.old count ≡ Ok self.new) }
         ensures fault { IfErr result (IsFaultOf (writes_marks self.old count)) }
+        ensures memory { IsErrOf result TapeFault.NoMemory → 0 < count }
         ensures err { OnErr result (self.new ≡ self.old) }
     {
         if count == 0 {
@@ -175,14 +184,14 @@ impl Tape {
 
     /// Appends the first `limit` bytes of the block at the position, or all where it has fewer, and goes past the
     /// object (SSC-4, "READ(6) command"). The answer has the whole length of the block. It takes no memory where
-    /// `into` has room for `limit` bytes more.
+    /// `into` has room for what is appended.
     pub fn read(&mut self, limit: u32, into: &mut Vec<u8>) -> Result<Item, TapeFault>
         ensures item { IfOk result (λ item. item ≡ item_of (object_at self.old)) }
         ensures bytes { OnOk result (into.new.items ≡ into.old.items ++ bytes_of (object_at self.old) limit) }
         ensures after { OnOk result (self.new ≡ passed (object_at self.old) self.old) }
 
         ensures only { IsOkUnless result TapeFault.NoMemory }
-        ensures room { vec_len into.old + limit ≤ vec_capacity into.old → IsOk result }
+        ensures room { vec_len into.old + length (bytes_of (object_at self.old) limit) ≤ vec_capacity into.old → IsOk result }
         ensures err { OnErr result (self.new ≡ self.old) }
         ensures kept { OnErr result (into.new.items ≡ into.old.items) }
         ensures capacity { vec_capacity into.old ≤ vec_capacity into.new }
