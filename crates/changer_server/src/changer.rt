@@ -1,0 +1,177 @@
+//! The changer.
+
+ghost use Rattle.std.specs.Prelude.{◌≡◌, IfOk, OnErr, take};
+ghost use Rattle.tape_medium.specs.Elements.{move_refusal};
+ghost use Rattle.device_server.specs.Changer.{carried, changer_step};
+
+use crate::faults::{move_condition, put_fault, take_fault};
+use crate::mode::mode_data;
+use device_server::{BadPlace, DeviceServer, Outcome, Payload, PutFault, TakeFault, field_fault};
+use element_map::Elements;
+use scsi_cdb::{Kind, Request};
+use scsi_sense::Condition;
+use std::alloc::{AllocError, Global};
+use std::marker::Model;
+use tape_medium::{Volume, VolumeTag};
+
+/// A medium changer. Volumes that lie in drives are the drives' own; of them it has the tags.
+#[derive(Drop)]
+pub struct Changer {
+    elements: Elements,
+}
+
+impl Model for Changer {
+    ghost use Rattle.tape_medium.specs.Elements.{Elements};
+
+    ghost Value = { Elements };
+
+    ghost view = { λ c. c.elements };
+}
+
+impl Changer {
+    /// A changer with these elements, and with what they hold.
+    pub fn new(elements: Elements) -> Changer
+        ensures { result ≡ elements }
+    {
+        Changer { elements }
+    }
+
+    /// Carries out a command whose fields aren't refused.
+    fn step(&mut self, alloc: Global, request: &Request) -> Result<Outcome, AllocError>
+        ensures ok { IfOk result (λ outcome. changer_step self.old request.now ≡ (self.new, outcome)) }
+        ensures err { OnErr result (self.new ≡ self.old) }
+    {
+        match request {
+            Request::TestUnitReady | Request::InitializeElementStatus => {
+                Ok(Outcome::good(Payload::none(alloc)))
+            }
+            Request::ModeSense {
+                allocation_length,
+                ..
+            } => Ok(Outcome::good(mode_data(alloc, &self.elements, *allocation_length)?)),
+            Request::MoveMedium {
+                medium_transport_element_address,
+                source_element_address,
+                destination_element_address,
+                ..
+            } => Ok(self.move_medium(
+                alloc,
+                *medium_transport_element_address,
+                *source_element_address,
+                *destination_element_address,
+            )),
+            Request::ReadElementStatus {
+                volume_tags,
+                element_type_code,
+                starting_element_address,
+                number_of_elements,
+                allocation_length,
+                ..
+            } => {
+                let status = self.elements.status(
+                    alloc,
+                    *element_type_code,
+                    *starting_element_address,
+                    *number_of_elements,
+                    *volume_tags,
+                )?;
+                Ok(Outcome::good(Payload::of(status).cut(*allocation_length as usize)))
+            }
+            Request::Rewind
+            | Request::RequestSense { .. }
+            | Request::ReadBlockLimits
+            | Request::Read { .. }
+            | Request::Write { .. }
+            | Request::WriteFilemarks { .. }
+            | Request::Space { .. }
+            | Request::Inquiry { .. }
+            | Request::ModeSelect { .. }
+            | Request::Erase
+            | Request::LoadUnload { .. }
+            | Request::PreventAllowMediumRemoval { .. }
+            | Request::Locate { .. }
+            | Request::ReadPosition
+            | Request::PersistentReserveIn { .. }
+            | Request::PersistentReserveOut { .. }
+            | Request::ReportLuns { .. } => {
+                Ok(Outcome::check(alloc, Condition::InvalidCommandOperationCode))
+            }
+        }
+    }
+
+    /// MOVE MEDIUM: by the map and the marks, and then among the changer's own elements. What names a drive isn't for the changer alone.
+    fn move_medium(
+        &mut self,
+        alloc: Global,
+        transport: u16,
+        source: u16,
+        destination: u16,
+    ) -> Outcome
+        ensures { carried self.old source destination (move_refusal self.old transport source destination) ≡ (self.new, result) }
+    {
+        if let Some(fault) = self.elements.move_refusal(transport, source, destination) {
+            return Outcome::check(alloc, move_condition(fault));
+        }
+        match self.elements.move_volume(source, destination) {
+            Ok(()) => Outcome::good(Payload::none(alloc)),
+            Err(_) => Outcome::check(alloc, Condition::InternalTargetFailure),
+        }
+    }
+}
+
+impl DeviceServer for Changer {
+    ghost use Rattle.device_server.specs.View.{Changer};
+
+    ghost shown = { λ c. Changer c };
+
+    fn kind(&self) -> Kind {
+        Kind::Changer
+    }
+
+    fn drives(&self) -> u16 {
+        self.elements.drives()
+    }
+
+    fn held(&self, place: u16) -> Option<VolumeTag> {
+        match self.elements.read(place) {
+            Ok(tag) => tag,
+            Err(_) => None,
+        }
+    }
+
+    fn perform(
+        &mut self,
+        alloc: Global,
+        request: &Request,
+        bytes: &[u8],
+    ) -> Result<Outcome, AllocError> {
+        match field_fault(Kind::Changer, request, bytes) {
+            Some(condition) => Ok(Outcome::check(alloc, condition)),
+            None => self.step(alloc, request),
+        }
+    }
+
+    fn take_volume(&mut self, place: u16) -> Result<Volume, TakeFault> {
+        match self.elements.take(place) {
+            Ok(volume) => Ok(volume),
+            Err(fault) => Err(take_fault(fault)),
+        }
+    }
+
+    fn put_volume(&mut self, place: u16, volume: Volume) -> Result<(), (Volume, PutFault)> {
+        match self.elements.put(place, volume) {
+            Ok(()) => Ok(()),
+            Err((volume, fault)) => Err((volume, put_fault(fault))),
+        }
+    }
+
+    fn mark(&mut self, place: u16, tag: Option<VolumeTag>) -> Result<(), BadPlace> {
+        match self.elements.mark(place, tag) {
+            Ok(()) => Ok(()),
+            Err(_) => Err(BadPlace),
+        }
+    }
+
+    /// The elements stay as they are.
+    fn reset(&mut self) {}
+}

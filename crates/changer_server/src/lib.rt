@@ -1,0 +1,10 @@
+//! A medium changer, and the commands that it carries out on its elements.
+#![tactic(auto)]
+
+mod changer;
+mod faults;
+mod mode;
+#[cfg(test)]
+mod tests;
+
+pub use changer::Changer;
