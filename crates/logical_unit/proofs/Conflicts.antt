@@ -19,14 +19,15 @@ use Rattle.audit_log.specs.declared.act.Act.{Act}
 use Rattle.audit_log.specs.declared.act.Act.TheVariants.{Command, ReserveOut, Invalid, Loss, Reset, MediumIn, MediumOut}
 use Rattle.audit_log.specs.declared.record.Record.{Record}
 use Rattle.audit_log.specs.declared.stage.Stage.TheVariants.{ResetAttention, ReservationCheck, OtherAttention, Fields, Device}
-use Rattle.logical_unit.specs.declared.finding.Finding.{Finding}
-use Rattle.logical_unit.specs.declared.reply.Reply.{Reply}
-use Rattle.logical_unit.specs.Conditions.{condition_of_attention, condition_of_refusal}
-use Rattle.logical_unit.specs.Findings.{at_stage, let_in, in_conflict}
-use Rattle.logical_unit.specs.Replies.{conflict, check, good}
-use Rattle.logical_unit.specs.KeptView.{KeptView}
-use Rattle.logical_unit.specs.Kept.{met}
-use Rattle.logical_unit.specs.Judge.{verdict_by, waiting}
+use Rattle.judgement.specs.declared.finding.Finding.{Finding}
+use Rattle.unit_answers.specs.declared.reply.Reply.{Reply}
+use Rattle.unit_answers.specs.Conditions.{condition_of_attention, condition_of_refusal}
+use Rattle.judgement.specs.Findings.{at_stage, let_in, in_conflict}
+use Rattle.unit_answers.specs.Replies.{conflict, check, good, IsWhole}
+use Rattle.unit_state.specs.KeptView.{KeptView}
+use Rattle.unit_state.specs.Kept.{met}
+use Rattle.unit_state.specs.Readings.{verdict_by}
+use Rattle.judgement.specs.Judge.{waiting}
 use Rattle.logical_unit.specs.Legal.{kept_by, Says, SaysItsOwn, IsCarriedOut, IsLetThrough, IsChecked, IsCommand, IsJudgedAs, AreJudged, ConflictsAtTheCheck}
 
 abbrev pub AtTheCheck : Record → Type 0
@@ -42,8 +43,12 @@ own_stage : (e : Record) → (e.stage ≡ Fields) ⊎ (e.stage ≡ Device) → e
 own_stage e (inl a) h = cc
 own_stage e (inr a) h = cc
 
+whole_no_conflict : (e : Record) → IsWhole e.status e.sense → e.status ≢ ReservationConflict
+whole_no_conflict e (inl a) h = let is = a.0 in cc
+whole_no_conflict e (inr a) h = let is = a.0 in cc
+
 own : (e : Record) (at : Cell) → SaysItsOwn e at → AtTheCheck e
-own e at s = (λ h. absurd (s.status h), λ h. absurd (own_stage e s.stage h))
+own e at s = (λ h. absurd (whole_no_conflict e s.whole h), λ h. absurd (own_stage e s.stage h))
 
 carried : (k : KeptView) (n : Nexus) (list : Option OutParams) (class : Class) (e : Record) → IsCarriedOut k n list class e → AtTheCheck e
 carried k n None class e = own e (cell k.reservations n class)
@@ -79,10 +84,10 @@ commanded k n list class e =
     ]
 
 judged : (k : KeptView) (nexus : Option Nexus) (act : Act) (e : Record) → IsJudgedAs k nexus act e → AtTheCheck e
-judged k (Some n) (Command class) e j = commanded (met k n) n None class e j
-judged k (Some n) (ReserveOut params) e j = commanded (met k n) n (Some params) (class_of_action params.act) e j
-judged k (Some n) Invalid e j = elsewhere e _ (check j.0) (λ h. cc) (λ h. cc) j.1
-judged k (Some n) Loss e j = elsewhere e _ (good []) (λ h. cc) (λ h. cc) j
+judged k (Some n) (Command class) e j = commanded (met k n) n None class e j.judged
+judged k (Some n) (ReserveOut params) e j = commanded (met k n) n (Some params) (class_of_action params.act) e j.judged
+judged k (Some n) Invalid e j = elsewhere e _ (check j.condition) (λ h. cc) (λ h. cc) j.says
+judged k (Some n) Loss e j = elsewhere e _ (good []) (λ h. cc) (λ h. cc) j.says
 judged k (Some n) Reset e j = absurd j
 judged k (Some n) MediumIn e j = absurd j
 judged k (Some n) MediumOut e j = absurd j
@@ -92,7 +97,7 @@ judged k None Invalid e j = absurd j
 judged k None Loss e j = absurd j
 judged k None Reset e j = elsewhere e _ (good []) (λ h. cc) (λ h. cc) j
 judged k None MediumIn e j = elsewhere e _ (good []) (λ h. cc) (λ h. cc) j
-judged k None MediumOut e j = elsewhere e _ (good []) (λ h. cc) (λ h. cc) j.1
+judged k None MediumOut e j = elsewhere e _ (good []) (λ h. cc) (λ h. cc) j.says
 
 all : (k : KeptView) (es : List Record) → AreJudged k es → All AtTheCheck es
 all k [] j place d within = absurd (omega (arith, within))

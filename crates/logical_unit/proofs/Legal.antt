@@ -4,10 +4,10 @@ use Rattle.scsi_cdb.specs.declared.classes.Class.{Class}
 use Rattle.scsi_cdb.specs.declared.classes.Class.TheVariants as class
 use Rattle.scsi_nexus.specs.declared.nexus.Nexus.{Nexus}
 use Rattle.scsi_sense.specs.declared.condition.Condition.{Condition}
-use Rattle.scsi_sense.specs.declared.condition.Condition.TheVariants.{MediumRemovalPrevented}
+use Rattle.scsi_sense.specs.declared.condition.Condition.TheVariants.{InvalidFieldInCdb, MediumRemovalPrevented}
 use Rattle.scsi_sense.specs.declared.status.Status.{Status}
 use Rattle.unit_attention.specs.declared.kind.Kind.{Kind}
-use Rattle.unit_attention.specs.Queues.{first_reset_of, first_other_of}
+use Rattle.unit_attention.specs.Queues.{has_slot, first_reset_of, first_other_of}
 use Rattle.permit_tables.specs.declared.cell.Cell.{Cell}
 use Rattle.pr_core.specs.Outcome.{refusal}
 use Rattle.pr_core.specs.declared.pr_fault.PrFault.{PrFault}
@@ -22,23 +22,25 @@ use Rattle.audit_log.specs.declared.stage.Stage.TheVariants.{ResetAttention, Oth
 use Rattle.device_server.specs.View.{DeviceView, kind_of, field_fault, performed}
 use Rattle.scsi_cdb.specs.declared.request.Request.{Request}
 use Rattle.scsi_cdb.specs.Classes.{class_of}
-use Rattle.logical_unit.specs.declared.command.Command.{Command}
-use Rattle.logical_unit.specs.declared.command.Command.TheVariants.{ReserveOut, ReserveIn, Inquiry, ReportLuns, RequestSense, Prevent, Device}
-use Rattle.logical_unit.specs.declared.finding.Finding.{Finding}
-use Rattle.logical_unit.specs.declared.reply.Reply.{Reply}
-use Rattle.logical_unit.specs.Commands.{class_of_command, list_of, act_of_spelled}
-use Rattle.logical_unit.specs.Conditions.{condition_of_attention, condition_of_refusal}
-use Rattle.logical_unit.specs.Findings.{at_stage, let_in, in_conflict}
-use Rattle.logical_unit.specs.UnitData.{inquiry_data, selected_luns}
-use Rattle.logical_unit.specs.Replies.{conflict, check, good, data_reply}
-use Rattle.logical_unit.specs.KeptView.{KeptView}
-use Rattle.logical_unit.specs.UnitView.{Present}
-use Rattle.logical_unit.specs.Kept.{met, accepted, is_prevented, with_medium}
-use Rattle.logical_unit.specs.Judge.{cell_of, verdict_of, waiting, pending_of, sensed, senses, tells, steps, unloads, performs, at_cell, carried_out, let_through, checked, commanded, judged_as}
-use Rattle.logical_unit.specs.Step.{entry_of, event_of, kept_after_loss, kept_after_reset}
-use Rattle.logical_unit.specs.Legal.{reported_if, left_by_class, left_at, kept_by, kept_after, Says, SaysItsOwn, IsCarriedOut, IsLetThrough, IsChecked, IsCommand, IsJudged, AreJudged}
-use Rattle.logical_unit.proofs.Check.{prevents_by}
-use Rattle.logical_unit.proofs.Outcomes.{performed_own}
+use Rattle.unit_commands.specs.declared.command.Command.{Command}
+use Rattle.unit_commands.specs.declared.command.Command.TheVariants.{ReserveOut, ReserveIn, Inquiry, ReportLuns, RequestSense, Prevent, Device}
+use Rattle.judgement.specs.declared.finding.Finding.{Finding}
+use Rattle.unit_answers.specs.declared.reply.Reply.{Reply}
+use Rattle.unit_commands.specs.Commands.{class_of_command, list_of, act_of_spelled}
+use Rattle.unit_answers.specs.Conditions.{condition_of_attention, condition_of_refusal}
+use Rattle.judgement.specs.Findings.{at_stage, let_in, in_conflict}
+use Rattle.unit_answers.specs.UnitData.{inquiry_data, selected_luns}
+use Rattle.unit_answers.specs.Replies.{conflict, check, good, data_reply}
+use Rattle.unit_state.specs.KeptView.{KeptView}
+use Rattle.judgement.specs.Present.{Present}
+use Rattle.unit_state.specs.Kept.{has_room, met, accepted, is_prevented, with_medium}
+use Rattle.judgement.specs.Judge.{cell_of, waiting, sensed, senses, tells, steps, unloads, performs, at_cell, carried_out, let_through, checked, commanded, judged_as}
+use Rattle.unit_state.specs.Readings.{verdict_of, pending_of}
+use Rattle.logical_unit.specs.Step.{entry_of, event_of}
+use Rattle.unit_state.specs.Kept.{kept_after_loss, kept_after_reset}
+use Rattle.logical_unit.specs.Legal.{is_reserve_out, is_never_refused, reported_if, left_by_class, left_at, kept_by, kept_after, Says, SaysItsOwn, IsCarriedOut, IsLetThrough, IsChecked, IsCommand, IsJudged, AreJudged}
+use Rattle.judgement.proofs.Carried.{prevents_by}
+use Rattle.device_server.proofs.Outcomes.{performed_own}
 use Rattle.logical_unit.proofs.Plain.{IsPlain, IsPlainIf}
 
 -- the record of a judgement
@@ -52,9 +54,36 @@ Fits J k n c m a x = J (entry m n a x) × (x.0.kept ≡ left_at x.1.stage k n (l
 says : (m : ℕ) (n : Nexus) (a : Act) (f : Finding) (r : Reply) → Says (entry_of m (Some n) a f r.status r.sense) f r
 says m n a f r = record { stage = refl; cell = refl; rule = refl; mode_changed = refl; status = refl; sense = refl }
 
-data_says : (m : ℕ) (n : Nexus) (a : Act) (at : Cell) (o : Option (List ℕ)) (l : ℕ) → SaysItsOwn (entry_of m (Some n) a (let_in at (data_reply o l).0) (data_reply o l).1.status (data_reply o l).1.sense) at
-data_says m n a at (Some payload) l = record { stage = inr refl; cell = refl; rule = refl; status = λ e. cc; mode = λ e. absurd cc }
-data_says m n a at None l = record { stage = inl refl; cell = refl; rule = refl; status = λ e. cc; mode = λ e. absurd cc }
+-- GOOD at the device's stage, and fields that are refused
+good_says : (m : ℕ) (n : Nexus) (a : Act) (at : Cell) (payload : List ℕ) → SaysItsOwn (entry_of m (Some n) a (let_in at stage.Device) (good payload).status (good payload).sense) at
+good_says m n a at payload = record {
+  stage = inr refl;
+  cell = refl;
+  rule = refl;
+  whole = inl (refl, refl);
+  fields = λ e. absurd cc;
+  unit = λ own e. refl;
+  reached = λ never. refl;
+  mode = λ e. absurd cc;
+}
+
+field_says : (m : ℕ) (n : Nexus) (a : Act) (at : Cell) (condition : Condition) → is_never_refused at.class ≡ false
+    → SaysItsOwn (entry_of m (Some n) a (let_in at Fields) (check condition).status (check condition).sense) at
+field_says m n a at condition h = record {
+  stage = inl refl;
+  cell = refl;
+  rule = refl;
+  whole = inr (refl, refl);
+  fields = λ e. refl;
+  unit = λ own e. absurd cc;
+  reached = λ never. absurd cc;
+  mode = λ e. absurd cc;
+}
+
+data_says : (m : ℕ) (n : Nexus) (a : Act) (at : Cell) (o : Option (List ℕ)) (l : ℕ) → is_never_refused at.class ≡ false
+    → SaysItsOwn (entry_of m (Some n) a (let_in at (data_reply o l).0) (data_reply o l).1.status (data_reply o l).1.sense) at
+data_says m n a at (Some payload) l h = good_says m n a at payload
+data_says m n a at None l h = field_says m n a at InvalidFieldInCdb h
 
 data_left : (k : KeptView) (n : Nexus) (class : Class) (s : Status) (o : Option (List ℕ)) (l : ℕ) → k ≡ left_by_class k n class false → k ≡ left_at (data_reply o l).0 k n None class s false
 data_left k n class s (Some payload) l h = h
@@ -62,30 +91,51 @@ data_left k n class s None l h = refl
 
 sensed_fits : (u : Present) (n : Nexus) (at : Cell) (l : ℕ) (m : ℕ) (a : Act) (o : Option Kind) → pending_of u.kept.slots n ≡ o
     → Fits (λ e. SaysItsOwn e at) u.kept n (RequestSense false l) m a (at_cell at (senses u (sensed u.kept n l o)))
-sensed_fits u n at l m a (Some kind) h = (record { stage = inr refl; cell = refl; rule = refl; status = λ e. cc; mode = λ e. absurd cc }, sym (ap (reported_if u.kept n) h))
-sensed_fits u n at l m a None h = (record { stage = inr refl; cell = refl; rule = refl; status = λ e. cc; mode = λ e. absurd cc }, sym (ap (reported_if u.kept n) h))
+sensed_fits u n at l m a (Some kind) h = (good_says m n a at [], sym (ap (reported_if u.kept n) h))
+sensed_fits u n at l m a None h = (good_says m n a at [], sym (ap (reported_if u.kept n) h))
 
-prevent_fits : (u : Present) (n : Nexus) (at : Cell) (m : ℕ) (a : Act) (zero one : Bool)
+prevent_fits : (u : Present) (n : Nexus) (at : Cell) (m : ℕ) (a : Act) (zero one : Bool) → at.class ≡ (if zero then class.AllowRemoval else class.PreventRemoval)
     → SaysItsOwn (entry m n a (at_cell at (prevents_by u n zero one))) at
     × ((prevents_by u n zero one).0.kept ≡ left_at (prevents_by u n zero one).1.stage u.kept n None (if zero then class.AllowRemoval else class.PreventRemoval) (prevents_by u n zero one).2.status (prevents_by u n zero one).1.mode_changed)
-prevent_fits u n at m a true one = (record { stage = inr refl; cell = refl; rule = refl; status = λ e. cc; mode = λ e. absurd cc }, refl)
-prevent_fits u n at m a false true = (record { stage = inr refl; cell = refl; rule = refl; status = λ e. cc; mode = λ e. absurd cc }, refl)
-prevent_fits u n at m a false false = (record { stage = inl refl; cell = refl; rule = refl; status = λ e. cc; mode = λ e. absurd cc }, refl)
+prevent_fits u n at m a true one h = (good_says m n a at [], refl)
+prevent_fits u n at m a false true h = (good_says m n a at [], refl)
+prevent_fits u n at m a false false h = (field_says m n a at InvalidFieldInCdb (ap is_never_refused h), refl)
 
 steps_fits : (u : Present) (n : Nexus) (r : Request) (bytes : List ℕ) (m : ℕ) (a : Act) → IsPlain (Device r) → (prevented : Bool)
     → Fits (IsCarriedOut u.kept n None (class_of r)) u.kept n (Device r) m a (at_cell (cell_of u n (Device r)) (cond prevented (u, at_stage stage.Device, check MediumRemovalPrevented) (steps u n (performed u.device r bytes))))
-steps_fits u n r bytes m a plain true = (record { stage = inr refl; cell = refl; rule = refl; status = λ e. cc; mode = λ e. absurd cc }, plain u.kept n false)
+steps_fits u n r bytes m a plain true = (
+  record {
+    stage = inr refl;
+    cell = refl;
+    rule = refl;
+    whole = inr (refl, refl);
+    fields = λ e. absurd cc;
+    unit = λ own e. let no = plain.own in absurd cc;
+    reached = λ never. refl;
+    mode = λ e. absurd cc;
+  },
+  plain.tells u.kept n false,
+)
 steps_fits u n r bytes m a plain false =
     let own = performed_own u.device r bytes in (
-      record { stage = inr refl; cell = refl; rule = refl; status = own.status; mode = λ e. let changed = own.mode e in record { class = changed.0; stage = refl; status = changed.1 } },
-      plain u.kept n (performed u.device r bytes).1.mode_changed,
+      record {
+        stage = inr refl;
+        cell = refl;
+        rule = refl;
+        whole = own.ended;
+        fields = λ e. absurd cc;
+        unit = λ every e. let no = plain.own in absurd cc;
+        reached = λ never. refl;
+        mode = λ e. let changed = own.mode e in record { class = changed.0; stage = refl; status = changed.1 };
+      },
+      plain.tells u.kept n (performed u.device r bytes).1.mode_changed,
     )
 
 performs_fits : (u : Present) (n : Nexus) (r : Request) (bytes : List ℕ) (m : ℕ) (a : Act) → IsPlain (Device r)
     → Fits (IsCarriedOut u.kept n None (class_of r)) u.kept n (Device r) m a (at_cell (cell_of u n (Device r)) (performs u n r bytes))
 performs_fits u n r bytes m a plain =
     elim (field_fault u.device r bytes) as (λ (o : Option Condition). Fits (IsCarriedOut u.kept n None (class_of r)) u.kept n (Device r) m a (at_cell (cell_of u n (Device r)) (elim o [ Some condition ↦ (u, at_stage Fields, check condition) | None ↦ cond (unloads r && is_prevented u.kept) (u, at_stage stage.Device, check MediumRemovalPrevented) (steps u n (performed u.device r bytes)) ]))) [
-      | Some condition ↦ (record { stage = inl refl; cell = refl; rule = refl; status = λ e. cc; mode = λ e. absurd cc }, refl)
+      | Some condition ↦ (field_says m n a (cell_of u n (Device r)) condition plain.refusable, refl)
       | None ↦ steps_fits u n r bytes m a plain (unloads r && is_prevented u.kept)
     ]
 
@@ -97,16 +147,16 @@ carried_fits u n (ReserveOut p) bytes m a plain =
       | Some fault ↦ (says m n a (let_in at Fields) (check (condition_of_refusal fault)), refl)
       | None ↦ (says m n a (let_in at stage.Device) (good []), refl)
     ]
-carried_fits u n (ReserveIn act l) bytes m a plain = (record { stage = inr refl; cell = refl; rule = refl; status = λ e. cc; mode = λ e. absurd cc }, refl)
+carried_fits u n (ReserveIn act l) bytes m a plain = (good_says m n a (cell_of u n (ReserveIn act l)) [], refl)
 carried_fits u n (Inquiry e p l) bytes m a plain =
     let o = inquiry_data (kind_of u.device) u.kept.lun e p in
-    (data_says m n a (cell_of u n (Inquiry e p l)) o l, data_left u.kept n class.Inquiry (data_reply o l).1.status o l refl)
+    (data_says m n a (cell_of u n (Inquiry e p l)) o l refl, data_left u.kept n class.Inquiry (data_reply o l).1.status o l refl)
 carried_fits u n (ReportLuns s l) bytes m a plain =
     let o = selected_luns u.kept.units s in
-    (data_says m n a (cell_of u n (ReportLuns s l)) o l, data_left u.kept n class.ReportLuns (data_reply o l).1.status o l refl)
-carried_fits u n (RequestSense true l) bytes m a plain = (record { stage = inl refl; cell = refl; rule = refl; status = λ e. cc; mode = λ e. absurd cc }, refl)
+    (data_says m n a (cell_of u n (ReportLuns s l)) o l refl, data_left u.kept n class.ReportLuns (data_reply o l).1.status o l refl)
+carried_fits u n (RequestSense true l) bytes m a plain = (field_says m n a (cell_of u n (RequestSense true l)) InvalidFieldInCdb refl, refl)
 carried_fits u n (RequestSense false l) bytes m a plain = sensed_fits u n (cell_of u n (RequestSense false l)) l m a (pending_of u.kept.slots n) refl
-carried_fits u n (Prevent p) bytes m a plain = prevent_fits u n (cell_of u n (Prevent p)) m a (p == 0) (p == 1)
+carried_fits u n (Prevent p) bytes m a plain = prevent_fits u n (cell_of u n (Prevent p)) m a (p == 0) (p == 1) refl
 carried_fits u n (Device r) bytes m a plain = performs_fits u n r bytes m a plain
 
 let_through_as : (u : Present) (n : Nexus) (c : Command) (bytes : List ℕ) (m : ℕ) (a : Act) → IsPlain c → (o : Option Kind) → waiting (class_of_command c) (first_other_of u.kept.slots n) ≡ o
@@ -145,30 +195,36 @@ pub record IsNext (k : KeptView) (e : Record) (now : KeptView) : Type 0 where
   pub judged : IsJudged k e
   pub kept : now ≡ kept_by k e
 
-judged_next : (k : KeptView) (d : DeviceView) (n : Nexus) (s : Result Command Condition) (bytes : List ℕ) (m : ℕ) → IsPlainIf s
+-- what doesn't stand with a list
+listless_either : (b : Bool) → is_reserve_out (if b then class.AllowRemoval else class.PreventRemoval) ≡ false
+listless_either true = refl
+listless_either false = refl
+
+judged_next : (k : KeptView) (d : DeviceView) (n : Nexus) (s : Result Command Condition) (bytes : List ℕ) (m : ℕ) → has_room k n ≡ true → IsPlainIf s
     → IsNext k (entry m n (act_of_spelled s) (judged_as (record { device = d; kept = met k n }) n s bytes)) (judged_as (record { device = d; kept = met k n }) n s bytes).0.kept
-judged_next k d n (Err condition) bytes m plain = record { judged = (condition, says m n act.Invalid (at_stage stage.Spelling) (check condition)); kept = refl }
-judged_next k d n (Ok (ReserveOut p)) bytes m plain =
+judged_next k d n (Err condition) bytes m room plain =
+    record { judged = record { room = room; condition = condition; spelling = plain; says = says m n act.Invalid (at_stage stage.Spelling) (check condition) }; kept = refl }
+judged_next k d n (Ok (ReserveOut p)) bytes m room plain =
     let f = commanded_fits (record { device = d; kept = met k n }) n (ReserveOut p) bytes m (act_of_spelled (Ok (ReserveOut p))) plain in
-    record { judged = f.0; kept = f.1 }
-judged_next k d n (Ok (ReserveIn a l)) bytes m plain =
+    record { judged = record { room = room; judged = f.0 }; kept = f.1 }
+judged_next k d n (Ok (ReserveIn a l)) bytes m room plain =
     let f = commanded_fits (record { device = d; kept = met k n }) n (ReserveIn a l) bytes m (act_of_spelled (Ok (ReserveIn a l))) plain in
-    record { judged = f.0; kept = f.1 }
-judged_next k d n (Ok (Inquiry e p l)) bytes m plain =
+    record { judged = record { room = room; listless = refl; judged = f.0 }; kept = f.1 }
+judged_next k d n (Ok (Inquiry e p l)) bytes m room plain =
     let f = commanded_fits (record { device = d; kept = met k n }) n (Inquiry e p l) bytes m (act_of_spelled (Ok (Inquiry e p l))) plain in
-    record { judged = f.0; kept = f.1 }
-judged_next k d n (Ok (ReportLuns s l)) bytes m plain =
+    record { judged = record { room = room; listless = refl; judged = f.0 }; kept = f.1 }
+judged_next k d n (Ok (ReportLuns s l)) bytes m room plain =
     let f = commanded_fits (record { device = d; kept = met k n }) n (ReportLuns s l) bytes m (act_of_spelled (Ok (ReportLuns s l))) plain in
-    record { judged = f.0; kept = f.1 }
-judged_next k d n (Ok (RequestSense e l)) bytes m plain =
+    record { judged = record { room = room; listless = refl; judged = f.0 }; kept = f.1 }
+judged_next k d n (Ok (RequestSense e l)) bytes m room plain =
     let f = commanded_fits (record { device = d; kept = met k n }) n (RequestSense e l) bytes m (act_of_spelled (Ok (RequestSense e l))) plain in
-    record { judged = f.0; kept = f.1 }
-judged_next k d n (Ok (Prevent p)) bytes m plain =
+    record { judged = record { room = room; listless = refl; judged = f.0 }; kept = f.1 }
+judged_next k d n (Ok (Prevent p)) bytes m room plain =
     let f = commanded_fits (record { device = d; kept = met k n }) n (Prevent p) bytes m (act_of_spelled (Ok (Prevent p))) plain in
-    record { judged = f.0; kept = f.1 }
-judged_next k d n (Ok (Device r)) bytes m plain =
+    record { judged = record { room = room; listless = listless_either (p == 0); judged = f.0 }; kept = f.1 }
+judged_next k d n (Ok (Device r)) bytes m room plain =
     let f = commanded_fits (record { device = d; kept = met k n }) n (Device r) bytes m (act_of_spelled (Ok (Device r))) plain in
-    record { judged = f.0; kept = f.1 }
+    record { judged = record { room = room; listless = plain.listless; judged = f.0 }; kept = f.1 }
 
 AreJudged-push : (k : KeptView) (es : List Record) (e : Record) → AreJudged k es → IsJudged (kept_after k es) e → AreJudged k (es ++ e ∷ [])
 AreJudged-push k [] e all last = (last, tt)
@@ -189,17 +245,17 @@ next_stands base kept now es e old next =
 
 -- a command's record
 pub answered_stands : (base kept now : KeptView) (es : List Record) (d after : DeviceView) (n : Nexus) (s : Result Command Condition) (bytes : List ℕ) (m : ℕ) (a : Act) (f : Finding) (r : Reply)
-    → Stands base es kept → IsPlainIf s → a ≡ act_of_spelled s
+    → Stands base es kept → has_room kept n ≡ true → IsPlainIf s → a ≡ act_of_spelled s
     → judged_as (record { device = d; kept = met kept n }) n s bytes ≡ (record { device = after; kept = now }, f, r)
     → Stands base (es ++ entry_of m (Some n) a f r.status r.sense ∷ []) now
-answered_stands base kept now es d after n s bytes m a f r old plain asked judged =
-    let next : IsNext kept (entry_of m (Some n) (act_of_spelled s) f r.status r.sense) now = subst (λ (x : Present × Finding × Reply). IsNext kept (entry m n (act_of_spelled s) x) x.0.kept) judged (judged_next kept d n s bytes m plain) in
+answered_stands base kept now es d after n s bytes m a f r old room plain asked judged =
+    let next : IsNext kept (entry_of m (Some n) (act_of_spelled s) f r.status r.sense) now = subst (λ (x : Present × Finding × Reply). IsNext kept (entry m n (act_of_spelled s) x) x.0.kept) judged (judged_next kept d n s bytes m room plain) in
     next_stands base kept now es _ old (subst (λ (x : Act). IsNext kept (entry_of m (Some n) x f r.status r.sense) now) (sym asked) next)
 
 -- the record of a loss, and of a reset
-pub lost_stands : (base kept : KeptView) (es : List Record) (n : Nexus) (m : ℕ) → Stands base es kept → Stands base (es ++ event_of m (Some n) act.Loss ∷ []) (kept_after_loss kept n)
-lost_stands base kept es n m old =
-    next_stands base kept (kept_after_loss kept n) es (event_of m (Some n) act.Loss) old (record { judged = record { stage = refl; cell = refl; rule = refl; mode_changed = refl; status = refl; sense = refl }; kept = refl })
+pub lost_stands : (base kept : KeptView) (es : List Record) (n : Nexus) (m : ℕ) → has_slot kept.slots n ≡ true → Stands base es kept → Stands base (es ++ event_of m (Some n) act.Loss ∷ []) (kept_after_loss kept n)
+lost_stands base kept es n m slot old =
+    next_stands base kept (kept_after_loss kept n) es (event_of m (Some n) act.Loss) old (record { judged = record { slot = slot; says = record { stage = refl; cell = refl; rule = refl; mode_changed = refl; status = refl; sense = refl } }; kept = refl })
 
 pub reset_stands : (base kept : KeptView) (es : List Record) (m : ℕ) → Stands base es kept → Stands base (es ++ event_of m None act.Reset ∷ []) (kept_after_reset kept)
 reset_stands base kept es m old =
@@ -212,4 +268,4 @@ medium_in_stands base kept es m old =
 
 pub medium_out_stands : (base kept : KeptView) (es : List Record) (m : ℕ) → is_prevented kept ≡ false → Stands base es kept → Stands base (es ++ event_of m None act.MediumOut ∷ []) kept
 medium_out_stands base kept es m free old =
-    next_stands base kept kept es (event_of m None act.MediumOut) old (record { judged = (free, record { stage = refl; cell = refl; rule = refl; mode_changed = refl; status = refl; sense = refl }); kept = refl })
+    next_stands base kept kept es (event_of m None act.MediumOut) old (record { judged = record { free = free; says = record { stage = refl; cell = refl; rule = refl; mode_changed = refl; status = refl; sense = refl } }; kept = refl })

@@ -1,9 +1,7 @@
-pub mod Contact
 pub mod History
-pub mod Outcomes
 pub mod Check
-pub mod SameKind
 pub mod Plain
 pub mod Legal
 pub mod Executed
 pub mod Conflicts
+pub mod Shown

@@ -8,14 +8,15 @@ use Rattle.unit_attention.specs.Queues.{first_reset_of}
 use Rattle.pr_core.specs.State.{cell}
 use Rattle.pr_core.specs.declared.verdict.Verdict.TheVariants.{Allowed}
 use Rattle.device_server.specs.View.{kind_of}
-use Rattle.logical_unit.specs.declared.finding.Finding.{Finding}
-use Rattle.logical_unit.specs.declared.command.Command.{Command}
-use Rattle.logical_unit.specs.Commands.{spelled, class_of_command, act_of_command}
-use Rattle.logical_unit.specs.Findings.{rule_of, in_conflict}
-use Rattle.logical_unit.specs.Replies.{conflict}
+use Rattle.judgement.specs.declared.finding.Finding.{Finding}
+use Rattle.unit_commands.specs.declared.command.Command.{Command}
+use Rattle.unit_commands.specs.Commands.{spelled, class_of_command, act_of_command}
+use Rattle.judgement.specs.Findings.{rule_of, in_conflict}
+use Rattle.unit_answers.specs.Replies.{conflict}
 use Rattle.logical_unit.specs.UnitView.{UnitView}
-use Rattle.logical_unit.specs.Kept.{met}
-use Rattle.logical_unit.specs.Judge.{verdict_of, waiting, let_through}
+use Rattle.unit_state.specs.Kept.{met}
+use Rattle.unit_state.specs.Readings.{verdict_of}
+use Rattle.judgement.specs.Judge.{waiting, let_through}
 use Rattle.logical_unit.specs.Step.{contacted_present, recorded, answered}
 
 -- the bytes spell a command, and no attention of ASC 29h waits for its sender, or the command passes over it

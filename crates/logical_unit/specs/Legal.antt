@@ -1,15 +1,16 @@
 -- Legal trails: what each record changes in what is kept, and how it must have been judged after the records before it.
-use Rattle.std.specs.Prelude.{◌≡◌, ◌≢◌, ◌↔◌, Bool, true, false, List, [], ◌∷◌, Option, None, Some, if◌then◌else◌, ◌⊎◌}
-use Rattle.std.specs.List.{All}
+use Rattle.std.specs.Prelude.{◌≡◌, ◌↔◌, Bool, true, false, List, [], ◌∷◌, Option, None, Some, if◌then◌else◌, ◌⊎◌}
+use Rattle.std.specs.List.{All, flat_map}
 use Rattle.scsi_cdb.specs.declared.classes.Class.{Class}
-use Rattle.scsi_cdb.specs.declared.classes.Class.TheVariants.{RequestSense, PreventRemoval, AllowRemoval, ModeSelect}
+use Rattle.scsi_cdb.specs.declared.classes.Class.TheVariants.{Inquiry, ReportLuns, RequestSense, PersistentReserveIn, PreventRemoval, AllowRemoval, ModeSelect, Register, Reserve, Release, Clear, Preempt, PreemptAndAbort, RegisterAndIgnoreExistingKey, RegisterAndMove}
 use Rattle.scsi_cdb.specs.Classes.{class_of_action}
 use Rattle.scsi_nexus.specs.declared.nexus.Nexus.{Nexus}
 use Rattle.scsi_sense.specs.declared.condition.Condition.{Condition}
+use Rattle.scsi_sense.specs.declared.condition.Condition.TheVariants.{InvalidCommandOperationCode, InvalidFieldInCdb, ParameterListLengthError}
 use Rattle.scsi_sense.specs.declared.status.Status.{Status}
-use Rattle.scsi_sense.specs.declared.status.Status.TheVariants.{Good, ReservationConflict}
+use Rattle.scsi_sense.specs.declared.status.Status.TheVariants.{Good, CheckCondition, ReservationConflict}
 use Rattle.unit_attention.specs.declared.kind.Kind.{Kind}
-use Rattle.unit_attention.specs.Queues.{first_reset_of, first_other_of}
+use Rattle.unit_attention.specs.Queues.{has_slot, first_reset_of, first_other_of}
 use Rattle.permit_tables.specs.declared.cell.Cell.{Cell}
 use Rattle.pr_params.specs.declared.out_params.OutParams.{OutParams}
 use Rattle.pr_core.specs.State.{cell}
@@ -21,16 +22,18 @@ use Rattle.audit_log.specs.declared.record.Record.{Record}
 use Rattle.audit_log.specs.declared.stage.Stage.{Stage}
 use Rattle.audit_log.specs.declared.stage.Stage.TheVariants.{Spelling, ResetAttention, ReservationCheck, OtherAttention, Fields, Device}
 use Rattle.audit_log.specs.TrailView.{IsNumbered}
-use Rattle.logical_unit.specs.declared.finding.Finding.{Finding}
-use Rattle.logical_unit.specs.declared.reply.Reply.{Reply}
-use Rattle.logical_unit.specs.Conditions.{condition_of_attention, condition_of_refusal}
-use Rattle.logical_unit.specs.Findings.{at_stage, let_in, in_conflict}
-use Rattle.logical_unit.specs.Replies.{good, check, conflict}
-use Rattle.logical_unit.specs.KeptView.{KeptView}
+use Rattle.judgement.specs.declared.finding.Finding.{Finding}
+use Rattle.unit_answers.specs.declared.reply.Reply.{Reply}
+use Rattle.unit_answers.specs.Conditions.{condition_of_attention, condition_of_refusal}
+use Rattle.judgement.specs.History.{Accepted, is_good, after_history}
+use Rattle.judgement.specs.Findings.{at_stage, let_in, in_conflict}
+use Rattle.unit_answers.specs.Replies.{good, check, conflict, IsWhole}
+use Rattle.unit_state.specs.KeptView.{KeptView}
 use Rattle.logical_unit.specs.UnitView.{Base}
-use Rattle.logical_unit.specs.Kept.{met, reported, accepted, prevented, allowed, is_prevented, after_mode, with_medium}
-use Rattle.logical_unit.specs.Judge.{verdict_by, waiting, pending_of}
-use Rattle.logical_unit.specs.Step.{kept_after_loss, kept_after_reset}
+use Rattle.unit_state.specs.Kept.{has_room, met, reported, accepted, prevented, allowed, is_prevented, after_mode, with_medium}
+use Rattle.unit_state.specs.Readings.{verdict_by, pending_of}
+use Rattle.judgement.specs.Judge.{waiting}
+use Rattle.unit_state.specs.Kept.{kept_after_loss, kept_after_reset}
 
 -- after the report of an attention, where one waits
 abbrev pub reported_if : KeptView → Nexus → Option Kind → KeptView
@@ -44,10 +47,6 @@ left_by_class k n RequestSense mode_changed = reported_if k n (pending_of k.slot
 left_by_class k n PreventRemoval mode_changed = prevented k n
 left_by_class k n AllowRemoval mode_changed = allowed k n
 left_by_class k n class mode_changed = after_mode k n mode_changed
-
-abbrev pub is_good : Status → Bool
-is_good Good = true
-is_good status = false
 
 -- what a command leaves that came to stage 6: PERSISTENT RESERVE OUT that is GOOD was accepted
 abbrev pub left_by : KeptView → Nexus → Option OutParams → Class → Status → (mode_changed : Bool) → KeptView
@@ -94,13 +93,32 @@ pub record ChangedTheMode (e : Record) (asked : Class) : Type 0 where
   pub stage : e.stage ≡ Device
   pub status : e.status ≡ Good
 
+-- the commands that the unit carries out itself, whose data or act is GOOD once their fields are right
+abbrev pub is_of_every_unit : Class → Bool
+is_of_every_unit Inquiry = true
+is_of_every_unit ReportLuns = true
+is_of_every_unit RequestSense = true
+is_of_every_unit PersistentReserveIn = true
+is_of_every_unit PreventRemoval = true
+is_of_every_unit AllowRemoval = true
+is_of_every_unit class = false
+
+-- those of them that no field refuses
+abbrev pub is_never_refused : Class → Bool
+is_never_refused PersistentReserveIn = true
+is_never_refused AllowRemoval = true
+is_never_refused class = false
+
 -- which of stages 5 and 6 a command other than PERSISTENT RESERVE OUT comes to, and what it is answered there, is its own or the
--- device's; but it is no conflict
+-- device's; but its fields are refused by CHECK CONDITION, and it is GOOD exactly without sense data
 pub record SaysItsOwn (e : Record) (at : Cell) : Type 0 where
   pub stage : (e.stage ≡ Fields) ⊎ (e.stage ≡ Device)
   pub cell : e.cell ≡ Some at
   pub rule : e.rule ≡ None
-  pub status : e.status ≢ ReservationConflict
+  pub whole : IsWhole e.status e.sense
+  pub fields : e.stage ≡ Fields → e.status ≡ CheckCondition
+  pub unit : is_of_every_unit at.class ≡ true → e.stage ≡ Device → e.status ≡ Good
+  pub reached : is_never_refused at.class ≡ true → e.stage ≡ Device
   pub mode : e.mode_changed ≡ true → ChangedTheMode e at.class
 
 -- stages 5 and 6
@@ -133,15 +151,62 @@ IsCommand k n list class e = elim (waiting class (first_reset_of k.slots n)) [
   | None ↦ IsChecked k n list class e
 ]
 
--- by what was asked; stage 1 is INVALID, with CHECK CONDITION, and what isn't a command is GOOD at stage 6
+-- the classes of PERSISTENT RESERVE OUT, whose records have its list
+abbrev pub is_reserve_out : Class → Bool
+is_reserve_out Register = true
+is_reserve_out Reserve = true
+is_reserve_out Release = true
+is_reserve_out Clear = true
+is_reserve_out Preempt = true
+is_reserve_out PreemptAndAbort = true
+is_reserve_out RegisterAndIgnoreExistingKey = true
+is_reserve_out RegisterAndMove = true
+is_reserve_out class = false
+
+-- what is reported of bytes that spell no command: 20h/00h, 24h/00h, or 1Ah/00h
+abbrev pub is_of_spelling : Condition → Bool
+is_of_spelling InvalidCommandOperationCode = true
+is_of_spelling InvalidFieldInCdb = true
+is_of_spelling ParameterListLengthError = true
+is_of_spelling condition = false
+
+-- a command of a sender that has a slot or finds one, of a class other than those of PERSISTENT RESERVE OUT
+pub record IsOfClass (k : KeptView) (n : Nexus) (class : Class) (e : Record) : Type 0 where
+  pub room : has_room k n ≡ true
+  pub listless : is_reserve_out class ≡ false
+  pub judged : IsCommand (met k n) n None class e
+
+-- PERSISTENT RESERVE OUT with its list
+pub record IsOfList (k : KeptView) (n : Nexus) (params : OutParams) (e : Record) : Type 0 where
+  pub room : has_room k n ≡ true
+  pub judged : IsCommand (met k n) n (Some params) (class_of_action params.act) e
+
+-- stage 1: bytes that spell no command
+pub record IsInvalid (k : KeptView) (n : Nexus) (e : Record) : Type 0 where
+  pub room : has_room k n ≡ true
+  pub condition : Condition
+  pub spelling : is_of_spelling condition ≡ true
+  pub says : Says e (at_stage Spelling) (check condition)
+
+-- the loss of a nexus that has a slot
+pub record IsLoss (k : KeptView) (n : Nexus) (e : Record) : Type 0 where
+  pub slot : has_slot k.slots n ≡ true
+  pub says : Says e (at_stage Device) (good [])
+
+-- a volume taken out, which nobody prevents
+pub record IsTakenOut (k : KeptView) (e : Record) : Type 0 where
+  pub free : is_prevented k ≡ false
+  pub says : Says e (at_stage Device) (good [])
+
+-- by what was asked; what isn't a command is GOOD at stage 6
 abbrev pub IsJudgedAs : KeptView → Option Nexus → Act → Record → Type 0
-IsJudgedAs k (Some n) (Command class) e = IsCommand (met k n) n None class e
-IsJudgedAs k (Some n) (ReserveOut params) e = IsCommand (met k n) n (Some params) (class_of_action params.act) e
-IsJudgedAs k (Some n) Invalid e = (condition : Condition) × Says e (at_stage Spelling) (check condition)
-IsJudgedAs k (Some n) Loss e = Says e (at_stage Device) (good [])
+IsJudgedAs k (Some n) (Command class) e = IsOfClass k n class e
+IsJudgedAs k (Some n) (ReserveOut params) e = IsOfList k n params e
+IsJudgedAs k (Some n) Invalid e = IsInvalid k n e
+IsJudgedAs k (Some n) Loss e = IsLoss k n e
 IsJudgedAs k None Reset e = Says e (at_stage Device) (good [])
 IsJudgedAs k None MediumIn e = Says e (at_stage Device) (good [])
-IsJudgedAs k None MediumOut e = (is_prevented k ≡ false) × Says e (at_stage Device) (good [])
+IsJudgedAs k None MediumOut e = IsTakenOut k e
 IsJudgedAs k nexus act e = ⊥
 
 -- a record is what judgement gives of what was kept before it
@@ -162,3 +227,21 @@ pub record IsTrail (base : Base) (es : List Record) (now : KeptView) : Type 0 wh
 abbrev pub ConflictsAtTheCheck : Type 0
 ConflictsAtTheCheck = (base : Base) (es : List Record) (now : KeptView) → IsTrail base es now
     → All (λ e. (e.status ≡ ReservationConflict) ↔ (e.stage ≡ ReservationCheck)) es
+
+-- a PERSISTENT RESERVE OUT command that ended GOOD, of its sender
+abbrev pub accepted_of : Option Nexus → Act → Status → List Accepted
+accepted_of (Some n) (ReserveOut params) status = if is_good status then (n, params) ∷ [] else []
+accepted_of nexus act status = []
+
+-- what a record adds to the accepted history
+abbrev pub accepted_in : Record → List Accepted
+accepted_in e = accepted_of e.nexus e.act e.status
+
+-- and so the history that records show, oldest first
+abbrev pub shown_history : List Record → List Accepted
+shown_history es = flat_map accepted_in es
+
+-- in a legal trail the registrations, the reservation and the generation now are those of the base and that history
+abbrev pub TrailHistory : Type 0
+TrailHistory = (base : Base) (es : List Record) (now : KeptView) → IsTrail base es now
+    → now.reservations ≡ after_history base.kept.reservations (shown_history es)

@@ -1,14 +1,7 @@
-pub mod Conditions
-pub mod Commands
-pub mod UnitData
-pub mod Findings
-pub mod Replies
-pub mod KeptView
 pub mod UnitView
-pub mod Kept
-pub mod Judge
 pub mod Step
 pub mod Legal
 pub mod Medium
 pub mod History
 pub mod Check
+pub mod Rows

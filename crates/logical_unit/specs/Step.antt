@@ -3,22 +3,22 @@ use Rattle.std.specs.Prelude.{◌≡◌, ℕ, ◌+◌, ◌<◌, ◌^◌, Bool, t
 use Rattle.scsi_nexus.specs.declared.nexus.Nexus.{Nexus}
 use Rattle.scsi_sense.specs.declared.sense.Sense.{Sense}
 use Rattle.scsi_sense.specs.declared.status.Status.{Status}
-use Rattle.scsi_sense.specs.declared.status.Status.TheVariants.{Good}
-use Rattle.unit_attention.specs.Queues.{has_slot, lost, was_reset}
+use Rattle.scsi_sense.specs.declared.status.Status.TheVariants.{Good, Busy}
+use Rattle.unit_attention.specs.Queues.{has_slot}
 use Rattle.audit_log.specs.declared.act.Act.{Act}
 use Rattle.audit_log.specs.declared.act.Act.TheVariants.{Loss, Reset}
 use Rattle.audit_log.specs.declared.record.Record.{Record}
 use Rattle.audit_log.specs.declared.stage.Stage.TheVariants.{Device}
 use Rattle.device_server.specs.View.{DeviceView, kind_of, reset_of}
-use Rattle.logical_unit.specs.declared.finding.Finding.{Finding}
-use Rattle.logical_unit.specs.declared.reply.Reply.{Reply}
-use Rattle.logical_unit.specs.Commands.{act_of}
-use Rattle.logical_unit.specs.Findings.{at_stage}
-use Rattle.logical_unit.specs.Replies.{busy, numbered}
-use Rattle.logical_unit.specs.KeptView.{KeptView}
-use Rattle.logical_unit.specs.UnitView.{Present, UnitView, last_number}
-use Rattle.logical_unit.specs.Kept.{at_power_on, has_room, met, allowed}
-use Rattle.logical_unit.specs.Judge.{judged}
+use Rattle.judgement.specs.declared.finding.Finding.{Finding}
+use Rattle.unit_answers.specs.declared.reply.Reply.{Reply}
+use Rattle.unit_commands.specs.Commands.{spelled, act_of}
+use Rattle.judgement.specs.Findings.{at_stage}
+use Rattle.unit_answers.specs.Replies.{busy, numbered}
+use Rattle.judgement.specs.Present.{Present}
+use Rattle.logical_unit.specs.UnitView.{UnitView, UnitWithRoom, last_number}
+use Rattle.unit_state.specs.Kept.{at_power_on, has_room, met, kept_after_loss, kept_after_reset}
+use Rattle.judgement.specs.Judge.{judged, takes_memory}
 
 -- a unit whose records will be numbered from one past a last number
 abbrev pub made : DeviceView → (lun units last : ℕ) → UnitView
@@ -71,20 +71,22 @@ HasNumber u = last_number u + 1 < 2 ^ 64
 abbrev pub Executes : UnitView → Nexus → (cdb bytes : List ℕ) → UnitView × Reply → Type 0
 Executes u n cdb bytes new = (new ≡ (u, busy)) ⊎ ((has_room u.kept n ≡ true) × HasNumber u × (new ≡ answered u n cdb bytes))
 
+-- why an event finds no record: there is no room for it, or the last number is used
+abbrev pub LacksRecord : UnitWithRoom → Type 0
+LacksRecord x = (x.room ≡ 0) ⊎ (last_number x.unit + 1 ≡ 2 ^ 64)
+
+-- a command is BUSY only where it may take memory beside the room for its record, or there is no slot for the sender, no room or no number
+abbrev pub IsBusyOnlyFor : UnitWithRoom → Nexus → (cdb bytes : List ℕ) → Reply → Type 0
+IsBusyOnlyFor x n cdb bytes reply = reply.status ≡ Busy
+    → (takes_memory (contacted_present x.unit n) n (spelled (kind_of x.unit.device) cdb bytes) ≡ true)
+    ⊎ ((has_room x.unit.kept n ≡ false) ⊎ LacksRecord x)
+
 -- the record of an event that isn't a command
 abbrev pub event_of : (number : ℕ) → Option Nexus → Act → Record
 event_of number nexus act = entry_of number nexus act (at_stage Device) Good None
 
 abbrev pub with_event : UnitView → Option Nexus → Act → Present → UnitView
 with_event u nexus act now = with_entry u now (event_of (last_number u + 1) nexus act)
-
--- what is kept after an I_T nexus loss, and after a reset of the unit: an attention for the nexus, or for every slot, and its
--- prevention of removal, or everybody's, ends
-abbrev pub kept_after_loss : KeptView → Nexus → KeptView
-kept_after_loss k n = allowed (record k { slots = lost k.slots n }) n
-
-abbrev pub kept_after_reset : KeptView → KeptView
-kept_after_reset k = record k { slots = was_reset k.slots; preventers = [] }
 
 -- the unit after the loss of a nexus that has a slot, and after a reset, by which the device is reset too
 abbrev pub loses : UnitView → Nexus → UnitView

@@ -1,13 +1,8 @@
 -- What contracts see of a unit.
-use Rattle.std.specs.Prelude.{ℕ, ◌+◌, List, length}
+use Rattle.std.specs.Prelude.{ℕ, ◌+◌, List, length, map}
 use Rattle.device_server.specs.View.{DeviceView}
 use Rattle.audit_log.specs.declared.record.Record.{Record}
-use Rattle.logical_unit.specs.KeptView.{KeptView}
-
--- a device, and what its unit keeps beside it: what commands are judged by
-pub record Present : Type 0 where
-  pub device : DeviceView
-  pub kept : KeptView
+use Rattle.unit_state.specs.KeptView.{KeptView}
 
 -- what records are read from: what was kept before the first of them, and the last number that was used then
 pub record Base : Type 0 where
@@ -21,6 +16,15 @@ pub record UnitView : Type 0 where
   -- one for each event since the base, oldest first
   pub records : List Record
 
+-- a unit, and for how many records more it has room
+pub record UnitWithRoom : Type 0 where
+  pub unit : UnitView
+  pub room : ℕ
+
+-- units without their room
+abbrev pub units_of : List UnitWithRoom → List UnitView
+units_of us = map (λ u. u.unit) us
+
 -- a unit without its device, and for how many records more there is room
 pub record StateView : Type 0 where
   pub kept : KeptView
@@ -31,6 +35,9 @@ pub record StateView : Type 0 where
 -- the unit of a device
 abbrev pub unit_of : DeviceView → StateView → UnitView
 unit_of device s = record { device = device; kept = s.kept; base = s.base; records = s.records }
+
+abbrev pub unit_with_room : DeviceView → StateView → UnitWithRoom
+unit_with_room device s = record { unit = unit_of device s; room = s.room }
 
 -- the last number that was used
 abbrev pub last_number : UnitView → ℕ

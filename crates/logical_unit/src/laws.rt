@@ -1,6 +1,6 @@
 ghost use Rattle.logical_unit.specs.Check.{ReservationCheck};
-ghost use Rattle.logical_unit.specs.History.{KeepsHistory};
-ghost use Rattle.logical_unit.specs.Legal.{ConflictsAtTheCheck};
+ghost use Rattle.logical_unit.specs.History.{KeepsHistory, AnswersNoBusy};
+ghost use Rattle.logical_unit.specs.Legal.{ConflictsAtTheCheck, TrailHistory};
 
 /// A command that comes to the reservation check is carried out by its own rules exactly if its cell
 /// of the permission table and the rules on keys allow it; else it ends in RESERVATION CONFLICT, and
@@ -15,7 +15,49 @@ pub fn accepted_commands()
     ensures { KeepsHistory }
 {}
 
+/// What judgement answers is never BUSY itself: a command is BUSY only where it isn't judged.
+pub fn judged_is_not_busy()
+    ensures { AnswersNoBusy }
+{}
+
 /// In a legal trail a record has RESERVATION CONFLICT exactly if the reservation check decided it.
 pub fn conflicts_at_the_check()
     ensures { ConflictsAtTheCheck }
+{}
+
+/// In a legal trail the registrations, the reservation and the generation now are those of the base and
+/// of the accepted history that the records show.
+pub fn trail_shows_history()
+    ensures { TrailHistory }
+{}
+
+ghost use Rattle.tape_medium.specs.declared.volume.VolumeTag.{VolumeTag};
+ghost use Rattle.logical_unit.specs.Rows.{AtTheCheck, Unloading, Sensing, FirstContact, Preventing, RefusedMedia, IllegalRecords, LegalRecords};
+
+/// A command that the reservation check allows, one that it denies, and one that breaks a rule on keys.
+pub fn decided_at_the_check()
+    ensures { (tag : VolumeTag) → AtTheCheck tag }
+{}
+
+/// LOAD UNLOAD where removal is prevented, and PREVENT ALLOW MEDIUM REMOVAL by each of its values.
+pub fn preventions()
+    ensures unloading { (tag : VolumeTag) → Unloading tag }
+    ensures preventing { (tag : VolumeTag) → Preventing tag }
+{}
+
+/// What REQUEST SENSE clears, and what a first contact leaves.
+pub fn attentions()
+    ensures sensing { (tag : VolumeTag) → Sensing tag }
+    ensures contact { (tag : VolumeTag) → FirstContact tag }
+{}
+
+/// Volumes that aren't taken out, or put in.
+pub fn refused_media()
+    ensures { (tag : VolumeTag) → RefusedMedia tag }
+{}
+
+/// Records that stand in a legal trail, and records that don't.
+pub fn legal_and_illegal_records()
+    ensures legal { LegalRecords }
+    ensures illegal { IllegalRecords }
 {}

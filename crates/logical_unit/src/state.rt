@@ -1,14 +1,13 @@
-use crate::command::{Command, act_of};
-use crate::finding::Finding;
-use crate::judge::judge;
-use crate::kept::Kept;
-use crate::reply::Reply;
 use audit_log::{Act, Record, Stage, Trail};
 use device_server::DeviceServer;
+use judgement::{Finding, judge};
 use scsi_nexus::Nexus;
 use scsi_sense::{Sense, Status};
 use std::alloc::{AllocError, Global};
 use std::marker::Model;
+use unit_answers::Reply;
+use unit_commands::{Command, act_of};
+use unit_state::Kept;
 
 /// A unit without its device: what it keeps now, the records, and what was kept before the first of
 /// them. What it keeps is always what the records make of that.
@@ -37,10 +36,10 @@ impl Model for UnitState {
 }
 
 impl UnitState {
-    ghost use Rattle.std.specs.Prelude.{◌≡◌, ◌<◌, ◌+◌, ◌^◌, ℕ, true, [], IsTrue};
+    ghost use Rattle.std.specs.Prelude.{◌≡◌, ◌<◌, ◌+◌, ◌^◌, ◌⊎◌, ℕ, true, false, [], IsTrue};
     ghost use Rattle.unit_attention.specs.Queues.{has_slot};
     ghost use Rattle.logical_unit.specs.UnitView.{Base, StateView, last_in};
-    ghost use Rattle.logical_unit.specs.Kept.{at_power_on, has_room, is_prevented};
+    ghost use Rattle.unit_state.specs.Kept.{at_power_on, has_room, is_prevented, HaveSlots};
     ghost use Rattle.logical_unit.specs.Legal.{IsTrail};
 
     /// At power on, for a unit of this number among so many. The first record will have the number
@@ -81,9 +80,10 @@ impl UnitState {
         self.kept.knows(nexus)
     }
 
-    /// Whether somebody prevents the removal of media.
+    /// Whether somebody prevents the removal of media. Each nexus that does has a slot, and is among them once.
     pub(crate) fn is_prevented(&self) -> bool
-        ensures { result ≡ is_prevented self.now.kept }
+        ensures prevented { result ≡ is_prevented self.now.kept }
+        ensures slots { HaveSlots self.now.kept.slots self.now.kept.preventers }
     {
         self.kept.is_prevented()
     }
@@ -101,6 +101,7 @@ impl UnitState {
         ensures rest { self.new ≡ record self.old { room = self.new.room } }
         ensures room { IsTrue result → 0 < self.new.room }
         ensures number { IsTrue result → last_in self.new + 1 < 2 ^ 64 }
+        ensures lacks { result ≡ false → (self.old.room ≡ 0) ⊎ (last_in self.old + 1 ≡ 2 ^ 64) }
     {
         if self.trail.last().checked_add(1).is_none() {
             return false;
@@ -111,11 +112,15 @@ impl UnitState {
 
 impl UnitState {
     ghost use Rattle.std.specs.Prelude.{◌≡◌, ◌<◌, ◌+◌, ◌^◌, ℕ, true, false, [], ◌∷◌, ◌++◌, Some, None, IfOk, OnErr};
-    ghost use Rattle.device_server.specs.View.{DeviceView};
+    ghost use Rattle.device_server.specs.View.{DeviceView, kind_of};
+    ghost use Rattle.unit_commands.specs.Commands.{spelled};
+    ghost use Rattle.judgement.specs.Judge.{takes_memory};
+    ghost use Rattle.unit_attention.specs.Queues.{has_slot};
     ghost use Rattle.audit_log.specs.declared.act.Act.TheVariants.{Loss, Reset, MediumIn, MediumOut};
     ghost use Rattle.logical_unit.specs.UnitView.{Base, StateView, unit_of, last_in};
-    ghost use Rattle.logical_unit.specs.Kept.{has_room, is_prevented, with_medium};
-    ghost use Rattle.logical_unit.specs.Step.{answered, event_of, kept_after_loss, kept_after_reset};
+    ghost use Rattle.unit_state.specs.Kept.{has_room, is_prevented, with_medium};
+    ghost use Rattle.logical_unit.specs.Step.{answered, contacted_present, event_of};
+    ghost use Rattle.unit_state.specs.Kept.{kept_after_loss, kept_after_reset};
     ghost use Rattle.logical_unit.specs.Legal.{IsTrail};
 
     /// One command, with its record. Want of memory changes nothing.
@@ -132,6 +137,7 @@ impl UnitState {
         requires number { last_in self.old + 1 < 2 ^ 64 }
         ensures ok { IfOk result (λ reply. answered (unit_of (D.shown server.old.value) self.old) nexus cdb.now bytes.now ≡ (unit_of (D.shown server.new.value) self.new, reply)) }
         ensures err { OnErr result ((D.shown server.new.value ≡ D.shown server.old.value) × (self.new ≡ self.old)) }
+        ensures want { OnErr result (takes_memory (contacted_present (unit_of (D.shown server.old.value) self.old) nexus) nexus (spelled (kind_of (D.shown server.old.value)) cdb.now bytes.now) ≡ true) }
     {
         let spelled = Command::spelled(alloc, server.kind(), cdb, bytes)?;
         let act = act_of(alloc, &spelled)?;
@@ -141,8 +147,9 @@ impl UnitState {
         Ok(reply.numbered(number))
     }
 
-    /// An I_T nexus loss, with its record, whose number is answered.
+    /// The loss of a nexus that has a slot, with its record, whose number is answered.
     pub(crate) fn lose(&mut self, nexus: Nexus) -> u64
+        requires slot { has_slot self.old.kept.slots nexus ≡ true }
         requires room { 0 < self.old.room }
         requires number { last_in self.old + 1 < 2 ^ 64 }
         ensures kept { self.new.kept ≡ kept_after_loss self.old.kept nexus }

@@ -1,5 +1,4 @@
 use crate::medium_fault::MediumFault;
-use crate::reply::Reply;
 use crate::state::UnitState;
 use audit_log::Record;
 use device_server::DeviceServer;
@@ -8,6 +7,7 @@ use scsi_nexus::Nexus;
 use std::alloc::Global;
 use std::marker::Model;
 use tape_medium::{Volume, VolumeTag};
+use unit_answers::Reply;
 
 /// There is no room for a record of the event, or no number, and nothing has changed.
 #[derive(Clone, Copy, Debug, PartialEq, Eq)]
@@ -24,30 +24,30 @@ pub struct LogicalUnit<D: DeviceServer> {
 }
 
 impl<D: DeviceServer> Model for LogicalUnit<D> {
-    ghost use Rattle.logical_unit.specs.UnitView.{UnitView, unit_of};
+    ghost use Rattle.logical_unit.specs.UnitView.{UnitWithRoom, unit_with_room};
 
-    ghost Value = { UnitView };
+    ghost Value = { UnitWithRoom };
 
-    ghost view = { λ u. unit_of (D.shown u.server.value) u.state };
+    ghost view = { λ u. unit_with_room (D.shown u.server.value) u.state };
 }
 
 impl<D: DeviceServer> LogicalUnit<D> {
     ghost use Rattle.std.specs.Prelude.{◌≡◌};
     ghost use Rattle.device_server.specs.View.{kind_of, drives_of, held_in};
-    ghost use Rattle.logical_unit.specs.Kept.{is_prevented};
+    ghost use Rattle.unit_state.specs.Kept.{is_prevented, HaveSlots};
     ghost use Rattle.logical_unit.specs.Step.{made};
     ghost use Rattle.logical_unit.specs.Legal.{IsTrail};
 
     /// A unit at power on, with its logical unit number and the count of the target's units.
     pub fn new(alloc: Global, lun: u8, units: u8, server: Box<D>) -> LogicalUnit<D>
-        ensures { result ≡ made (D.shown server.value) lun units 0 }
+        ensures { result ≡ record { unit = made (D.shown server.value) lun units 0; room = 0 } }
     {
         LogicalUnit::new_after(alloc, lun, units, server, 0)
     }
 
     /// The same, with its first record numbered after `last`.
     pub fn new_after(alloc: Global, lun: u8, units: u8, server: Box<D>, last: u64) -> LogicalUnit<D>
-        ensures { result ≡ made (D.shown server.value) lun units last }
+        ensures { result ≡ record { unit = made (D.shown server.value) lun units last; room = 0 } }
     {
         LogicalUnit {
             server,
@@ -56,14 +56,14 @@ impl<D: DeviceServer> LogicalUnit<D> {
     }
 
     pub fn kind(&self) -> Kind
-        ensures { result ≡ kind_of self.now.device }
+        ensures { result ≡ kind_of self.now.unit.device }
     {
         self.server.kind()
     }
 
     /// How many data transfer elements a changer has; 0 for a drive.
     pub fn drives(&self) -> u16
-        ensures { result ≡ drives_of self.now.device }
+        ensures { result ≡ drives_of self.now.unit.device }
     {
         self.server.drives()
     }
@@ -71,36 +71,38 @@ impl<D: DeviceServer> LogicalUnit<D> {
     /// The tag of the volume at a place of the device: 0 is a drive's bay, a changer's are its elements
     /// by address.
     pub fn held(&self, place: u16) -> Option<VolumeTag>
-        ensures { result ≡ held_in self.now.device place }
+        ensures { result ≡ held_in self.now.unit.device place }
     {
         self.server.held(place)
     }
 
     /// The logical unit number.
     pub fn lun(&self) -> u8
-        ensures { result ≡ self.now.kept.lun }
+        ensures { result ≡ self.now.unit.kept.lun }
     {
         self.state.lun()
     }
 
     /// How many units the target has.
     pub fn units(&self) -> u8
-        ensures { result ≡ self.now.kept.units }
+        ensures { result ≡ self.now.unit.kept.units }
     {
         self.state.units()
     }
 
     /// Whether a nexus prevents the removal of media (SPC-4, "PREVENT ALLOW MEDIUM REMOVAL command").
+    /// Each nexus that does has a slot, and is among them once.
     pub fn prevented(&self) -> bool
-        ensures { result ≡ is_prevented self.now.kept }
+        ensures prevented { result ≡ is_prevented self.now.unit.kept }
+        ensures slots { HaveSlots self.now.unit.kept.slots self.now.unit.kept.preventers }
     {
         self.state.is_prevented()
     }
 
     /// The records since the base, oldest first: a legal trail, which gives what is kept now.
     pub fn records(&self) -> &[Record]
-        ensures records { result.now ≡ self.now.records }
-        ensures trail { IsTrail self.now.base self.now.records self.now.kept }
+        ensures records { result.now ≡ self.now.unit.records }
+        ensures trail { IsTrail self.now.unit.base self.now.unit.records self.now.unit.kept }
     {
         self.state.records()
     }
@@ -110,14 +112,17 @@ impl<D: DeviceServer> LogicalUnit<D> {
     ghost use Rattle.std.specs.Prelude.{◌≡◌, ◌+◌, true, Ok, IfOk, IfErr, OnOk, OnErr};
     ghost use Rattle.unit_attention.specs.Queues.{has_slot};
     ghost use Rattle.logical_unit.specs.UnitView.{UnitView, last_number};
-    ghost use Rattle.logical_unit.specs.Step.{HasNumber, Executes, Loses, Resets, drained};
+    ghost use Rattle.logical_unit.specs.Step.{HasNumber, LacksRecord, IsBusyOnlyFor, Executes, Loses, Resets, drained};
     ghost use Rattle.logical_unit.specs.Medium.{taken_out, put_in, IsRefusal};
     ghost use Rattle.logical_unit.specs.Legal.{IsTrail};
 
     /// One command, from its CDB and the data sent with it. BUSY leaves the unit as it was; any other
-    /// answer leaves one record.
+    /// answer leaves one record. A command to whose sender an attention is told, a conflict and bytes
+    /// that spell no command are BUSY only where there is no slot, no number or no room for the record;
+    /// PERSISTENT RESERVE OUT and what comes to its own rules also for want of memory.
     pub fn execute(&mut self, alloc: Global, nexus: Nexus, cdb: &[u8], bytes: &[u8]) -> Reply
-        ensures { Executes self.old nexus cdb.now bytes.now (self.new, result) }
+        ensures unit { Executes self.old.unit nexus cdb.now bytes.now (self.new.unit, result) }
+        ensures busy { IsBusyOnlyFor self.old nexus cdb.now bytes.now result }
     {
         if !self.state.has_room(nexus) {
             return Reply::busy(alloc);
@@ -135,9 +140,10 @@ impl<D: DeviceServer> LogicalUnit<D> {
     /// An I_T nexus loss at this unit (SAM-5, "I_T nexus loss"). `None` where the nexus has no slot,
     /// and then nothing changes; else the number of its record. Registrations and reservation stay.
     pub fn lose(&mut self, nexus: Nexus) -> Result<Option<u64>, Busy>
-        ensures unit { IfOk result (λ number. Loses self.old nexus (self.new, number)) }
-        ensures busy { OnErr result (self.new ≡ self.old) }
-        ensures known { OnErr result (has_slot self.old.kept.slots nexus ≡ true) }
+        ensures unit { IfOk result (λ number. Loses self.old.unit nexus (self.new.unit, number)) }
+        ensures busy { OnErr result (self.new.unit ≡ self.old.unit) }
+        ensures known { OnErr result (has_slot self.old.unit.kept.slots nexus ≡ true) }
+        ensures lacks { OnErr result (LacksRecord self.old) }
     {
         if !self.state.knows(nexus) {
             return Ok(None);
@@ -151,8 +157,9 @@ impl<D: DeviceServer> LogicalUnit<D> {
     /// A reset of this unit (SAM-5, "Logical unit reset"): the number of its record. Registrations and
     /// reservation stay.
     pub fn reset(&mut self) -> Result<u64, Busy>
-        ensures unit { IfOk result (λ number. Resets self.old (self.new, number)) }
-        ensures busy { OnErr result (self.new ≡ self.old) }
+        ensures unit { IfOk result (λ number. Resets self.old.unit (self.new.unit, number)) }
+        ensures busy { OnErr result (self.new.unit ≡ self.old.unit) }
+        ensures lacks { OnErr result (LacksRecord self.old) }
     {
         if !self.state.reserve() {
             return Err(Busy);
@@ -164,10 +171,11 @@ impl<D: DeviceServer> LogicalUnit<D> {
     /// Takes the volume out of a drive, with the number of its record. It is refused in the order of the
     /// faults; Busy is for want of room or of a number.
     pub fn medium_out(&mut self) -> Result<(Volume, u64), MediumFault>
-        ensures ok { IfOk result (λ it. taken_out self.old ≡ Ok (it.0, self.new)) }
-        ensures number { IfOk result (λ it. HasNumber self.old × (it.1 ≡ last_number self.old + 1)) }
-        ensures err { IfErr result (IsRefusal (taken_out self.old)) }
-        ensures same { OnErr result (self.new ≡ self.old) }
+        ensures ok { IfOk result (λ it. taken_out self.old.unit ≡ Ok (it.0, self.new.unit)) }
+        ensures number { IfOk result (λ it. HasNumber self.old.unit × (it.1 ≡ last_number self.old.unit + 1)) }
+        ensures err { IfErr result (IsRefusal (taken_out self.old.unit)) }
+        ensures same { OnErr result (self.new.unit ≡ self.old.unit) }
+        ensures lacks { IfErr result (λ fault. fault ≡ MediumFault.Busy → LacksRecord self.old) }
     {
         if self.server.kind() == Kind::Changer {
             return Err(MediumFault::NotADrive);
@@ -189,11 +197,12 @@ impl<D: DeviceServer> LogicalUnit<D> {
     /// refused in the order of the faults, and the volume handed back; Busy is for want of room or of a
     /// number. Who prevents removal doesn't prevent this.
     pub fn medium_in(&mut self, volume: Volume) -> Result<u64, (Volume, MediumFault)>
-        ensures ok { OnOk result (put_in self.old volume ≡ Ok self.new) }
-        ensures number { IfOk result (λ number. HasNumber self.old × (number ≡ last_number self.old + 1)) }
-        ensures err { IfErr result (λ back. IsRefusal (put_in self.old volume) back.1) }
+        ensures ok { OnOk result (put_in self.old.unit volume ≡ Ok self.new.unit) }
+        ensures number { IfOk result (λ number. HasNumber self.old.unit × (number ≡ last_number self.old.unit + 1)) }
+        ensures err { IfErr result (λ back. IsRefusal (put_in self.old.unit volume) back.1) }
         ensures back { IfErr result (λ back. back.0 ≡ volume) }
-        ensures same { OnErr result (self.new ≡ self.old) }
+        ensures same { OnErr result (self.new.unit ≡ self.old.unit) }
+        ensures lacks { IfErr result (λ back. back.1 ≡ MediumFault.Busy → LacksRecord self.old) }
     {
         if self.server.kind() == Kind::Changer {
             return Err((volume, MediumFault::NotADrive));
@@ -211,9 +220,9 @@ impl<D: DeviceServer> LogicalUnit<D> {
     /// Hands out the records, a legal trail that gives what is kept now, and keeps none: what is kept
     /// now is the base of the next. Takes no memory.
     pub fn drain(&mut self, alloc: Global) -> Vec<Record>
-        ensures records { result.items ≡ self.old.records }
-        ensures trail { IsTrail self.old.base self.old.records self.old.kept }
-        ensures unit { self.new ≡ drained self.old }
+        ensures records { result.items ≡ self.old.unit.records }
+        ensures trail { IsTrail self.old.unit.base self.old.unit.records self.old.unit.kept }
+        ensures unit { self.new.unit ≡ drained self.old.unit }
     {
         self.state.drain(alloc)
     }

@@ -1,0 +1,4 @@
+pub mod Findings
+pub mod Present
+pub mod Judge
+pub mod History

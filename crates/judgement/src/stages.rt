@@ -1,0 +1,313 @@
+ghost use Rattle.std.specs.Prelude.{◌≡◌, ◌&&◌, true, None, is_none, OnErr, IfOk};
+ghost use Rattle.unit_attention.specs.Queues.{first_reset_of, first_other_of};
+ghost use Rattle.pr_core.specs.declared.verdict.Verdict.TheVariants.{Allowed};
+ghost use Rattle.device_server.specs.View.{kind_of};
+ghost use Rattle.unit_state.specs.Kept.{has_room, met};
+ghost use Rattle.pr_core.specs.Judge.{verdict};
+ghost use Rattle.judgement.specs.Findings.{at_stage};
+ghost use Rattle.unit_answers.specs.Replies.{data_reply};
+ghost use Rattle.unit_state.specs.Readings.{verdict_of};
+ghost use Rattle.judgement.specs.Judge.{waiting, carried_out, reserves, unloads, performs, let_through, checked, commanded, judged_as, requests_sense, prevents, is_allowed_by, is_carried_out, asks_memory, takes_memory};
+ghost use Rattle.device_server.specs.View.{DeviceView};
+ghost use Rattle.unit_commands.specs.Commands.{class_of_command};
+
+use crate::finding::Finding;
+use audit_log::Stage;
+use device_server::{DeviceServer, Payload, field_fault};
+use pr_core::Verdict;
+use pr_params::OutParams;
+use scsi_cdb::{Class, Request};
+use scsi_nexus::Nexus;
+use scsi_sense::Condition;
+use std::alloc::{AllocError, Global};
+use unit_answers::{
+    Reply, condition_of_attention, condition_of_refusal, inquiry, report_luns, sense_data,
+};
+use unit_attention::Kind;
+use unit_commands::{Command, passes_over};
+use unit_state::Kept;
+
+/// An attention that waits, unless the class passes over it.
+fn waiting(class: Class, pending: Option<Kind>) -> Option<Kind>
+    ensures { result ≡ waiting class pending }
+{
+    if passes_over(class) { None } else { pending }
+}
+
+/// A command by its own rules, where nothing stands before it. Want of memory changes nothing.
+fn carry_out<D: DeviceServer>(
+    alloc: Global,
+    server: &mut Box<D>,
+    kept: &mut Kept,
+    nexus: Nexus,
+    command: &Command,
+    bytes: &[u8],
+) -> Result<(Finding, Reply), AllocError>
+    requires room { has_room kept.old nexus ≡ true }
+    requires allowed { verdict_of kept.old.reservations nexus command.now ≡ Allowed }
+    ensures ok { IfOk result (λ it. carried_out (record { device = D.shown server.old.value; kept = met kept.old nexus }) nexus command.now bytes.now ≡ (record { device = D.shown server.new.value; kept = kept.new }, it.0, it.1)) }
+    ensures err { OnErr result ((D.shown server.new.value ≡ D.shown server.old.value) × (kept.new ≡ kept.old)) }
+    ensures want { OnErr result (asks_memory command.now ≡ true) }
+{
+    match command {
+        Command::ReserveOut(list) => Ok(reserve(alloc, kept, nexus, list.params())),
+        Command::ReserveIn(service_action, allocation_length) => {
+            let payload = kept.read_status(alloc, *service_action, *allocation_length)?;
+            kept.meet(nexus);
+            Ok((Finding::at_stage(Stage::Device), Reply::good(payload)))
+        }
+        Command::Inquiry(vital_product_data, page_code, allocation_length) => {
+            let kind = server.kind();
+            let payload = inquiry(alloc, kind, kept.lun(), *vital_product_data, *page_code)?;
+            kept.meet(nexus);
+            Ok(answer(alloc, payload, usize::from(*allocation_length)))
+        }
+        Command::ReportLuns(select_report, allocation_length) => {
+            let payload = report_luns(alloc, kept.units(), *select_report)?;
+            kept.meet(nexus);
+            Ok(answer(alloc, payload, *allocation_length as usize))
+        }
+        Command::RequestSense(descriptor_format, allocation_length) => {
+            request_sense(alloc, kept, nexus, *descriptor_format, *allocation_length)
+        }
+        Command::Prevent(prevent) => Ok(prevent_or_allow(alloc, kept, nexus, *prevent)),
+        Command::Device(request) => perform(alloc, server, kept, nexus, request, bytes),
+    }
+}
+
+/// An allowed PERSISTENT RESERVE OUT command.
+fn reserve(alloc: Global, kept: &mut Kept, nexus: Nexus, params: &OutParams) -> (Finding, Reply)
+    requires room { has_room kept.old nexus ≡ true }
+    requires allowed { verdict kept.old.reservations nexus params.now ≡ Allowed }
+    ensures { (device : DeviceView) → reserves (record { device = device; kept = met kept.old nexus }) nexus params.now ≡ (record { device = device; kept = kept.new }, result.0, result.1) }
+{
+    match kept.reserve(nexus, params) {
+        Ok(()) => (
+            Finding::at_stage(Stage::Device),
+            Reply::good(Payload::none(alloc)),
+        ),
+        Err(fault) => (
+            Finding::at_stage(Stage::Fields),
+            Reply::check(alloc, condition_of_refusal(fault)),
+        ),
+    }
+}
+
+/// Data cut at an allocation length, or a field that isn't right.
+fn answer(alloc: Global, payload: Option<Payload>, allocation_length: usize) -> (Finding, Reply)
+    ensures { result ≡ (at_stage (data_reply payload allocation_length).0, (data_reply payload allocation_length).1) }
+{
+    let (stage, reply) = Reply::data(alloc, payload, allocation_length);
+    (Finding::at_stage(stage), reply)
+}
+
+/// Whether a command would have a volume unloaded.
+fn unloads(request: &Request) -> bool
+    ensures { result ≡ unloads request.now }
+{
+    match request {
+        Request::LoadUnload { load, .. } => !*load,
+        Request::TestUnitReady
+        | Request::Rewind
+        | Request::RequestSense { .. }
+        | Request::ReadBlockLimits
+        | Request::InitializeElementStatus
+        | Request::Read { .. }
+        | Request::Write { .. }
+        | Request::WriteFilemarks { .. }
+        | Request::Space { .. }
+        | Request::Inquiry { .. }
+        | Request::ModeSelect { .. }
+        | Request::Erase
+        | Request::ModeSense { .. }
+        | Request::PreventAllowMediumRemoval { .. }
+        | Request::Locate { .. }
+        | Request::ReadPosition
+        | Request::PersistentReserveIn { .. }
+        | Request::PersistentReserveOut { .. }
+        | Request::ReportLuns { .. }
+        | Request::MoveMedium { .. }
+        | Request::ReadElementStatus { .. } => false,
+    }
+}
+
+/// A command of the device. Want of memory changes nothing.
+fn perform<D: DeviceServer>(
+    alloc: Global,
+    server: &mut Box<D>,
+    kept: &mut Kept,
+    nexus: Nexus,
+    request: &Request,
+    bytes: &[u8],
+) -> Result<(Finding, Reply), AllocError>
+    requires { has_room kept.old nexus ≡ true }
+    ensures ok { IfOk result (λ it. performs (record { device = D.shown server.old.value; kept = met kept.old nexus }) nexus request.now bytes.now ≡ (record { device = D.shown server.new.value; kept = kept.new }, it.0, it.1)) }
+    ensures err { OnErr result ((D.shown server.new.value ≡ D.shown server.old.value) × (kept.new ≡ kept.old)) }
+{
+    if let Some(condition) = field_fault(server.kind(), request, bytes) {
+        kept.meet(nexus);
+        let reply = Reply::check(alloc, condition);
+        return Ok((Finding::at_stage(Stage::Fields), reply));
+    }
+    if unloads(request) && kept.is_prevented() {
+        kept.meet(nexus);
+        let reply = Reply::check(alloc, Condition::MediumRemovalPrevented);
+        return Ok((Finding::at_stage(Stage::Device), reply));
+    }
+    let outcome = server.perform(alloc, request, bytes)?;
+    kept.meet(nexus);
+    kept.note_mode(nexus, outcome.mode_changed);
+    Ok((Finding::at_device(outcome.mode_changed), Reply::of(outcome)))
+}
+
+/// PREVENT ALLOW MEDIUM REMOVAL (SPC-4, "PREVENT ALLOW MEDIUM REMOVAL command"), which takes no memory.
+fn prevent_or_allow(alloc: Global, kept: &mut Kept, nexus: Nexus, prevent: u8) -> (Finding, Reply)
+    requires { has_room kept.old nexus ≡ true }
+    ensures { (device : DeviceView) → prevents (record { device = device; kept = met kept.old nexus }) nexus prevent ≡ (record { device = device; kept = kept.new }, result.0, result.1) }
+{
+    match prevent {
+        0 => kept.allow(nexus),
+        1 => kept.prevent(nexus),
+        _ => {
+            kept.meet(nexus);
+            let reply = Reply::check(alloc, Condition::InvalidFieldInCdb);
+            return (Finding::at_stage(Stage::Fields), reply);
+        }
+    }
+    let reply = Reply::good(Payload::none(alloc));
+    (Finding::at_stage(Stage::Device), reply)
+}
+
+/// REQUEST SENSE. Want of memory changes nothing.
+fn request_sense(
+    alloc: Global,
+    kept: &mut Kept,
+    nexus: Nexus,
+    descriptor_format: bool,
+    allocation_length: u8,
+) -> Result<(Finding, Reply), AllocError>
+    requires { has_room kept.old nexus ≡ true }
+    ensures ok { IfOk result (λ it. requests_sense (met kept.old nexus) nexus descriptor_format allocation_length ≡ (kept.new, it.0, it.1)) }
+    ensures err { OnErr result (kept.new ≡ kept.old) }
+{
+    if descriptor_format {
+        kept.meet(nexus);
+        let reply = Reply::check(alloc, Condition::InvalidFieldInCdb);
+        return Ok((Finding::at_stage(Stage::Fields), reply));
+    }
+    let length = usize::from(allocation_length);
+    let finding = Finding::at_stage(Stage::Device);
+    match kept.pending(nexus) {
+        Some(kind) => {
+            let payload = sense_data(alloc, condition_of_attention(kind))?;
+            let _ = kept.tell(alloc, nexus, kind);
+            Ok((finding, Reply::good(payload.cut(length))))
+        }
+        None => {
+            let payload = sense_data(alloc, Condition::NoAdditionalSenseInformation)?;
+            kept.meet(nexus);
+            Ok((finding, Reply::good(payload.cut(length))))
+        }
+    }
+}
+
+/// A command that the reservation check let through: another attention, or the command itself.
+fn let_through<D: DeviceServer>(
+    alloc: Global,
+    server: &mut Box<D>,
+    kept: &mut Kept,
+    nexus: Nexus,
+    command: &Command,
+    bytes: &[u8],
+) -> Result<(Finding, Reply), AllocError>
+    requires room { has_room kept.old nexus ≡ true }
+    requires allowed { verdict_of kept.old.reservations nexus command.now ≡ Allowed }
+    ensures ok { IfOk result (λ it. let_through (record { device = D.shown server.old.value; kept = met kept.old nexus }) nexus command.now bytes.now ≡ (record { device = D.shown server.new.value; kept = kept.new }, it.0, it.1)) }
+    ensures err { OnErr result ((D.shown server.new.value ≡ D.shown server.old.value) × (kept.new ≡ kept.old)) }
+    ensures want { OnErr result ((asks_memory command.now && is_none (waiting (class_of_command command.now) (first_other_of (met kept.old nexus).slots nexus))) ≡ true) }
+{
+    let cell = kept.cell(nexus, command);
+    match waiting(command.class(), kept.first_other(nexus)) {
+        Some(kind) => Ok((
+            Finding::let_in(cell, Stage::OtherAttention),
+            kept.tell(alloc, nexus, kind),
+        )),
+        None => {
+            let (finding, reply) = carry_out(alloc, server, kept, nexus, command, bytes)?;
+            Ok((finding.in_cell(cell), reply))
+        }
+    }
+}
+
+/// From the reservation check on: a conflict, another attention, or the command.
+fn check<D: DeviceServer>(
+    alloc: Global,
+    server: &mut Box<D>,
+    kept: &mut Kept,
+    nexus: Nexus,
+    command: &Command,
+    bytes: &[u8],
+) -> Result<(Finding, Reply), AllocError>
+    requires { has_room kept.old nexus ≡ true }
+    ensures ok { IfOk result (λ it. checked (record { device = D.shown server.old.value; kept = met kept.old nexus }) nexus command.now bytes.now ≡ (record { device = D.shown server.new.value; kept = kept.new }, it.0, it.1)) }
+    ensures err { OnErr result ((D.shown server.new.value ≡ D.shown server.old.value) × (kept.new ≡ kept.old)) }
+    ensures want { OnErr result ((asks_memory command.now && (is_allowed_by (verdict_of kept.old.reservations nexus command.now) && is_none (waiting (class_of_command command.now) (first_other_of (met kept.old nexus).slots nexus)))) ≡ true) }
+{
+    let rule = match kept.verdict(nexus, command) {
+        Verdict::Allowed => return let_through(alloc, server, kept, nexus, command, bytes),
+        Verdict::Denied(_) => None,
+        Verdict::Rule(rule) => Some(rule),
+    };
+    let cell = kept.cell(nexus, command);
+    kept.meet(nexus);
+    Ok((Finding::in_conflict(cell, rule), Reply::conflict(alloc)))
+}
+
+/// A command that the bytes spell: an attention of ASC 29h, or the reservation check.
+fn judge_command<D: DeviceServer>(
+    alloc: Global,
+    server: &mut Box<D>,
+    kept: &mut Kept,
+    nexus: Nexus,
+    command: &Command,
+    bytes: &[u8],
+) -> Result<(Finding, Reply), AllocError>
+    requires { has_room kept.old nexus ≡ true }
+    ensures ok { IfOk result (λ it. commanded (record { device = D.shown server.old.value; kept = met kept.old nexus }) nexus command.now bytes.now ≡ (record { device = D.shown server.new.value; kept = kept.new }, it.0, it.1)) }
+    ensures err { OnErr result ((D.shown server.new.value ≡ D.shown server.old.value) × (kept.new ≡ kept.old)) }
+    ensures want { OnErr result ((asks_memory command.now && is_carried_out (record { device = D.shown server.old.value; kept = met kept.old nexus }) nexus command.now) ≡ true) }
+{
+    match waiting(command.class(), kept.first_reset(nexus)) {
+        Some(kind) => Ok((
+            Finding::at_stage(Stage::ResetAttention),
+            kept.tell(alloc, nexus, kind),
+        )),
+        None => check(alloc, server, kept, nexus, command, bytes),
+    }
+}
+
+/// A command by the stages in their order, with what its record says. Want of memory changes nothing.
+pub fn judge<D: DeviceServer>(
+    alloc: Global,
+    server: &mut Box<D>,
+    kept: &mut Kept,
+    nexus: Nexus,
+    spelled: &Result<Command, Condition>,
+    bytes: &[u8],
+) -> Result<(Finding, Reply), AllocError>
+    requires { has_room kept.old nexus ≡ true }
+    ensures ok { IfOk result (λ it. judged_as (record { device = D.shown server.old.value; kept = met kept.old nexus }) nexus spelled.now bytes.now ≡ (record { device = D.shown server.new.value; kept = kept.new }, it.0, it.1)) }
+    ensures err { OnErr result ((D.shown server.new.value ≡ D.shown server.old.value) × (kept.new ≡ kept.old)) }
+    ensures want { OnErr result (takes_memory (record { device = D.shown server.old.value; kept = met kept.old nexus }) nexus spelled.now ≡ true) }
+{
+    match spelled {
+        Ok(command) => judge_command(alloc, server, kept, nexus, command, bytes),
+        Err(condition) => {
+            kept.meet(nexus);
+            Ok((
+                Finding::at_stage(Stage::Spelling),
+                Reply::check(alloc, *condition),
+            ))
+        }
+    }
+}

@@ -1,0 +1,4 @@
+pub mod Conditions
+pub mod UnitData
+pub mod Replies
+pub mod Rows

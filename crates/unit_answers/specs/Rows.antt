@@ -1,0 +1,41 @@
+-- Worked rows: what a unit that doesn't exist answers, byte by byte.
+use Rattle.std.specs.Prelude.{◌≡◌, ℕ, List, [], ◌∷◌, replicate, None, Some}
+use Rattle.scsi_sense.specs.declared.status.Status.TheVariants.{Good, CheckCondition}
+use Rattle.scsi_sense.specs.FixedSense.{fixed_sense}
+use Rattle.unit_answers.specs.declared.reply.Reply.{Reply}
+use Rattle.unit_answers.specs.Replies.{absent_answer, busy, AnswersAbsent}
+
+-- the sense data of a reply as bytes, none where it has none
+abbrev pub sense_bytes : Reply → List ℕ
+sense_bytes reply = elim reply.sense [ None ↦ [] | Some sense ↦ fixed_sense sense ]
+
+-- 25h/00h LOGICAL UNIT NOT SUPPORTED
+abbrev pub not_supported : List ℕ
+not_supported = 0x70 ∷ 0 ∷ 0x05 ∷ 0 ∷ 0 ∷ 0 ∷ 0 ∷ 0x0A ∷ 0 ∷ 0 ∷ 0 ∷ 0 ∷ 0x25 ∷ 0 ∷ 0 ∷ 0 ∷ 0 ∷ 0 ∷ []
+
+-- standard INQUIRY data of a place where no device can be connected
+abbrev pub no_device : List ℕ
+no_device = 0x7F ∷ 0 ∷ 0x06 ∷ 0x02 ∷ 0x1F ∷ 0 ∷ 0 ∷ 0 ∷ replicate 28 0x20
+
+pub record AbsentUnit : Type 0 where
+  -- INQUIRY is GOOD, cut at the allocation length, which has two bytes
+  pub inquiry : (absent_answer (0x12 ∷ 0 ∷ 0 ∷ 0 ∷ 0x24 ∷ 0 ∷ [])).payload ≡ no_device
+  pub inquiry_cut : (absent_answer (0x12 ∷ 0 ∷ 0 ∷ 0 ∷ 0x02 ∷ 0 ∷ [])).payload ≡ 0x7F ∷ 0 ∷ []
+  pub inquiry_high_byte : (absent_answer (0x12 ∷ 0 ∷ 0 ∷ 0x01 ∷ 0x02 ∷ 0 ∷ [])).payload ≡ no_device
+  pub inquiry_good : (absent_answer (0x12 ∷ 0 ∷ 0 ∷ 0 ∷ 0x24 ∷ 0 ∷ [])).status ≡ Good
+  -- also of a page, with NACA: neither is looked at
+  pub inquiry_of_a_page : (absent_answer (0x12 ∷ 0 ∷ 0x80 ∷ 0 ∷ 0x02 ∷ 0x04 ∷ [])).payload ≡ 0x7F ∷ 0 ∷ []
+  -- of vital product data it is refused
+  pub vital_product_data : sense_bytes (absent_answer (0x12 ∷ 0x01 ∷ 0 ∷ 0 ∷ 0x24 ∷ 0 ∷ [])) ≡ not_supported
+  -- REQUEST SENSE is GOOD, with the sense as data, cut; NACA and DESC aren't looked at
+  pub request_sense : (absent_answer (0x03 ∷ 0 ∷ 0 ∷ 0 ∷ 0x12 ∷ 0 ∷ [])).payload ≡ not_supported
+  pub request_sense_cut : (absent_answer (0x03 ∷ 0 ∷ 0 ∷ 0 ∷ 0x03 ∷ 0 ∷ [])).payload ≡ 0x70 ∷ 0 ∷ 0x05 ∷ []
+  pub request_sense_anyhow : (absent_answer (0x03 ∷ 0x01 ∷ 0 ∷ 0 ∷ 0x12 ∷ 0x04 ∷ [])).payload ≡ not_supported
+  pub request_sense_good : (absent_answer (0x03 ∷ 0 ∷ 0 ∷ 0 ∷ 0x12 ∷ 0 ∷ [])).status ≡ Good
+  -- all else is refused, REPORT LUNS and a CDB of five bytes too
+  pub test_unit_ready : sense_bytes (absent_answer (replicate 6 0)) ≡ not_supported
+  pub report_luns : sense_bytes (absent_answer (0xA0 ∷ 0 ∷ 0 ∷ 0 ∷ 0 ∷ 0 ∷ 0 ∷ 0 ∷ 0 ∷ 0xFF ∷ 0 ∷ 0 ∷ [])) ≡ not_supported
+  pub short_inquiry : sense_bytes (absent_answer (0x12 ∷ 0 ∷ 0 ∷ 0 ∷ 0x24 ∷ [])) ≡ not_supported
+  pub refused : (absent_answer (replicate 6 0)).status ≡ CheckCondition
+  -- or BUSY, with no number
+  pub wants_memory : AnswersAbsent (replicate 6 0) busy

@@ -1,0 +1,8 @@
+//! Worked rows that the definitions compute to. Each function has an empty body: its clause is the row.
+
+ghost use Rattle.unit_answers.specs.Rows.{AbsentUnit};
+
+/// What a unit that doesn't exist answers to INQUIRY, REQUEST SENSE and all else.
+pub fn absent_unit()
+    ensures { AbsentUnit }
+{}

@@ -1,0 +1,2 @@
+pub mod Contact
+pub mod PreventerLaws

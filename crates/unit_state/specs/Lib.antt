@@ -1,0 +1,3 @@
+pub mod KeptView
+pub mod Kept
+pub mod Readings

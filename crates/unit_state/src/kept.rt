@@ -1,0 +1,335 @@
+use crate::preventers::Preventers;
+use device_server::Payload;
+use permit_tables::{Cell, allowed as is_allowed};
+use pr_core::{PrFault, PrState, Verdict};
+use pr_params::{OutParams, write_capabilities, write_full_status, write_keys, write_reservation};
+use scsi_cdb::{InServiceAction, OutServiceAction};
+use scsi_nexus::Nexus;
+use std::alloc::{AllocError, Global};
+use std::marker::Model;
+use unit_answers::{Reply, condition_of_attention};
+use unit_attention::{Kind, Queues};
+use unit_commands::Command;
+
+/// What a unit keeps beside its device and its records.
+#[derive(Drop)]
+pub struct Kept {
+    lun: u8,
+    units: u8,
+    reservations: PrState,
+    queues: Queues,
+    preventers: Preventers,
+}
+
+impl Model for Kept {
+    ghost use Rattle.unit_state.specs.KeptView.{KeptView};
+
+    ghost Value = { KeptView };
+
+    ghost use Rattle.unit_state.specs.Kept.{HaveSlots};
+
+    ghost view = { λ s. record { lun = s.lun; units = s.units; reservations = s.reservations; slots = s.queues; preventers = s.preventers } };
+
+    ghost invariant = { λ s. HaveSlots s.queues s.preventers };
+}
+
+impl Kept {
+    ghost use Rattle.std.specs.Prelude.{◌≡◌, true};
+    ghost use Rattle.unit_attention.specs.Queues.{first_reset_of, first_other_of, has_slot};
+    ghost use Rattle.unit_state.specs.Kept.{HaveSlots, at_power_on, has_room, met, reported, is_prevented, prevented, allowed, after_mode, with_medium};
+    ghost use Rattle.unit_state.specs.Kept.{kept_after_loss, kept_after_reset};
+    ghost use Rattle.unit_state.specs.Readings.{pending_of};
+    ghost use Rattle.unit_answers.specs.Replies.{check};
+    ghost use Rattle.unit_answers.specs.Conditions.{condition_of_attention};
+
+    /// At power on, for a unit of this number among so many.
+    pub fn new(lun: u8, units: u8) -> Kept
+        ensures { result ≡ at_power_on lun units }
+    {
+        Kept {
+            lun,
+            units,
+            reservations: PrState::new(),
+            queues: Queues::new(),
+            preventers: Preventers::new(),
+        }
+    }
+
+    pub fn lun(&self) -> u8
+        ensures { result ≡ self.now.lun }
+    {
+        self.lun
+    }
+
+    pub fn units(&self) -> u8
+        ensures { result ≡ self.now.units }
+    {
+        self.units
+    }
+
+    /// Whether a sender has a slot, or one is left for it.
+    pub fn has_room(&self, nexus: Nexus) -> bool
+        ensures { result ≡ has_room self.now nexus }
+    {
+        self.queues.has(nexus) || !self.queues.is_full()
+    }
+
+    /// The contact that each command is.
+    pub fn meet(&mut self, nexus: Nexus)
+        requires { has_room self.old nexus ≡ true }
+        ensures { self.new ≡ met self.old nexus }
+    {
+        let met = self.queues.contact(nexus);
+        prove!(met.is_ok());
+    }
+
+    /// The oldest attention of ASC 29h that waits once the sender made contact.
+    pub fn first_reset(&self, nexus: Nexus) -> Option<Kind>
+        ensures { result ≡ first_reset_of (met self.now nexus).slots nexus }
+    {
+        if self.queues.has(nexus) {
+            self.queues.first_reset(nexus)
+        } else {
+            Some(Kind::PowerOn)
+        }
+    }
+
+    /// The oldest other attention that waits once the sender made contact.
+    pub fn first_other(&self, nexus: Nexus) -> Option<Kind>
+        ensures { result ≡ first_other_of (met self.now nexus).slots nexus }
+    {
+        if self.queues.has(nexus) {
+            self.queues.first_other(nexus)
+        } else {
+            None
+        }
+    }
+
+    /// The attention that would be reported once the sender made contact.
+    pub fn pending(&self, nexus: Nexus) -> Option<Kind>
+        ensures { result ≡ pending_of (met self.now nexus).slots nexus }
+    {
+        match self.first_reset(nexus) {
+            Some(kind) => Some(kind),
+            None => self.first_other(nexus),
+        }
+    }
+
+    /// Whether a nexus has a slot.
+    pub fn knows(&self, nexus: Nexus) -> bool
+        ensures { result ≡ has_slot self.now.slots nexus }
+    {
+        self.queues.has(nexus)
+    }
+
+    /// Whether somebody prevents the removal of media. Each nexus that does has a slot, and stands once.
+    pub fn is_prevented(&self) -> bool
+        ensures prevented { result ≡ is_prevented self.now }
+        ensures slots { HaveSlots self.now.slots self.now.preventers }
+    {
+        !self.preventers.is_empty()
+    }
+
+    /// Contact, and removal is prevented.
+    pub fn prevent(&mut self, nexus: Nexus)
+        requires { has_room self.old nexus ≡ true }
+        ensures { self.new ≡ prevented (met self.old nexus) nexus }
+    {
+        self.meet(nexus);
+        // For the prover alone: no more nexuses prevent removal than have slots, so there is room.
+        let _used = self.queues.used();
+        self.preventers.add(nexus);
+    }
+
+    /// Contact, and removal is no longer prevented by the nexus.
+    pub fn allow(&mut self, nexus: Nexus)
+        requires { has_room self.old nexus ≡ true }
+        ensures { self.new ≡ allowed (met self.old nexus) nexus }
+    {
+        self.meet(nexus);
+        self.preventers.remove(nexus);
+    }
+
+    /// An I_T nexus loss.
+    pub fn lose(&mut self, nexus: Nexus)
+        ensures { self.new ≡ kept_after_loss self.old nexus }
+    {
+        self.queues.lose(nexus);
+        self.preventers.remove(nexus);
+    }
+
+    /// A reset of the unit.
+    pub fn reset(&mut self)
+        ensures { self.new ≡ kept_after_reset self.old }
+    {
+        self.queues.reset();
+        let none = Preventers::new();
+        self.preventers = none;
+    }
+
+    /// A command of a nexus changed the mode parameters, or left them.
+    pub fn note_mode(&mut self, nexus: Nexus, mode_changed: bool)
+        ensures { self.new ≡ after_mode self.old nexus mode_changed }
+    {
+        if mode_changed {
+            tell_others(&mut self.queues, nexus, Kind::ModeParametersChanged);
+        }
+    }
+
+    /// A volume came in.
+    pub fn take_in_medium(&mut self)
+        ensures { self.new ≡ with_medium self.old }
+    {
+        tell_all(&mut self.queues, Kind::MediumChanged);
+    }
+
+    /// The same, for a base that later records stand on.
+    pub fn copy(&self) -> Kept
+        ensures { result ≡ self.now }
+    {
+        Kept {
+            lun: self.lun,
+            units: self.units,
+            reservations: self.reservations.copy(),
+            queues: self.queues.copy(),
+            preventers: self.preventers.copy(),
+        }
+    }
+
+    /// Contact, and the report of an attention, which waits no more.
+    pub fn tell(&mut self, alloc: Global, nexus: Nexus, kind: Kind) -> Reply
+        requires { has_room self.old nexus ≡ true }
+        ensures state { self.new ≡ reported (met self.old nexus) nexus kind }
+        ensures reply { result ≡ check (condition_of_attention kind) }
+    {
+        self.meet(nexus);
+        self.queues.clear(nexus, kind);
+        Reply::check(alloc, condition_of_attention(kind))
+    }
+}
+
+impl Kept {
+    ghost use Rattle.std.specs.Prelude.{◌≡◌, true, None, Some, OnOk, IfOk, IfErr, take};
+    ghost use Rattle.pr_core.specs.State.{cell};
+    ghost use Rattle.pr_core.specs.Judge.{verdict};
+    ghost use Rattle.pr_core.specs.Outcome.{refusal};
+    ghost use Rattle.pr_core.specs.declared.verdict.Verdict.TheVariants.{Allowed};
+    ghost use Rattle.unit_commands.specs.Commands.{class_of_command};
+    ghost use Rattle.unit_state.specs.Kept.{has_room, met, accepted};
+    ghost use Rattle.unit_state.specs.Readings.{verdict_of, status_data};
+
+    /// The cell of the permission table that a command of a nexus stands in.
+    pub fn cell(&self, nexus: Nexus, command: &Command) -> Cell
+        ensures { result ≡ cell self.now.reservations nexus (class_of_command command.now) }
+    {
+        self.reservations.cell(nexus, command.class())
+    }
+
+    /// What the reservation check says of a command.
+    pub fn verdict(&self, nexus: Nexus, command: &Command) -> Verdict
+        ensures { result ≡ verdict_of self.now.reservations nexus command.now }
+    {
+        match command {
+            Command::ReserveOut(list) => self.reservations.judge(nexus, list.params()),
+            Command::ReserveIn(_, _)
+            | Command::Inquiry(_, _, _)
+            | Command::ReportLuns(_, _)
+            | Command::RequestSense(_, _)
+            | Command::Prevent(_)
+            | Command::Device(_) => {
+                let cell = self.reservations.cell(nexus, command.class());
+                if is_allowed(cell) {
+                    Verdict::Allowed
+                } else {
+                    Verdict::Denied(cell)
+                }
+            }
+        }
+    }
+
+    /// The data of PERSISTENT RESERVE IN, uncut.
+    fn status_data(
+        &self,
+        alloc: Global,
+        service_action: InServiceAction,
+    ) -> Result<Vec<u8>, AllocError>
+        ensures { IfOk result (λ bytes. bytes.items ≡ status_data self.now.reservations service_action) }
+    {
+        let generation = self.reservations.generation();
+        let pairs = self.reservations.registrations();
+        let reservation = self.reservations.reservation();
+        match service_action {
+            InServiceAction::ReadKeys => write_keys(alloc, generation, pairs),
+            InServiceAction::ReadReservation => {
+                write_reservation(alloc, generation, pairs, reservation)
+            }
+            InServiceAction::ReportCapabilities => write_capabilities(alloc),
+            InServiceAction::ReadFullStatus => {
+                write_full_status(alloc, generation, pairs, reservation)
+            }
+        }
+    }
+
+    /// The data of PERSISTENT RESERVE IN, cut at the allocation length.
+    pub fn read_status(
+        &self,
+        alloc: Global,
+        service_action: InServiceAction,
+        allocation_length: u16,
+    ) -> Result<Payload, AllocError>
+        ensures { IfOk result (λ payload. payload ≡ take allocation_length (status_data self.now.reservations service_action)) }
+    {
+        let data = self.status_data(alloc, service_action)?;
+        Ok(Payload::of(data).cut(usize::from(allocation_length)))
+    }
+
+    /// Contact, and an allowed PERSISTENT RESERVE OUT command with the attentions that it raises.
+    pub fn reserve(&mut self, nexus: Nexus, params: &OutParams) -> Result<(), PrFault>
+        requires room { has_room self.old nexus ≡ true }
+        requires allowed { verdict self.old.reservations nexus params.now ≡ Allowed }
+        ensures ok { OnOk result ((refusal self.old.reservations nexus params.now ≡ None) × (self.new ≡ accepted (met self.old nexus) nexus params.now)) }
+        ensures err { IfErr result (λ fault. (refusal self.old.reservations nexus params.now ≡ Some fault) × (self.new ≡ met self.old nexus)) }
+    {
+        self.meet(nexus);
+        let raised = self.reservations.apply(nexus, params)?;
+        raise_all(&mut self.queues, raised.attentions.as_slice());
+        if params.act == OutServiceAction::PreemptAndAbort {
+            self.preventers.remove_all(raised.removed.items());
+        }
+        Ok(())
+    }
+}
+
+ghost use Rattle.std.specs.Prelude.{◌≡◌};
+ghost use Rattle.unit_state.specs.Kept.{all_raised, all_told, others_told};
+
+/// Raises attentions one after another.
+fn raise_all(queues: &mut Queues, attentions: &[(Nexus, Kind)])
+    ensures { queues.new ≡ all_raised queues.old attentions.now }
+{
+    for (nexus, kind) in attentions {
+        queues.raise(*nexus, *kind);
+    }
+}
+
+/// Raises an attention for every slot.
+fn tell_all(queues: &mut Queues, kind: Kind)
+    ensures { queues.new ≡ all_told queues.old kind }
+{
+    let nexuses = queues.slots();
+    for nexus in nexuses.as_slice() {
+        queues.raise(*nexus, kind);
+    }
+}
+
+/// Raises an attention for every slot but the sender's.
+fn tell_others(queues: &mut Queues, sender: Nexus, kind: Kind)
+    ensures { queues.new ≡ others_told queues.old sender kind }
+{
+    let nexuses = queues.slots();
+    for nexus in nexuses.as_slice() {
+        if *nexus != sender {
+            queues.raise(*nexus, kind);
+        }
+    }
+}
