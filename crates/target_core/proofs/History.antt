@@ -8,23 +8,23 @@ use Rattle.scsi_nexus.specs.declared.nexus.Nexus.{Nexus}
 use Rattle.unit_attention.specs.Queues.{has_slot}
 use Rattle.pr_core.specs.State.{State}
 use Rattle.device_server.specs.View.{kind_of}
-use Rattle.logical_unit.specs.declared.reply.Reply.{Reply}
-use Rattle.logical_unit.specs.History.{Accepted, accepted_by, after_history}
+use Rattle.unit_answers.specs.declared.reply.Reply.{Reply}
+use Rattle.judgement.specs.History.{Accepted, accepted_by, after_history}
 use Rattle.logical_unit.specs.UnitView.{UnitView}
-use Rattle.logical_unit.proofs.History.{executes_keeps}
-use Rattle.logical_unit.proofs.SameKind.{executes_kind, kind_after_reset}
+use Rattle.logical_unit.proofs.History.{executes_keeps, executes_stays}
+use Rattle.device_server.proofs.SameDevice.{reset_same}
 use Rattle.logical_unit.specs.Step.{Executes, LosesAs}
 use Rattle.target_core.specs.declared.event.Event.{Event}
 use Rattle.target_core.specs.declared.event.Event.TheVariants as event
 use Rattle.target_core.specs.Run.{AtUnit, CommandsAt, IsLost, IsReset, LosesAt, ResetsAt, Steps, Runs}
 use Rattle.target_core.specs.Laws.{accepted_at, accepted_in}
 
-get-set_same : (xs : List UnitView) (i : ℕ) (x y : UnitView) → slice_get xs i ≡ Some y → slice_get (slice_set xs i x) i ≡ Some x
+pub get-set_same : (xs : List UnitView) (i : ℕ) (x y : UnitView) → slice_get xs i ≡ Some y → slice_get (slice_set xs i x) i ≡ Some x
 get-set_same [] i x y h = cc
 get-set_same (z ∷ xs) zero x y h = refl
 get-set_same (z ∷ xs) (suc i) x y h = get-set_same xs i x y h
 
-get-set_other : (xs : List UnitView) (i j : ℕ) (x : UnitView) → i ≢ j → slice_get (slice_set xs i x) j ≡ slice_get xs j
+pub get-set_other : (xs : List UnitView) (i j : ℕ) (x : UnitView) → i ≢ j → slice_get (slice_set xs i x) j ≡ slice_get xs j
 get-set_other [] i j x apart = refl
 get-set_other (z ∷ xs) zero zero x apart = absurd (apart refl)
 get-set_other (z ∷ xs) zero (suc j) x apart = refl
@@ -67,7 +67,7 @@ unit_grows us ms lun at u w n cdb bytes r here there a =
           record {
             unit = a.unit;
             place = ap (λ (xs : List UnitView). slice_get xs lun) a.units ∙ ap (λ k. slice_get (slice_set us k a.unit) lun) same ∙ get-set_same us lun a.unit u here;
-            kind = executes_kind w a.unit n cdb bytes r a.step ∙ ap (λ (x : UnitView). kind_of x.device) (sym is);
+            kind = (executes_stays w a.unit n cdb bytes r a.step).device.kind ∙ ap (λ (x : UnitView). kind_of x.device) (sym is);
             history =
                 executes_keeps w a.unit n cdb bytes r a.step ∙ ap (λ (x : UnitView). after_history x.kept.reservations (accepted_by (kind_of x.device) n cdb bytes r.status)) (sym is);
           }
@@ -117,13 +117,13 @@ lost_kind : (u v : UnitView) (n : Nexus) (number : Option ℕ) (known : Bool) �
 lost_kind u v n number false is = ap (λ (x : UnitView × Option ℕ). kind_of x.0.device) is
 lost_kind u v n number true is = ap (λ (x : UnitView × Option ℕ). kind_of x.0.device) is.1
 
-loss_kind : (u v : UnitView) (n : Nexus) (r : Reply) → IsLost u n (v, r) → kind_of v.device ≡ kind_of u.device
+pub loss_kind : (u v : UnitView) (n : Nexus) (r : Reply) → IsLost u n (v, r) → kind_of v.device ≡ kind_of u.device
 loss_kind u v n r (inl busy) = ap (λ (x : UnitView × Reply). kind_of x.0.device) busy.0
 loss_kind u v n r (inr lost) = lost_kind u v n lost.0 (has_slot u.kept.slots n) lost.1
 
-reset_kind : (u v : UnitView) (r : Reply) → IsReset u (v, r) → kind_of v.device ≡ kind_of u.device
+pub reset_kind : (u v : UnitView) (r : Reply) → IsReset u (v, r) → kind_of v.device ≡ kind_of u.device
 reset_kind u v r (inl busy) = ap (λ (x : UnitView × Reply). kind_of x.0.device) busy
-reset_kind u v r (inr was) = ap (λ (x : UnitView × ℕ). kind_of x.0.device) was.1.1 ∙ kind_after_reset u.device
+reset_kind u v r (inr was) = ap (λ (x : UnitView × ℕ). kind_of x.0.device) was.1.1 ∙ (reset_same u.device).kind
 
 loss_grows : (us ms : List UnitView) (r : Reply) (lun at : ℕ) (u : UnitView) (n : Nexus) (o : Option UnitView) → slice_get us at ≡ o → slice_get us lun ≡ Some u → LosesAt us at o n (ms, r) → Grows u ms lun []
 loss_grows us ms r lun at u n None there here is = record { unit = u; place = ap (λ (x : List UnitView × Reply). slice_get x.0 lun) is ∙ here; kind = refl; history = refl }
@@ -133,7 +133,7 @@ reset_grows : (us ms : List UnitView) (r : Reply) (lun at : ℕ) (u : UnitView) 
 reset_grows us ms r lun at u None there here is = record { unit = u; place = ap (λ (x : List UnitView × Reply). slice_get x.0 lun) is ∙ here; kind = refl; history = refl }
 reset_grows us ms r lun at u (Some w) there here a = changed_grows us ms lun at u w a.unit here there a.units (reset_kind w a.unit r a.step) (reset_keeps w a.unit r a.step)
 
-step_grows : (us ms : List UnitView) (e : Event) (r : Reply) (lun : ℕ) (u : UnitView) → Steps us e (ms, r) → slice_get us lun ≡ Some u → Grows u ms lun (accepted_at (kind_of u.device) lun e r)
+pub step_grows : (us ms : List UnitView) (e : Event) (r : Reply) (lun : ℕ) (u : UnitView) → Steps us e (ms, r) → slice_get us lun ≡ Some u → Grows u ms lun (accepted_at (kind_of u.device) lun e r)
 step_grows us ms (event.Command n at cdb bytes) r lun u step here = commands_grow us ms lun at u n cdb.items bytes.items r (slice_get us at) refl here step
 step_grows us ms (event.Loss n at) r lun u step here = loss_grows us ms r lun at u n (slice_get us at) refl here step
 step_grows us ms (event.Reset at) r lun u step here = reset_grows us ms r lun at u (slice_get us at) refl here step

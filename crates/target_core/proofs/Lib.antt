@@ -1,2 +1,9 @@
 pub mod Runs
 pub mod History
+pub mod Parts
+pub mod Served
+pub mod Row
+pub mod EventRows
+pub mod SamePlace
+pub mod InOrder
+pub mod Places

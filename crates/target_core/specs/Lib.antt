@@ -1,3 +1,5 @@
 pub mod Faults
 pub mod Run
 pub mod Laws
+pub mod Headline
+pub mod Rows

@@ -4,9 +4,9 @@ use Rattle.scsi_nexus.specs.declared.nexus.Nexus.{Nexus}
 use Rattle.scsi_sense.specs.declared.condition.Condition.TheVariants.{LogicalUnitNotSupported}
 use Rattle.unit_attention.specs.Queues.{has_slot}
 use Rattle.audit_log.specs.declared.record.Record.{Record}
-use Rattle.logical_unit.specs.declared.reply.Reply.{Reply}
+use Rattle.unit_answers.specs.declared.reply.Reply.{Reply}
 use Rattle.logical_unit.specs.Legal.{IsTrail}
-use Rattle.logical_unit.specs.Replies.{AnswersAbsent, busy, good, check, numbered}
+use Rattle.unit_answers.specs.Replies.{AnswersAbsent, busy, good, check, numbered}
 use Rattle.logical_unit.specs.Step.{Executes, Loses, Resets, drained}
 use Rattle.logical_unit.specs.UnitView.{UnitView}
 use Rattle.target_core.specs.declared.event.Event.{Event}

@@ -1,7 +1,7 @@
 use scsi_nexus::Nexus;
 
 /// What happens at the target.
-#[derive(Drop)]
+#[derive(Debug, Drop)]
 pub enum Event {
     /// A command of a nexus to a logical unit, with the data sent with it.
     Command {

@@ -7,6 +7,6 @@ mod order;
 mod target;
 
 pub use event::Event;
-pub use laws::{accepted_history, runs_one_after_another};
+pub use laws::{accepted_history, headline, runs_one_after_another, worked_run, worked_units};
 pub use order::CoreFault;
 pub use target::TargetCore;

@@ -2,6 +2,7 @@ ghost use Rattle.std.specs.Prelude.{◌≡◌, ◌<◌, length, slice_get, Some}
 ghost use Rattle.std.specs.Global.{Vec};
 ghost use Rattle.std.specs.Option.{option_map};
 ghost use Rattle.audit_log.specs.declared.record.Record.{Record};
+ghost use Rattle.logical_unit.specs.UnitView.{units_of};
 ghost use Rattle.target_core.specs.Run.{Commands, LosesAt, ResetsAt, Drains, done};
 
 use crate::event::Event;
@@ -14,7 +15,8 @@ use scsi_sense::Condition;
 use std::alloc::{AllocError, Global};
 use std::marker::Model;
 
-/// All units of a target: a changer, then drives by place.
+/// All units of a target: a changer as logical unit 0, then one to four drives numbered by place,
+/// each made with that count of units.
 #[derive(Drop)]
 pub struct TargetCore<D: DeviceServer> {
     units: Vec<LogicalUnit<D>>,
@@ -22,11 +24,16 @@ pub struct TargetCore<D: DeviceServer> {
 
 impl<D: DeviceServer> Model for TargetCore<D> {
     ghost use Rattle.std.specs.Prelude.{List};
-    ghost use Rattle.logical_unit.specs.UnitView.{UnitView};
+    ghost use Rattle.logical_unit.specs.UnitView.{UnitView, units_of};
 
     ghost Value = { List UnitView };
 
-    ghost view = { λ t. t.units.items };
+    ghost view = { λ t. units_of t.units.items };
+
+    ghost use Rattle.std.specs.Prelude.{◌≡◌, None};
+    ghost use Rattle.target_core.specs.Faults.{fault_of};
+
+    ghost invariant = { λ t. fault_of (units_of t.units.items) ≡ None };
 }
 
 /// A command to one of the units.
@@ -39,7 +46,7 @@ fn command_at<D: DeviceServer>(
     bytes: &[u8],
 ) -> Reply
     requires { lun < length units.old }
-    ensures { Commands units.old lun nexus cdb.now bytes.now (units.new, result) }
+    ensures { Commands (units_of units.old) lun nexus cdb.now bytes.now (units_of units.new, result) }
 {
     units[lun].execute(alloc, nexus, cdb, bytes)
 }
@@ -53,7 +60,7 @@ fn command_to<D: DeviceServer>(
     cdb: &[u8],
     bytes: &[u8],
 ) -> Reply
-    ensures { Commands units.old.items lun nexus cdb.now bytes.now (units.new.items, result) }
+    ensures { Commands (units_of units.old.items) lun nexus cdb.now bytes.now (units_of units.new.items, result) }
 {
     if lun < units.len() {
         command_at(alloc, units.as_mut_slice(), lun, nexus, cdb, bytes)
@@ -79,7 +86,7 @@ fn lose_at<D: DeviceServer>(
     nexus: Nexus,
 ) -> Reply
     requires { lun < length units.old }
-    ensures { LosesAt units.old lun (slice_get units.old lun) nexus (units.new, result) }
+    ensures { LosesAt (units_of units.old) lun (slice_get (units_of units.old) lun) nexus (units_of units.new, result) }
 {
     match units[lun].lose(nexus) {
         Ok(number) => done(alloc, number.unwrap_or(0)),
@@ -90,7 +97,7 @@ fn lose_at<D: DeviceServer>(
 /// A reset of one of the units.
 fn reset_at<D: DeviceServer>(alloc: Global, units: &mut [LogicalUnit<D>], lun: usize) -> Reply
     requires { lun < length units.old }
-    ensures { ResetsAt units.old lun (slice_get units.old lun) (units.new, result) }
+    ensures { ResetsAt (units_of units.old) lun (slice_get (units_of units.old) lun) (units_of units.new, result) }
 {
     match units[lun].reset() {
         Ok(number) => done(alloc, number),
@@ -105,7 +112,7 @@ fn lose<D: DeviceServer>(
     lun: usize,
     nexus: Nexus,
 ) -> Reply
-    ensures { LosesAt units.old.items lun (slice_get units.old.items lun) nexus (units.new.items, result) }
+    ensures { LosesAt (units_of units.old.items) lun (slice_get (units_of units.old.items) lun) nexus (units_of units.new.items, result) }
 {
     if lun < units.len() {
         lose_at(alloc, units.as_mut_slice(), lun, nexus)
@@ -116,7 +123,7 @@ fn lose<D: DeviceServer>(
 
 /// A reset of a unit, or of none.
 fn reset<D: DeviceServer>(alloc: Global, units: &mut Vec<LogicalUnit<D>>, lun: usize) -> Reply
-    ensures { ResetsAt units.old.items lun (slice_get units.old.items lun) (units.new.items, result) }
+    ensures { ResetsAt (units_of units.old.items) lun (slice_get (units_of units.old.items) lun) (units_of units.new.items, result) }
 {
     if lun < units.len() {
         reset_at(alloc, units.as_mut_slice(), lun)
@@ -128,7 +135,7 @@ fn reset<D: DeviceServer>(alloc: Global, units: &mut Vec<LogicalUnit<D>>, lun: u
 /// The records of one of the units.
 fn drain_at<D: DeviceServer>(alloc: Global, units: &mut [LogicalUnit<D>], lun: usize) -> Vec<Record>
     requires { lun < length units.old }
-    ensures { Drains units.old lun (units.new, Some result.items) }
+    ensures { Drains (units_of units.old) lun (units_of units.new, Some result.items) }
 {
     units[lun].drain(alloc)
 }
@@ -139,7 +146,7 @@ fn drain<D: DeviceServer>(
     units: &mut Vec<LogicalUnit<D>>,
     lun: usize,
 ) -> Option<Vec<Record>>
-    ensures { Drains units.old.items lun (units.new.items, option_map (λ (entries : Vec Record). entries.items) result) }
+    ensures { Drains (units_of units.old.items) lun (units_of units.new.items, option_map (λ (entries : Vec Record). entries.items) result) }
 {
     if lun < units.len() {
         Some(drain_at(alloc, units.as_mut_slice(), lun))
@@ -150,19 +157,20 @@ fn drain<D: DeviceServer>(
 
 impl<D: DeviceServer> TargetCore<D> {
     ghost use Rattle.std.specs.Prelude.{◌≡◌, List, ◌++◌, Some, None, OnOk, OnErr, IfOk, IfErr};
-    ghost use Rattle.logical_unit.specs.declared.reply.Reply.{Reply};
+    ghost use Rattle.unit_answers.specs.declared.reply.Reply.{Reply};
     ghost use Rattle.target_core.specs.Faults.{fault_of};
     ghost use Rattle.std.specs.Global.{Vec};
     ghost use Rattle.std.specs.Option.{option_map};
     ghost use Rattle.audit_log.specs.declared.record.Record.{Record};
+    ghost use Rattle.logical_unit.specs.UnitView.{units_of};
     ghost use Rattle.target_core.specs.Run.{Steps, Runs, Drains};
 
     /// A target of these units. A refusal hands them back.
     pub fn new(
         units: Vec<LogicalUnit<D>>,
     ) -> Result<TargetCore<D>, (CoreFault, Vec<LogicalUnit<D>>)>
-        ensures ok { IfOk result (λ core. (fault_of units.items ≡ None) × (core ≡ units.items)) }
-        ensures err { IfErr result (λ back. (fault_of units.items ≡ Some back.0) × (back.1 ≡ units)) }
+        ensures ok { IfOk result (λ core. (fault_of (units_of units.items) ≡ None) × (core ≡ units_of units.items)) }
+        ensures err { IfErr result (λ back. (fault_of (units_of units.items) ≡ Some back.0) × (back.1 ≡ units)) }
     {
         match fault_of(units.as_slice()) {
             None => Ok(TargetCore { units }),
@@ -172,14 +180,16 @@ impl<D: DeviceServer> TargetCore<D> {
 
     /// The units, by logical unit number.
     pub fn all(&self) -> &[LogicalUnit<D>]
-        ensures { result.now ≡ self.now }
+        ensures units { units_of result.now ≡ self.now }
+        ensures ordered { fault_of self.now ≡ None }
     {
         self.units.as_slice()
     }
 
     /// The units, by logical unit number.
     pub fn into_units(self) -> Vec<LogicalUnit<D>>
-        ensures { result.items ≡ self }
+        ensures units { units_of result.items ≡ self }
+        ensures ordered { fault_of self ≡ None }
     {
         let TargetCore { units } = self;
         units

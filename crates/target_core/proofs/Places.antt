@@ -1,0 +1,66 @@
+-- A unit at its place among units with their room.
+use Rattle.std.proofs.Common.{◌≡◌, ◌<◌, ℕ, zero, suc, true, List, [], ◌∷◌, length, Option, Some, None, refl, sym, ap, ◌∙◌, subst, inl, inr, arith}
+use Rattle.std.specs.Prelude.{slice_get, slice_set, slice_index_or, unwrap_or}
+use Rattle.std.proofs.lemmas.List.{map-set}
+use Rattle.scsi_nexus.specs.declared.nexus.Nexus.{Nexus}
+use Rattle.unit_attention.specs.Queues.{has_slot}
+use Rattle.audit_log.specs.declared.record.Record.{Record}
+use Rattle.unit_answers.specs.declared.reply.Reply.{Reply}
+use Rattle.unit_answers.specs.Replies.{busy}
+use Rattle.logical_unit.specs.UnitView.{UnitView, UnitWithRoom, units_of}
+use Rattle.logical_unit.specs.Step.{Executes, Loses, Resets, drained}
+use Rattle.logical_unit.specs.Legal.{IsTrail}
+use Rattle.target_core.specs.Run.{CommandsAt, Commands, LosesAt, ResetsAt, DrainsAt, Drains, done, number_or_0}
+
+-- the unit at a place
+pub placed : (us : List UnitWithRoom) (i : ℕ) (d : UnitWithRoom) → i < length us → slice_get (units_of us) i ≡ Some (slice_index_or us i d).unit
+placed [] i d within = absurd (omega (arith, within))
+placed (u ∷ us) zero d within = refl
+placed (u ∷ us) (suc i) d within = placed us i d (omega (arith, within))
+
+-- a unit that takes the place of another
+pub units_of-set : (us : List UnitWithRoom) (i : ℕ) (w : UnitWithRoom) → units_of (slice_set us i w) ≡ slice_set (units_of us) i w.unit
+units_of-set us i w = map-set (λ (u : UnitWithRoom). u.unit) us i w
+
+number_or_0-is : (o : Option ℕ) → unwrap_or o 0 ≡ number_or_0 o
+number_or_0-is None = refl
+number_or_0-is (Some number) = refl
+
+module _ (us : List UnitWithRoom) (i : ℕ) (d w : UnitWithRoom) (within : i < length us) where
+  -- a command, a loss, a reset and a drain of the unit at a place
+  pub commands_at : (n : Nexus) (cdb bytes : List ℕ) (r : Reply) → Executes (slice_index_or us i d).unit n cdb bytes (w.unit, r)
+      → Commands (units_of us) i n cdb bytes (units_of (slice_set us i w), r)
+  commands_at n cdb bytes r e =
+      subst (λ (o : Option UnitView). CommandsAt (units_of us) i o n cdb bytes (units_of (slice_set us i w), r)) (sym (placed us i d within))
+      (record { unit = w.unit; step = e; units = units_of-set us i w })
+
+  pub loses_at : (n : Nexus) (r : Reply) (number : Option ℕ) → Loses (slice_index_or us i d).unit n (w.unit, number) → r ≡ done (unwrap_or number 0)
+      → LosesAt (units_of us) i (slice_get (units_of us) i) n (units_of (slice_set us i w), r)
+  loses_at n r number lost told =
+      subst (λ (o : Option UnitView). LosesAt (units_of us) i o n (units_of (slice_set us i w), r)) (sym (placed us i d within))
+      (record { unit = w.unit; step = inr (number, lost, told ∙ ap done (number_or_0-is number)); units = units_of-set us i w })
+
+  pub busy_loss_at : (n : Nexus) (r : Reply) → w.unit ≡ (slice_index_or us i d).unit → has_slot (slice_index_or us i d).unit.kept.slots n ≡ true → r ≡ busy
+      → LosesAt (units_of us) i (slice_get (units_of us) i) n (units_of (slice_set us i w), r)
+  busy_loss_at n r same known told =
+      subst (λ (o : Option UnitView). LosesAt (units_of us) i o n (units_of (slice_set us i w), r)) (sym (placed us i d within))
+      (record { unit = w.unit; step = inl (ap (λ (u : UnitView). (u, r)) same ∙ ap (λ q. ((slice_index_or us i d).unit, q)) told, known); units = units_of-set us i w })
+
+  pub resets_at : (r : Reply) (number : ℕ) → Resets (slice_index_or us i d).unit (w.unit, number) → r ≡ done number
+      → ResetsAt (units_of us) i (slice_get (units_of us) i) (units_of (slice_set us i w), r)
+  resets_at r number was told =
+      subst (λ (o : Option UnitView). ResetsAt (units_of us) i o (units_of (slice_set us i w), r)) (sym (placed us i d within))
+      (record { unit = w.unit; step = inr (number, was, told); units = units_of-set us i w })
+
+  pub busy_reset_at : (r : Reply) → w.unit ≡ (slice_index_or us i d).unit → r ≡ busy
+      → ResetsAt (units_of us) i (slice_get (units_of us) i) (units_of (slice_set us i w), r)
+  busy_reset_at r same told =
+      subst (λ (o : Option UnitView). ResetsAt (units_of us) i o (units_of (slice_set us i w), r)) (sym (placed us i d within))
+      (record { unit = w.unit; step = inl (ap (λ (u : UnitView). (u, r)) same ∙ ap (λ q. ((slice_index_or us i d).unit, q)) told); units = units_of-set us i w })
+
+  pub drains_at : (entries : List Record) → entries ≡ (slice_index_or us i d).unit.records → w.unit ≡ drained (slice_index_or us i d).unit
+      → IsTrail (slice_index_or us i d).unit.base (slice_index_or us i d).unit.records (slice_index_or us i d).unit.kept
+      → Drains (units_of us) i (units_of (slice_set us i w), Some entries)
+  drains_at entries told same trail =
+      subst (λ (o : Option UnitView). DrainsAt (units_of us) i o (units_of (slice_set us i w), Some entries)) (sym (placed us i d within))
+      (ap (λ (vs : List UnitView). (vs, Some entries)) (units_of-set us i w ∙ ap (slice_set (units_of us) i) same) ∙ ap (λ (es : List Record). (slice_set (units_of us) i (drained (slice_index_or us i d).unit), Some es)) told, trail)

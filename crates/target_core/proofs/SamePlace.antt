@@ -1,0 +1,31 @@
+-- A unit stays at its logical unit number, with its count of units.
+use Rattle.std.proofs.Common.{◌≡◌, ℕ, Bool, true, false, List, Option, inl, inr, ap, ◌∙◌}
+use Rattle.scsi_nexus.specs.declared.nexus.Nexus.{Nexus}
+use Rattle.unit_attention.specs.Queues.{has_slot}
+use Rattle.unit_answers.specs.declared.reply.Reply.{Reply}
+use Rattle.unit_state.specs.KeptView.{KeptView}
+use Rattle.logical_unit.specs.UnitView.{UnitView}
+use Rattle.logical_unit.specs.Step.{Executes, LosesAs}
+use Rattle.logical_unit.proofs.History.{executes_stays}
+use Rattle.target_core.specs.Run.{IsLost, IsReset}
+
+-- the number of a unit, and how many units it was made with
+abbrev pub place_of : KeptView → ℕ × ℕ
+place_of k = (k.lun, k.units)
+
+pub executes_place : (u v : UnitView) (n : Nexus) (cdb bytes : List ℕ) (r : Reply) → Executes u n cdb bytes (v, r) → place_of v.kept ≡ place_of u.kept
+executes_place u v n cdb bytes r e =
+    let stays = executes_stays u v n cdb bytes r e in
+    ap (λ l. (l, v.kept.units)) stays.lun ∙ ap (λ c. (u.kept.lun, c)) stays.units
+
+lost_place : (u v : UnitView) (n : Nexus) (number : Option ℕ) (known : Bool) → LosesAs known u n (v, number) → place_of v.kept ≡ place_of u.kept
+lost_place u v n number false is = ap (λ (x : UnitView × Option ℕ). place_of x.0.kept) is
+lost_place u v n number true is = ap (λ (x : UnitView × Option ℕ). place_of x.0.kept) is.1
+
+pub loss_place : (u v : UnitView) (n : Nexus) (r : Reply) → IsLost u n (v, r) → place_of v.kept ≡ place_of u.kept
+loss_place u v n r (inl busy) = ap (λ (x : UnitView × Reply). place_of x.0.kept) busy.0
+loss_place u v n r (inr lost) = lost_place u v n lost.0 (has_slot u.kept.slots n) lost.1
+
+pub reset_place : (u v : UnitView) (r : Reply) → IsReset u (v, r) → place_of v.kept ≡ place_of u.kept
+reset_place u v r (inl busy) = ap (λ (x : UnitView × Reply). place_of x.0.kept) busy
+reset_place u v r (inr was) = ap (λ (x : UnitView × ℕ). place_of x.0.kept) was.1.1

@@ -1,0 +1,12 @@
+use Rattle.target_core.proofs.EventRows.{busy_runs, losses_and_resets}
+use Rattle.target_core.proofs.Row.{worked}
+use Rattle.target_core.proofs.laws.worked_run.Goals as goal
+
+pub returns-clause-run : goal.returns-clause-run
+returns-clause-run c = worked
+
+pub returns-clause-busy : goal.returns-clause-busy
+returns-clause-busy c = busy_runs
+
+pub returns-clause-events : goal.returns-clause-events
+returns-clause-events c = losses_and_resets
