@@ -1,3 +1,2 @@
-pub mod Cuts
-pub mod Lines
-pub mod HexLines
+pub mod LibraryLemmas
+pub mod StockLemmas

@@ -1,13 +1,23 @@
--- What contracts see of the devices of the library.
+-- What contracts see of the devices of the library, and of its units.
+use Rattle.std.specs.Prelude.{ℕ, zero, suc, ◌+◌, List, [], ◌∷◌, ◌++◌}
+use Rattle.device_server.specs.Drive.{empty_drive}
 use Rattle.device_server.specs.View.{DeviceView, Drive, Changer}
-use Rattle.tape_medium.specs.Elements.{empty_elements}
+use Rattle.logical_unit.specs.Step.{made}
+use Rattle.logical_unit.specs.UnitView.{UnitView}
+use Rattle.vtl.specs.declared.library_options.LibraryOptions.{LibraryOptions}
+use Rattle.vtl.specs.Stock.{stocked}
 use Rattle.vtl.specs.declared.device.Device.{Device}
 use Rattle.vtl.specs.declared.device.Device.TheVariants as device
 
--- a changer without elements
-abbrev pub no_elements : DeviceView
-no_elements = Changer (empty_elements 0 0 0)
-
 abbrev pub shown_as : Device → DeviceView
-shown_as (device.Changer changer) = no_elements
+shown_as (device.Changer elements) = Changer elements
 shown_as (device.Tape drive) = Drive drive
+
+-- the first so many drives of a library with a count of units, empty at power on: the logical units from 1 on
+abbrev pub drives_to : (drives count : ℕ) → List UnitView
+drives_to zero count = []
+drives_to (suc k) count = drives_to k count ++ made (Drive empty_drive) (k + 1) count 0 ∷ []
+
+-- a changer with the elements and volumes of the options, and drives
+abbrev pub library_of : LibraryOptions → List UnitView
+library_of options = made (Changer (stocked options)) 0 (options.drives + 1) 0 ∷ drives_to options.drives (options.drives + 1)

@@ -1,12 +1,16 @@
--- The exit status of each fault.
-use Rattle.std.specs.Prelude.{ℕ}
+-- The exit status of each fault of the program, and the line that it writes on standard error (profile).
+use Rattle.std.specs.Prelude.{ℕ, List, [], ◌∷◌, ◌++◌, Option, Some, None, Result, Ok, Err, codes}
+use Rattle.std.specs.Option.{option_map}
 use Rattle.clap.specs.Values.{kind_of}
 use Rattle.clap.specs.declared.error.kind.ErrorKind.{ErrorKind}
 use Rattle.clap.specs.declared.error.kind.ErrorKind.TheVariants.{DisplayHelp, DisplayVersion}
+use Rattle.replay.specs.Faults.{exit_status, fault_text}
 use Rattle.vtl.specs.declared.command_line.CommandLineFault.{CommandLineFault}
 use Rattle.vtl.specs.declared.command_line.CommandLineFault.TheVariants as line
-use Rattle.vtl.specs.declared.replay_fault.ReplayFault.{ReplayFault}
-use Rattle.vtl.specs.declared.replay_fault.ReplayFault.TheVariants.{Line, NoMemory, Read, Write}
+use Rattle.vtl.specs.declared.library_options.OptionFault.{OptionFault}
+use Rattle.vtl.specs.declared.library_options.OptionFault.TheVariants.{MoreVolumes}
+use Rattle.vtl.specs.declared.program_fault.ProgramFault.{ProgramFault}
+use Rattle.vtl.specs.declared.program_fault.ProgramFault.TheVariants.{CommandLine, Options, Replay}
 
 -- help and the version are what was asked for
 abbrev pub refusal_status : ErrorKind → ℕ
@@ -19,8 +23,33 @@ command_line_status (line.Refused error) = refusal_status (kind_of error)
 command_line_status line.NotText = 2
 command_line_status line.NoMemory = 3
 
-abbrev pub exit_status : ReplayFault → ℕ
-exit_status (Line number what) = 2
-exit_status NoMemory = 3
-exit_status Read = 4
-exit_status Write = 4
+abbrev pub option_status : OptionFault → ℕ
+option_status MoreVolumes = 2
+
+abbrev pub program_status : ProgramFault → ℕ
+program_status (CommandLine fault) = command_line_status fault
+program_status (Options fault) = option_status fault
+program_status (Replay fault) = exit_status fault
+
+-- of a command line that isn't the program's, `clap` chooses the words
+abbrev pub command_line_text : CommandLineFault → Option (List ℕ)
+command_line_text (line.Refused error) = None
+command_line_text line.NotText = Some (codes "vtl: arguments that are not text")
+command_line_text line.NoMemory = Some (codes "vtl: want of memory")
+
+abbrev pub option_fault_text : OptionFault → List ℕ
+option_fault_text MoreVolumes = codes "vtl: more volumes than slots"
+
+abbrev pub program_text : ProgramFault → Option (List ℕ)
+program_text (CommandLine fault) = command_line_text fault
+program_text (Options fault) = Some (option_fault_text fault)
+program_text (Replay fault) = Some (fault_text fault)
+
+-- how the program ends: nothing is written where the task was done, and else the text and a line feed
+abbrev pub ending_status : Result (Unit {0}) ProgramFault → ℕ
+ending_status (Ok done) = 0
+ending_status (Err fault) = program_status fault
+
+abbrev pub ending_line : Result (Unit {0}) ProgramFault → Option (List ℕ)
+ending_line (Ok done) = Some []
+ending_line (Err fault) = option_map (λ text. text ++ 10 ∷ []) (program_text fault)

@@ -1,10 +1,5 @@
 pub mod Devices
-pub mod Text
+pub mod Options
 pub mod Faults
-pub mod Words
-pub mod Lines
-pub mod Script
-pub mod Input
-pub mod Replies
-pub mod AuditLines
-pub mod Replay
+pub mod Rows
+pub mod Stock

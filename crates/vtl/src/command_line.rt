@@ -1,52 +1,41 @@
-use crate::audit_lines::Audit;
+ghost use Rattle.std.specs.Prelude.{IfOk};
+ghost use Rattle.vtl.specs.Options.{AreInRange, HasOptionsInRange};
+
+use crate::library_options::LibraryOptions;
 use clap::error::ErrorKind;
-use clap::{Arg, ArgAction, ArgMatches, Command};
+use clap::{Arg, ArgAction, ArgMatches, Command, value_parser};
+use replay_output::Audit;
 use std::alloc::{AllocError, Global};
-use std::io;
+use std::fmt;
 use thiserror::Error;
 
 /// What the program is asked to do.
 #[derive(Clone, Copy, Debug, PartialEq, Eq)]
 pub enum Task {
-    /// Run the script of standard input, and print its replies and what is wanted of the records.
-    Replay(Audit),
+    /// Run the script of standard input at a library, and print its replies and what is wanted of the
+    /// records.
+    Replay(LibraryOptions, Audit),
 }
 
 /// Why a command line names no task.
 #[derive(Debug, Drop, Error)]
 pub enum CommandLineFault {
     /// It isn't the program's, or it asks for help or the version.
-    #[error(transparent)]
     Refused(clap::Error),
-    #[error("vtl: arguments that are not text")]
     NotText,
-    #[error("vtl: want of memory")]
     NoMemory,
 }
 
-impl CommandLineFault {
-    ghost use Rattle.std.specs.Prelude.{◌≡◌};
-    ghost use Rattle.vtl.specs.Faults.{command_line_status};
+impl fmt::Display for CommandLineFault {
+    ghost use Rattle.vtl.specs.Faults.{command_line_text};
 
-    /// The exit status of the program: 0 after help and the version.
-    pub fn status(&self) -> u8
-        ensures { result ≡ command_line_status self.now }
-    {
-        match self {
-            CommandLineFault::Refused(error) => match error.kind() {
-                ErrorKind::DisplayHelp | ErrorKind::DisplayVersion => 0,
-                _ => 2,
-            },
-            CommandLineFault::NotText => 2,
-            CommandLineFault::NoMemory => 3,
-        }
-    }
+    ghost output = { command_line_text };
 
-    /// Prints help and the version on standard output, all else on standard error.
-    pub fn print<R: Print + Eprint>(&self, rt: &R) -> io::Result<()> {
+    fn fmt<W: fmt::Write>(&self, f: &mut fmt::Formatter<W>) -> fmt::Result {
         match self {
-            CommandLineFault::Refused(error) => error.print(rt),
-            CommandLineFault::NotText | CommandLineFault::NoMemory => eprintln!(rt; "{self}"),
+            CommandLineFault::Refused(error) => write!(f, "{error}"),
+            CommandLineFault::NotText => f.write_str("vtl: arguments that are not text"),
+            CommandLineFault::NoMemory => f.write_str("vtl: want of memory"),
         }
     }
 }
@@ -67,27 +56,95 @@ impl From<clap::Error> for CommandLineFault {
 }
 
 /// The task that the words of a command line name, the first of them the program's own name.
-pub fn task_of(alloc: Global, words: &[String]) -> Result<Task, CommandLineFault> {
-    let audit = Arg::new(alloc, "audit")
-        .long("audit")
-        .action(ArgAction::SetTrue)
-        .help("Prints a line for each record of each unit behind the replies, LUN 0 first");
-    let replay = Command::new(alloc, "replay")
-        .about("Runs the script of standard input and prints a line for each reply")
-        .arg(audit)?;
+pub fn task_of(alloc: Global, words: &[String]) -> Result<Task, CommandLineFault>
+    ensures { IfOk result HasOptionsInRange }
+{
+    let replay = Command::new(alloc, "replay").about(
+        "Runs the script of standard input and prints a line for each reply",
+    );
     let command = Command::new(alloc, "vtl")
         .about("A tape library as a SCSI target")
         .version("0.1.0")
         .subcommand_required(true)
-        .subcommand(replay)?;
+        .subcommand(with_audit(alloc, with_library(alloc, replay)?)?)?;
     let matches = command.try_get_matches_from(words)?;
-    Ok(Task::Replay(audit_of(&matches)))
+    match matches.subcommand_matches("replay") {
+        Some(replay) => Ok(Task::Replay(library_of(replay), audit_of(replay))),
+        // `clap` asks for a subcommand, and there is no other.
+        None => Ok(Task::Replay(LibraryOptions::USUAL, Audit::Off)),
+    }
 }
 
-/// What the options of `replay` want of the records.
-fn audit_of(matches: &ArgMatches) -> Audit {
-    match matches.subcommand_matches("replay") {
-        Some(replay) if replay.get_flag("audit") => Audit::Lines,
-        _ => Audit::Off,
+/// The options that say what a library is made of.
+fn with_library<'a>(alloc: Global, command: Command<'a>) -> Result<Command<'a>, AllocError> {
+    let drives = Arg::new(alloc, "drives")
+        .long("drives")
+        .value_name("D")
+        .value_parser(value_parser!(u8).range(1..=4))
+        .default_value("1")
+        .help("How many drives there are, as logical units from 1 on");
+    let slots = Arg::new(alloc, "slots")
+        .long("slots")
+        .value_name("S")
+        .value_parser(value_parser!(u16).range(1..=1024))
+        .default_value("8")
+        .help("How many storage elements the changer has");
+    let portals = Arg::new(alloc, "portals")
+        .long("portals")
+        .value_name("P")
+        .value_parser(value_parser!(u8).range(0..=16))
+        .default_value("0")
+        .help("How many import/export elements the changer has");
+    let volumes = Arg::new(alloc, "volumes")
+        .long("volumes")
+        .value_name("V")
+        .value_parser(value_parser!(u16).range(0..=1024))
+        .default_value("1")
+        .help("How many volumes lie in the first storage elements");
+    command.arg(drives)?.arg(slots)?.arg(portals)?.arg(volumes)
+}
+
+/// The option that asks for the records.
+fn with_audit<'a>(alloc: Global, command: Command<'a>) -> Result<Command<'a>, AllocError> {
+    let audit = Arg::new(alloc, "audit")
+        .long("audit")
+        .action(ArgAction::SetTrue)
+        .help("Prints a line for each record of each unit behind the replies, LUN 0 first");
+    command.arg(audit)
+}
+
+/// What the library of a command is made of.
+fn library_of(command: &ArgMatches) -> LibraryOptions
+    ensures { AreInRange result }
+{
+    let usual = LibraryOptions::USUAL;
+    // `clap` sees to it that no value is absent or out of its range: what stands behind each `get_one`
+    // says that to the prover alone.
+    LibraryOptions {
+        drives: command
+            .get_one::<u8>("drives")
+            .unwrap_or(usual.drives)
+            .clamp(1, 4),
+        slots: command
+            .get_one::<u16>("slots")
+            .unwrap_or(usual.slots)
+            .clamp(1, 1024),
+        portals: command
+            .get_one::<u8>("portals")
+            .unwrap_or(usual.portals)
+            .min(16),
+        volumes: command
+            .get_one::<u16>("volumes")
+            .unwrap_or(usual.volumes)
+            .min(1024),
+    }
+}
+
+/// What a command wants of the records.
+fn audit_of(command: &ArgMatches) -> Audit {
+    if command.get_flag("audit") {
+        Audit::Lines
+    } else {
+        Audit::Off
     }
 }

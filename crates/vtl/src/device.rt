@@ -1,6 +1,6 @@
 ghost use Rattle.std.specs.Prelude.{◌≡◌};
 
-use crate::stub_changer::StubChanger;
+use changer_server::Changer;
 use device_server::{BadPlace, DeviceServer, Outcome, PutFault, TakeFault};
 use scsi_cdb::{Kind, Request};
 use std::alloc::{AllocError, Global};
@@ -10,7 +10,7 @@ use tape_server::TapeDrive;
 /// A device of the library.
 #[derive(Drop)]
 pub enum Device {
-    Changer(StubChanger),
+    Changer(Changer),
     Tape(TapeDrive),
 }
 

@@ -1,31 +1,34 @@
-ghost use Rattle.std.specs.Prelude.{◌≡◌, ◌∷◌, [], IfOk};
-ghost use Rattle.device_server.specs.View.{Drive};
-ghost use Rattle.device_server.specs.Drive.{empty_drive};
-ghost use Rattle.logical_unit.specs.Step.{made};
-ghost use Rattle.vtl.specs.Devices.{no_elements};
+ghost use Rattle.std.specs.Prelude.{◌≡◌, ◌≤◌, IfOk};
+ghost use Rattle.logical_unit.specs.UnitView.{units_of};
+ghost use Rattle.vtl.specs.Devices.{library_of};
+ghost use Rattle.vtl.specs.Options.{AreInRange};
 
 use crate::device::Device;
-use crate::stub_changer::StubChanger;
+use crate::library_options::LibraryOptions;
+use crate::stock::stocked;
 use logical_unit::LogicalUnit;
 use std::alloc::{AllocError, Global};
 use tape_server::TapeDrive;
 use target_core::TargetCore;
 
-/// How many logical units the library has.
-const UNITS: u8 = 2;
-
-/// The library of the program at power on: a changer as logical unit 0, and an empty drive as
-/// logical unit 1.
-pub fn library(alloc: Global) -> Result<TargetCore<Device>, AllocError>
-    ensures { IfOk result (λ core. core ≡ made no_elements 0 2 0 ∷ made (Drive empty_drive) 1 2 0 ∷ []) }
+/// The library of the program at power on: a changer as logical unit 0, with its elements and the volumes
+/// in the first storage elements, and so many empty drives as the logical units from 1 on.
+pub fn library(alloc: Global, options: &LibraryOptions) -> Result<TargetCore<Device>, AllocError>
+    requires range { AreInRange options.now }
+    requires fits { options.now.volumes ≤ options.now.slots }
+    ensures { IfOk result (λ core. core ≡ library_of options.now) }
 {
-    let changer = Box::new(alloc, Device::Changer(StubChanger))?;
-    let drive = Box::new(alloc, Device::Tape(TapeDrive::new()))?;
+    let count = options.drives + 1;
+    let changer = Box::new(alloc, Device::Changer(stocked(alloc, options)?))?;
     let mut units = Vec::new(alloc);
-    units.push(LogicalUnit::new(alloc, 0, UNITS, changer))?;
-    units.push(LogicalUnit::new(alloc, 1, UNITS, drive))?;
+    units.push(LogicalUnit::new(alloc, 0, count, changer))?;
+    'drives: for place in 0..options.drives {
+        let drive = Box::new(alloc, Device::Tape(TapeDrive::new()))?;
+        units.push(LogicalUnit::new(alloc, place + 1, count, drive))?;
+    }
     match TargetCore::new(units) {
         Ok(core) => Ok(core),
+        // Its units are in the order of a target.
         Err(_) => unreachable!(),
     }
 }

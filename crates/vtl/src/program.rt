@@ -1,36 +1,73 @@
-use crate::audit_lines::Audit;
+ghost use Rattle.std.specs.Prelude.{◌≡◌, ◌≤◌, OnOk, IfOk, IfSome};
+ghost use Rattle.std.specs.Io.KnownBytes.{Appends};
+ghost use Rattle.vtl.specs.Faults.{ending_line, ending_status};
+ghost use Rattle.vtl.specs.Options.{AreInRange, HasOptionsInRange};
+
 use crate::command_line::{CommandLineFault, Task, task_of};
 use crate::library::library;
-use crate::replay_fault::ReplayFault;
-use crate::replaying::replay;
+use crate::library_options::{LibraryOptions, fits};
+use crate::program_fault::ProgramFault;
+use replay::{ReplayFault, replay};
+use replay_output::Audit;
+use std::io::Write;
 use std::rt::Env;
 use std::{env, io};
 
 /// The most reads of standard input.
 const TURNS: u64 = 0xFFFF_FFFF;
 
-/// Does what the command line asks for, and answers the exit status.
-pub fn run<R: AllocGlobal + Env + Input + Print + Eprint>(rt: &R) -> u8 {
-    let task = match task_of_arguments(rt) {
-        Ok(task) => task,
-        Err(fault) => {
-            let _ = fault.print(rt);
-            return fault.status();
-        }
-    };
-    let result = match task {
-        Task::Replay(audit) => replay_standard_input(rt, audit),
-    };
-    match result {
+/// Does what the command line asks for, writes on `errors` why it couldn't, and answers the exit status.
+pub fn run<R: AllocGlobal + Env + Input + Print, W: Write>(rt: &R, errors: &mut W) -> u8 {
+    let outcome = perform(rt);
+    // Where the line can't be written, the status alone tells.
+    let _ = tell(rt, errors, &outcome);
+    status_of(&outcome)
+}
+
+/// The exit status: 0 where the task was done, else that of the fault.
+fn status_of(outcome: &Result<(), ProgramFault>) -> u8
+    ensures { result ≡ ending_status outcome.now }
+{
+    match outcome {
         Ok(()) => 0,
-        Err(fault) => {
-            let _ = eprintln!(rt; "{fault}");
-            fault.status()
+        Err(fault) => fault.status(),
+    }
+}
+
+/// Writes a fault as one line. What `clap` says of a command line has lines of its own, which go to
+/// standard output where they are help or the version.
+fn tell<R: Print, W: Write>(
+    rt: &R,
+    errors: &mut W,
+    outcome: &Result<(), ProgramFault>,
+) -> io::Result<()>
+    ensures { OnOk result (IfSome (ending_line outcome.now) (Appends (W.contents errors.old) (W.contents errors.new))) }
+{
+    match outcome {
+        Ok(()) => Ok(()),
+        Err(ProgramFault::CommandLine(CommandLineFault::Refused(error))) => {
+            if error.use_stderr() {
+                write!(errors, "{error}")
+            } else {
+                rt.print(error)
+            }
+        }
+        Err(fault) => writeln!(errors, "{fault}"),
+    }
+}
+
+fn perform<R: AllocGlobal + Env + Input + Print>(rt: &R) -> Result<(), ProgramFault> {
+    match task_of_arguments(rt)? {
+        Task::Replay(options, audit) => {
+            fits(options.volumes, options.slots)?;
+            Ok(replay_standard_input(rt, options, audit)?)
         }
     }
 }
 
-fn task_of_arguments<R: AllocGlobal + Env>(rt: &R) -> Result<Task, CommandLineFault> {
+fn task_of_arguments<R: AllocGlobal + Env>(rt: &R) -> Result<Task, CommandLineFault>
+    ensures { IfOk result HasOptionsInRange }
+{
     match env::args(rt) {
         Ok(arguments) => {
             let words: Vec<String> = arguments.collect(rt.alloc())?;
@@ -45,9 +82,13 @@ fn task_of_arguments<R: AllocGlobal + Env>(rt: &R) -> Result<Task, CommandLineFa
 
 fn replay_standard_input<R: AllocGlobal + Input + Print>(
     rt: &R,
+    options: LibraryOptions,
     audit: Audit,
-) -> Result<(), ReplayFault> {
-    let mut core = library(rt.alloc())?;
+) -> Result<(), ReplayFault>
+    requires range { AreInRange options }
+    requires fits { options.volumes ≤ options.slots }
+{
+    let mut core = library(rt.alloc(), &options)?;
     let mut reader = rt.reader();
     let mut writer = io::writer(rt);
     replay(

@@ -1,12 +1,12 @@
 //! What a replay writes of the units' records, and records that are handed out.
 
-use super::A;
-use crate::audit_lines::Audit;
+use super::{A, empty_changer};
 use crate::library::library;
-use crate::replaying::replay;
-use crate::stub_changer::StubChanger;
+use crate::library_options::LibraryOptions;
 use device_server::DeviceServer;
 use logical_unit::{Busy, LogicalUnit};
+use replay::replay;
+use replay_output::Audit;
 use scsi_sense::Status;
 use std::alloc::Global;
 use std::fmt::Write;
@@ -34,7 +34,7 @@ fn writes_the_records_behind_the_replies(rt: HostRuntime) -> Result<(), Fail> {
     assert_audited(
         &rt,
         rt.alloc(),
-        &mut library(rt.alloc())?,
+        &mut library(rt.alloc(), &LibraryOptions::USUAL)?,
         "500000000000000a.1 0 000000000000\n\
          500000000000000a.1 0 000000000000\n",
         "02 700006000000000a00000000290000000000 -\n\
@@ -49,7 +49,7 @@ fn names_the_stage_that_answered(rt: HostRuntime) -> Result<(), Fail> {
     assert_audited(
         &rt,
         rt.alloc(),
-        &mut library(rt.alloc())?,
+        &mut library(rt.alloc(), &LibraryOptions::USUAL)?,
         "500000000000000a.1 0 000000000000\n\
          500000000000000a.1 0 5f000000000000001800 000000000000000500000000000000060000000000000000\n\
          500000000000000a.1 0 160000000000\n\
@@ -87,7 +87,7 @@ fn writes_losses_and_resets(rt: HostRuntime) -> Result<(), Fail> {
     assert_audited(
         &rt,
         rt.alloc(),
-        &mut library(rt.alloc())?,
+        &mut library(rt.alloc(), &LibraryOptions::USUAL)?,
         "500000000000000a.1 0 000000000000\n\
          500000000000000b.1 0 000000000000\n\
          500000000000000a.1 0 5f000000000000001800 000000000000000000000000000000010000000000000000\n\
@@ -132,7 +132,7 @@ fn writes_the_records_of_the_drive_behind_those_of_the_changer(
     assert_audited(
         &rt,
         rt.alloc(),
-        &mut library(rt.alloc())?,
+        &mut library(rt.alloc(), &LibraryOptions::USUAL)?,
         "500000000000000a.1 1 000000000000\n\
          500000000000000a.1 1 000000000000\n\
          500000000000000a.1 0 000000000000\n\
@@ -188,7 +188,7 @@ fn has_no_record_of_a_sender_without_a_slot(rt: HostRuntime) -> Result<(), Fail>
     assert_audited(
         &rt,
         rt.alloc(),
-        &mut library(rt.alloc())?,
+        &mut library(rt.alloc(), &LibraryOptions::USUAL)?,
         script.as_str(),
         expected.as_str(),
     )
@@ -196,13 +196,19 @@ fn has_no_record_of_a_sender_without_a_slot(rt: HostRuntime) -> Result<(), Fail>
 
 #[test]
 fn writes_nothing_of_an_empty_script(rt: HostRuntime) -> Result<(), Fail> {
-    assert_audited(&rt, rt.alloc(), &mut library(rt.alloc())?, "", "")
+    assert_audited(
+        &rt,
+        rt.alloc(),
+        &mut library(rt.alloc(), &LibraryOptions::USUAL)?,
+        "",
+        "",
+    )
 }
 
 #[test]
 fn goes_on_counting_after_a_drain(rt: HostRuntime) -> Result<(), Fail> {
     let alloc = rt.alloc();
-    let mut core = library(alloc)?;
+    let mut core = library(alloc, &LibraryOptions::USUAL)?;
     assert_audited(
         &rt,
         alloc,
@@ -238,7 +244,7 @@ fn goes_on_counting_after_a_drain(rt: HostRuntime) -> Result<(), Fail> {
 #[test]
 fn is_busy_behind_the_last_number(rt: HostRuntime) -> Result<(), Fail> {
     let alloc = rt.alloc();
-    let server = Box::new(alloc, StubChanger)?;
+    let server = Box::new(alloc, empty_changer(alloc)?)?;
     let mut unit = LogicalUnit::new_after(alloc, 0, 1, server, u64::MAX - 1);
     let first = unit.execute(alloc, A, &[0; 6], &[]);
     assert_eq!(rt; first.status, Status::CheckCondition);

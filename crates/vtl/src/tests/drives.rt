@@ -3,12 +3,13 @@
 use super::A;
 use super::rows::{POWER_ON, assert_output, push_lines};
 use super::targets::{changer, loaded_drive, target};
-use crate::audit_lines::Audit;
 use crate::device::Device;
 use crate::library::library;
-use crate::replaying::replay;
+use crate::library_options::LibraryOptions;
 use audit_log::line;
 use logical_unit::LogicalUnit;
+use replay::replay;
+use replay_output::Audit;
 use scsi_sense::{Sense, Status};
 use std::alloc::Global;
 use std::fmt::Write;
@@ -258,7 +259,7 @@ fn refuses_what_it_does_not_have(rt: HostRuntime) -> Result<(), Fail> {
 #[test]
 fn has_no_record_of_a_command_to_an_absent_unit(rt: HostRuntime) -> Result<(), Fail> {
     let alloc = rt.alloc();
-    let mut core = library(alloc)?;
+    let mut core = library(alloc, &LibraryOptions::USUAL)?;
     let event = Event::Command {
         nexus: A,
         lun: 9,

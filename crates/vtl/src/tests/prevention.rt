@@ -1,11 +1,12 @@
 //! Who prevents the removal of media, and when that ends.
 
-use super::{A, B};
-use crate::audit_lines::Audit;
+use super::{A, B, empty_changer};
 use crate::library::library;
-use crate::replaying::replay;
-use crate::stub_changer::StubChanger;
+use crate::library_options::LibraryOptions;
+use changer_server::Changer;
 use logical_unit::LogicalUnit;
+use replay::replay;
+use replay_output::Audit;
 use scsi_nexus::Nexus;
 use scsi_sense::Status;
 use std::alloc::{AllocError, Global};
@@ -19,8 +20,8 @@ const PREVENT: &[u8] = &[0x1e, 0, 0, 0, 1, 0];
 const TEST_UNIT_READY: &[u8] = &[0; 6];
 
 /// A unit that A and B made contact with.
-fn unit(alloc: Global) -> Result<LogicalUnit<StubChanger>, AllocError> {
-    let mut unit = LogicalUnit::new(alloc, 0, 1, Box::new(alloc, StubChanger)?);
+fn unit(alloc: Global) -> Result<LogicalUnit<Changer>, AllocError> {
+    let mut unit = LogicalUnit::new(alloc, 0, 1, Box::new(alloc, empty_changer(alloc)?)?);
     for nexus in [A, B] {
         let _ = unit.execute(alloc, nexus, TEST_UNIT_READY, &[]);
     }
@@ -30,7 +31,7 @@ fn unit(alloc: Global) -> Result<LogicalUnit<StubChanger>, AllocError> {
 /// Sends PERSISTENT RESERVE OUT with type 1h.
 fn reserve_out(
     alloc: Global,
-    unit: &mut LogicalUnit<StubChanger>,
+    unit: &mut LogicalUnit<Changer>,
     nexus: Nexus,
     action: u8,
     keys: (u8, u8),
@@ -44,7 +45,7 @@ fn reserve_out(
 
 fn assert_good(
     rt: &(impl Abort + AllocGlobal),
-    unit: &mut LogicalUnit<StubChanger>,
+    unit: &mut LogicalUnit<Changer>,
     nexus: Nexus,
     cdb: &[u8],
 ) {
@@ -152,7 +153,7 @@ fn may_be_asked_by_the_holder_and_taken_back_by_others(rt: HostRuntime) -> Resul
                     8 500000000000000a.1 PREVENT-REMOVAL 6 PREVENT-REMOVAL/WE/HOLDER - 00\n";
     let mut reader = script.as_bytes();
     let mut output = Vec::new(rt.alloc());
-    let mut core = library(rt.alloc())?;
+    let mut core = library(rt.alloc(), &LibraryOptions::USUAL)?;
     replay(
         rt.alloc(),
         &mut core,

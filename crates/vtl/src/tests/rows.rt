@@ -1,8 +1,9 @@
 //! Worked rows: commands to logical unit 0 and the replies to them.
 
-use crate::audit_lines::Audit;
 use crate::library::library;
-use crate::replaying::replay;
+use crate::library_options::LibraryOptions;
+use replay::replay;
+use replay_output::Audit;
 use std::alloc::Global;
 use std::fmt::Write;
 use std::process::Abort;
@@ -54,7 +55,7 @@ pub(super) fn assert_output(
     let mut output = Vec::new(alloc);
     replay(
         alloc,
-        &mut library(alloc)?,
+        &mut library(alloc, &LibraryOptions::USUAL)?,
         &mut reader,
         &mut output,
         Audit::Off,

@@ -1,7 +1,7 @@
 //! Targets and drives for the tests, and a volume for them.
 
+use super::empty_changer;
 use crate::device::Device;
-use crate::stub_changer::StubChanger;
 use device_server::DeviceServer;
 use logical_unit::LogicalUnit;
 use std::alloc::{AllocError, Global};
@@ -38,7 +38,7 @@ pub(super) fn loaded_drive(alloc: Global, tag: VolumeTag) -> Result<LogicalUnit<
 }
 
 pub(super) fn changer(alloc: Global) -> Result<LogicalUnit<Device>, AllocError> {
-    let server = Box::new(alloc, Device::Changer(StubChanger))?;
+    let server = Box::new(alloc, Device::Changer(empty_changer(alloc)?))?;
     Ok(LogicalUnit::new(alloc, 0, 2, server))
 }
 

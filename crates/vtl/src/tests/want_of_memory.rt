@@ -1,11 +1,10 @@
 //! A device that wants memory at chosen calls: BUSY, nothing has changed, and the numbers of records
 //! go on.
 
-use super::A;
 use super::audit::assert_audited;
 use super::targets::target;
+use super::{A, empty_changer};
 use crate::device::Device;
-use crate::stub_changer::StubChanger;
 use device_server::{BadPlace, DeviceServer, Outcome, PutFault, TakeFault};
 use logical_unit::LogicalUnit;
 use scsi_cdb::{Kind, Request};
@@ -75,7 +74,7 @@ impl DeviceServer for WantingDevice {
 /// A target whose changer wants memory at its second call, and whose empty drive at every call.
 fn wanting_target(alloc: Global) -> Result<TargetCore<WantingDevice>, Fail> {
     let changer = WantingDevice {
-        device: Device::Changer(StubChanger),
+        device: Device::Changer(empty_changer(alloc)?),
         calls: 0,
         first: 2,
         last: 2,

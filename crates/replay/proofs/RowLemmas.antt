@@ -1,0 +1,69 @@
+-- The worked rows.
+use Rattle.std.proofs.Common.{◌+◌, ◌*◌, ◌≤◌, [], ◌∷◌, ◌++◌, Some, length, inr, refl, arith, lit<, lit≤}
+use Rattle.std.specs.Fmt.{digits}
+use Rattle.std.specs.Prelude.{codes}
+use Rattle.hex.specs.Hex.{encode_with}
+use Rattle.tape_medium.specs.Elements.{empty_elements}
+use Rattle.audit_log.specs.Lines.{line_of}
+use Rattle.device_server.specs.View.{Changer}
+use Rattle.logical_unit.specs.Step.{made, resets}
+use Rattle.target_core.specs.declared.event.Event.TheVariants as event
+use Rattle.target_core.specs.Run.{done}
+use Rattle.replay_output.specs.Replies.{reply_line}
+use Rattle.replay_script.specs.Text.{pieces}
+use Rattle.replay_script.specs.Words.{unit_in}
+use Rattle.replay_script.specs.Lines.{line_in}
+use Rattle.replay_script.specs.Script.{events_in}
+use Rattle.replay.specs.Replay.{HasRun}
+use Rattle.replay.specs.Rows.{FaultsTold, FaultsInOrder, InputsRead, target, reset, line, ReplaysRun}
+
+pub faults_told : FaultsTold
+unfolding digits
+faults_told = record {
+  line_status = refl;
+  memory_status = refl;
+  read_status = refl;
+  write_status = refl;
+  line = refl;
+  memory = refl;
+  read = refl;
+  write = refl;
+}
+
+pub faults_in_order : FaultsInOrder
+faults_in_order = record {
+  line_before_run = tt;
+  read_before_run = tt;
+  memory_at_any_time = λ h. h;
+  write_after_run = λ h. h;
+  line_before_output = tt;
+  memory_before_output = tt;
+  read_before_output = tt;
+  write_is_output = λ h. h;
+}
+
+pub inputs_read : InputsRead
+inputs_read = record {
+  empty = record { consumed = refl; ended = refl; bounded = lit≤ tt };
+  one_word = record { consumed = refl; ended = refl; bounded = lit≤ tt };
+  no_read = λ left left' input h. let b : length input + 65536 ≤ 65536 * 0 = h.bounded in absurd (omega (arith, b));
+  one_read = λ left left' byte h. let b : 1 + 65536 ≤ 65536 * 1 = h.bounded in absurd (omega (arith, b));
+  longer = λ left left' input long h. let b : length input + 65536 ≤ 65536 * 2 = h.bounded in absurd (omega (arith, b, long));
+  byte_left = λ h. absurd cc;
+  byte_dropped = λ h. absurd cc;
+}
+
+ran : HasRun 2 (Some (line (codes "reset 0"))) (Some []) (target []) (target (reset ∷ []))
+unfolding events_in line_in pieces unit_in
+ran = record {
+  input = line (codes "reset 0");
+  events = event.Reset 0 ∷ [];
+  replies = done 1 ∷ [];
+  whole = record { consumed = refl; ended = refl; bounded = lit≤ tt };
+  script = refl;
+  run = (target (reset ∷ []), record { unit = resets (made (Changer (empty_elements 1 0 8)) 0 2 0); step = inr (1, (lit< tt, refl), refl); units = refl }, refl);
+}
+
+pub replays_run : ReplaysRun
+unfolding ran events_in line_in pieces unit_in digits reply_line line_of encode_with
+replays_run = record { replies = record { ran = ran; lines = refl }; records = record { ran = ran; lines = refl }; refused = record { input = line (codes "reset 0") ++ codes "reset x"; whole = record { consumed = refl; ended = refl; bounded = lit≤ tt }; script = refl } }

@@ -1,0 +1,75 @@
+-- Worked rows: what is read, what a replay of one reset writes, and what each fault says.
+use Rattle.std.specs.Prelude.{◌≡◌, ℕ, false, List, [], ◌∷◌, ◌++◌, length, Some, None, Option, codes}
+use Rattle.scsi_sense.specs.declared.status.Status.TheVariants.{Good}
+use Rattle.tape_medium.specs.Elements.{empty_elements}
+use Rattle.audit_log.specs.declared.act.Act.TheVariants.{Reset}
+use Rattle.audit_log.specs.declared.record.Record.{Record}
+use Rattle.audit_log.specs.declared.stage.Stage.TheVariants.{Device}
+use Rattle.device_server.specs.Drive.{empty_drive}
+use Rattle.device_server.specs.View.{Drive, Changer}
+use Rattle.logical_unit.specs.Step.{made}
+use Rattle.logical_unit.specs.UnitView.{UnitView}
+use Rattle.replay_output.specs.declared.audit_lines.Audit.{Audit}
+use Rattle.replay_output.specs.declared.audit_lines.Audit.TheVariants.{Off, Lines}
+use Rattle.replay_script.specs.declared.line_fault.LineFault.TheVariants.{BadNexus, BadUnit, BadHex}
+use Rattle.replay.specs.declared.replay_fault.ReplayFault.TheVariants.{Line, NoMemory, Read, Write}
+use Rattle.replay.specs.Faults.{exit_status, fault_text}
+use Rattle.replay.specs.Input.{IsReadWhole}
+use Rattle.replay.specs.Replay.{IsBeforeRun, IsBeforeOutput, Refuses, Replays}
+
+pub record FaultsTold : Type 0 where
+  pub line_status : exit_status (Line 42 BadNexus) ≡ 2
+  pub memory_status : exit_status NoMemory ≡ 3
+  pub read_status : exit_status Read ≡ 4
+  pub write_status : exit_status Write ≡ 4
+  pub line : fault_text (Line 42 BadNexus) ≡ codes "vtl: line 42: bad nexus"
+  pub memory : fault_text NoMemory ≡ codes "vtl: want of memory"
+  pub read : fault_text Read ≡ codes "vtl: device fault"
+  pub write : fault_text Write ≡ codes "vtl: device fault"
+
+-- a faulty line and a fault of reading come before anything has run; only a fault of writing may come behind a written byte
+pub record FaultsInOrder : Type 0 where
+  pub line_before_run : IsBeforeRun (Line 1 BadHex)
+  pub read_before_run : IsBeforeRun Read
+  pub memory_at_any_time : ¬ IsBeforeRun NoMemory
+  pub write_after_run : ¬ IsBeforeRun Write
+  pub line_before_output : IsBeforeOutput (Line 1 BadHex)
+  pub memory_before_output : IsBeforeOutput NoMemory
+  pub read_before_output : IsBeforeOutput Read
+  pub write_is_output : ¬ IsBeforeOutput Write
+
+-- the last of the reads finds the end
+pub record InputsRead : Type 0 where
+  pub empty : IsReadWhole 1 (Some []) (Some []) []
+  pub one_word : IsReadWhole 2 (Some (codes "reset")) (Some []) (codes "reset")
+  pub no_read : (left left' : Option (List ℕ)) (input : List ℕ) → ¬ IsReadWhole 0 left left' input
+  -- a single read finds no end behind a byte
+  pub one_read : (left left' : Option (List ℕ)) (byte : ℕ) → ¬ IsReadWhole 1 left left' (byte ∷ [])
+  -- 65,537 bytes take two reads, and a third
+  pub longer : (left left' : Option (List ℕ)) (input : List ℕ) → length input ≡ 65537 → ¬ IsReadWhole 2 left left' input
+  pub byte_left : ¬ IsReadWhole 9 (Some (1 ∷ 2 ∷ [])) (Some (2 ∷ [])) (1 ∷ [])
+  pub byte_dropped : ¬ IsReadWhole 9 (Some (1 ∷ 2 ∷ [])) (Some []) (1 ∷ [])
+
+-- a target with one drive, whose changer has these records
+abbrev pub target : List Record → List UnitView
+target records =
+    let changer = made (Changer (empty_elements 1 0 8)) 0 2 0 in
+    record changer { records = records } ∷ made (Drive empty_drive) 1 2 0 ∷ []
+
+-- a reset of the changer, as its record 1
+abbrev pub reset : Record
+reset = record { number = 1; nexus = None; act = Reset; stage = Device; cell = None; rule = None; status = Good; sense = None; mode_changed = false }
+
+-- a line and its line feed
+abbrev pub line : List ℕ → List ℕ
+line text = text ++ 10 ∷ []
+
+-- the script of one line, `reset 0`
+abbrev pub ReplaysReset : Audit → (written : List ℕ) → Type 0
+ReplaysReset audit written =
+    Replays 2 (Some (line (codes "reset 0"))) (Some []) (target []) (target (reset ∷ [])) audit (Some (codes "before")) (Some (codes "before" ++ written))
+
+pub record ReplaysRun : Type 0 where
+  pub replies : ReplaysReset Off (line (codes "00 - -"))
+  pub records : ReplaysReset Lines (line (codes "00 - -") ++ line (codes "1 - RESET 6 - - 00"))
+  pub refused : Refuses 2 (Some (line (codes "reset 0") ++ codes "reset x")) (Some []) 2 BadUnit

@@ -1,0 +1,11 @@
+//! A replay: a script is read, run by a target, and written as its replies and records.
+#![tactic(auto)]
+
+mod input;
+mod laws;
+mod replay_fault;
+mod replaying;
+
+pub use laws::worked_rows;
+pub use replay_fault::ReplayFault;
+pub use replaying::replay;

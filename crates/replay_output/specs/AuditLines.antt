@@ -1,0 +1,25 @@
+-- The lines of the units' records, which follow the lines of the replies.
+use Rattle.std.specs.Prelude.{ℕ, List, [], ◌∷◌, ◌++◌}
+use Rattle.std.specs.List.{flat_map}
+use Rattle.audit_log.specs.Lines.{line_of}
+use Rattle.audit_log.specs.declared.record.Record.{Record}
+use Rattle.logical_unit.specs.UnitView.{UnitView}
+use Rattle.replay_output.specs.declared.audit_lines.Audit.{Audit}
+use Rattle.replay_output.specs.declared.audit_lines.Audit.TheVariants.{Off, Lines}
+
+-- a record's line, with its line feed
+abbrev pub audit_line : Record → List ℕ
+audit_line entry = line_of entry ++ 10 ∷ []
+
+-- a line for each record
+abbrev pub lines_of_records : List Record → List ℕ
+lines_of_records entries = flat_map audit_line entries
+
+-- those of each unit, in the order of the logical unit numbers
+abbrev pub lines_of_units : List UnitView → List ℕ
+lines_of_units us = flat_map (λ u. lines_of_records u.records) us
+
+-- what follows the reply lines
+abbrev pub audit_text : Audit → List UnitView → List ℕ
+audit_text Off us = []
+audit_text Lines us = lines_of_units us

@@ -1,0 +1,67 @@
+ghost use Rattle.std.specs.Prelude.{◌≡◌, ◌++◌, IfOk, OnOk, string_bytes};
+ghost use Rattle.logical_unit.specs.UnitView.{units_of};
+ghost use Rattle.replay_output.specs.AuditLines.{audit_line, audit_text, lines_of_records, lines_of_units};
+
+use audit_log::{Record, write_line};
+use device_server::DeviceServer;
+use logical_unit::LogicalUnit;
+use std::alloc::{AllocError, Global};
+
+/// What is written of the units' records.
+#[derive(Clone, Copy, Debug, Default, PartialEq, Eq)]
+pub enum Audit {
+    /// Nothing.
+    #[default]
+    Off,
+    /// A line for each record.
+    Lines,
+}
+
+/// What follows the reply lines: nothing, or a line for each record of each unit, the units in the order
+/// in which they stand, and each unit's records oldest first.
+pub fn audit_text<D: DeviceServer>(
+    alloc: Global,
+    audit: Audit,
+    units: &[LogicalUnit<D>],
+) -> Result<String, AllocError>
+    ensures { IfOk result (λ text. string_bytes text ≡ audit_text audit (units_of units.now)) }
+{
+    let mut text = String::new(alloc);
+    match audit {
+        Audit::Off => {}
+        Audit::Lines => write_units(alloc, &mut text, units)?,
+    }
+    Ok(text)
+}
+
+/// Adds the lines of each unit's records.
+fn write_units<D: DeviceServer>(
+    alloc: Global,
+    text: &mut String,
+    units: &[LogicalUnit<D>],
+) -> Result<(), AllocError>
+    ensures { OnOk result (string_bytes text.new ≡ string_bytes text.old ++ lines_of_units (units_of units.now)) }
+{
+    for unit in units {
+        write_records(alloc, text, unit.records())?;
+    }
+    Ok(())
+}
+
+/// Adds the lines of records.
+fn write_records(alloc: Global, text: &mut String, entries: &[Record]) -> Result<(), AllocError>
+    ensures { OnOk result (string_bytes text.new ≡ string_bytes text.old ++ lines_of_records entries.now) }
+{
+    for entry in entries {
+        write_record(alloc, text, entry)?;
+    }
+    Ok(())
+}
+
+/// Adds the line of a record, with its line feed.
+fn write_record(alloc: Global, text: &mut String, entry: &Record) -> Result<(), AllocError>
+    ensures { OnOk result (string_bytes text.new ≡ string_bytes text.old ++ audit_line entry.now) }
+{
+    write_line(alloc, text, entry)?;
+    text.push('\n')
+}

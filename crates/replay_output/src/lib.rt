@@ -1,0 +1,12 @@
+//! The text that a replay writes: replies and records, a line each.
+#![tactic(auto)]
+
+mod audit_lines;
+mod laws;
+mod reply_line;
+#[cfg(test)]
+mod tests;
+
+pub use audit_lines::{Audit, audit_text};
+pub use laws::worked_rows;
+pub use reply_line::lines_of;

@@ -1,0 +1,11 @@
+use Rattle.replay_script.proofs.RowLemmas.{lines_read, line_faults, scripts_read}
+use Rattle.replay_script.proofs.laws.worked_rows.Goals as goal
+
+pub returns-clause-lines : goal.returns-clause-lines
+returns-clause-lines c = lines_read
+
+pub returns-clause-faults : goal.returns-clause-faults
+returns-clause-faults c = line_faults
+
+pub returns-clause-scripts : goal.returns-clause-scripts
+returns-clause-scripts c = scripts_read

@@ -1,0 +1,6 @@
+pub mod Text
+pub mod Words
+pub mod Lines
+pub mod Script
+pub mod Faults
+pub mod Rows

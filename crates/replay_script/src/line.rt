@@ -1,0 +1,161 @@
+ghost use Rattle.std.specs.Prelude.{◌≡◌, ℕ, List};
+ghost use denote.Ref.{Bor};
+ghost use Rattle.std.specs.Option.{option_map};
+ghost use Rattle.replay_script.specs.Words.{Gives, hex_in};
+ghost use Rattle.replay_script.specs.Text.{pieces, pieces_after};
+ghost use Rattle.replay_script.specs.Lines.{said, said_by, words_seen, words_in, bytes_in, command_in, loss_in, reset_in, line_in};
+
+use crate::cutting::{cut, is_end};
+use crate::line_fault::LineFault;
+use crate::words::{bytes_of, nexus_of, unit_of};
+use std::alloc::Global;
+use target_core::Event;
+
+/// The longest line, without its line feed.
+const LINE_LIMIT: usize = 270_000;
+
+/// The longest CDB.
+const CDB_LIMIT: usize = 16;
+
+/// The most data that a command may bring.
+const DATA_LIMIT: usize = 131_053;
+
+/// Why a line gave no event.
+#[derive(Clone, Copy, Debug, PartialEq, Eq)]
+pub enum LineError {
+    NoMemory,
+    Fault(LineFault),
+}
+
+impl From<LineFault> for LineError {
+    ghost use Rattle.std.specs.Prelude.{◌≡◌};
+    ghost use Rattle.replay_script.specs.declared.line.LineError.TheVariants.{Fault};
+
+    ghost from_gives = { λ fault error. error ≡ Fault fault };
+
+    fn from(fault: LineFault) -> LineError {
+        LineError::Fault(fault)
+    }
+}
+
+/// The words of a command's line.
+#[derive(Clone, Copy)]
+struct Words<'a> {
+    nexus: &'a [u8],
+    lun: &'a [u8],
+    cdb: &'a [u8],
+    data: Option<&'a [u8]>,
+}
+
+/// The event of a line: nothing for an empty one and for a comment.
+#[tactic(auto, unfolding(crate::specs::Lines::line_in))]
+pub fn event_of(alloc: Global, line: &[u8]) -> Result<Option<Event>, LineError>
+    ensures { Gives said_by result (line_in line.now) }
+{
+    if line.len() > LINE_LIMIT {
+        return Err(LineError::Fault(LineFault::TooLong));
+    }
+    if line.is_empty() || line[0] == b'#' {
+        return Ok(None);
+    }
+    let (first, rest) = cut(line, b' ');
+    if first == b"loss".as_slice() {
+        return Ok(Some(loss_of(rest)?));
+    }
+    if first == b"reset".as_slice() {
+        return Ok(Some(reset_of(rest)?));
+    }
+    Ok(Some(command_of(alloc, line)?))
+}
+
+/// The loss of a line `loss SAS.PORT LUN`, from the words behind the first.
+fn loss_of(words: Option<&[u8]>) -> Result<Event, LineError>
+    ensures { Gives said result (loss_in (pieces_after 32 words.entry)) }
+{
+    let Some(rest) = words else {
+        return Err(LineError::Fault(LineFault::WordCount));
+    };
+    let (nexus, rest) = cut(rest, b' ');
+    let Some(rest) = rest else {
+        return Err(LineError::Fault(LineFault::WordCount));
+    };
+    let (lun, rest) = cut(rest, b' ');
+    if !is_end(rest) {
+        return Err(LineError::Fault(LineFault::WordCount));
+    }
+    let nexus = nexus_of(nexus)?;
+    let lun = unit_of(lun)?;
+    Ok(Event::Loss { nexus, lun })
+}
+
+/// The reset of a line `reset LUN`, from the words behind the first.
+fn reset_of(words: Option<&[u8]>) -> Result<Event, LineError>
+    ensures { Gives said result (reset_in (pieces_after 32 words.entry)) }
+{
+    let Some(rest) = words else {
+        return Err(LineError::Fault(LineFault::WordCount));
+    };
+    let (lun, rest) = cut(rest, b' ');
+    if !is_end(rest) {
+        return Err(LineError::Fault(LineFault::WordCount));
+    }
+    let lun = unit_of(lun)?;
+    Ok(Event::Reset { lun })
+}
+
+/// The command of a line `SAS.PORT LUN CDB [DATA]`.
+fn command_of(alloc: Global, line: &[u8]) -> Result<Event, LineError>
+    ensures { Gives said result (command_in (words_in (pieces 32 line.now))) }
+{
+    let Some(words) = words_of(line) else {
+        return Err(LineError::Fault(LineFault::WordCount));
+    };
+    let nexus = nexus_of(words.nexus)?;
+    let lun = unit_of(words.lun)?;
+    let cdb = bytes_of(alloc, words.cdb, CDB_LIMIT)?;
+    let bytes = data_of(alloc, words.data)?;
+    Ok(Event::Command {
+        nexus,
+        lun,
+        cdb,
+        bytes,
+    })
+}
+
+/// The three or four words of a line.
+fn words_of(line: &[u8]) -> Option<Words<'_>>
+    ensures { option_map words_seen result ≡ words_in (pieces 32 line.now) }
+{
+    let (nexus, rest) = cut(line, b' ');
+    let (lun, rest) = cut(rest?, b' ');
+    let (cdb, rest) = cut(rest?, b' ');
+    let Some(rest) = rest else {
+        return Some(Words {
+            nexus,
+            lun,
+            cdb,
+            data: None,
+        });
+    };
+    let (data, rest) = cut(rest, b' ');
+    match rest {
+        None => Some(Words {
+            nexus,
+            lun,
+            cdb,
+            data: Some(data),
+        }),
+        Some(_) => None,
+    }
+}
+
+/// The bytes of the fourth word, none where there is no such word.
+fn data_of(alloc: Global, word: Option<&[u8]>) -> Result<Vec<u8>, LineError>
+    ensures { Gives (λ bytes. bytes.items) result
+        (bytes_in (option_map (λ (b : Bor (List ℕ)). b.now) word.entry)) }
+{
+    match word {
+        None => Ok(Vec::new(alloc)),
+        Some(word) => bytes_of(alloc, word, DATA_LIMIT),
+    }
+}

@@ -1,0 +1,70 @@
+ghost use Rattle.std.specs.Prelude.{◌≡◌};
+ghost use Rattle.replay_script.specs.Words.{Gives, nexus_in, unit_in, hex_in};
+
+use crate::line::LineError;
+use crate::line_fault::LineFault;
+use hex::{FromHex, FromHexError};
+use scsi_nexus::Nexus;
+use std::alloc::Global;
+
+/// The target ports are 1 to this one.
+const PORTS: u16 = 4;
+
+/// The nexus of a word `SAS.PORT`: 16 hexadecimal digits, a dot, a port.
+#[tactic(auto, unfolding(crate::specs::Words::nexus_in))]
+pub fn nexus_of(word: &[u8]) -> Result<Nexus, LineFault>
+    ensures { result ≡ nexus_in word.now }
+{
+    if word.len() != 18 || word[16] != b'.' {
+        return Err(LineFault::BadNexus);
+    }
+    let port = u16::from(word[17].wrapping_sub(b'0'));
+    if port == 0 || port > PORTS {
+        return Err(LineFault::BadNexus);
+    }
+    match <[u8; 8] as FromHex>::from_hex(&word[..16]) {
+        Ok(sas) => Ok(Nexus {
+            sas: u64::from_be_bytes(sas),
+            port,
+        }),
+        Err(_) => Err(LineFault::BadNexus),
+    }
+}
+
+/// The number of a word of decimal digits, 0 to 255 with no leading zero.
+#[tactic(auto, unfolding(crate::specs::Words::unit_in))]
+pub fn unit_of(word: &[u8]) -> Result<u8, LineFault>
+    ensures { result ≡ unit_in word.now }
+{
+    match word {
+        [a @ b'0'..=b'9'] => Ok(*a - b'0'),
+        [a @ b'1'..=b'9', b @ b'0'..=b'9'] => Ok((*a - b'0') * 10 + (*b - b'0')),
+        [a @ b'1'..=b'9', b @ b'0'..=b'9', c @ b'0'..=b'9'] => {
+            let unit = u16::from(*a - b'0') * 100 + u16::from((*b - b'0') * 10 + (*c - b'0'));
+            if unit < 256 {
+                Ok(unit as u8)
+            } else {
+                Err(LineFault::BadUnit)
+            }
+        }
+        _ => Err(LineFault::BadUnit),
+    }
+}
+
+/// The 1 to `limit` bytes of a word in hexadecimal.
+#[tactic(auto, unfolding(crate::specs::Words::hex_in))]
+pub fn bytes_of(alloc: Global, word: &[u8], limit: usize) -> Result<Vec<u8>, LineError>
+    ensures { Gives (λ bytes. bytes.items) result (hex_in limit word.now) }
+{
+    match hex::decode(alloc, word) {
+        Ok(bytes) => {
+            if bytes.is_empty() || bytes.len() > limit {
+                Err(LineError::Fault(LineFault::BadHex))
+            } else {
+                Ok(bytes)
+            }
+        }
+        Err(FromHexError::OutOfMemory) => Err(LineError::NoMemory),
+        Err(_) => Err(LineError::Fault(LineFault::BadHex)),
+    }
+}

@@ -1,5 +1,0 @@
-use Rattle.vtl.proofs.Cuts.{ended}
-use Rattle.vtl.proofs.cutting.is_end.Goals as goal
-
-pub returns : goal.returns
-returns c = ended c.args.words c.is_none.result c.is_none.ensures

@@ -1,0 +1,57 @@
+use crate::command_line::CommandLineFault;
+use crate::library_options::OptionFault;
+use clap::error::ErrorKind;
+use replay::ReplayFault;
+use std::alloc::AllocError;
+use std::fmt;
+use thiserror::Error;
+
+/// Why the program ended before its task was done.
+#[derive(Debug, Drop, Error)]
+pub enum ProgramFault {
+    CommandLine(#[from] CommandLineFault),
+    Options(#[from] OptionFault),
+    Replay(#[from] ReplayFault),
+}
+
+impl ProgramFault {
+    ghost use Rattle.std.specs.Prelude.{◌≡◌};
+    ghost use Rattle.vtl.specs.Faults.{program_status};
+
+    /// The exit status: 2 where arguments or the script are refused, 3 for want of memory, 4 for a fault
+    /// of input or output, and 0 after help and the version (profile).
+    pub fn status(&self) -> u8
+        ensures { result ≡ program_status self.now }
+    {
+        match self {
+            ProgramFault::CommandLine(CommandLineFault::Refused(error)) => match error.kind() {
+                ErrorKind::DisplayHelp | ErrorKind::DisplayVersion => 0,
+                _ => 2,
+            },
+            ProgramFault::CommandLine(CommandLineFault::NotText) => 2,
+            ProgramFault::CommandLine(CommandLineFault::NoMemory) => 3,
+            ProgramFault::Options(OptionFault::MoreVolumes) => 2,
+            ProgramFault::Replay(fault) => fault.status(),
+        }
+    }
+}
+
+impl fmt::Display for ProgramFault {
+    ghost use Rattle.vtl.specs.Faults.{program_text};
+
+    ghost output = { program_text };
+
+    fn fmt<W: fmt::Write>(&self, f: &mut fmt::Formatter<W>) -> fmt::Result {
+        match self {
+            ProgramFault::CommandLine(fault) => write!(f, "{fault}"),
+            ProgramFault::Options(fault) => write!(f, "{fault}"),
+            ProgramFault::Replay(fault) => write!(f, "{fault}"),
+        }
+    }
+}
+
+impl From<AllocError> for ProgramFault {
+    fn from(_error: AllocError) -> ProgramFault {
+        ProgramFault::CommandLine(CommandLineFault::NoMemory)
+    }
+}

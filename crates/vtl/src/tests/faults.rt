@@ -1,0 +1,136 @@
+//! Readers and writers that fail, and what is told of each fault.
+
+use crate::library::library;
+use crate::library_options::LibraryOptions;
+use replay::{ReplayFault, replay};
+use replay_output::Audit;
+use replay_script::LineFault;
+use std::io;
+use std::io::{Read, Write};
+use std::test::Fail;
+
+/// A reader of a comment, a byte at each read. It counts its reads, and fails at one of them.
+#[derive(Drop)]
+struct Trickle {
+    bytes: u64,
+    reads: u64,
+    fails_at: u64,
+}
+
+impl Read for Trickle {
+    fn read(&mut self, buffer: &mut [u8]) -> io::Result<usize> {
+        self.reads = self.reads.saturating_add(1);
+        if self.reads == self.fails_at {
+            return Err(io::Error::from(io::ErrorKind::BrokenPipe));
+        }
+        if self.bytes < self.reads {
+            return Ok(0);
+        }
+        match buffer.first_mut() {
+            Some(first) => {
+                *first = b'#';
+                Ok(1)
+            }
+            None => Ok(0),
+        }
+    }
+}
+
+#[derive(Drop)]
+struct Closed;
+
+impl Write for Closed {
+    fn write(&mut self, _buffer: &[u8]) -> io::Result<usize> {
+        Err(io::Error::from(io::ErrorKind::BrokenPipe))
+    }
+
+    fn flush(&mut self) -> io::Result<()> {
+        Err(io::Error::from(io::ErrorKind::BrokenPipe))
+    }
+}
+
+#[test]
+fn reads_no_more_often_than_it_may(rt: HostRuntime) -> Result<(), Fail> {
+    let rows = [
+        (4, 4, Ok(())),
+        (5, 4, Ok(())),
+        (3, 3, Err(ReplayFault::Read)),
+        (0, 0, Err(ReplayFault::Read)),
+    ];
+    for (turns, reads, outcome) in rows {
+        let mut reader = Trickle {
+            bytes: 3,
+            reads: 0,
+            fails_at: 0,
+        };
+        let mut writer = Vec::new(rt.alloc());
+        let result = replay(
+            rt.alloc(),
+            &mut library(rt.alloc(), &LibraryOptions::USUAL)?,
+            &mut reader,
+            &mut writer,
+            Audit::Off,
+            turns,
+        );
+        assert_eq!(rt; result, outcome, "{turns} turns");
+        assert_eq!(rt; reader.reads, reads, "{turns} turns");
+    }
+    Ok(())
+}
+
+#[test]
+fn tells_a_read_that_failed(rt: HostRuntime) -> Result<(), Fail> {
+    let mut reader = Trickle {
+        bytes: 3,
+        reads: 0,
+        fails_at: 2,
+    };
+    let mut writer = Vec::new(rt.alloc());
+    let result = replay(
+        rt.alloc(),
+        &mut library(rt.alloc(), &LibraryOptions::USUAL)?,
+        &mut reader,
+        &mut writer,
+        Audit::Off,
+        9,
+    );
+    assert_eq!(rt; result, Err(ReplayFault::Read));
+    assert_eq!(rt; reader.reads, 2);
+    Ok(())
+}
+
+#[test]
+fn tells_a_closed_output(rt: HostRuntime) -> Result<(), Fail> {
+    let mut reader = b"".as_slice();
+    let result = replay(
+        rt.alloc(),
+        &mut library(rt.alloc(), &LibraryOptions::USUAL)?,
+        &mut reader,
+        &mut Closed,
+        Audit::Off,
+        9,
+    );
+    assert_eq!(rt; result, Err(ReplayFault::Write));
+    Ok(())
+}
+
+#[test]
+fn shows_faults(rt: HostRuntime) -> Result<(), Fail> {
+    let what = LineFault::BadNexus;
+    let rows = [
+        (
+            ReplayFault::Line { number: 1, what },
+            "vtl: line 1: bad nexus",
+            2,
+        ),
+        (ReplayFault::NoMemory, "vtl: want of memory", 3),
+        (ReplayFault::Read, "vtl: device fault", 4),
+        (ReplayFault::Write, "vtl: device fault", 4),
+    ];
+    for (fault, text, status) in rows {
+        let shown = fault.to_string(rt.alloc())?;
+        assert_eq!(rt; shown.as_str(), text);
+        assert_eq!(rt; fault.status(), status);
+    }
+    Ok(())
+}
