@@ -33,10 +33,10 @@ use Rattle.unit_answers.specs.declared.reply.Reply.{Reply}
 use Rattle.unit_commands.specs.declared.command.Command.TheVariants as command
 use Rattle.unit_state.specs.KeptView.{KeptView}
 use Rattle.unit_state.specs.Readings.{verdict_of}
-use Rattle.logical_unit.specs.declared.medium_fault.MediumFault.TheVariants.{NotADrive, Prevented, Empty, Full}
+use Rattle.logical_unit.specs.declared.medium_fault.MediumFault.TheVariants.{NotADrive, Prevented, Empty, Full, Busy}
 use Rattle.logical_unit.specs.UnitView.{UnitView}
 use Rattle.logical_unit.specs.Step.{answered}
-use Rattle.logical_unit.specs.Medium.{taken_out, put_in}
+use Rattle.logical_unit.specs.Medium.{taken_out, put_in, IsRefusal}
 use Rattle.logical_unit.specs.Check.{ComesToTheCheck}
 use Rattle.logical_unit.specs.Legal.{IsJudged}
 
@@ -166,6 +166,16 @@ pub record RefusedMedia (tag : VolumeTag) : Type 0 where
   pub out_of_an_empty_bay : taken_out (unit_with (drive_of None false) (kept_by_a (slots_with []) [])) ≡ Err Empty
   pub into_a_changer : put_in (unit_with (Changer (empty_elements 1 1 1)) (kept_by_a (slots_with []) [])) (volume tag) ≡ Err NotADrive
   pub into_a_full_bay : put_in (drive_prevented tag) (volume tag) ≡ Err Full
+
+-- a refusal is the fault that is due and no other, and BUSY where none is
+pub record RefusedAsDue (tag : VolumeTag) : Type 0 where
+  pub due : IsRefusal (taken_out (drive_prevented tag)) Prevented
+  pub not_busy : IsRefusal (taken_out (drive_prevented tag)) Busy → ⊥
+  pub not_another : IsRefusal (taken_out (drive_prevented tag)) Empty → ⊥
+  pub busy : IsRefusal (taken_out (drive_held tag)) Busy
+  pub nothing_due : IsRefusal (taken_out (drive_held tag)) Empty → ⊥
+  pub full : IsRefusal (put_in (drive_held tag) (volume tag)) Full
+  pub not_full : IsRefusal (put_in (unit_with (drive_of None false) (kept_by_a (slots_with []) [])) (volume tag)) Full → ⊥
 
 -- a record with no cell and no rule
 abbrev pub noted : Nexus → Act → Stage → Status → Option Sense → Record

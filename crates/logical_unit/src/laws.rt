@@ -32,7 +32,7 @@ pub fn trail_shows_history()
 {}
 
 ghost use Rattle.tape_medium.specs.declared.volume.VolumeTag.{VolumeTag};
-ghost use Rattle.logical_unit.specs.Rows.{AtTheCheck, Unloading, Sensing, FirstContact, Preventing, RefusedMedia, IllegalRecords, LegalRecords};
+ghost use Rattle.logical_unit.specs.Rows.{AtTheCheck, Unloading, Sensing, FirstContact, Preventing, RefusedMedia, RefusedAsDue, IllegalRecords, LegalRecords};
 
 /// A command that the reservation check allows, one that it denies, and one that breaks a rule on keys.
 pub fn decided_at_the_check()
@@ -53,7 +53,8 @@ pub fn attentions()
 
 /// Volumes that aren't taken out, or put in.
 pub fn refused_media()
-    ensures { (tag : VolumeTag) → RefusedMedia tag }
+    ensures faults { (tag : VolumeTag) → RefusedMedia tag }
+    ensures due { (tag : VolumeTag) → RefusedAsDue tag }
 {}
 
 /// Records that stand in a legal trail, and records that don't.

@@ -7,10 +7,12 @@ use scsi_nexus::Nexus;
 use std::alloc::Global;
 use std::marker::Model;
 use tape_medium::{Volume, VolumeTag};
+use thiserror::Error;
 use unit_answers::Reply;
 
 /// There is no room for a record of the event, or no number, and nothing has changed.
-#[derive(Clone, Copy, Debug, PartialEq, Eq)]
+#[derive(Clone, Copy, Debug, PartialEq, Eq, Error)]
+#[error("busy")]
 pub struct Busy;
 
 /// A logical unit: the device handed in, the registrations, the reservation and the pending unit

@@ -3,7 +3,7 @@ use Rattle.std.specs.Prelude.{◌≡◌, ℕ, List, [], ◌∷◌, replicate, No
 use Rattle.scsi_sense.specs.declared.status.Status.TheVariants.{Good, CheckCondition}
 use Rattle.scsi_sense.specs.FixedSense.{fixed_sense}
 use Rattle.unit_answers.specs.declared.reply.Reply.{Reply}
-use Rattle.unit_answers.specs.Replies.{absent_answer, busy, AnswersAbsent}
+use Rattle.unit_answers.specs.Replies.{absent_answer, busy, conflict, AnswersAbsent}
 
 -- the sense data of a reply as bytes, none where it has none
 abbrev pub sense_bytes : Reply → List ℕ
@@ -39,3 +39,4 @@ pub record AbsentUnit : Type 0 where
   pub refused : (absent_answer (replicate 6 0)).status ≡ CheckCondition
   -- or BUSY, with no number
   pub wants_memory : AnswersAbsent (replicate 6 0) busy
+  pub no_conflict : AnswersAbsent (replicate 6 0) conflict → ⊥

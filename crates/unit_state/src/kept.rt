@@ -74,12 +74,13 @@ impl Kept {
         self.queues.has(nexus) || !self.queues.is_full()
     }
 
-    /// The contact that each command is.
+    /// The contact that each command is: a nexus without a slot gets one.
     pub fn meet(&mut self, nexus: Nexus)
         requires { has_room self.old nexus ≡ true }
         ensures { self.new ≡ met self.old nexus }
     {
         let met = self.queues.contact(nexus);
+        // For the prover alone: the caller knows that there is a slot.
         prove!(met.is_ok());
     }
 

@@ -78,6 +78,7 @@ impl Preventers {
     {
         let mut nexuses = ArrayVec::new();
         let copied = nexuses.try_extend_from_slice(self.nexuses.as_slice());
+        // For the prover alone: a list of the same capacity has room for all.
         prove!(copied.is_ok());
         Preventers { nexuses }
     }

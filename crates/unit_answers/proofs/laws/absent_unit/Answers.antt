@@ -1,5 +1,12 @@
-use Rattle.std.proofs.Common.{refl, inl}
+use Rattle.std.proofs.Common.{refl, inl, inr, ap}
+use Rattle.std.specs.Prelude.{replicate}
+use Rattle.unit_answers.specs.declared.reply.Reply.{Reply}
+use Rattle.unit_answers.specs.Replies.{AnswersAbsent, conflict}
 use Rattle.unit_answers.proofs.laws.absent_unit.Goals as goal
+
+no_conflict : AnswersAbsent (replicate 6 0) conflict → ⊥
+no_conflict (inl e) = let is = ap (λ (r : Reply). r.status) e in cc
+no_conflict (inr e) = let is = ap (λ (r : Reply). r.status) e in cc
 
 pub returns : goal.returns
 returns c = record {
@@ -18,4 +25,5 @@ returns c = record {
   short_inquiry = refl;
   refused = refl;
   wants_memory = inl refl;
+  no_conflict = no_conflict;
 }
