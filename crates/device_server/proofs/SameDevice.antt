@@ -12,7 +12,7 @@ use Rattle.device_server.specs.Changer.{moved_alone, carried, changer_step}
 use Rattle.device_server.specs.View.{DeviceView, Drive, Changer, field_fault, stepped, performed, reset_of}
 use Rattle.device_server.specs.Ends.{IsSameDevice}
 
-holding_drives : (e : Elements) (at : Element) (held : Option Volume) → (holding e at held).data_transfer ≡ e.data_transfer
+pub holding_drives : (e : Elements) (at : Element) (held : Option Volume) → (holding e at held).data_transfer ≡ e.data_transfer
 holding_drives e Transport held = refl
 holding_drives e (DataTransfer i) held = refl
 holding_drives e (ImportExport i) held = refl
@@ -35,7 +35,7 @@ carried_drives e source destination None =
     let to = element_at e destination in
     moved_drives e from (held_in e from) to (held_in e to)
 
-changer_drives : (e : Elements) (r : Request) → (changer_step e r).0.data_transfer ≡ e.data_transfer
+pub changer_drives : (e : Elements) (r : Request) → (changer_step e r).0.data_transfer ≡ e.data_transfer
 changer_drives e (request.MoveMedium transport source destination invert) =
     carried_drives e source destination (move_refusal e transport source destination)
 changer_drives e r = refl

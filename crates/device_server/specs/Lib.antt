@@ -8,3 +8,7 @@ pub mod View
 pub mod Rows
 pub mod ChangerRows
 pub mod Ends
+pub mod Marks
+pub mod MarkRows
+pub mod Volumes
+pub mod VolumeRows

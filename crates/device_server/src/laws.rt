@@ -4,6 +4,10 @@ ghost use Rattle.tape_medium.specs.declared.volume.VolumeTag.{VolumeTag};
 ghost use Rattle.device_server.specs.Rows.{ReadsOfOtherLength, SuppressedLengths, SpacesBothWays, PositionsRead, ModesOfADrive, RefusedFields, RefusedLists, FixedTransfers, RefusedWrites, VolumesOfADrive};
 ghost use Rattle.device_server.specs.ChangerRows.{StatusOfAChanger, ModesOfAChanger, MovesOfAChanger, MovesOfADrive, PlacesOfAChanger};
 ghost use Rattle.device_server.specs.Ends.{EndsItsOwnWay, StaysTheSameDevice, StaysTheSameByReset};
+ghost use Rattle.device_server.specs.Marks.{CommandsKeepMarks, ResetsKeepMarks, DrivesGive, DrivesGet, ChangersGive, ChangersGet, MarksOne, EachIsMarked};
+ghost use Rattle.device_server.specs.MarkRows.{MarksOfADrive, MarksOfAChanger};
+ghost use Rattle.device_server.specs.Volumes.{DrivesKeepTheirVolume, DrivesKeepTheirTape, ChangersStay, MovesCarryOne, ResetsKeepVolumes, TakesOne, PutsOne, MarksMoveNothing};
+ghost use Rattle.device_server.specs.VolumeRows.{VolumeOfADrive, SameVolumes, VolumesOfAChanger};
 
 /// Reads of one block that ask for more or fewer bytes than it has, and reads at a filemark and at the end of data.
 pub fn reads_of_other_length()
@@ -74,4 +78,51 @@ pub fn ends_its_own_way()
 pub fn stays_the_same_device()
     ensures performed { StaysTheSameDevice }
     ensures reset { StaysTheSameByReset }
+{}
+
+/// The marks of drives and changers: the tag of what is in a bay, and the tags noted at data transfer elements.
+pub fn marks_of_devices()
+    ensures drives { (tag : VolumeTag) → MarksOfADrive tag }
+    ensures changers { (a b : VolumeTag) → MarksOfAChanger a b }
+{}
+
+/// Law: no command and no reset changes what a changer notes of its drives, or takes the volume out of a drive.
+pub fn marks_stay()
+    ensures performed { CommandsKeepMarks }
+    ensures reset { ResetsKeepMarks }
+{}
+
+/// Law: a volume that goes out of a drive or into it is the one that its mark tells, before or after. In and out of a changer's own
+/// elements no mark changes. Each data transfer element takes a mark, and a mark that is set is the only one that changes.
+pub fn marks_follow_volumes()
+    ensures out_of_drive { DrivesGive }
+    ensures into_drive { DrivesGet }
+    ensures out_of_changer { ChangersGive }
+    ensures into_changer { ChangersGet }
+    ensures marked { MarksOne }
+    ensures each { EachIsMarked }
+{}
+
+/// The volumes of drives and changers, each at its place, and what of a volume is the same.
+pub fn volumes_of_devices()
+    ensures drives { (tag : VolumeTag) → VolumeOfADrive tag }
+    ensures same { (tag : VolumeTag) → SameVolumes tag }
+    ensures changers { (a b : VolumeTag) → VolumesOfAChanger a b }
+{}
+
+/// Law: each volume stays where it is through commands and resets, but by a MOVE MEDIUM that is GOOD, which carries just one. What is on
+/// a tape changes only by a WRITE, WRITE FILEMARKS or ERASE that is GOOD.
+pub fn volumes_stay_in_place()
+    ensures drives { DrivesKeepTheirVolume }
+    ensures tapes { DrivesKeepTheirTape }
+    ensures changers { ChangersStay }
+    ensures moves { MovesCarryOne }
+    ensures reset { ResetsKeepVolumes }
+{}
+
+/// Law: what is taken out of a device is gone from its place, what is put in has come to its place, and nothing else has moved.
+pub fn volumes_go_in_and_out()
+    ensures takes { TakesOne }
+    ensures puts { PutsOne }
+    ensures marks { MarksMoveNothing }
 {}

@@ -1,0 +1,140 @@
+-- The places of a device where a volume goes in or out.
+use Rattle.std.proofs.Common.{◌≡◌, ℕ, ◌+◌, ◌-◌, ◌==◌, Bool, true, false, List, length, set, get_or-set_same, get_or-set_other, length-set, Option, Some, None, unwrap_or, refl, sym, ap, ◌∙◌, subst, arith}
+use Rattle.std.specs.Prelude.{cond, if◌then◌else◌, ◌≢◌}
+use Rattle.std.proofs.lemmas.Bool.Decides.{nat_tests}
+use Rattle.tape_medium.specs.declared.volume.VolumeTag.{VolumeTag}
+use Rattle.tape_medium.specs.declared.volume.Volume.{Volume}
+use Rattle.tape_medium.specs.Elements.{Elements, Element, Transport, DataTransfer, ImportExport, Storage, Nowhere, is_among, first_data_transfer, first_import_export, first_storage, element_at, held_in, holding}
+use Rattle.tape_medium.proofs.ElementLemmas.{element_at-holding, IsWithin, element_at-within}
+use Rattle.device_server.specs.Drive.{rewound}
+use Rattle.device_server.specs.View.{DeviceView, Drive, Changer}
+use Rattle.device_server.specs.Volumes.{volume_at, SameVolume, SameAt, GoesOut, GoesIn, TakesOne, PutsOne, MarksMoveNothing}
+use Rattle.device_server.proofs.InAndOut.{drive_taken, drive_put, changer_taken, changer_put, marked_one}
+use Rattle.device_server.proofs.TapeLemmas.{same_volume, rewound_same}
+
+-- WHAT AN ADDRESS NAMES
+
+-- a storage or import/export element has its number behind its type's first address
+abbrev IsNamed : Element → (address : ℕ) → Type 0
+IsNamed (ImportExport i) address = address ≡ first_import_export + i
+IsNamed (Storage i) address = address ≡ first_storage + i
+IsNamed at address = Unit {0}
+
+among_named : (first count address : ℕ) → is_among first count address ≡ true → address ≡ first + (address - first)
+among_named first count address h = grind (arith, nat_tests)
+
+chosen_named : (address i j k : ℕ) (transport drive port slot : Bool) → (port ≡ true → address ≡ first_import_export + j) → (slot ≡ true → address ≡ first_storage + k)
+    → IsNamed (if transport then Transport else if drive then DataTransfer i else if port then ImportExport j else if slot then Storage k else Nowhere) address
+chosen_named address i j k true drive port slot second third = tt
+chosen_named address i j k false true port slot second third = tt
+chosen_named address i j k false false true slot second third = second refl
+chosen_named address i j k false false false true second third = third refl
+chosen_named address i j k false false false false second third = tt
+
+element_named : (e : Elements) (address : ℕ) → IsNamed (element_at e address) address
+element_named e address =
+    chosen_named address (address - first_data_transfer) (address - first_import_export) (address - first_storage)
+    (address == 0) (is_among first_data_transfer (length e.data_transfer) address)
+    (is_among first_import_export (length e.import_export) address) (is_among first_storage (length e.storage) address)
+    (among_named first_import_export (length e.import_export) address) (among_named first_storage (length e.storage) address)
+
+-- WHAT ONE ELEMENT HOLDS is set, and the others hold what they held
+
+set_here : (e : Elements) (at : Element) (old held : Option Volume) → IsWithin e at → held_in e at ≡ Some old → held_in (holding e at held) at ≡ Some held
+set_here e Transport old held within h = cc
+set_here e (DataTransfer i) old held within h = cc
+set_here e (ImportExport i) old held within h = ap Some (get_or-set_same e.import_export i held None within)
+set_here e (Storage i) old held within h = ap Some (get_or-set_same e.storage i held None within)
+set_here e Nowhere old held within h = cc
+
+set_others : (e : Elements) (at other : Element) (a b : ℕ) (held : Option Volume) → IsNamed at a → IsNamed other b → b ≢ a → held_in (holding e at held) other ≡ held_in e other
+set_others e Transport other a b held at_a at_b ne = refl
+set_others e (DataTransfer i) other a b held at_a at_b ne = refl
+set_others e Nowhere other a b held at_a at_b ne = refl
+set_others e (ImportExport i) Transport a b held at_a at_b ne = refl
+set_others e (ImportExport i) (DataTransfer j) a b held at_a at_b ne = refl
+set_others e (ImportExport i) (ImportExport j) a b held at_a at_b ne = let apart : j ≢ i = omega arith in ap Some (get_or-set_other e.import_export i j held None apart)
+set_others e (ImportExport i) (Storage j) a b held at_a at_b ne = refl
+set_others e (ImportExport i) Nowhere a b held at_a at_b ne = refl
+set_others e (Storage i) Transport a b held at_a at_b ne = refl
+set_others e (Storage i) (DataTransfer j) a b held at_a at_b ne = refl
+set_others e (Storage i) (ImportExport j) a b held at_a at_b ne = refl
+set_others e (Storage i) (Storage j) a b held at_a at_b ne = let apart : j ≢ i = omega arith in ap Some (get_or-set_other e.storage i j held None apart)
+set_others e (Storage i) Nowhere a b held at_a at_b ne = refl
+
+-- the same of the places of a changer
+pub record IsSet (before after : Elements) (place : ℕ) (held : Option Volume) : Type 0 where
+  pub here : volume_at (Changer after) place ≡ held
+  pub others : (other : ℕ) → other ≢ place → volume_at (Changer after) other ≡ volume_at (Changer before) other
+
+pub sets : (e : Elements) (place : ℕ) (old held : Option Volume) → held_in e (element_at e place) ≡ Some old → IsSet e (holding e (element_at e place) held) place held
+sets e place old held h =
+    let at = element_at e place in
+    let after = holding e at held in
+    record {
+      here = ap (λ x. unwrap_or (held_in after x) None) (element_at-holding e at held place)
+          ∙ ap (λ x. unwrap_or x None) (set_here e at old held (element_at-within e place) h);
+      others = λ other ne. ap (λ x. unwrap_or (held_in after x) None) (element_at-holding e at held other)
+          ∙ ap (λ x. unwrap_or x None) (set_others e at (element_at e other) place other held (element_named e place) (element_named e other) ne);
+    }
+
+-- VOLUMES IN AND OUT
+
+elsewhere_is : (place : ℕ) → place ≢ 0 → (place == 0) ≡ false
+elsewhere_is place ne = grind (arith, nat_tests)
+
+-- a drive has nothing but at place 0
+elsewhere : (x y : Option Volume) (place : ℕ) → place ≢ 0 → cond (place == 0) x None ≡ cond (place == 0) y None
+elsewhere x y place ne = rw (elsewhere_is place ne) refl
+
+pub takes_one : TakesOne
+takes_one (Drive d) after place v h =
+    let out = drive_taken d place v after h in
+    subst (λ (x : ℕ). GoesOut (Drive d) after x v) out.is_zero
+    (subst (λ (x : DeviceView). GoesOut (Drive d) x 0 v) out.left (record {
+      full = subst (λ (x : Option Volume). SameAt SameVolume x (Some v)) (sym out.full) (subst (λ (x : Volume). SameVolume out.held x) out.volume (rewound_same out.held));
+      empty = refl;
+      others = elsewhere None d.bay;
+    }))
+takes_one (Changer e) after place v h =
+    let out = changer_taken e place v after h in
+    let set = sets e place (Some v) None out.full in
+    subst (λ (x : DeviceView). GoesOut (Changer e) x place v) out.left (record {
+      full = subst (λ (x : Option (Option Volume)). SameAt SameVolume (unwrap_or x None) (Some v)) (sym out.full) (same_volume v);
+      empty = set.here;
+      others = set.others;
+    })
+
+pub puts_one : PutsOne
+puts_one (Drive d) after place v h =
+    let into = drive_put d place v after h in
+    subst (λ (x : ℕ). GoesIn (Drive d) after x v) into.is_zero
+    (subst (λ (x : DeviceView). GoesIn (Drive d) x 0 v) into.left (record { empty = into.empty; full = rewound_same v; others = elsewhere (Some (rewound v)) d.bay }))
+puts_one (Changer e) after place v h =
+    let into = changer_put e place v after h in
+    let set = sets e place None (Some v) into.empty in
+    subst (λ (x : DeviceView). GoesIn (Changer e) x place v) into.left (record {
+      empty = ap (λ x. unwrap_or x None) into.empty;
+      full = subst (λ (x : Option Volume). SameAt SameVolume (Some v) x) (sym set.here) (same_volume v);
+      others = set.others;
+    })
+
+-- A MARK
+
+note_names : (e : Elements) (i : ℕ) (tag : Option VolumeTag) (address : ℕ) → element_at (record e { data_transfer = set e.data_transfer i tag }) address ≡ element_at e address
+note_names e i tag address = simp length-set
+
+note_holds : (e : Elements) (tags : List (Option VolumeTag)) (at : Element) → held_in (record e { data_transfer = tags }) at ≡ held_in e at
+note_holds e tags Transport = refl
+note_holds e tags (DataTransfer i) = refl
+note_holds e tags (ImportExport i) = refl
+note_holds e tags (Storage i) = refl
+note_holds e tags Nowhere = refl
+
+pub marks_move_nothing : MarksMoveNothing
+marks_move_nothing (Drive d) after place tag h other = absurd cc
+marks_move_nothing (Changer e) after place tag h other =
+    let i : ℕ = place - first_data_transfer in
+    let noted : Elements = record e { data_transfer = set e.data_transfer i tag } in
+    subst (λ (x : DeviceView). volume_at x other ≡ volume_at (Changer e) other) (marked_one e place tag after h).rest
+    (ap (λ at. unwrap_or (held_in noted at) None) (note_names e i tag other) ∙ ap (λ held. unwrap_or held None) (note_holds e noted.data_transfer (element_at e other)))
