@@ -1,6 +1,6 @@
 -- What an allowed PERSISTENT RESERVE OUT command does: it is refused, or its act is accepted, with what is told to others
 -- (SPC-4, "PERSISTENT RESERVE OUT command" and the clauses on each service action).
-use Rattle.std.specs.Prelude.{ℕ, Bool, not, ◌&&◌, ◌||◌, ◌==◌, nat_lt, nat_le, if◌then◌else◌, List, [], length, filter, Option, None, Some, is_some, is_none}
+use Rattle.std.specs.Prelude.{ℕ, Bool, false, not, ◌&&◌, ◌||◌, ◌==◌, nat_lt, nat_le, if◌then◌else◌, List, [], length, filter, Option, None, Some, is_some, is_none}
 use Rattle.std.specs.List.{filter_map, list_any}
 use Rattle.scsi_cdb.specs.declared.action.OutServiceAction.TheVariants as out
 use Rattle.scsi_nexus.specs.declared.nexus.Nexus.{Nexus}
@@ -9,11 +9,12 @@ use Rattle.permit_tables.specs.Types.{coded_type, is_registrants_only}
 use Rattle.unit_attention.specs.declared.kind.Kind.{Kind}
 use Rattle.unit_attention.specs.declared.kind.Kind.TheVariants.{ReservationsPreempted, ReservationsReleased, RegistrationsPreempted}
 use Rattle.pr_params.specs.declared.out_params.OutParams.{OutParams}
+use Rattle.pr_core.specs.declared.act.Standing.{Standing}
 use Rattle.pr_core.specs.Acts.{Act, Register, Reserve, Release, Clear, Preempt, Move}
 use Rattle.pr_core.specs.Targets.{is_target_port, targets, is_among}
 use Rattle.pr_core.specs.declared.pr_fault.PrFault.{PrFault}
 use Rattle.pr_core.specs.declared.pr_fault.PrFault.TheVariants.{InvalidField, InvalidParam, InvalidRelease, NoRegistrationRoom}
-use Rattle.pr_core.specs.State.{State, capacity, is_registered, is_all_held, is_holder, is_sole_holder, res_type, registrants, takes, key_after, keys_after, type_in, after}
+use Rattle.pr_core.specs.State.{State, capacity, is_registered, is_all_held, is_holder, is_sole_holder, res_type, registrants, takes, is_taking, key_after, keys_after, type_in, after}
 use Rattle.pr_core.specs.Judge.{held_code}
 
 -- whether there is no room for one more registration
@@ -109,6 +110,17 @@ told v s (Preempt k code) n =
     else if takes v k && not (code == held_code v) then Some ReservationsReleased
     else None
 told v s a n = None
+
+-- whether those whom the act a of s leaves registered, and whom it doesn't name, are told that the reservation was released
+abbrev pub is_releasing : State → Nexus → Act → Bool
+is_releasing v s (Register k targets) = k == 0 && is_registrants_only (res_type v) && list_any (is_sole_holder v) targets
+is_releasing v s (Release code) = is_holder v s && (is_registrants_only (res_type v) || is_all_held v)
+is_releasing v s (Preempt k code) = takes v k && not (code == held_code v)
+is_releasing v s a = false
+
+-- what decides what the act a of s does to other nexuses
+abbrev pub standing_of : State → Nexus → Act → Standing
+standing_of v s a = record { is_taking = is_taking v a; is_all_held = is_all_held v; is_releasing = is_releasing v s a }
 
 -- the attention that the act a of s raises for a registered nexus, if it does: never for the sender
 abbrev pub raised_for : State → Nexus → Act → Nexus → Option (Nexus × Kind)

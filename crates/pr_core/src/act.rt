@@ -1,10 +1,12 @@
-ghost use Rattle.std.specs.Prelude.{◌≡◌};
+ghost use Rattle.std.specs.Prelude.{◌≡◌, ◌==◌, false, option_map};
 ghost use Rattle.pr_core.specs.Acts.{act_shown};
 ghost use Rattle.pr_core.specs.State.{State, key as key_in_state, is_all_held as is_all_held_in, is_taking as is_taking_in, key_after, is_counted};
+ghost use Rattle.pr_core.specs.Outcome.{standing_of, told, raised_for, is_removed};
 
 use crate::targets::is_among;
 use permit_tables::ResType;
 use scsi_nexus::Nexus;
+use unit_attention::Kind;
 
 /// A reservation act that was accepted, as the history of a unit has it beside its sender.
 #[derive(Clone, Copy, Debug, PartialEq, Eq)]
@@ -24,6 +26,17 @@ pub enum ReservationAct<'a> {
     /// REGISTER AND MOVE with the destination's key, the destination, and whether the sender is
     /// unregistered.
     Move(u64, Nexus, bool),
+}
+
+/// What decides what an act does to the nexuses other than its sender, found once for all of them.
+#[derive(Clone, Copy, Debug, PartialEq, Eq)]
+pub(crate) struct Standing {
+    /// Whether the act is a preemption that takes the reservation.
+    pub(crate) is_taking: bool,
+    /// Whether the reservation is of an all registrants type.
+    pub(crate) is_all_held: bool,
+    /// Whether those who stay registered are told that the reservation was released.
+    pub(crate) is_releasing: bool,
 }
 
 impl ReservationAct<'_> {
@@ -76,6 +89,81 @@ impl ReservationAct<'_> {
                     key
                 }
             }
+        }
+    }
+
+    /// Whether the act unregisters a registered nexus with this key that isn't its sender.
+    pub(crate) fn removes(
+        self,
+        sender: Nexus,
+        nexus: Nexus,
+        key: u64,
+        is_taking: bool,
+        is_all_held: bool,
+    ) -> bool
+        ensures { (v : State) → key ≡ key_in_state v nexus → is_taking ≡ is_taking_in v (act_shown self.entry) → is_all_held ≡ is_all_held_in v → result ≡ is_removed v sender (act_shown self.entry) nexus }
+    {
+        nexus != sender && self.key_after(sender, nexus, key, is_taking, is_all_held) == 0
+    }
+
+    /// Whether the act can tell anybody anything.
+    pub(crate) fn tells(self, standing: Standing) -> bool
+        ensures { result ≡ false → (v : State) (sender nexus : Nexus) → standing ≡ standing_of v sender (act_shown self.entry) → told v sender (act_shown self.entry) nexus ≡ None }
+    {
+        match self {
+            ReservationAct::Clear | ReservationAct::Preempt(_, _) => true,
+            ReservationAct::Register(_, _) | ReservationAct::Release(_) => standing.is_releasing,
+            ReservationAct::Reserve(_) | ReservationAct::Move(_, _, _) => false,
+        }
+    }
+
+    /// What the act tells a registered nexus with this key that isn't its sender.
+    fn told(self, sender: Nexus, nexus: Nexus, key: u64, standing: Standing) -> Option<Kind>
+        ensures { (v : State) → key ≡ key_in_state v nexus → standing ≡ standing_of v sender (act_shown self.entry) → result ≡ told v sender (act_shown self.entry) nexus }
+    {
+        let is_released = match self {
+            ReservationAct::Clear => return Some(Kind::ReservationsPreempted),
+            ReservationAct::Preempt(_, _) => {
+                let after = self.key_after(
+                    sender,
+                    nexus,
+                    key,
+                    standing.is_taking,
+                    standing.is_all_held,
+                );
+                if after == 0 {
+                    return Some(Kind::RegistrationsPreempted);
+                }
+                standing.is_releasing
+            }
+            ReservationAct::Register(_, targets) => {
+                standing.is_releasing && !is_among(nexus, targets)
+            }
+            ReservationAct::Release(_) => standing.is_releasing,
+            ReservationAct::Reserve(_) | ReservationAct::Move(_, _, _) => false,
+        };
+        if is_released {
+            Some(Kind::ReservationsReleased)
+        } else {
+            None
+        }
+    }
+
+    /// The attention that the act raises for a registered nexus with this key, if it does: none for its
+    /// sender.
+    pub(crate) fn raised(
+        self,
+        sender: Nexus,
+        nexus: Nexus,
+        key: u64,
+        standing: Standing,
+    ) -> Option<Kind>
+        ensures { (v : State) → key ≡ key_in_state v nexus → standing ≡ standing_of v sender (act_shown self.entry) → option_map (λ kind. (nexus, kind)) result ≡ raised_for v sender (act_shown self.entry) nexus }
+    {
+        if nexus == sender {
+            None
+        } else {
+            self.told(sender, nexus, key, standing)
         }
     }
 }

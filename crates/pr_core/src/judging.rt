@@ -1,11 +1,13 @@
-ghost use Rattle.std.specs.Prelude.{◌≡◌};
+ghost use Rattle.std.specs.Prelude.{◌≡◌, ◌==◌, ◌||◌, not};
+ghost use Rattle.pr_core.specs.State.{key, is_registered};
 ghost use Rattle.pr_core.specs.Judge.{broken_rule, has_unregistered, has_other_key, verdict};
 ghost use Rattle.pr_core.specs.Targets.{targets as targets_of};
 
 use crate::key_rule::KeyRule;
 use crate::state::PrState;
-use crate::targets::{names_its_sender_alone, targets};
+use crate::targets::{list_targets, names_its_sender_alone};
 use crate::verdict::Verdict;
+use arrayvec::ArrayVec;
 use permit_tables::allowed;
 use pr_params::OutParams;
 use scsi_cdb::OutServiceAction;
@@ -24,7 +26,7 @@ impl PrState {
         let rule = if names_its_sender_alone(params) {
             self.broken_rule(nexus, params, [nexus].as_slice())
         } else {
-            self.broken_rule(nexus, params, targets(nexus, params).as_slice())
+            self.broken_rule_of_several(nexus, params)
         };
         match rule {
             None => Verdict::Allowed,
@@ -51,12 +53,29 @@ impl PrState {
         })
     }
 
+    /// Whether a nexus isn't registered with this key.
+    fn is_other_key(&self, nexus: Nexus, reservation_key: u64) -> bool
+        ensures { result ≡ (not (is_registered self.now nexus) || not (reservation_key == key self.now nexus)) }
+    {
+        let key = self.key_of(nexus);
+        key == 0 || reservation_key != key
+    }
+
+    /// The first rule on keys that a command breaks, where a REGISTER names further nexuses. Their list
+    /// is large, so it stands in a function of its own.
+    fn broken_rule_of_several(&self, nexus: Nexus, params: &OutParams) -> Option<KeyRule>
+        ensures { result ≡ broken_rule self.now nexus params.now }
+    {
+        let mut targets = ArrayVec::new();
+        list_targets(&mut targets, nexus, params);
+        self.broken_rule(nexus, params, targets.as_slice())
+    }
+
     /// The first rule on keys that a command breaks, which for a REGISTER are asked of these targets.
     fn broken_rule(&self, nexus: Nexus, params: &OutParams, targets: &[Nexus]) -> Option<KeyRule>
         requires { targets.now ≡ targets_of nexus params.now }
         ensures { result ≡ broken_rule self.now nexus params.now }
     {
-        let key = self.key_of(nexus);
         match params.act {
             OutServiceAction::RegisterAndIgnoreExistingKey => None,
             OutServiceAction::Register => {
@@ -74,7 +93,7 @@ impl PrState {
             | OutServiceAction::Preempt
             | OutServiceAction::PreemptAndAbort
             | OutServiceAction::RegisterAndMove
-                if key == 0 || params.rk != key => { Some(KeyRule::K3) }
+                if self.is_other_key(nexus, params.rk) => { Some(KeyRule::K3) }
             OutServiceAction::Reserve => {
                 if self.holds(nexus) && params.scope_type != self.res_type().code() {
                     Some(KeyRule::K4)

@@ -81,6 +81,13 @@ impl KeyTable {
 }
 
 impl KeyTable {
+    /// Unregisters all.
+    pub(crate) fn clear(&mut self)
+        ensures { self.new ≡ [] }
+    {
+        self.entries.clear();
+    }
+
     /// Unregisters all but some nexus.
     pub(crate) fn keep_only(&mut self, nexus: Nexus)
         ensures { self.new ≡ filter (λ e. same_nexus e.0 nexus) self.old }
@@ -153,6 +160,17 @@ impl KeyTable {
         if self.entries.len() + nexuses.len() <= REGISTRATIONS {
             return true;
         }
+        match nexuses {
+            [nexus] => self.has_room_for_one(*nexus, key),
+            _ => self.has_room_for_several(nexuses, key),
+        }
+    }
+
+    /// `has_room_for`, tried on a copy. The copy is large, so it stands in a function of its own.
+    fn has_room_for_several(&self, nexuses: &[Nexus], key: u64) -> bool
+        requires { key ≢ 0 }
+        ensures { result ≡ nat_le (length (put_all key self.now nexuses.now)) capacity }
+    {
         let mut copy = self.copy();
         copy.takes_all(nexuses, key)
     }

@@ -11,7 +11,6 @@ mod key_table;
 mod laws;
 mod outcome;
 mod pr_fault;
-mod raised;
 mod raising;
 mod rows;
 mod state;
@@ -27,7 +26,6 @@ pub use laws::{
     only_these_end_a_reservation, reserve_takes_nothing,
 };
 pub use pr_fault::PrFault;
-pub use raised::Raised;
 pub use rows::worked_rows;
 pub use state::PrState;
 pub use verdict::Verdict;

@@ -1,33 +1,16 @@
-ghost use Rattle.std.specs.Prelude.{◌≡◌, ◌==◌};
-ghost use Rattle.pr_core.specs.State.{key_after, is_sole_holder};
+ghost use Rattle.std.specs.Prelude.{◌≡◌};
+ghost use Rattle.pr_core.specs.State.{is_sole_holder};
 ghost use Rattle.pr_core.specs.Acts.{act_shown};
 ghost use Rattle.std.specs.List.{list_any};
-ghost use Rattle.pr_core.specs.Outcome.{told, raised, raised_for, removed, is_removed};
+ghost use Rattle.unit_attention.specs.Queues.{all_raised};
+ghost use Rattle.pr_core.specs.Outcome.{is_releasing, standing_of, raised, removed};
 
-use crate::act::ReservationAct;
-use crate::key_table::REGISTRATIONS;
+use crate::act::{ReservationAct, Standing};
 use crate::state::PrState;
-use crate::targets::is_among;
-use arrayvec::ArrayVec;
 use scsi_nexus::{Nexus, NexusList};
-use unit_attention::Kind;
+use unit_attention::Queues;
 
 impl PrState {
-    /// The key of a nexus after an act, 0 for none.
-    fn key_after(&self, sender: Nexus, act: ReservationAct<'_>, nexus: Nexus) -> u64
-        ensures { result ≡ key_after self.now sender (act_shown act.entry) nexus }
-    {
-        let key = self.key_of(nexus);
-        act.key_after(sender, nexus, key, self.is_taking(act), self.is_all_held())
-    }
-
-    /// Whether an act leaves a nexus without a key.
-    fn loses(&self, sender: Nexus, act: ReservationAct<'_>, nexus: Nexus) -> bool
-        ensures { result ≡ (key_after self.now sender (act_shown act.entry) nexus == 0) }
-    {
-        self.key_after(sender, act, nexus) == 0
-    }
-
     /// Whether one of these nexuses is the reservation's, where that isn't of an all registrants type.
     fn has_holder(&self, targets: &[Nexus]) -> bool
         ensures { result ≡ list_any (is_sole_holder self.now) targets.now }
@@ -45,90 +28,62 @@ impl PrState {
         }
     }
 
-    /// What an act tells a registered nexus that isn't its sender.
-    fn told(&self, sender: Nexus, act: ReservationAct<'_>, nexus: Nexus) -> Option<Kind>
-        ensures { result ≡ told self.now sender (act_shown act.entry) nexus }
+    /// Whether those whom an act leaves registered, and whom it doesn't name, are told that the
+    /// reservation was released.
+    fn is_releasing(&self, sender: Nexus, act: ReservationAct<'_>) -> bool
+        ensures { result ≡ is_releasing self.now sender (act_shown act.entry) }
     {
-        let released = match act {
-            ReservationAct::Clear => return Some(Kind::ReservationsPreempted),
+        match act {
             ReservationAct::Register(key, targets) => {
-                key == 0
-                    && self.res_type().is_registrants_only()
-                    && self.has_holder(targets)
-                    && !is_among(nexus, targets)
+                key == 0 && self.res_type().is_registrants_only() && self.has_holder(targets)
             }
             ReservationAct::Release(_) => {
                 self.holds(sender) && (self.res_type().is_registrants_only() || self.is_all_held())
             }
             ReservationAct::Preempt(preempted, code) => {
-                if self.loses(sender, act, nexus) {
-                    return Some(Kind::RegistrationsPreempted);
-                }
                 self.takes(preempted) && code != self.res_type().code()
             }
-            ReservationAct::Reserve(_) | ReservationAct::Move(_, _, _) => false,
-        };
-        if released {
-            Some(Kind::ReservationsReleased)
-        } else {
-            None
-        }
-    }
-
-    /// The attention that an act raises for a registered nexus, if it does.
-    fn raised_for(
-        &self,
-        sender: Nexus,
-        act: ReservationAct<'_>,
-        nexus: Nexus,
-    ) -> Option<(Nexus, Kind)>
-        ensures { result ≡ raised_for self.now sender (act_shown act.entry) nexus }
-    {
-        if nexus == sender {
-            None
-        } else {
-            match self.told(sender, act, nexus) {
-                None => None,
-                Some(kind) => Some((nexus, kind)),
+            ReservationAct::Reserve(_) | ReservationAct::Clear | ReservationAct::Move(_, _, _) => {
+                false
             }
         }
     }
 
-    /// Whether another's act unregisters a nexus.
-    fn is_removed(&self, sender: Nexus, act: ReservationAct<'_>, nexus: Nexus) -> bool
-        ensures { result ≡ is_removed self.now sender (act_shown act.entry) nexus }
+    /// What decides what an act does to the other nexuses.
+    fn standing(&self, sender: Nexus, act: ReservationAct<'_>) -> Standing
+        ensures { result ≡ standing_of self.now sender (act_shown act.entry) }
     {
-        nexus != sender && self.loses(sender, act, nexus)
+        Standing {
+            is_taking: self.is_taking(act),
+            is_all_held: self.is_all_held(),
+            is_releasing: self.is_releasing(sender, act),
+        }
     }
 
-    /// The attentions that an act raises, ascending by nexus.
-    #[tactic(auto, using(crate::proofs::RaisedLaws::raised_more))]
-    pub(crate) fn attentions(
-        &self,
-        sender: Nexus,
-        act: ReservationAct<'_>,
-    ) -> ArrayVec<(Nexus, Kind), REGISTRATIONS>
-        ensures { result.items ≡ raised self.now sender (act_shown act.entry) }
+    /// Raises the attentions of an act, ascending by nexus.
+    pub(crate) fn tell(&self, sender: Nexus, act: ReservationAct<'_>, queues: &mut Queues)
+        ensures { queues.new ≡ all_raised queues.old (raised self.now sender (act_shown act.entry)) }
     {
-        let list = self.registrants();
-        let mut attentions = ArrayVec::new();
-        for nexus in list.items() {
-            if let Some(raised) = self.raised_for(sender, act, *nexus) {
-                attentions.push(raised);
+        let standing = self.standing(sender, act);
+        if !act.tells(standing) {
+            return;
+        }
+        for (nexus, key) in self.registrations() {
+            if let Some(kind) = act.raised(sender, *nexus, *key, standing) {
+                queues.raise(*nexus, kind);
             }
         }
-        attentions
     }
 
     /// The nexuses that another's act unregisters, ascending.
-    #[tactic(auto, using(crate::proofs::RaisedLaws::kept_more))]
-    pub(crate) fn removed(&self, sender: Nexus, act: ReservationAct<'_>) -> NexusList
+    pub(crate) fn removed_by(&self, sender: Nexus, act: ReservationAct<'_>) -> NexusList
         ensures { result ≡ removed self.now sender (act_shown act.entry) }
     {
-        let list = self.registrants();
+        let is_taking = self.is_taking(act);
+        let is_all_held = self.is_all_held();
         let mut removed = NexusList::new();
-        for nexus in list.items() {
-            if self.is_removed(sender, act, *nexus) {
+        for (nexus, key) in self.registrations() {
+            if act.removes(sender, *nexus, *key, is_taking, is_all_held) {
                 // The list has room for as many as there are registrations.
                 let _ = removed.push(*nexus);
             }

@@ -260,11 +260,7 @@ impl PrState {
         match act {
             ReservationAct::Register(key, targets) => self.keys.register_all(targets, key),
             ReservationAct::Reserve(_) | ReservationAct::Release(_) => {}
-            ReservationAct::Clear => {
-                // For the prover: the new table has a name of its own.
-                let none = KeyTable::new();
-                self.keys = none;
-            }
+            ReservationAct::Clear => self.keys.clear(),
             ReservationAct::Preempt(preempted, _) => {
                 let taking = self.takes(preempted);
                 let all = self.is_all_held();

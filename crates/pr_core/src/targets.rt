@@ -32,21 +32,25 @@ pub(crate) fn names_its_sender_alone(params: &OutParams) -> bool
     params.defect.is_some() || (!params.all_ports && params.targets.is_empty())
 }
 
-/// The nexuses that a REGISTER names.
-pub(crate) fn targets(sender: Nexus, params: &OutParams) -> ArrayVec<Nexus, TARGET_ROOM>
-    ensures { result.items ≡ targets sender params.now }
+/// Lists the nexuses that a REGISTER names. The list is large, so it is made where it lies.
+pub(crate) fn list_targets(
+    list: &mut ArrayVec<Nexus, TARGET_ROOM>,
+    sender: Nexus,
+    params: &OutParams,
+)
+    requires { list.old.items ≡ [] }
+    ensures { list.new.items ≡ targets sender params.now }
 {
-    let mut list = ArrayVec::new();
     list.push(sender);
     if params.defect.is_some() {
-        return list;
+        return;
     }
     if params.all_ports {
-        push_all_ports(&mut list, sender.sas);
+        push_all_ports(list, sender.sas);
     }
     for sas in params.targets.as_slice() {
         if params.all_ports {
-            push_all_ports(&mut list, *sas);
+            push_all_ports(list, *sas);
         } else {
             list.push(Nexus {
                 sas: *sas,
@@ -54,7 +58,6 @@ pub(crate) fn targets(sender: Nexus, params: &OutParams) -> ArrayVec<Nexus, TARG
             });
         }
     }
-    list
 }
 
 ghost use Rattle.std.specs.Prelude.{◌≤◌, ◌+◌, length};

@@ -1,32 +1,37 @@
-ghost use Rattle.std.specs.Prelude.{◌≡◌, ◌≤◌, length, IfOk};
+ghost use Rattle.std.specs.Prelude.{◌≡◌, ◌≤◌, length, take, IfOk};
 ghost use Rattle.pr_params.specs.Status.{pair_limit, full_status_of, full_status_data, holding_bytes};
 
 use crate::layout::{
     FULL_STATUS_ADDITIONAL_LENGTH, FULL_STATUS_FLAGS, FULL_STATUS_LENGTH, FULL_STATUS_PORT,
     FULL_STATUS_SCOPE_TYPE, FULL_STATUS_TRANSPORT_ID,
 };
-use crate::status_data::begin;
+use crate::status_data::{begin, shown};
 use byteorder::{BigEndian, ByteOrder};
 use permit_tables::ResType;
 use scsi_nexus::{Nexus, TRANSPORT_ID_LENGTH, TransportId};
 use std::alloc::{AllocError, Global};
 
-/// The data of READ FULL STATUS, uncut, over ascending registrations: a descriptor for each, with
-/// R_HOLDER for each under an all registrants type and else for the holder alone (SPC-4, "READ FULL
-/// STATUS service action").
+/// The data of READ FULL STATUS over ascending registrations, cut at the allocation length: a
+/// descriptor for each, with R_HOLDER for each under an all registrants type and else for the holder
+/// alone (SPC-4, "READ FULL STATUS service action").
 pub fn write_full_status(
     alloc: Global,
     generation: u32,
     pairs: &[(Nexus, u64)],
     reservation: Option<(ResType, Nexus)>,
+    allocation_length: u16,
 ) -> Result<Vec<u8>, AllocError>
     requires { length pairs.now ≤ pair_limit }
-    ensures { IfOk result (λ bytes. bytes.items ≡ full_status_data generation pairs.now reservation) }
+    ensures { IfOk result (λ bytes. bytes.items ≡ take allocation_length (full_status_data generation pairs.now reservation)) }
 {
-    let mut data = begin(alloc, generation, (FULL_STATUS_LENGTH * pairs.len()) as u32)?;
-    for (nexus, key) in pairs {
+    let first = shown(pairs, FULL_STATUS_LENGTH, allocation_length);
+    let additional_length = (FULL_STATUS_LENGTH * pairs.len()) as u32;
+    let room = (FULL_STATUS_LENGTH * first.len()) as u32;
+    let mut data = begin(alloc, generation, additional_length, room)?;
+    for (nexus, key) in first {
         data.extend_from_slice(&full_status_descriptor(*nexus, *key, reservation))?;
     }
+    data.truncate(usize::from(allocation_length));
     Ok(data)
 }
 

@@ -39,6 +39,33 @@ pub(crate) fn read_register(act: OutServiceAction, scope_type: u8, bytes: &[u8])
     requires { IsTrue (is_register_length bytes.now) }
     ensures { result ≡ register_params act scope_type bytes.now }
 {
+    if is_set(bytes[BASIC_FLAGS], SPEC_I_PT) {
+        return read_listing(act, scope_type, bytes);
+    }
+    OutParams {
+        rk: BigEndian::read_u64(&bytes[RESERVATION_KEY..]),
+        sark: BigEndian::read_u64(&bytes[SERVICE_ACTION_RESERVATION_KEY..]),
+        dest: None,
+        act,
+        scope_type,
+        unreg: false,
+        defect: if is_set(bytes[BASIC_FLAGS], APTPL) {
+            Some(ListDefect::Field)
+        } else {
+            None
+        },
+        all_ports: is_set(bytes[BASIC_FLAGS], ALL_TG_PT),
+        listed: false,
+        targets: ArrayVec::new(),
+    }
+}
+
+/// The same with SPEC_I_PT. The addresses that it names are large, so they stand in a function of their
+/// own.
+fn read_listing(act: OutServiceAction, scope_type: u8, bytes: &[u8]) -> OutParams
+    requires { IsTrue (is_register_length bytes.now) }
+    ensures { result ≡ register_params act scope_type bytes.now }
+{
     let (targets, defect) = match named_addresses(act, bytes) {
         Ok(targets) => (targets, None),
         Err(fault) => (ArrayVec::new(), Some(fault)),

@@ -1,4 +1,4 @@
-ghost use Rattle.std.specs.Prelude.{◌≡◌, ◌==◌, ◌≤◌, ◌+◌, ◌∷◌, ◌++◌, length, replicate, IfOk};
+ghost use Rattle.std.specs.Prelude.{◌≡◌, ◌==◌, ◌<◌, ◌≤◌, ◌+◌, ◌/◌, ◌∷◌, ◌++◌, length, take, replicate, IfOk};
 ghost use Rattle.byteorder.specs.Endian.{big_bytes};
 ghost use Rattle.permit_tables.specs.Types.{code_of};
 ghost use Rattle.pr_params.specs.Status.{pair_limit, header, key_in, shown_key, keys_data, reservation_data, capabilities_data};
@@ -9,33 +9,61 @@ use permit_tables::ResType;
 use scsi_nexus::Nexus;
 use std::alloc::{AllocError, Global};
 
-/// PRGENERATION and ADDITIONAL LENGTH, with room for what follows.
+/// PRGENERATION and ADDITIONAL LENGTH, with room for as many bytes as follow.
 pub(crate) fn begin(
     alloc: Global,
     generation: u32,
     additional_length: u32,
+    room: u32,
 ) -> Result<Vec<u8>, AllocError>
     ensures { IfOk result (λ bytes. bytes.items ≡ header generation additional_length) }
 {
-    let mut data = Vec::with_capacity(alloc, HEADER_LENGTH + additional_length as usize)?;
+    let mut data = Vec::with_capacity(alloc, HEADER_LENGTH + room as usize)?;
     data.extend_from_slice(&generation.to_be_bytes())?;
     data.extend_from_slice(&additional_length.to_be_bytes())?;
     Ok(data)
 }
 
-/// The data of READ KEYS, uncut, over ascending registrations (SPC-4, "READ KEYS service action").
+/// The registrations whose descriptors of this length begin below an allocation length.
+pub(crate) fn shown(
+    pairs: &[(Nexus, u64)],
+    descriptor_length: usize,
+    allocation_length: u16,
+) -> &[(Nexus, u64)]
+    requires { 0 < descriptor_length }
+    ensures { result.now ≡ take (allocation_length / descriptor_length + 1) pairs.now }
+{
+    let count = usize::from(allocation_length) / descriptor_length + 1;
+    if count < pairs.len() {
+        &pairs[..count]
+    } else {
+        pairs
+    }
+}
+
+/// The data of READ KEYS over ascending registrations, cut at the allocation length (SPC-4, "READ KEYS
+/// service action").
 pub fn write_keys(
     alloc: Global,
     generation: u32,
     pairs: &[(Nexus, u64)],
+    allocation_length: u16,
 ) -> Result<Vec<u8>, AllocError>
     requires { length pairs.now ≤ pair_limit }
-    ensures { IfOk result (λ bytes. bytes.items ≡ keys_data generation pairs.now) }
+    ensures { IfOk result (λ bytes. bytes.items ≡ take allocation_length (keys_data generation pairs.now)) }
 {
-    let mut data = begin(alloc, generation, (KEY_LENGTH * pairs.len()) as u32)?;
-    for (_, key) in pairs {
+    let first = shown(pairs, KEY_LENGTH, allocation_length);
+    let additional_length = (KEY_LENGTH * pairs.len()) as u32;
+    let mut data = begin(
+        alloc,
+        generation,
+        additional_length,
+        (KEY_LENGTH * first.len()) as u32,
+    )?;
+    for (_, key) in first {
         data.extend_from_slice(&key.to_be_bytes())?;
     }
+    data.truncate(usize::from(allocation_length));
     Ok(data)
 }
 
@@ -50,10 +78,11 @@ pub fn write_reservation(
     ensures { IfOk result (λ bytes. bytes.items ≡ reservation_data generation pairs.now reservation) }
 {
     match reservation {
-        None => begin(alloc, generation, 0),
+        None => begin(alloc, generation, 0, 0),
         Some((res_type, holder)) => {
             let key = key_shown(pairs, res_type, holder);
-            let mut data = begin(alloc, generation, RESERVATION_LENGTH as u32)?;
+            let additional_length = RESERVATION_LENGTH as u32;
+            let mut data = begin(alloc, generation, additional_length, additional_length)?;
             data.extend_from_slice(&reservation_descriptor(key, res_type))?;
             Ok(data)
         }

@@ -28,7 +28,7 @@ fn capabilities(rt: HostRuntime) -> Result<(), Fail> {
 
 #[test]
 fn empty_keys(rt: HostRuntime) -> Result<(), Fail> {
-    let data = write_keys(rt.alloc(), 0, &[])?;
+    let data = write_keys(rt.alloc(), 0, &[], u16::MAX)?;
     assert_eq!(rt; data.as_slice(), [0; 8].as_slice());
     Ok(())
 }
@@ -36,7 +36,7 @@ fn empty_keys(rt: HostRuntime) -> Result<(), Fail> {
 #[test]
 fn two_keys(rt: HostRuntime) -> Result<(), Fail> {
     let pairs = [(A, 0x1122_3344_5566_7788), (B, 0x99aa_bbcc_ddee_ff00)];
-    let data = write_keys(rt.alloc(), 2, &pairs)?;
+    let data = write_keys(rt.alloc(), 2, &pairs, u16::MAX)?;
     let expected = [
         0, 0, 0, 2, 0, 0, 0, 0x10, 0x11, 0x22, 0x33, 0x44, 0x55, 0x66, 0x77, 0x88, 0x99, 0xaa,
         0xbb, 0xcc, 0xdd, 0xee, 0xff, 0x00,
@@ -64,7 +64,7 @@ fn reservation_with_and_without_a_shown_key(rt: HostRuntime) -> Result<(), Fail>
 
 #[test]
 fn full_status_of_a_holder(rt: HostRuntime) -> Result<(), Fail> {
-    let data = write_full_status(rt.alloc(), 4, &[(A, 1)], Some((ResType::We, A)))?;
+    let data = write_full_status(rt.alloc(), 4, &[(A, 1)], Some((ResType::We, A)), u16::MAX)?;
     let expected = [
         0, 0, 0, 4, 0, 0, 0, 0x30, 0, 0, 0, 0, 0, 0, 0, 1, 0, 0, 0, 0, 1, 1, 0, 0, 0, 0, 0, 1, 0,
         0, 0, 0x18, 6, 0, 0, 0, 0x50, 0, 0, 0, 0, 0, 0, 0x0a, 0, 0, 0, 0, 0, 0, 0, 0, 0, 0, 0, 0,

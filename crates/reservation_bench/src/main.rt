@@ -1,14 +1,18 @@
 //! How long judging and accepting reservation commands takes: told where an argument asks for it.
 #![tactic(auto)]
 
+mod counted;
 mod figures;
 mod work;
 
 use std::{env, io};
 
 fn main(rt: HostRuntime) -> io::Result<()> {
-    if env::args(&rt)?.count() < 2 {
-        return work::small(&rt);
+    match env::args(&rt)?.nth(1) {
+        None => work::small(&rt),
+        Some(word) => match word.as_str() {
+            "figures" => figures::told(&rt),
+            kind => counted::run(&rt, kind),
+        },
     }
-    figures::told(&rt)
 }

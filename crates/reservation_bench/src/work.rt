@@ -4,6 +4,7 @@ use pr_params::OutParams;
 use scsi_cdb::OutServiceAction;
 use scsi_nexus::Nexus;
 use std::io;
+use unit_attention::Queues;
 
 /// A registered nexus by its number.
 pub(crate) fn nexus_of(number: u64) -> Nexus {
@@ -30,15 +31,20 @@ pub(crate) fn command(act: OutServiceAction, key: u64, scope_type: u8) -> OutPar
 }
 
 /// Judges a command, and carries it out where it is allowed: whether it was accepted.
-pub(crate) fn obey(state: &mut PrState, nexus: Nexus, params: &OutParams) -> bool {
+pub(crate) fn obey(
+    state: &mut PrState,
+    queues: &mut Queues,
+    nexus: Nexus,
+    params: &OutParams,
+) -> bool {
     match state.judge(nexus, params) {
-        Verdict::Allowed => state.apply(nexus, params).is_ok(),
+        Verdict::Allowed => state.apply(nexus, params, queues).is_ok(),
         Verdict::Denied(_) | Verdict::Rule(_) => false,
     }
 }
 
 /// So many nexuses, each registered with its number and one for a key.
-pub(crate) fn registered(count: u64) -> PrState {
+pub(crate) fn registered(queues: &mut Queues, count: u64) -> PrState {
     let mut state = PrState::new();
     for number in 0..count {
         let params = command(
@@ -46,18 +52,23 @@ pub(crate) fn registered(count: u64) -> PrState {
             number.wrapping_add(1),
             0,
         );
-        let _ = obey(&mut state, nexus_of(number), &params);
+        let _ = obey(&mut state, queues, nexus_of(number), &params);
     }
     state
 }
 
 /// Each nexus registers again, so many times in all: how many were accepted.
-pub(crate) fn register_again(state: &mut PrState, count: u64, times: u64) -> u64 {
+pub(crate) fn register_again(
+    state: &mut PrState,
+    queues: &mut Queues,
+    count: u64,
+    times: u64,
+) -> u64 {
     let mut accepted = 0u64;
     let mut number = 0u64;
     for _ in 0..times {
         let params = command(OutServiceAction::Register, number.wrapping_add(1), 0);
-        if obey(state, nexus_of(number), &params) {
+        if obey(state, queues, nexus_of(number), &params) {
             accepted = accepted.wrapping_add(1);
         }
         number = number.wrapping_add(1);
@@ -86,13 +97,13 @@ pub(crate) fn judge_again(state: &PrState, count: u64, times: u64) -> u64 {
 }
 
 /// The first nexus reserves and releases in turn, and the release tells all registered ones.
-pub(crate) fn release_again(state: &mut PrState, times: u64) -> u64 {
+pub(crate) fn release_again(state: &mut PrState, queues: &mut Queues, times: u64) -> u64 {
     let mut accepted = 0u64;
     let reserve = command(OutServiceAction::Reserve, 1, 5);
     let release = command(OutServiceAction::Release, 1, 5);
     for _ in 0..times {
-        let reserved = obey(state, nexus_of(0), &reserve);
-        let released = obey(state, nexus_of(0), &release);
+        let reserved = obey(state, queues, nexus_of(0), &reserve);
+        let released = obey(state, queues, nexus_of(0), &release);
         if reserved && released {
             accepted = accepted.wrapping_add(1);
         }
@@ -102,9 +113,10 @@ pub(crate) fn release_again(state: &mut PrState, times: u64) -> u64 {
 
 /// The same work on a small scale, whose output is the same at any speed.
 pub(crate) fn small(rt: &impl Print) -> io::Result<()> {
-    let mut state = registered(64);
+    let mut queues = Queues::new();
+    let mut state = registered(&mut queues, 64);
     let allowed = judge_again(&state, 64, 1_000);
-    let registered = register_again(&mut state, 64, 1_000);
-    let released = release_again(&mut state, 100);
+    let registered = register_again(&mut state, &mut queues, 64, 1_000);
+    let released = release_again(&mut state, &mut queues, 100);
     println!(rt; "{allowed} allowed, {registered} registered, {released} released")
 }

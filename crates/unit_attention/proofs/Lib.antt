@@ -1,3 +1,4 @@
 pub mod PendingLemmas
 pub mod SlotLemmas
 pub mod SlotOf
+pub mod Contact

@@ -1,5 +1,6 @@
 -- The lists of all nexuses that had contact with a unit, ascending by nexus, each with what waits for it.
 use Rattle.std.specs.Prelude.{◌≡◌, ℕ, Bool, if◌then◌else◌, List, [], ◌∷◌, map, slice_index_or, Option, None, Some, is_some, option_and_then}
+use Rattle.std.specs.List.{fold}
 use Rattle.std.specs.FinMap.{find, put}
 use Rattle.scsi_nexus.specs.declared.nexus.Nexus.{Nexus}
 use Rattle.scsi_nexus.specs.Order.{nexus_cmp}
@@ -32,6 +33,10 @@ contacted q n = if has_slot q n then q else put nexus_cmp n (PowerOn ∷ []) q
 
 abbrev pub raised : Slots → Nexus → Kind → Slots
 raised q n k = with_change q n (λ ks. with_kind ks k)
+
+-- attentions raised one after another
+abbrev pub all_raised : Slots → List (Nexus × Kind) → Slots
+all_raised q attentions = fold (λ slots e. raised slots e.0 e.1) q attentions
 
 abbrev pub cleared : Slots → Nexus → Kind → Slots
 cleared q n k = with_change q n (λ ks. without_kind ks k)

@@ -129,6 +129,17 @@ impl Queues {
         self.pending(nexus)?.first_reset()
     }
 
+    /// The oldest condition of ASC 29h that waits for a nexus once it makes contact.
+    #[tactic(auto, using(crate::proofs::Contact::first_reset_known, crate::proofs::Contact::first_reset_new))]
+    pub fn first_reset_on_contact(&self, nexus: Nexus) -> Option<Kind>
+        ensures { result ≡ first_reset_of (contacted self.now nexus) nexus }
+    {
+        match self.pending(nexus) {
+            Some(pending) => pending.first_reset(),
+            None => Some(Kind::PowerOn),
+        }
+    }
+
     /// The oldest condition of another ASC that waits for a nexus.
     pub fn first_other(&self, nexus: Nexus) -> Option<Kind>
         ensures { result ≡ first_other_of self.now nexus }

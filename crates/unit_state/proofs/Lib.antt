@@ -1,2 +1,1 @@
-pub mod Contact
 pub mod PreventerLaws

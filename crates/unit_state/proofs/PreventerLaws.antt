@@ -1,7 +1,7 @@
 -- Each nexus that prevents removal has a slot, and stands once; so there are no more of them than slots.
-use Rattle.std.proofs.Common.{◌≡◌, ◌≤◌, ◌<◌, ℕ, suc, ◌+◌, Bool, true, false, not, cond, ◌&&◌, ◌||◌, List, [], ◌∷◌, ◌++◌, length, Option, None, Some, is_some, refl, sym, ap, ◌∙◌, subst, arith}
-use Rattle.std.specs.Prelude.{filter, nat_lt, if◌then◌else◌}
-use Rattle.std.specs.List.{fold, list_all, list_any}
+use Rattle.std.proofs.Common.{◌≡◌, ◌≤◌, suc, ◌+◌, Bool, true, false, not, cond, ◌&&◌, ◌||◌, List, [], ◌∷◌, ◌++◌, length, Some, is_some, Result, Ok, Err, refl, sym, ap, ◌∙◌, subst, arith}
+use Rattle.std.specs.Prelude.{OnOk, OnErr, filter, nat_lt, if◌then◌else◌}
+use Rattle.std.specs.List.{fold, list_all}
 use Rattle.std.specs.Ordering.{eq_by_cmp}
 use Rattle.std.proofs.lemmas.Bool.{lt-ltb}
 use Rattle.std.proofs.lemmas.List.{length-append}
@@ -10,10 +10,11 @@ use Rattle.scsi_nexus.specs.declared.nexus.Nexus.{Nexus}
 use Rattle.scsi_nexus.specs.Order.{nexus_cmp, same_nexus}
 use Rattle.scsi_nexus.proofs.NexusLaws.{eq_by_cmp-nexus, same_nexus-true, same_nexus-refl, same_nexus-sym}
 use Rattle.unit_attention.specs.declared.kind.Kind.{Kind}
-use Rattle.unit_attention.specs.Queues.{Slots, slot_of, has_slot, slot_limit, contacted, raised, cleared, lost, was_reset}
-use Rattle.unit_attention.proofs.SlotOf.{has_slot-contacted, has_slot-raised, has_slot-cleared, has_slot-lost, has_slot-reset}
+use Rattle.unit_attention.specs.Queues.{Slots, slot_of, has_slot, slot_limit, contacted, raised, all_raised, cleared, lost}
+use Rattle.unit_attention.proofs.SlotOf.{has_slot-contacted, has_slot-raised, has_slot-cleared, has_slot-lost}
+use Rattle.pr_core.specs.declared.pr_fault.PrFault.{PrFault}
 use Rattle.pr_core.specs.Targets.{is_among}
-use Rattle.unit_state.specs.Kept.{are_distinct, HaveSlots, all_raised, with_slots, all_told, others_told}
+use Rattle.unit_state.specs.Kept.{are_distinct, HaveSlots, with_slots, all_told, others_told}
 
 -- both parts of a test that holds
 both : (a b : Bool) → (a && b) ≡ true → (a ≡ true) × (b ≡ true)
@@ -75,6 +76,11 @@ lost_have q n ps h = kept_by_same q (lost q n) ps (λ m. has_slot-lost q n m) h
 
 pub all_raised_have : (q : Slots) (l : List (Nexus × Kind)) (ps : List Nexus) → HaveSlots q ps → HaveSlots (all_raised q l) ps
 all_raised_have q l ps h = kept_by_same q (all_raised q l) ps (all_raised-has l q) h
+
+-- of a command that is carried out, or refused
+pub told_have : (r : Result (Unit {0}) PrFault) (q after : Slots) (l : List (Nexus × Kind)) (ps : List Nexus) → OnOk r (after ≡ all_raised q l) → OnErr r (after ≡ q) → HaveSlots q ps → HaveSlots after ps
+told_have (Ok u) q after l ps told silent h = subst (λ (s : Slots). HaveSlots s ps) (sym told) (all_raised_have q l ps h)
+told_have (Err e) q after l ps told silent h = subst (λ (s : Slots). HaveSlots s ps) (sym silent) h
 
 pub all_told_have : (q : Slots) (kind : Kind) (ps : List Nexus) → HaveSlots q ps → HaveSlots (all_told q kind) ps
 all_told_have q kind ps h = kept_by_same q (all_told q kind) ps (told-has kind (with_slots q) q) h

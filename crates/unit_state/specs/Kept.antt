@@ -7,7 +7,7 @@ use Rattle.scsi_nexus.specs.declared.nexus.Nexus.{Nexus}
 use Rattle.scsi_nexus.specs.Order.{same_nexus}
 use Rattle.unit_attention.specs.declared.kind.Kind.{Kind}
 use Rattle.unit_attention.specs.declared.kind.Kind.TheVariants.{MediumChanged, ModeParametersChanged}
-use Rattle.unit_attention.specs.Queues.{Slots, slot_limit, has_slot, contacted, raised, cleared, lost, was_reset}
+use Rattle.unit_attention.specs.Queues.{Slots, slot_limit, has_slot, contacted, raised, all_raised, cleared, lost, was_reset}
 use Rattle.pr_params.specs.declared.out_params.OutParams.{OutParams}
 use Rattle.pr_core.specs.State.{power_on}
 use Rattle.pr_core.specs.Outcome.{act_of, applied, raised_by, removed_by}
@@ -29,10 +29,6 @@ met k n = record k { slots = contacted k.slots n }
 -- after a pending attention was reported
 abbrev pub reported : KeptView → Nexus → Kind → KeptView
 reported k n kind = record k { slots = cleared k.slots n kind }
-
--- attentions raised one after another
-abbrev pub all_raised : Slots → List (Nexus × Kind) → Slots
-all_raised q attentions = fold (λ slots e. raised slots e.0 e.1) q attentions
 
 -- an attention raised for every nexus that has a slot, and for every one but the sender
 abbrev pub with_slots : Slots → List Nexus

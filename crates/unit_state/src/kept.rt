@@ -88,22 +88,15 @@ impl Kept {
     pub fn first_reset(&self, nexus: Nexus) -> Option<Kind>
         ensures { result ≡ first_reset_of (met self.now nexus).slots nexus }
     {
-        if self.queues.has(nexus) {
-            self.queues.first_reset(nexus)
-        } else {
-            Some(Kind::PowerOn)
-        }
+        self.queues.first_reset_on_contact(nexus)
     }
 
     /// The oldest other attention that waits once the sender made contact.
+    #[tactic(auto, using(unit_attention::proofs::Contact::first_other_contact))]
     pub fn first_other(&self, nexus: Nexus) -> Option<Kind>
         ensures { result ≡ first_other_of (met self.now nexus).slots nexus }
     {
-        if self.queues.has(nexus) {
-            self.queues.first_other(nexus)
-        } else {
-            None
-        }
+        self.queues.first_other(nexus)
     }
 
     /// The attention that would be reported once the sender made contact.
@@ -215,6 +208,7 @@ impl Kept {
     ghost use Rattle.pr_core.specs.Judge.{verdict};
     ghost use Rattle.pr_core.specs.Outcome.{refusal};
     ghost use Rattle.pr_core.specs.declared.verdict.Verdict.TheVariants.{Allowed};
+    ghost use Rattle.scsi_cdb.specs.declared.action.OutServiceAction.TheVariants.{PreemptAndAbort};
     ghost use Rattle.unit_commands.specs.Commands.{class_of_command};
     ghost use Rattle.unit_state.specs.Kept.{has_room, met, accepted};
     ghost use Rattle.unit_state.specs.Readings.{verdict_of, status_data};
@@ -248,25 +242,26 @@ impl Kept {
         }
     }
 
-    /// The data of PERSISTENT RESERVE IN, uncut.
+    /// The data of PERSISTENT RESERVE IN, right as far as the allocation length reaches.
     fn status_data(
         &self,
         alloc: Global,
         service_action: InServiceAction,
+        allocation_length: u16,
     ) -> Result<Vec<u8>, AllocError>
-        ensures { IfOk result (λ bytes. bytes.items ≡ status_data self.now.reservations service_action) }
+        ensures { IfOk result (λ bytes. take allocation_length bytes.items ≡ take allocation_length (status_data self.now.reservations service_action)) }
     {
         let generation = self.reservations.generation();
         let pairs = self.reservations.registrations();
         let reservation = self.reservations.reservation();
         match service_action {
-            InServiceAction::ReadKeys => write_keys(alloc, generation, pairs),
+            InServiceAction::ReadKeys => write_keys(alloc, generation, pairs, allocation_length),
             InServiceAction::ReadReservation => {
                 write_reservation(alloc, generation, pairs, reservation)
             }
             InServiceAction::ReportCapabilities => write_capabilities(alloc),
             InServiceAction::ReadFullStatus => {
-                write_full_status(alloc, generation, pairs, reservation)
+                write_full_status(alloc, generation, pairs, reservation, allocation_length)
             }
         }
     }
@@ -280,7 +275,7 @@ impl Kept {
     ) -> Result<Payload, AllocError>
         ensures { IfOk result (λ payload. payload ≡ take allocation_length (status_data self.now.reservations service_action)) }
     {
-        let data = self.status_data(alloc, service_action)?;
+        let data = self.status_data(alloc, service_action, allocation_length)?;
         Ok(Payload::of(data).cut(usize::from(allocation_length)))
     }
 
@@ -292,26 +287,30 @@ impl Kept {
         ensures err { IfErr result (λ fault. (refusal self.old.reservations nexus params.now ≡ Some fault) × (self.new ≡ met self.old nexus)) }
     {
         self.meet(nexus);
-        let raised = self.reservations.apply(nexus, params)?;
-        raise_all(&mut self.queues, raised.attentions.as_slice());
         if params.act == OutServiceAction::PreemptAndAbort {
-            self.preventers.remove_all(raised.removed.items());
+            self.preempt_and_abort(nexus, params)
+        } else {
+            self.reservations.apply(nexus, params, &mut self.queues)
         }
+    }
+
+    /// PREEMPT AND ABORT, which ends what the nexuses that it unregisters prevent. Their list is large,
+    /// so it stands in a function of its own.
+    fn preempt_and_abort(&mut self, nexus: Nexus, params: &OutParams) -> Result<(), PrFault>
+        requires allowed { verdict self.old.reservations nexus params.now ≡ Allowed }
+        requires aborts { params.now.act ≡ PreemptAndAbort }
+        ensures ok { OnOk result ((refusal self.old.reservations nexus params.now ≡ None) × (self.new ≡ accepted self.old nexus params.now)) }
+        ensures err { IfErr result (λ fault. (refusal self.old.reservations nexus params.now ≡ Some fault) × (self.new ≡ self.old)) }
+    {
+        let removed = self.reservations.removed(nexus, params);
+        self.reservations.apply(nexus, params, &mut self.queues)?;
+        self.preventers.remove_all(removed.items());
         Ok(())
     }
 }
 
 ghost use Rattle.std.specs.Prelude.{◌≡◌};
-ghost use Rattle.unit_state.specs.Kept.{all_raised, all_told, others_told};
-
-/// Raises attentions one after another.
-fn raise_all(queues: &mut Queues, attentions: &[(Nexus, Kind)])
-    ensures { queues.new ≡ all_raised queues.old attentions.now }
-{
-    for (nexus, kind) in attentions {
-        queues.raise(*nexus, *kind);
-    }
-}
+ghost use Rattle.unit_state.specs.Kept.{all_told, others_told};
 
 /// Raises an attention for every slot.
 fn tell_all(queues: &mut Queues, kind: Kind)

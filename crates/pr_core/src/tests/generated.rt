@@ -3,7 +3,7 @@
 
 ghost use Rattle.std.specs.Prelude.{◌<◌};
 
-use crate::targets::targets;
+use crate::targets::list_targets;
 use crate::*;
 use arrayvec::ArrayVec;
 use permit_tables::ResType;
@@ -13,6 +13,7 @@ use scsi_nexus::Nexus;
 use std::alloc::Global;
 use std::process::Abort;
 use std::test::Fail;
+use unit_attention::Queues;
 
 /// Numbers that follow from a seed, by Knuth's linear congruence.
 #[derive(Drop)]
@@ -110,9 +111,10 @@ fn sent(
 ) -> Result<bool, Fail> {
     match state.judge(sender, params) {
         Verdict::Allowed => {
-            let named = targets(sender, params);
+            let mut named = ArrayVec::new();
+            list_targets(&mut named, sender, params);
             let act = state.act_of(sender, params, named.as_slice());
-            if state.apply(sender, params).is_err() {
+            if state.apply(sender, params, &mut Queues::new()).is_err() {
                 return Ok(false);
             }
             if let Some(act) = act {

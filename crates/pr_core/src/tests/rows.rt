@@ -1,11 +1,12 @@
 use crate::*;
+use arrayvec::ArrayVec;
 use permit_tables::{ResType, Role};
 use pr_params::{OutParams, read_out, write_full_status, write_keys, write_reservation};
 use scsi_cdb::OutServiceAction;
-use scsi_nexus::Nexus;
+use scsi_nexus::{Nexus, NexusList};
 use std::process::Abort;
 use std::test::Fail;
-use unit_attention::Kind;
+use unit_attention::{Kind, Queues};
 
 pub(crate) const A: Nexus = Nexus {
     sas: 0x5000_0000_0000_000a,
@@ -52,6 +53,46 @@ pub(crate) fn moving(rt: &impl Abort, flags: u8, sas: u64) -> OutParams {
     }
 }
 
+/// What a command told A, B and C at each port, ascending, and whom else it unregistered.
+#[derive(Drop)]
+pub(crate) struct Raised {
+    pub(crate) attentions: ArrayVec<(Nexus, Kind), 12>,
+    pub(crate) removed: NexusList,
+}
+
+/// A, B and C at each port.
+fn listeners() -> ArrayVec<Nexus, 12> {
+    let mut nexuses = ArrayVec::new();
+    for sas in [A.sas, B.sas, C.sas] {
+        for port in 1..5 {
+            let _ = nexuses.try_push(Nexus { sas, port });
+        }
+    }
+    nexuses
+}
+
+/// Slots of theirs in which nothing waits.
+fn silent_queues(rt: &impl Abort) -> Queues {
+    let mut queues = Queues::new();
+    for nexus in listeners().as_slice() {
+        assert!(rt; queues.contact(*nexus).is_ok());
+        queues.clear(*nexus, Kind::PowerOn);
+    }
+    queues
+}
+
+/// What waits in them.
+fn waiting(rt: &impl Abort, queues: &Queues) -> ArrayVec<(Nexus, Kind), 12> {
+    let mut attentions = ArrayVec::new();
+    for nexus in listeners().as_slice() {
+        assert_eq!(rt; queues.first_reset(*nexus), None);
+        if let Some(kind) = queues.first_other(*nexus) {
+            let _ = attentions.try_push((*nexus, kind));
+        }
+    }
+    attentions
+}
+
 /// Sends a command that has to be carried out.
 pub(crate) fn sent(
     rt: &impl Abort,
@@ -59,11 +100,18 @@ pub(crate) fn sent(
     sender: Nexus,
     params: &OutParams,
 ) -> Raised {
+    let mut queues = silent_queues(rt);
     match state.judge(sender, params) {
-        Verdict::Allowed => match state.apply(sender, params) {
-            Ok(raised) => raised,
-            Err(fault) => panic!(rt; "{fault:?}"),
-        },
+        Verdict::Allowed => {
+            let removed = state.removed(sender, params);
+            match state.apply(sender, params, &mut queues) {
+                Ok(()) => Raised {
+                    attentions: waiting(rt, &queues),
+                    removed,
+                },
+                Err(fault) => panic!(rt; "{fault:?}"),
+            }
+        }
         verdict => panic!(rt; "{verdict:?}"),
     }
 }
@@ -75,10 +123,14 @@ pub(crate) fn refused(
     sender: Nexus,
     params: &OutParams,
 ) -> PrFault {
+    let mut queues = silent_queues(rt);
     match state.judge(sender, params) {
-        Verdict::Allowed => match state.apply(sender, params) {
-            Ok(_) => panic!(rt; "it was carried out"),
-            Err(fault) => fault,
+        Verdict::Allowed => match state.apply(sender, params, &mut queues) {
+            Ok(()) => panic!(rt; "it was carried out"),
+            Err(fault) => {
+                assert!(rt; waiting(rt, &queues).is_empty());
+                fault
+            }
         },
         verdict => panic!(rt; "{verdict:?}"),
     }
@@ -125,7 +177,12 @@ pub(crate) fn keys_of(
     state: &PrState,
     expected: &[u8],
 ) -> Result<(), Fail> {
-    let data = write_keys(rt.alloc(), state.generation(), state.registrations())?;
+    let data = write_keys(
+        rt.alloc(),
+        state.generation(),
+        state.registrations(),
+        u16::MAX,
+    )?;
     assert_eq!(rt; data.as_slice(), expected);
     Ok(())
 }
@@ -191,7 +248,13 @@ fn preempt_zero_takes_all_registrants(rt: HostRuntime) -> Result<(), Fail> {
     ];
     assert_eq!(rt; raised.attentions.as_slice(), told.as_slice());
     let pairs = state.registrations();
-    let data = write_full_status(rt.alloc(), state.generation(), pairs, state.reservation())?;
+    let data = write_full_status(
+        rt.alloc(),
+        state.generation(),
+        pairs,
+        state.reservation(),
+        u16::MAX,
+    )?;
     let expected = [
         0, 0, 0, 4, 0, 0, 0, 0x30, 0, 0, 0, 0, 0, 0, 0, 1, 0, 0, 0, 0, 1, 1, 0, 0, 0, 0, 0, 1, 0,
         0, 0, 0x18, 6, 0, 0, 0, 0x50, 0, 0, 0, 0, 0, 0, 0x0a, 0, 0, 0, 0, 0, 0, 0, 0, 0, 0, 0, 0,

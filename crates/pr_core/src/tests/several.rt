@@ -150,7 +150,12 @@ fn registrations_full(rt: HostRuntime) -> Result<(), Fail> {
         refused(&rt, &mut state, B, &params),
         PrFault::NoRegistrationRoom
     );
-    let data = write_keys(rt.alloc(), state.generation(), state.registrations())?;
+    let data = write_keys(
+        rt.alloc(),
+        state.generation(),
+        state.registrations(),
+        u16::MAX,
+    )?;
     assert_eq!(rt; data.get(..8), Some([0, 0, 0, 0x40, 0, 0, 8, 0].as_slice()));
     Ok(())
 }

@@ -5,4 +5,4 @@ use Rattle.pr_params.proofs.full_status.write_full_status.Given as goal
 
 -- the descriptors so far
 abbrev pub invariant-loop-nexus : goal.invariant-loop-nexus
-invariant-loop-nexus l = l.data.items ≡ header l.generation (48 * length l.pairs) ++ flat_map (full_status_of l.reservation) (take l.nexus-index l.pairs)
+invariant-loop-nexus l = l.data.items ≡ header l.generation (48 * length l.pairs) ++ flat_map (full_status_of l.reservation) (take l.nexus-index l.first)

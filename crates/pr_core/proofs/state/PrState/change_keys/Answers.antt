@@ -41,7 +41,7 @@ returns-in-Reserve c =
     ]
 
 pub returns-in-Clear : goal.returns-in-Clear
-returns-in-Clear c = leaves _ _ c.args.sender Clear _ _ c.self.view_is (ap act_shown c.in-Clear.is) (c.new-none.ensures ∙ cleared _ c.args.sender)
+returns-in-Clear c = leaves _ _ c.args.sender Clear _ _ c.self.view_is (ap act_shown c.in-Clear.is) (c.clear.ensures ∙ cleared _ c.args.sender)
 
 pub put-requires-clause-room : goal.put-requires-clause-room
 put-requires-clause-room c = (fits _ _ c.args.sender (Move c.in-Move.key c.in-Move.destination true) _ _ c.self.view_is (ap act_shown c.in-Move.is ∙ ap (Move c.in-Move.key c.in-Move.destination) c.if-unregisters.true) c.requires.room (ap (put nexus_cmp c.in-Move.destination c.in-Move.key) c.remove.ensures ∙ moved_away _ c.args.sender c.in-Move.destination c.in-Move.key (subst IsKeyed (ap act_shown c.in-Move.is) c.requires.keyed) c.self.invariant.0)).1

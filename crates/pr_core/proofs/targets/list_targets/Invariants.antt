@@ -2,7 +2,7 @@ use Rattle.std.proofs.Common.{◌≡◌, ◌≤◌, ◌+◌, ◌*◌, [], ◌∷
 use Rattle.std.specs.Prelude.{if◌then◌else◌}
 use Rattle.std.specs.List.{flat_map}
 use Rattle.pr_core.specs.Targets.{at_all_ports, at_ports}
-use Rattle.pr_core.proofs.targets.targets.Given as goal
+use Rattle.pr_core.proofs.targets.list_targets.Given as goal
 
 -- the sender, and the addresses so far
 abbrev pub invariant-loop-sas : goal.invariant-loop-sas
