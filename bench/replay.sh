@@ -1,7 +1,7 @@
 #!/bin/sh
 # Runs scripts of 250,000, 500,000 and 1,000,000 commands, TEST UNIT READY and READ KEYS in turn over 100 nexuses of which 50
-# are registered, through `vtl replay`, and prints commands per second and peak memory of each. The cost of a command doesn't
-# grow with the script where the three rates are alike. Words given to it, as --audit, are given to each `vtl replay`.
+# are registered, through `vtl replay`, and prints commands per second and peak memory of each, in all and a command. The cost
+# of a command doesn't grow with the script where the three rates are alike. Words given to it, as --audit, are given to each `vtl replay`.
 set -eu
 top=$(cd "$(dirname "$0")/.." && pwd)
 "$top/vtl" --version >/dev/null
@@ -25,6 +25,6 @@ with open(script, "rb") as lines:
     subprocess.run([program, "replay", *options], stdin=lines, stdout=subprocess.DEVNULL, check=True)
 seconds = time.monotonic() - start
 peak = resource.getrusage(resource.RUSAGE_CHILDREN).ru_maxrss
-print(f"{commands} commands: {commands / seconds:,.0f} a second, {peak / 1024:,.0f} MiB at most")
+print(f"{commands} commands: {commands / seconds:,.0f} a second, {peak / 1024:,.0f} MiB at most, {peak * 1024 / commands:,.0f} bytes a command")
 END
 done

@@ -1,8 +1,9 @@
 #!/bin/sh
-# Prints how many reservation commands a second are judged, judged and applied, and how many pairs of a RESERVE and a RELEASE
-# that tells every registered nexus, at 1, 16 and 64 registrations. Look-ups grow with the logarithm of the registrations; only
-# the release, which names all of them, grows with their number. It proves and builds crates/reservation_bench where that isn't
-# done yet, so a first run takes minutes.
+# Prints, at 1, 16, 64 and 256 registrations, how many a second there are of: a REGISTER that is judged; a REGISTER of the key
+# that the nexus has already, judged and applied; and a pair of a RESERVE and a RELEASE that tells every other registered nexus.
+# No unit, no attention and no record is part of it: it is PrState alone. To judge grows with the logarithm of the registrations.
+# The release names all of them, so the pair grows with their number; how REGISTER grows is for the figures to say. It proves
+# and builds crates/reservation_bench where that isn't done yet, so a first run takes minutes.
 set -eu
 cd "$(dirname "$0")/../crates/reservation_bench"
 exec rt run -- figures

@@ -1,17 +1,20 @@
-ghost use Rattle.std.specs.Prelude.{◌≡◌, ◌⊎◌, ◌++◌, ℕ, Err, IfErr, OnOk};
+ghost use Rattle.std.specs.Prelude.{◌≡◌, ◌⊎◌, ◌++◌, ℕ, List, Err, IfErr, OnOk};
 ghost use Rattle.std.specs.Io.KnownBytes.{Appends, Keeps};
 ghost use Rattle.replay.specs.Replay.{HasRun, IsBeforeOutput, IsBeforeRun, Refuses, Replays};
+ghost use Rattle.replay_output.specs.Replies.{text_of};
+ghost use Rattle.target_core.specs.Run.{Runs};
+ghost use Rattle.unit_answers.specs.declared.reply.Reply.{Reply};
 ghost use Rattle.replay_script.specs.declared.line_fault.LineFault.{LineFault};
 
 use crate::input::read_all;
 use crate::replay_fault::ReplayFault;
 use device_server::DeviceServer;
-use replay_output::{Audit, audit_text, lines_of};
+use replay_output::{Audit, audit_text, write_reply};
 use replay_script::events_of;
-use std::alloc::Global;
+use std::alloc::{AllocError, Global};
 use std::io;
 use std::io::{Read, Write};
-use target_core::TargetCore;
+use target_core::{Event, TargetCore};
 
 /// Reads a script to its end, by at most `turns` reads of at most 65,536 bytes, runs its events and
 /// writes a line for each reply, and then, where they are wanted, the lines of the records that the
@@ -46,14 +49,36 @@ pub fn replay<D: DeviceServer, R: Read, W: Write>(
 {
     let input = read_all(alloc, reader, turns)?;
     let events = events_of(alloc, &input)?;
-    let mut replies = Vec::new(alloc);
-    core.run(alloc, &events, &mut replies)?;
-    let text = lines_of(alloc, &replies)?;
+    // The events hold all that is wanted of it.
+    drop(input);
+    let mut text = Vec::new(alloc);
+    run(alloc, core, &events, &mut text)?;
     let records = audit_text(alloc, audit, core.all())?;
     match write_out(writer, &text, records.as_bytes()) {
         Ok(()) => Ok(()),
         Err(_) => Err(ReplayFault::Write),
     }
+}
+
+/// Runs events one after another, and adds the line of each reply as it comes. All events are run, also
+/// where a line finds no memory.
+fn run<D: DeviceServer>(
+    alloc: Global,
+    core: &mut TargetCore<D>,
+    events: &[Event],
+    text: &mut Vec<u8>,
+) -> Result<(), AllocError>
+    ensures { (replies : List Reply) × Runs core.old events.now replies core.new
+        × OnOk result (text.new.items ≡ text.old.items ++ text_of replies) }
+{
+    let mut written = Ok(());
+    for event in events {
+        let reply = core.step(alloc, event);
+        if written.is_ok() {
+            written = write_reply(text, &reply);
+        }
+    }
+    written
 }
 
 /// Writes all of two texts, and what the writer may still hold back of them.

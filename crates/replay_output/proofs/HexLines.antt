@@ -1,19 +1,27 @@
--- Hexadecimal text, a byte at a time.
-use Rattle.std.proofs.Common.{◌≡◌, ℕ, ◌+◌, ◌/◌, ◌%◌, ◌<◌, ap, refl, ◌∙◌, List, [], ◌∷◌, ◌++◌, length, take, get_or}
-use Rattle.std.specs.Prelude.{slice_index}
-use Rattle.std.proofs.lemmas.List.{take_more}
-use Rattle.hex.specs.Hex.{encode_with, encode_lower, lower_digits}
+-- The hexadecimal digit of a value.
+use Rattle.std.proofs.Common.{◌≡◌, ℕ, zero, suc, ◌+◌, ◌<◌, Bool, true, ◌==◌, ◌&&◌, if◌then◌else◌, nat_lt, slice_index, inl, inr, refl, arith}
+use Rattle.std.proofs.lemmas.Bool.{and_parts, cases_lt, eqb-true}
+use Rattle.hex.specs.Hex.{lower_digits}
 
-encode-append : (t xs ys : List ℕ) → encode_with t (xs ++ ys) ≡ encode_with t xs ++ encode_with t ys
-unfolding encode_with
-encode-append t [] ys = refl
-encode-append t (x ∷ xs) ys = ap (λ z. slice_index t (x / 16) ∷ slice_index t (x % 16) ∷ z) (encode-append t xs ys)
+-- the code of a digit: 30h onwards, and 61h onwards for the letters
+abbrev pub code_of_digit : ℕ → ℕ
+code_of_digit value = if nat_lt value 10 then 48 + value else 87 + value
 
--- the text of one byte more
-pub encode_more : (bytes : List ℕ) (i : ℕ) → i < length bytes → encode_lower (take (i + 1) bytes) ≡ encode_lower (take i bytes) ++ encode_lower (get_or bytes i 0 ∷ [])
-encode_more bytes i lt = ap encode_lower (take_more bytes i 0 lt) ∙ encode-append lower_digits (take i bytes) (get_or bytes i 0 ∷ [])
+-- the first so many of the table are these codes
+abbrev are_codes : ℕ → Bool
+are_codes zero = true
+are_codes (suc n) = (slice_index lower_digits n == code_of_digit n) && are_codes n
 
--- the text of no bytes
-pub encode-nil : encode_lower [] ≡ []
-unfolding encode_with
-encode-nil = refl
+code_at : (n value : ℕ) → are_codes n ≡ true → value < n → (slice_index lower_digits value == code_of_digit value) ≡ true
+code_at zero value h lt = absurd (omega arith)
+code_at (suc n) value h lt =
+    let parts = and_parts (slice_index lower_digits n == code_of_digit n) (are_codes n) h in
+    elim (cases_lt value n) [
+      | inl below ↦ code_at n value parts.1 below
+      | inr top ↦
+          let here : value ≡ n = omega arith in
+          rw here parts.0
+    ]
+
+pub digit_is : (value : ℕ) → value < 16 → slice_index lower_digits value ≡ code_of_digit value
+digit_is value lt = eqb-true _ _ (code_at 16 value refl lt)

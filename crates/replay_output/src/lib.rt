@@ -2,6 +2,7 @@
 #![tactic(auto)]
 
 mod audit_lines;
+mod hex_text;
 mod laws;
 mod reply_line;
 #[cfg(test)]
@@ -9,4 +10,4 @@ mod tests;
 
 pub use audit_lines::{Audit, audit_text};
 pub use laws::worked_rows;
-pub use reply_line::lines_of;
+pub use reply_line::write_reply;

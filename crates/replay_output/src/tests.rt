@@ -1,4 +1,4 @@
-use crate::lines_of;
+use crate::write_reply;
 use device_server::Payload;
 use logical_unit::Reply;
 use scsi_sense::{Condition, Sense, Status};
@@ -25,7 +25,10 @@ fn writes_a_line_for_each_reply(rt: HostRuntime) -> Result<(), Fail> {
         payload: Payload::of(b"\0\0\0\x01\x9f\xe8".to_vec(rt.alloc())?),
         number: 0,
     })?;
-    let text = lines_of(rt.alloc(), &replies)?;
+    let mut text = Vec::new(rt.alloc());
+    for reply in &replies {
+        write_reply(&mut text, reply)?;
+    }
     let expected = "02 700006000000000a00000000290000000000 -\n18 - -\n00 - 000000019fe8\n";
     assert_eq!(rt; text.as_slice(), expected.as_bytes());
     Ok(())

@@ -67,6 +67,6 @@ five : (a b c d : List ℕ) (parts : List (List ℕ)) → IsNotEmpty parts → N
 five a b c d parts h = rw h.2 refl
 
 -- a line whose fourth word is not its last has five words or more, too many for a command
-pub too_many_words : (line r1 r2 r3 r4 w1 w2 w3 w4 : List ℕ) → pieces 32 line ≡ w1 ∷ pieces 32 r1 → pieces 32 r1 ≡ w2 ∷ pieces 32 r2
-    → pieces 32 r2 ≡ w3 ∷ pieces 32 r3 → pieces 32 r3 ≡ w4 ∷ pieces 32 r4 → None ≡ words_in (pieces 32 line)
-too_many_words line r1 r2 r3 r4 w1 w2 w3 w4 e1 e2 e3 e4 = rw (e1, e2, e3, e4) (five w1 w2 w3 w4 (pieces 32 r4) (has_piece 32 r4))
+pub too_many_words : (w1 r1 r2 r3 r4 w2 w3 w4 : List ℕ) → pieces 32 r1 ≡ w2 ∷ pieces 32 r2
+    → pieces 32 r2 ≡ w3 ∷ pieces 32 r3 → pieces 32 r3 ≡ w4 ∷ pieces 32 r4 → None ≡ words_in (w1 ∷ pieces 32 r1)
+too_many_words w1 r1 r2 r3 r4 w2 w3 w4 e2 e3 e4 = rw (e2, e3, e4) (five w1 w2 w3 w4 (pieces 32 r4) (has_piece 32 r4))

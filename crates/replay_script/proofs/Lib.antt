@@ -1,3 +1,5 @@
+pub mod Places
+pub mod Pairs
 pub mod Cuts
 pub mod Lines
 pub mod RowLemmas

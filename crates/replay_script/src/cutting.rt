@@ -3,6 +3,8 @@ ghost use Rattle.std.specs.List.{position};
 ghost use Rattle.replay_script.specs.Text.{pieces, pieces_after, IsNotEmpty};
 ghost use Rattle.std.specs.Bool.{MatchBool};
 
+use memchr::memchr;
+
 /// The bytes before the first such byte, and those after it where there is one.
 pub fn cut(bytes: &[u8], at: u8) -> (&[u8], Option<&[u8]>)
     ensures parts { pieces at bytes.now ≡ result.0.now ∷ pieces_after at result.1 }
@@ -15,10 +17,11 @@ pub fn cut(bytes: &[u8], at: u8) -> (&[u8], Option<&[u8]>)
 }
 
 /// Where the first such byte stands.
+#[tactic(auto, using(crate::proofs::Places::first_is_position))]
 fn place_of(bytes: &[u8], at: u8) -> Option<usize>
     ensures { result ≡ position (λ b. b == at) bytes.now }
 {
-    bytes.iter().position(|byte| *byte == at)
+    memchr(at, bytes)
 }
 
 /// Whether no word is left: what is empty is a word.

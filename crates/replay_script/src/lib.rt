@@ -2,6 +2,7 @@
 #![tactic(auto)]
 
 mod cutting;
+mod digits;
 mod laws;
 mod line;
 mod line_fault;

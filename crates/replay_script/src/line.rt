@@ -1,8 +1,8 @@
-ghost use Rattle.std.specs.Prelude.{◌≡◌, ℕ, List};
+ghost use Rattle.std.specs.Prelude.{◌≡◌, ◌∷◌, ℕ, List};
 ghost use denote.Ref.{Bor};
 ghost use Rattle.std.specs.Option.{option_map};
 ghost use Rattle.replay_script.specs.Words.{Gives, hex_in};
-ghost use Rattle.replay_script.specs.Text.{pieces, pieces_after};
+ghost use Rattle.replay_script.specs.Text.{pieces_after};
 ghost use Rattle.replay_script.specs.Lines.{said, said_by, words_seen, words_in, bytes_in, command_in, loss_in, reset_in, line_in};
 
 use crate::cutting::{cut, is_end};
@@ -65,7 +65,7 @@ pub fn event_of(alloc: Global, line: &[u8]) -> Result<Option<Event>, LineError>
     if first == b"reset".as_slice() {
         return Ok(Some(reset_of(rest)?));
     }
-    Ok(Some(command_of(alloc, line)?))
+    Ok(Some(command_of(alloc, first, rest)?))
 }
 
 /// The loss of a line `loss SAS.PORT LUN`, from the words behind the first.
@@ -103,11 +103,11 @@ fn reset_of(words: Option<&[u8]>) -> Result<Event, LineError>
     Ok(Event::Reset { lun })
 }
 
-/// The command of a line `SAS.PORT LUN CDB [DATA]`.
-fn command_of(alloc: Global, line: &[u8]) -> Result<Event, LineError>
-    ensures { Gives said result (command_in (words_in (pieces 32 line.now))) }
+/// The command of a line `SAS.PORT LUN CDB [DATA]`, from its first word and those behind it.
+fn command_of(alloc: Global, first: &[u8], others: Option<&[u8]>) -> Result<Event, LineError>
+    ensures { Gives said result (command_in (words_in (first.now ∷ pieces_after 32 others.entry))) }
 {
-    let Some(words) = words_of(line) else {
+    let Some(words) = words_of(first, others) else {
         return Err(LineError::Fault(LineFault::WordCount));
     };
     let nexus = nexus_of(words.nexus)?;
@@ -122,12 +122,11 @@ fn command_of(alloc: Global, line: &[u8]) -> Result<Event, LineError>
     })
 }
 
-/// The three or four words of a line.
-fn words_of(line: &[u8]) -> Option<Words<'_>>
-    ensures { option_map words_seen result ≡ words_in (pieces 32 line.now) }
+/// The three or four words of a line, the first of them its nexus.
+fn words_of<'a>(nexus: &'a [u8], others: Option<&'a [u8]>) -> Option<Words<'a>>
+    ensures { option_map words_seen result ≡ words_in (nexus.now ∷ pieces_after 32 others.entry) }
 {
-    let (nexus, rest) = cut(line, b' ');
-    let (lun, rest) = cut(rest?, b' ');
+    let (lun, rest) = cut(others?, b' ');
     let (cdb, rest) = cut(rest?, b' ');
     let Some(rest) = rest else {
         return Some(Words {

@@ -97,6 +97,16 @@ fn refuses_the_first_fault_of_a_line(rt: HostRuntime) -> Result<(), Fail> {
             LineFault::BadHex,
         ),
         (
+            "no digit in long data",
+            "500000000000000a.1 0 000000000000 000102030405060708090a0b0c0d0e0f1g",
+            LineFault::BadHex,
+        ),
+        (
+            "an odd digit in long data",
+            "500000000000000a.1 0 000000000000 000102030405060708090a0b0c0d0e0f1",
+            LineFault::BadHex,
+        ),
+        (
             "empty data",
             "500000000000000a.1 0 000000000000 ",
             LineFault::BadHex,
@@ -161,5 +171,19 @@ fn takes_commands_with_and_without_data(rt: HostRuntime) -> Result<(), Fail> {
     };
     assert_eq!(rt; nexus.port, 2);
     assert!(rt; bytes.is_empty());
+    Ok(())
+}
+
+#[test]
+fn takes_long_data(rt: HostRuntime) -> Result<(), Fail> {
+    let text = "500000000000000a.1 1 0a0000001800 00112233445566778899aAbBcCdDeEfF0123456789aBcDeF";
+    let events = events_of(rt.alloc(), text.as_bytes())?;
+    assert_eq!(rt; events.len(), 1);
+    let Event::Command { bytes, .. } = &events[0] else {
+        return Err("no command".into());
+    };
+    let expected =
+        b"\0\x11\x22\x33\x44\x55\x66\x77\x88\x99\xaa\xbb\xcc\xdd\xee\xff\x01\x23\x45\x67\x89\xab\xcd\xef";
+    assert_eq!(rt; bytes.as_slice(), expected.as_slice());
     Ok(())
 }

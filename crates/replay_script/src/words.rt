@@ -1,14 +1,18 @@
 ghost use Rattle.std.specs.Prelude.{◌≡◌};
 ghost use Rattle.replay_script.specs.Words.{Gives, nexus_in, unit_in, hex_in};
 
+use crate::digits::{are_digits, decoded};
 use crate::line::LineError;
 use crate::line_fault::LineFault;
 use hex::{FromHex, FromHexError};
 use scsi_nexus::Nexus;
-use std::alloc::Global;
+use std::alloc::{AllocError, Global};
 
 /// The target ports are 1 to this one.
 const PORTS: u16 = 4;
+
+/// Up to so many digits, as a CDB has, are decoded sooner one by one than many at a time.
+const SHORT: usize = 32;
 
 /// The nexus of a word `SAS.PORT`: 16 hexadecimal digits, a dot, a port.
 #[tactic(auto, unfolding(crate::specs::Words::nexus_in))]
@@ -52,8 +56,19 @@ pub fn unit_of(word: &[u8]) -> Result<u8, LineFault>
 }
 
 /// The 1 to `limit` bytes of a word in hexadecimal.
-#[tactic(auto, unfolding(crate::specs::Words::hex_in))]
 pub fn bytes_of(alloc: Global, word: &[u8], limit: usize) -> Result<Vec<u8>, LineError>
+    ensures { Gives (λ bytes. bytes.items) result (hex_in limit word.now) }
+{
+    if word.len() <= SHORT {
+        few_bytes_of(alloc, word, limit)
+    } else {
+        many_bytes_of(alloc, word, limit)
+    }
+}
+
+/// The same, a byte at a time.
+#[tactic(auto, unfolding(crate::specs::Words::hex_in))]
+fn few_bytes_of(alloc: Global, word: &[u8], limit: usize) -> Result<Vec<u8>, LineError>
     ensures { Gives (λ bytes. bytes.items) result (hex_in limit word.now) }
 {
     match hex::decode(alloc, word) {
@@ -66,5 +81,26 @@ pub fn bytes_of(alloc: Global, word: &[u8], limit: usize) -> Result<Vec<u8>, Lin
         }
         Err(FromHexError::OutOfMemory) => Err(LineError::NoMemory),
         Err(_) => Err(LineError::Fault(LineFault::BadHex)),
+    }
+}
+
+/// The same, many bytes at a time.
+#[tactic(auto, using(crate::proofs::Pairs::refusals), unfolding(crate::specs::Words::hex_in))]
+fn many_bytes_of(alloc: Global, word: &[u8], limit: usize) -> Result<Vec<u8>, LineError>
+    ensures { Gives (λ bytes. bytes.items) result (hex_in limit word.now) }
+{
+    let count = word.len() / 2;
+    if count == 0 || count > limit {
+        return Err(LineError::Fault(LineFault::BadHex));
+    }
+    if word.len() % 2 != 0 {
+        return Err(LineError::Fault(LineFault::BadHex));
+    }
+    if !are_digits(word) {
+        return Err(LineError::Fault(LineFault::BadHex));
+    }
+    match decoded(alloc, word) {
+        Ok(bytes) => Ok(bytes),
+        Err(AllocError) => Err(LineError::NoMemory),
     }
 }

@@ -30,12 +30,11 @@ pub(crate) fn fill(tape: &mut Tape, block: &[u8], count: u32) -> Result<(), Tape
     Ok(())
 }
 
-/// Reads from the beginning to the end of data, each block over the one before it, and answers how many bytes there were.
+/// Reads from the beginning to the end of data, each block behind the one before it, and answers how many bytes there were.
 pub(crate) fn read_back(tape: &mut Tape, into: &mut Vec<u8>) -> Result<u64, TapeFault> {
     tape.rewind();
     let mut bytes = 0u64;
     for _ in 0..tape.object_count() {
-        into.clear();
         if let Item::Block(length) = tape.read(BLOCK_LIMIT, into)? {
             bytes = bytes.wrapping_add(length as u64);
         }

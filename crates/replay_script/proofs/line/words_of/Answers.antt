@@ -3,5 +3,5 @@ use Rattle.replay_script.proofs.line.words_of.Goals as goal
 
 pub returns-in-Some-rest : goal.returns-in-Some-rest
 returns-in-Some-rest c =
-    too_many_words _ _ _ _ _ _ _ _ _ (rw c.in_ok-rest.was at c.cut.ensures.parts) (rw c.in_ok-rest-2.was at c.cut-2.ensures.parts)
-    (rw c.in-Some.is at c.cut-3.ensures.parts) (rw c.in-Some-rest.is at c.cut-4.ensures.parts)
+    rw c.in_ok-others.was
+    (too_many_words _ _ _ _ _ _ _ _ (rw c.in_ok-rest.was at c.cut.ensures.parts) (rw c.in-Some.is at c.cut-2.ensures.parts) (rw c.in-Some-rest.is at c.cut-3.ensures.parts))

@@ -1,0 +1,17 @@
+use Rattle.std.proofs.Common.{sym, ◌∙◌}
+use Rattle.replay.proofs.RunLemmas.{prints_on, runs_on}
+use Rattle.replay.proofs.replaying.run.Goals as goal
+use Rattle.replay.proofs.replaying.run.Goals.{then-is_ok, else-is_ok}
+
+pub loop-event-preserved : goal.loop-event-preserved
+loop-event-preserved g c =
+    elim c.if-is_ok.branch [
+      | then-is_ok w ↦
+          rw (w.written-is, w.text-is)
+          (prints_on c.event-item.result c.step-reply.result c.step-reply.new.self _ _ c.loop-event.invariant c.loop-event-test.true c.event-item.is c.step-reply.ensures
+          (sym c.is_ok.ensures.value ∙ w.if-is_ok.true) w.write_reply-written.ensures)
+      | else-is_ok w ↦
+          rw (w.written-is, w.text-is)
+          (runs_on c.event-item.result c.step-reply.result c.step-reply.new.self _ c.loop-event.invariant c.loop-event-test.true c.event-item.is c.step-reply.ensures
+          (sym c.is_ok.ensures.value ∙ w.if-is_ok.false))
+    ]

@@ -1,0 +1,53 @@
+//! Hexadecimal digits to bytes. No loop looks a digit up or ends at a wrong one, so that many digits are taken
+//! at a time.
+
+ghost use Rattle.std.specs.Prelude.{◌≡◌, ◌+◌, ◌*◌, ◌%◌, ◌<◌, true, Ok, length, IfOk};
+ghost use Rattle.std.specs.List.{list_all};
+ghost use Rattle.hex.specs.Hex.{decode_of, is_hex_digit};
+ghost use Rattle.replay_script.specs.Words.{digit_value};
+
+use std::alloc::{AllocError, Global};
+
+/// Whether all are hexadecimal digits, in either case.
+pub fn are_digits(word: &[u8]) -> bool
+    ensures { result ≡ list_all is_hex_digit word.now }
+{
+    let mut good = true;
+    for digit in word {
+        good &= is_digit(*digit);
+    }
+    good
+}
+
+fn is_digit(digit: u8) -> bool
+    ensures { result ≡ is_hex_digit digit }
+{
+    matches!(digit, b'0'..=b'9' | b'a'..=b'f' | b'A'..=b'F')
+}
+
+/// The bytes of pairs of hexadecimal digits.
+#[tactic(auto, using(crate::proofs::Pairs::pairs_decode))]
+pub fn decoded(alloc: Global, word: &[u8]) -> Result<Vec<u8>, AllocError>
+    requires even { length word.now % 2 ≡ 0 }
+    requires digits { list_all is_hex_digit word.now ≡ true }
+    ensures { IfOk result (λ bytes. decode_of word.now ≡ Ok bytes.items) }
+{
+    word.chunks_exact(2)
+        .map(|pair| byte_of(pair[0], pair[1]))
+        .collect(alloc)
+}
+
+/// The byte of two hexadecimal digits.
+fn byte_of(high: u8, low: u8) -> u8
+    ensures { result ≡ digit_value high * 16 + digit_value low }
+{
+    value_of(high) * 16 + value_of(low)
+}
+
+/// The value of a hexadecimal digit: the low bits of its code, which begin at 1 in both alphabets.
+fn value_of(digit: u8) -> u8
+    ensures value { result ≡ digit_value digit }
+    ensures small { result < 16 }
+{
+    (digit % 16 + digit / 64 * 9) % 16
+}
