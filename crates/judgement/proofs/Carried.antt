@@ -30,14 +30,14 @@ use Rattle.judgement.specs.Findings.{at_stage}
 use Rattle.judgement.specs.History.{accepted_as, after_history}
 use Rattle.judgement.specs.Present.{Present}
 use Rattle.judgement.specs.Judge.{cell_of, sensed, tells, steps, unloads, performs, at_cell, carried_out, let_through, judged_as}
-use Rattle.device_server.specs.Ends.{IsSameDevice}
+use Rattle.device_server.specs.Marks.{KeepsMarks}
 use Rattle.device_server.proofs.Outcomes.{performed_own}
-use Rattle.device_server.proofs.SameDevice.{performed_same}
+use Rattle.device_server.proofs.MarkLemmas.{commands_keep_marks}
 use Rattle.judgement.proofs.Ways.{by_let_through, by_ways}
 
--- a present with the same device, its number and its target's units as they were
+-- a present with a device of the same kind and marks, its number and its target's units as they were
 pub record IsSame (u v : Present) : Type 0 where
-  pub device : IsSameDevice u.device v.device
+  pub device : KeepsMarks u.device v.device
   pub lun : v.kept.lun ≡ u.kept.lun
   pub units : v.kept.units ≡ u.kept.units
 
@@ -51,8 +51,8 @@ pub record IsCarried (u : Present) (n : Nexus) (c : Command) (x : Present × Fin
   pub kept : IsKept u n (Ok c) x
   pub whole : IsWhole x.2.status x.2.sense
 
-same_device : (d : DeviceView) → IsSameDevice d d
-same_device d = record { kind = refl; drives = refl }
+same_device : (d : DeviceView) → KeepsMarks d d
+same_device d = record { device = record { kind = refl; drives = refl }; marks = refl }
 
 same_as : (u : Present) → IsSame u u
 same_as u = record { device = same_device u.device; lun = refl; units = refl }
@@ -84,7 +84,7 @@ module _ (u : Present) (n : Nexus) where
   prevents_is at p false true = record { kept = record { same = record { device = same_device u.device; lun = refl; units = refl }; reservations = refl }; whole = inl (refl, refl) }
   prevents_is at p false false = checks at (Prevent p) (at_stage Fields) InvalidFieldInCdb refl
 
-  mode_is : (d : DeviceView) (b : Bool) → IsSameDevice u.device d → IsSame u (record { device = d; kept = after_mode u.kept n b }) × ((after_mode u.kept n b).reservations ≡ u.kept.reservations)
+  mode_is : (d : DeviceView) (b : Bool) → KeepsMarks u.device d → IsSame u (record { device = d; kept = after_mode u.kept n b }) × ((after_mode u.kept n b).reservations ≡ u.kept.reservations)
   mode_is d true h = (record { device = h; lun = refl; units = refl }, refl)
   mode_is d false h = (record { device = h; lun = refl; units = refl }, refl)
 
@@ -93,7 +93,7 @@ module _ (u : Present) (n : Nexus) where
   steps_is at r bytes true = checks at (Device r) (at_stage stage.Device) MediumRemovalPrevented refl
   steps_is at r bytes false =
       let step = performed u.device r bytes in
-      let mode = mode_is step.0 step.1.mode_changed (performed_same u.device r bytes) in
+      let mode = mode_is step.0 step.1.mode_changed (commands_keep_marks u.device r bytes) in
       record { kept = record { same = mode.0; reservations = mode.1 }; whole = (performed_own u.device r bytes).ended }
 
   performs_is : (at : Cell) (r : Request) (bytes : List ℕ) → IsCarried u n (Device r) (at_cell at (performs u n r bytes))

@@ -11,10 +11,9 @@ use Rattle.judgement.specs.Findings.{at_stage}
 use Rattle.unit_answers.specs.declared.reply.Reply.{Reply}
 use Rattle.judgement.specs.Present.{Present}
 use Rattle.logical_unit.specs.UnitView.{UnitView}
-use Rattle.unit_state.specs.Kept.{allowed}
 use Rattle.judgement.proofs.Carried.{let_through_allowed}
 use Rattle.judgement.proofs.Ways.{refused_by, let_by}
-use Rattle.judgement.specs.Judge.{tells, carried_out, checked, judged_as}
+use Rattle.judgement.specs.Judge.{tells, checked, judged_as}
 use Rattle.logical_unit.specs.Step.{contacted_present, recorded, answered}
 use Rattle.logical_unit.specs.Check.{ComesToTheCheck, IsDecided}
 

@@ -5,6 +5,7 @@ use Rattle.scsi_sense.specs.declared.condition.Condition.{Condition}
 use Rattle.pr_core.specs.State.{State}
 use Rattle.device_server.specs.View.{kind_of}
 use Rattle.device_server.specs.Ends.{IsSameDevice}
+use Rattle.device_server.specs.Marks.{KeepsMarks}
 use Rattle.unit_commands.specs.declared.command.Command.{Command}
 use Rattle.unit_commands.specs.declared.command.Command.TheVariants.{ReserveOut, ReserveIn, Inquiry, ReportLuns, RequestSense, Prevent, Device}
 use Rattle.unit_commands.specs.Commands.{spelled}
@@ -41,7 +42,14 @@ executes_stays u v n cdb bytes r (inl e) =
 executes_stays u v n cdb bytes r (inr e) =
     let c = spelled (kind_of u.device) cdb bytes in
     let judged = judged_is (contacted_present u n) n c bytes in
-    subst (Stays u n c) (sym e.2) (record { device = judged.same.device; lun = judged.same.lun; units = judged.same.units; reservations = judged.reservations })
+    subst (Stays u n c) (sym e.2) (record { device = judged.same.device.device; lun = judged.same.lun; units = judged.same.units; reservations = judged.reservations })
+
+-- and no command of one unit changes the marks of its device
+pub executes_marks : (u v : UnitView) (n : Nexus) (cdb bytes : List ℕ) (r : Reply) → Executes u n cdb bytes (v, r) → KeepsMarks u.device v.device
+executes_marks u v n cdb bytes r (inl e) =
+    subst (λ (x : UnitView × Reply). KeepsMarks u.device x.0.device) (sym e) (record { device = record { kind = refl; drives = refl }; marks = refl })
+executes_marks u v n cdb bytes r (inr e) =
+    subst (λ (x : UnitView × Reply). KeepsMarks u.device x.0.device) (sym e.2) (judged_is (contacted_present u n) n (spelled (kind_of u.device) cdb bytes) bytes).same.device
 
 pub executes_keeps : (u v : UnitView) (n : Nexus) (cdb bytes : List ℕ) (r : Reply) → Executes u n cdb bytes (v, r)
     → v.kept.reservations ≡ after_history u.kept.reservations (accepted_by (kind_of u.device) n cdb bytes r.status)

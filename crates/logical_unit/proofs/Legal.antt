@@ -5,6 +5,7 @@ use Rattle.scsi_cdb.specs.declared.classes.Class.TheVariants as class
 use Rattle.scsi_nexus.specs.declared.nexus.Nexus.{Nexus}
 use Rattle.scsi_sense.specs.declared.condition.Condition.{Condition}
 use Rattle.scsi_sense.specs.declared.condition.Condition.TheVariants.{InvalidFieldInCdb, MediumRemovalPrevented}
+use Rattle.scsi_sense.specs.declared.sense.Sense.{Sense}
 use Rattle.scsi_sense.specs.declared.status.Status.{Status}
 use Rattle.unit_attention.specs.declared.kind.Kind.{Kind}
 use Rattle.unit_attention.specs.Queues.{has_slot, first_reset_of, first_other_of}
@@ -30,12 +31,13 @@ use Rattle.unit_commands.specs.Commands.{class_of_command, list_of, act_of_spell
 use Rattle.unit_answers.specs.Conditions.{condition_of_attention, condition_of_refusal}
 use Rattle.judgement.specs.Findings.{at_stage, let_in, in_conflict}
 use Rattle.unit_answers.specs.UnitData.{inquiry_data, selected_luns}
-use Rattle.unit_answers.specs.Replies.{conflict, check, good, data_reply}
+use Rattle.unit_answers.specs.Replies.{conflict, check, good, data_reply, IsWhole}
 use Rattle.unit_state.specs.KeptView.{KeptView}
 use Rattle.judgement.specs.Present.{Present}
 use Rattle.unit_state.specs.Kept.{has_room, met, accepted, is_prevented, with_medium}
 use Rattle.judgement.specs.Judge.{cell_of, waiting, sensed, senses, tells, steps, unloads, performs, at_cell, carried_out, let_through, checked, commanded, judged_as}
 use Rattle.unit_state.specs.Readings.{verdict_of, pending_of}
+use Rattle.logical_unit.specs.Begun.{AwaitsEnd}
 use Rattle.logical_unit.specs.Step.{entry_of, event_of}
 use Rattle.unit_state.specs.Kept.{kept_after_loss, kept_after_reset}
 use Rattle.logical_unit.specs.Legal.{is_reserve_out, is_never_refused, reported_if, left_by_class, left_at, kept_by, kept_after, Says, SaysItsOwn, IsCarriedOut, IsLetThrough, IsChecked, IsCommand, IsJudged, AreJudged}
@@ -251,6 +253,12 @@ pub answered_stands : (base kept now : KeptView) (es : List Record) (d after : D
 answered_stands base kept now es d after n s bytes m a f r old room plain asked judged =
     let next : IsNext kept (entry_of m (Some n) (act_of_spelled s) f r.status r.sense) now = subst (λ (x : Present × Finding × Reply). IsNext kept (entry m n (act_of_spelled s) x) x.0.kept) judged (judged_next kept d n s bytes m room plain) in
     next_stands base kept now es _ old (subst (λ (x : Act). IsNext kept (entry_of m (Some n) x f r.status r.sense) now) (sym asked) next)
+
+-- the record of a command that judgement left open, ended by a whole answer
+pub ended_stands : (base kept : KeptView) (es : List Record) (n : Nexus) (status : Status) (sense : Option Sense) (a : Act) (f : Finding) (m : ℕ) → Stands base es kept → AwaitsEnd kept n a f → IsWhole status sense
+    → Stands base (es ++ entry_of m (Some n) a f status sense ∷ []) kept
+ended_stands base kept es n status sense a f m old awaits whole =
+    next_stands base kept kept es (entry_of m (Some n) a f status sense) old (record { judged = awaits.judged m status sense whole; kept = sym (awaits.kept m status sense) })
 
 -- the record of a loss, and of a reset
 pub lost_stands : (base kept : KeptView) (es : List Record) (n : Nexus) (m : ℕ) → has_slot kept.slots n ≡ true → Stands base es kept → Stands base (es ++ event_of m (Some n) act.Loss ∷ []) (kept_after_loss kept n)

@@ -2,6 +2,13 @@ pub mod History
 pub mod Check
 pub mod Plain
 pub mod Legal
+pub mod Free
+pub mod Left
+pub mod NamedDrives
+pub mod Halves
+pub mod Moved
+pub mod SameUnits
+pub mod Numbers
 pub mod Executed
 pub mod Conflicts
 pub mod Shown

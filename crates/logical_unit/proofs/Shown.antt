@@ -1,7 +1,5 @@
 -- In a legal trail each record changes the registrations, the reservation and the generation as the accepted history says.
-use Rattle.std.proofs.Common.{◌≡◌, ◌≢◌, Bool, true, false, List, [], ◌∷◌, ◌++◌, Option, Some, None, refl, sym, ap, ◌∙◌, subst, inl, inr}
-use Rattle.std.specs.Prelude.{◌⊎◌}
-use Rattle.std.specs.List.{fold, flat_map}
+use Rattle.std.proofs.Common.{◌≡◌, ◌≢◌, Bool, true, false, List, [], ◌∷◌, ◌++◌, Option, Some, None, refl, sym, ap, ◌∙◌}
 use Rattle.scsi_cdb.specs.declared.classes.Class.{Class}
 use Rattle.scsi_cdb.specs.declared.classes.Class.TheVariants as class
 use Rattle.scsi_cdb.specs.Classes.{class_of_action}
@@ -27,9 +25,8 @@ use Rattle.unit_state.specs.KeptView.{KeptView}
 use Rattle.unit_state.specs.Kept.{met, after_mode}
 use Rattle.unit_state.specs.Readings.{verdict_by, pending_of}
 use Rattle.judgement.specs.Findings.{at_stage, let_in, in_conflict}
-use Rattle.judgement.specs.History.{Accepted, is_good, after_history}
+use Rattle.judgement.specs.History.{Accepted, after_history}
 use Rattle.judgement.specs.Judge.{waiting}
-use Rattle.logical_unit.specs.UnitView.{Base}
 use Rattle.logical_unit.specs.Legal.{reported_if, left_by_class, left_at, left_as, kept_by, kept_after, Says, IsCarriedOut, IsLetThrough, IsChecked, IsCommand, IsJudgedAs, AreJudged, accepted_of, accepted_in, shown_history, TrailHistory}
 
 reported_leaves : (k : KeptView) (n : Nexus) (o : Option Kind) → (reported_if k n o).reservations ≡ k.reservations

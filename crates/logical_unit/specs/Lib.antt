@@ -2,6 +2,10 @@ pub mod UnitView
 pub mod Step
 pub mod Legal
 pub mod Medium
+pub mod Route
+pub mod Move
+pub mod Begun
 pub mod History
 pub mod Check
 pub mod Rows
+pub mod MoveRows

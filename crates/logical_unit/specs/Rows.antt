@@ -190,8 +190,8 @@ noted_in n asked stage status sense cell =
 abbrev pub unsensed : Sense
 unsensed = record { valid = false; filemark = false; eom = false; ili = false; key = 5; information = 0; asc = 0x24; ascq = 0 }
 
--- what no legal trail holds: REGISTER without its list, the loss of a nexus without a slot, sense data beside GOOD, a PREVENT that ended in
--- CHECK CONDITION at the device's stage, and bytes that spell no command told as 3Ah/00h
+-- what no legal trail holds: REGISTER without its list, the loss of a nexus without a slot, sense data beside GOOD, and a PREVENT that ended
+-- in CHECK CONDITION at the device's stage
 pub record IllegalRecords : Type 0 where
   pub listless : IsJudged (kept_by_a (slots_with []) []) (noted_in a (act.Command class.Register) Device Good None (record { class = class.Register; res_type = Ea; role = Holder })) → ⊥
   pub stranger : IsJudged (kept_by_a (slots_with []) []) (noted c act.Loss Device Good None) → ⊥

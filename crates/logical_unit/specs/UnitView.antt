@@ -45,3 +45,7 @@ last_number u = u.base.last + length u.records
 
 abbrev pub last_in : StateView → ℕ
 last_in s = s.base.last + length s.records
+
+-- the same unit with another device
+abbrev pub with_device : UnitWithRoom → DeviceView → UnitWithRoom
+with_device x device = record x { unit = record x.unit { device = device } }

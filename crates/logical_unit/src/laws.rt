@@ -31,6 +31,15 @@ pub fn trail_shows_history()
     ensures { TrailHistory }
 {}
 
+ghost use Rattle.logical_unit.specs.Move.{OneStays, TwoStay};
+
+/// A MOVE MEDIUM leaves the changer and each drive that it names the same unit: of the same kind and size, with
+/// its number, and with its registrations, its reservation and its generation.
+pub fn moves_keep_units()
+    ensures one { OneStays }
+    ensures two { TwoStay }
+{}
+
 ghost use Rattle.tape_medium.specs.declared.volume.VolumeTag.{VolumeTag};
 ghost use Rattle.logical_unit.specs.Rows.{AtTheCheck, Unloading, Sensing, FirstContact, Preventing, RefusedMedia, RefusedAsDue, IllegalRecords, LegalRecords};
 
@@ -61,4 +70,29 @@ pub fn refused_media()
 pub fn legal_and_illegal_records()
     ensures legal { LegalRecords }
     ensures illegal { IllegalRecords }
+{}
+
+ghost use Rattle.logical_unit.specs.MoveRows.{NamedDrives, IntoADrive, OutOfAReservedDrive, RefusedMoves, AtAHeldChanger, BetweenDrives, NumbersOfRecords};
+
+/// The drives that a MOVE MEDIUM names.
+pub fn named_drives()
+    ensures { NamedDrives }
+{}
+
+/// A MOVE MEDIUM into a drive, out of one whatever its reservation, and from one into another.
+pub fn carried_volumes()
+    ensures into { IntoADrive }
+    ensures out { OutOfAReservedDrive }
+    ensures between { BetweenDrives }
+{}
+
+/// Moves that are refused for what is at the drive or at the changer, with no volume moved.
+pub fn refused_moves()
+    ensures drives { RefusedMoves }
+    ensures changer { AtAHeldChanger }
+{}
+
+/// The numbers of the records that a move leaves.
+pub fn numbers_of_records()
+    ensures { NumbersOfRecords }
 {}

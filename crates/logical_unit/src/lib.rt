@@ -1,11 +1,18 @@
 //! One logical unit: how a command is judged, carried out, answered and recorded.
 #![tactic(auto)]
 
+mod begun;
 pub mod laws;
 mod medium_fault;
+mod moves;
+mod receipt;
+mod route;
 mod state;
 mod unit;
 
 pub use medium_fault::MediumFault;
+pub use moves::{move_one, move_two};
+pub use receipt::Receipt;
+pub use route::{Route, named};
 pub use unit::{Busy, LogicalUnit};
 pub use unit_answers::{Reply, absent};

@@ -1,3 +1,5 @@
+use crate::begun::Begun;
+use crate::route::Route;
 use audit_log::{Act, Record, Stage, Trail};
 use device_server::DeviceServer;
 use judgement::{Finding, judge};
@@ -122,6 +124,11 @@ impl UnitState {
     ghost use Rattle.logical_unit.specs.Step.{answered, contacted_present, event_of};
     ghost use Rattle.unit_state.specs.Kept.{kept_after_loss, kept_after_reset};
     ghost use Rattle.logical_unit.specs.Legal.{IsTrail};
+    ghost use Rattle.scsi_cdb.specs.declared.kind.Kind.TheVariants.{Changer};
+    ghost use Rattle.device_server.specs.View.{drives_of};
+    ghost use Rattle.unit_answers.specs.Replies.{IsWhole, numbered};
+    ghost use Rattle.logical_unit.specs.Begun.{Spells, Begins, StaysIf, IsLeftOpen, AwaitsEnd};
+    ghost use Rattle.logical_unit.specs.Step.{entry_of};
 
     /// One command, with its record. Want of memory changes nothing.
     pub(crate) fn answer<D: DeviceServer>(
@@ -145,6 +152,55 @@ impl UnitState {
         let trail = &mut self.trail;
         let number = note(trail, Some(nexus), act, finding, reply.status, reply.sense);
         Ok(reply.numbered(number))
+    }
+
+    /// Begins a MOVE MEDIUM at a changer: judged, it is answered with its record, or left to the drives with
+    /// nothing changed. Want of memory changes nothing.
+    pub(crate) fn begin<D: DeviceServer>(
+        &mut self,
+        alloc: Global,
+        server: &mut Box<D>,
+        nexus: Nexus,
+        cdb: &[u8],
+        bytes: &[u8],
+        route: Route,
+    ) -> Result<Begun, AllocError>
+        requires kind { kind_of (D.shown server.old.value) ≡ Changer }
+        requires route { Spells (drives_of (D.shown server.old.value)) cdb.now route }
+        requires slot { has_room self.old.kept nexus ≡ true }
+        requires room { 0 < self.old.room }
+        requires number { last_in self.old + 1 < 2 ^ 64 }
+        ensures begins { IfOk result (Begins (unit_of (D.shown server.old.value) self.old) (unit_of (D.shown server.new.value) self.new) nexus cdb.now bytes.now route) }
+        ensures stays { IfOk result (StaysIf self.old self.new) }
+        ensures device { IfOk result (λ begun. IsLeftOpen begun → D.shown server.new.value ≡ D.shown server.old.value) }
+        ensures err { OnErr result ((D.shown server.new.value ≡ D.shown server.old.value) × (self.new ≡ self.old)) }
+        ensures want { OnErr result (takes_memory (contacted_present (unit_of (D.shown server.old.value) self.old) nexus) nexus (spelled (kind_of (D.shown server.old.value)) cdb.now bytes.now) ≡ true) }
+    {
+        let spelled = Command::spelled(alloc, server.kind(), cdb, bytes)?;
+        let act = act_of(alloc, &spelled)?;
+        let (finding, reply) = judge(alloc, server, &mut self.kept, nexus, &spelled, bytes)?;
+        if is_left(reply.sense) {
+            return Ok(Begun::Left(act, finding));
+        }
+        let trail = &mut self.trail;
+        let number = note(trail, Some(nexus), act, finding, reply.status, reply.sense);
+        Ok(Begun::Answered(reply.numbered(number)))
+    }
+
+    /// Ends a command that judgement left open by an answer, with its record.
+    pub(crate) fn end(&mut self, nexus: Nexus, act: Act, finding: Finding, reply: Reply) -> Reply
+        requires awaits { AwaitsEnd self.old.kept nexus act finding }
+        requires whole { IsWhole reply.status reply.sense }
+        requires room { 0 < self.old.room }
+        requires number { last_in self.old + 1 < 2 ^ 64 }
+        ensures kept { self.new.kept ≡ self.old.kept }
+        ensures base { self.new.base ≡ self.old.base }
+        ensures records { self.new.records ≡ self.old.records ++ entry_of (last_in self.old + 1) (Some nexus) act finding reply.status reply.sense ∷ [] }
+        ensures reply { result ≡ numbered reply (last_in self.old + 1) }
+    {
+        let trail = &mut self.trail;
+        let number = note(trail, Some(nexus), act, finding, reply.status, reply.sense);
+        reply.numbered(number)
     }
 
     /// The loss of a nexus that has a slot, with its record, whose number is answered.
@@ -215,6 +271,20 @@ impl UnitState {
 ghost use Rattle.std.specs.Prelude.{◌≡◌, ◌<◌, ◌+◌, ◌^◌, [], ◌∷◌, ◌++◌};
 ghost use Rattle.audit_log.specs.TrailView.{last_of};
 ghost use Rattle.logical_unit.specs.Step.{entry_of, event_of};
+ghost use Rattle.logical_unit.specs.Move.{is_left};
+
+/// The additional sense code of INTERNAL TARGET FAILURE.
+const INTERNAL_TARGET_FAILURE: u8 = 0x44;
+
+/// Whether the changer leaves its command to the drives.
+fn is_left(sense: Option<Sense>) -> bool
+    ensures { result ≡ is_left sense }
+{
+    match sense {
+        Some(sense) => sense.asc == INTERNAL_TARGET_FAILURE,
+        None => false,
+    }
+}
 
 /// Adds the record of an event, in room that was made before, and answers its number.
 fn note(

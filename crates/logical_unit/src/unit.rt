@@ -1,9 +1,13 @@
+use crate::begun::Begun;
 use crate::medium_fault::MediumFault;
+use crate::route::Route;
 use crate::state::UnitState;
-use audit_log::Record;
+use audit_log::{Act, Record};
 use device_server::DeviceServer;
+use judgement::Finding;
 use scsi_cdb::Kind;
 use scsi_nexus::Nexus;
+use scsi_sense::Condition;
 use std::alloc::Global;
 use std::marker::Model;
 use tape_medium::{Volume, VolumeTag};
@@ -230,9 +234,145 @@ impl<D: DeviceServer> LogicalUnit<D> {
     }
 }
 
+impl<D: DeviceServer> LogicalUnit<D> {
+    ghost use Rattle.std.specs.Prelude.{◌≡◌, ◌<◌, ◌+◌, ◌⊎◌, false, Ok, IsOk, is_ok, IsTrue, OnOk, IfErr, Err};
+    ghost use Rattle.scsi_cdb.specs.declared.kind.Kind.TheVariants.{Changer};
+    ghost use Rattle.device_server.specs.View.{kind_of, drives_of, taken, put};
+    ghost use Rattle.unit_answers.specs.Replies.{IsWhole};
+    ghost use Rattle.judgement.specs.Present.{Present};
+    ghost use Rattle.logical_unit.specs.Begun.{Spells, BeginsAt, AwaitsEnd};
+    ghost use Rattle.logical_unit.specs.Medium.{taken_out, put_in};
+    ghost use Rattle.logical_unit.specs.Move.{given, noting};
+    ghost use Rattle.logical_unit.specs.Step.{HasNumber, LacksRecord, recorded};
+    ghost use Rattle.logical_unit.specs.UnitView.{UnitView, UnitWithRoom, with_device};
+
+    /// Makes room for one record more, where there is a number for it.
+    pub(crate) fn reserve(&mut self) -> bool
+        ensures unit { self.new.unit ≡ self.old.unit }
+        ensures room { IsTrue result → 0 < self.new.room }
+        ensures number { IsTrue result → HasNumber self.old.unit }
+        ensures lacks { result ≡ false → LacksRecord self.old }
+    {
+        self.state.reserve()
+    }
+
+    /// Begins a MOVE MEDIUM at a changer: judged, it is answered with its record, or left to the drives with
+    /// nothing changed. BUSY as for any command.
+    pub(crate) fn begin(
+        &mut self,
+        alloc: Global,
+        nexus: Nexus,
+        cdb: &[u8],
+        bytes: &[u8],
+        route: Route,
+    ) -> Begun
+        requires kind { kind_of self.old.unit.device ≡ Changer }
+        requires route { Spells (drives_of self.old.unit.device) cdb.now route }
+        ensures { BeginsAt self.old self.new nexus cdb.now bytes.now route result }
+    {
+        if !self.state.has_room(nexus) {
+            return Begun::Answered(Reply::busy(alloc));
+        }
+        if !self.state.reserve() {
+            return Begun::Answered(Reply::busy(alloc));
+        }
+        let server = &mut self.server;
+        let Ok(begun) = self.state.begin(alloc, server, nexus, cdb, bytes, route) else {
+            return Begun::Answered(Reply::busy(alloc));
+        };
+        begun
+    }
+
+    /// Ends a command that judgement left open by an answer, with its record.
+    pub(crate) fn end(&mut self, nexus: Nexus, act: Act, finding: Finding, reply: Reply) -> Reply
+        requires awaits { AwaitsEnd self.old.unit.kept nexus act finding }
+        requires whole { IsWhole reply.status reply.sense }
+        requires room { 0 < self.old.room }
+        requires number { HasNumber self.old.unit }
+        ensures { (self.new.unit, result) ≡ recorded self.old.unit nexus act (record { device = self.old.unit.device; kept = self.old.unit.kept }, finding, reply) }
+    {
+        self.state.end(nexus, act, finding, reply)
+    }
+
+    /// Takes a volume out of an element of a changer.
+    pub(crate) fn take_at(&mut self, place: u16) -> Volume
+        requires { IsOk (taken self.old.unit.device place) }
+        ensures taken { taken self.old.unit.device place ≡ Ok (result, self.new.unit.device) }
+        ensures rest { self.new ≡ with_device self.old self.new.unit.device }
+    {
+        match self.server.take_volume(place) {
+            Ok(volume) => volume,
+            Err(_) => unreachable!(),
+        }
+    }
+
+    /// Puts a volume into an element of a changer.
+    pub(crate) fn put_at(&mut self, place: u16, volume: Volume)
+        requires { IsOk (put self.old.unit.device place volume) }
+        ensures put { put self.old.unit.device place volume ≡ Ok self.new.unit.device }
+        ensures rest { self.new ≡ with_device self.old self.new.unit.device }
+    {
+        match self.server.put_volume(place, volume) {
+            Ok(()) => {}
+            Err(_) => unreachable!(),
+        }
+    }
+
+    /// Notes a tag at a drive's element of a changer.
+    pub(crate) fn note_at(&mut self, place: u16, tag: Option<VolumeTag>)
+        ensures { self.new ≡ with_device self.old (noting self.old.unit.device place tag) }
+    {
+        let _ = self.server.mark(place, tag);
+    }
+
+    /// Whether the drive gives the volume that the mark at its element names; else what the changer reports.
+    pub(crate) fn gives(&self, mark: Option<VolumeTag>) -> Result<(), Condition>
+        ensures ok { OnOk result (IsOk (given mark self.now.unit)) }
+        ensures err { IfErr result (λ condition. given mark self.now.unit ≡ Err condition) }
+    {
+        if self.server.kind() == Kind::Changer {
+            return Err(Condition::InternalTargetFailure);
+        }
+        if self.prevented() {
+            return Err(Condition::MediumRemovalPrevented);
+        }
+        if !is_named(mark, self.server.held(0)) {
+            return Err(Condition::InternalTargetFailure);
+        }
+        Ok(())
+    }
+
+    /// Whether the drive takes a volume in: its bay is empty.
+    pub(crate) fn takes(&self) -> bool
+        ensures { (volume : Volume) → result ≡ is_ok (put_in self.now.unit volume) }
+    {
+        if self.server.kind() == Kind::Changer {
+            return false;
+        }
+        !has_volume(&self.server)
+    }
+}
+
 ghost use Rattle.std.specs.Prelude.{◌≡◌, ℕ, Ok, IsOk, is_ok, is_err};
 ghost use Rattle.scsi_cdb.specs.declared.kind.Kind.TheVariants.{Drive};
 ghost use Rattle.device_server.specs.View.{kind_of, taken, put};
+ghost use Rattle.logical_unit.specs.Move.{same_tag, names_held};
+
+fn is_same_tag(tag: VolumeTag, other: VolumeTag) -> bool
+    ensures { result ≡ same_tag tag other }
+{
+    tag.0 == other.0
+}
+
+/// Whether a mark names the volume that is held.
+fn is_named(mark: Option<VolumeTag>, held: Option<VolumeTag>) -> bool
+    ensures { result ≡ names_held mark held }
+{
+    match (mark, held) {
+        (Some(mark), Some(held)) => is_same_tag(mark, held),
+        (None, _) | (_, None) => false,
+    }
+}
 
 /// Whether there is a volume in a drive's bay.
 fn has_volume<D: DeviceServer>(server: &Box<D>) -> bool

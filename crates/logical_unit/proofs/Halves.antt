@@ -1,0 +1,222 @@
+-- What a move is made of: a volume that leaves a drive, or comes in, and one that the changer takes up or puts down.
+use Rattle.std.proofs.Common.{◌≡◌, Bool, true, false, Option, Some, None, Result, Ok, Err, refl, sym, ap, ◌∙◌, subst}
+use Rattle.std.specs.Prelude.{cond}
+use Rattle.scsi_cdb.specs.declared.kind.Kind.{Kind}
+use Rattle.scsi_cdb.specs.declared.kind.Kind.TheVariants as kind
+use Rattle.scsi_sense.specs.declared.condition.Condition.{Condition}
+use Rattle.scsi_sense.specs.declared.condition.Condition.TheVariants.{InternalTargetFailure}
+use Rattle.tape_medium.specs.declared.volume.Volume.{Volume}
+use Rattle.tape_medium.specs.declared.volume.VolumeTag.{VolumeTag}
+use Rattle.audit_log.specs.declared.act.Act.TheVariants.{MediumIn, MediumOut}
+use Rattle.device_server.specs.View.{DeviceView, kind_of, held_in, taken, put}
+use Rattle.device_server.specs.declared.fault.PutFault.{PutFault}
+use Rattle.device_server.specs.declared.fault.TakeFault.{TakeFault}
+use Rattle.unit_state.specs.Kept.{is_prevented, with_medium}
+use Rattle.logical_unit.specs.declared.medium_fault.MediumFault.{MediumFault}
+use Rattle.logical_unit.specs.declared.medium_fault.MediumFault.TheVariants.{NotADrive, Prevented}
+use Rattle.logical_unit.specs.declared.route.Route.{Route}
+use Rattle.logical_unit.specs.Medium.{taken_as, taken_out, put_as, put_in}
+use Rattle.logical_unit.specs.Move.{condition_of_medium, names_held, given, received, noting, unloaded, loaded, passed}
+use Rattle.logical_unit.specs.Step.{with_event}
+use Rattle.logical_unit.specs.UnitView.{UnitView}
+
+-- results as functions of what they hold
+abbrev pub ok_with : Volume → DeviceView → Result (Volume × DeviceView) TakeFault
+ok_with v device = Ok (v, device)
+
+abbrev pub ok_of : Volume × UnitView → Result (Volume × UnitView) MediumFault
+ok_of it = Ok it
+
+abbrev pub unit_ok : UnitView → Result UnitView MediumFault
+unit_ok u = Ok u
+
+abbrev pub unit_received : UnitView → Result UnitView Condition
+unit_received u = Ok u
+
+-- the definitions by what they look at
+abbrev pub received_as : Result UnitView MediumFault → Result UnitView Condition
+received_as o = elim o [ Ok after ↦ Ok after | Err fault ↦ Err InternalTargetFailure ]
+
+abbrev pub put_down : Route → UnitView → Result DeviceView PutFault → Result (DeviceView × UnitView) Condition
+put_down r d o = elim o [ Ok after ↦ Ok (noting after r.source None, d) | Err fault ↦ Err InternalTargetFailure ]
+
+abbrev pub unloaded_by : DeviceView → Route → Result (Volume × UnitView) Condition → Result (DeviceView × UnitView) Condition
+unloaded_by changer r o = elim o [ Ok it ↦ put_down r it.1 (put changer r.destination it.0) | Err condition ↦ Err condition ]
+
+abbrev pub taken_up : Route → Volume → DeviceView → Result UnitView Condition → Result (DeviceView × UnitView) Condition
+taken_up r v mid o = elim o [ Ok after ↦ Ok (noting mid r.destination (Some v.tag), after) | Err condition ↦ Err condition ]
+
+abbrev pub loaded_by : UnitView → Route → Result (Volume × DeviceView) TakeFault → Result (DeviceView × UnitView) Condition
+loaded_by d r o = elim o [ Ok it ↦ taken_up r it.0 it.1 (received d it.0) | Err fault ↦ Err InternalTargetFailure ]
+
+abbrev pub handed : DeviceView → Route → Volume → UnitView → Result UnitView Condition → Result (DeviceView × UnitView × UnitView) Condition
+handed changer r v d o = elim o [ Ok after ↦ Ok (noting (noting changer r.source None) r.destination (Some v.tag), d, after) | Err condition ↦ Err condition ]
+
+abbrev pub passed_by : DeviceView → UnitView → Route → Result (Volume × UnitView) Condition → Result (DeviceView × UnitView × UnitView) Condition
+passed_by changer taker r o = elim o [ Ok it ↦ handed changer r it.0 it.1 (received taker it.0) | Err condition ↦ Err condition ]
+
+-- OUT OF A DRIVE
+pub record IsOut (d e : UnitView) (v : Volume) : Type 0 where
+  pub kind : kind_of d.device ≡ kind.Drive
+  pub free : is_prevented d.kept ≡ false
+  pub device : DeviceView
+  pub taken : taken d.device 0 ≡ Ok (v, device)
+  pub unit : e ≡ with_event d None MediumOut (record { device = device; kept = d.kept })
+
+out_as : (d e : UnitView) (v : Volume) (o : Result (Volume × DeviceView) TakeFault) → taken d.device 0 ≡ o → kind_of d.device ≡ kind.Drive → is_prevented d.kept ≡ false → taken_as d o ≡ Ok (v, e) → IsOut d e v
+out_as d e v (Ok it) there k free h =
+    let is : ◌≡◌ {A = Volume × UnitView} (it.0, with_event d None MediumOut (record { device = it.1; kept = d.kept })) (v, e) = cc in
+    record {
+      kind = k;
+      free = free;
+      device = it.1;
+      taken = there ∙ ap (λ (w : Volume). ok_with w it.1) (ap (λ (p : Volume × UnitView). p.0) is);
+      unit = sym (ap (λ (p : Volume × UnitView). p.1) is);
+    }
+out_as d e v (Err fault) there k free h = absurd cc
+
+abbrev pub out_by : UnitView → Kind → Bool → Result (Volume × UnitView) MediumFault
+out_by d k prevented = elim k [ kind.Changer ↦ Err NotADrive | kind.Drive ↦ cond prevented (Err Prevented) (taken_as d (taken d.device 0)) ]
+
+out_kind : (d e : UnitView) (v : Volume) (k : Kind) (prevented : Bool) → kind_of d.device ≡ k → is_prevented d.kept ≡ prevented → out_by d k prevented ≡ Ok (v, e) → IsOut d e v
+out_kind d e v kind.Changer prevented k p h = absurd cc
+out_kind d e v kind.Drive true k p h = absurd cc
+out_kind d e v kind.Drive false k p h = out_as d e v (taken d.device 0) refl k p h
+
+pub is_out : (d e : UnitView) (v : Volume) → taken_out d ≡ Ok (v, e) → IsOut d e v
+is_out d e v h = out_kind d e v (kind_of d.device) (is_prevented d.kept) refl refl h
+
+-- INTO A DRIVE
+pub record IsIn (d e : UnitView) (v : Volume) : Type 0 where
+  pub kind : kind_of d.device ≡ kind.Drive
+  pub device : DeviceView
+  pub put : put d.device 0 v ≡ Ok device
+  pub unit : e ≡ with_event d None MediumIn (record { device = device; kept = with_medium d.kept })
+
+in_as : (d e : UnitView) (v : Volume) (o : Result DeviceView PutFault) → put d.device 0 v ≡ o → kind_of d.device ≡ kind.Drive → put_as d o ≡ Ok e → IsIn d e v
+in_as d e v (Ok device) there k h = record { kind = k; device = device; put = there; unit = cc }
+in_as d e v (Err fault) there k h = absurd cc
+
+abbrev pub in_by : UnitView → Volume → Kind → Result UnitView MediumFault
+in_by d v k = elim k [ kind.Changer ↦ Err NotADrive | kind.Drive ↦ put_as d (put d.device 0 v) ]
+
+in_kind : (d e : UnitView) (v : Volume) (k : Kind) → kind_of d.device ≡ k → in_by d v k ≡ Ok e → IsIn d e v
+in_kind d e v kind.Changer k h = absurd cc
+in_kind d e v kind.Drive k h = in_as d e v (put d.device 0 v) refl k h
+
+pub is_in : (d e : UnitView) (v : Volume) → put_in d v ≡ Ok e → IsIn d e v
+is_in d e v h = in_kind d e v (kind_of d.device) refl h
+
+-- what a drive gives, its mark names
+pub record IsGiven (mark : Option VolumeTag) (d e : UnitView) (v : Volume) : Type 0 where
+  pub out : taken_out d ≡ Ok (v, e)
+  pub names : names_held mark (Some v.tag) ≡ true
+
+abbrev pub named_as : (mark : Option VolumeTag) → Volume × UnitView → Bool → Result (Volume × UnitView) Condition
+named_as mark it b = cond b (Ok it) (Err InternalTargetFailure)
+
+given_named : (mark : Option VolumeTag) (d e : UnitView) (v : Volume) (it : Volume × UnitView) (b : Bool) → taken_out d ≡ Ok it → names_held mark (Some it.0.tag) ≡ b → named_as mark it b ≡ Ok (v, e) → IsGiven mark d e v
+given_named mark d e v it true out names h =
+    let is : it ≡ (v, e) = cc in
+    record { out = out ∙ ap ok_of is; names = subst (λ (p : Volume × UnitView). names_held mark (Some p.0.tag) ≡ true) is names }
+given_named mark d e v it false out names h = absurd cc
+
+abbrev pub given_by : (mark : Option VolumeTag) → Result (Volume × UnitView) MediumFault → Result (Volume × UnitView) Condition
+given_by mark o = elim o [ Ok it ↦ cond (names_held mark (Some it.0.tag)) (Ok it) (Err InternalTargetFailure) | Err fault ↦ Err (condition_of_medium fault) ]
+
+given_out : (mark : Option VolumeTag) (d e : UnitView) (v : Volume) (o : Result (Volume × UnitView) MediumFault) → taken_out d ≡ o → given_by mark o ≡ Ok (v, e) → IsGiven mark d e v
+given_out mark d e v (Ok it) out h = given_named mark d e v it (names_held mark (Some it.0.tag)) out refl h
+given_out mark d e v (Err fault) out h = absurd cc
+
+pub is_given : (mark : Option VolumeTag) (d e : UnitView) (v : Volume) → given mark d ≡ Ok (v, e) → IsGiven mark d e v
+is_given mark d e v h = given_out mark d e v (taken_out d) refl h
+
+received_in : (d e : UnitView) (v : Volume) (o : Result UnitView MediumFault) → put_in d v ≡ o → received_as o ≡ Ok e → put_in d v ≡ Ok e
+received_in d e v (Ok after) there h = let is : after ≡ e = cc in there ∙ ap unit_ok is
+received_in d e v (Err fault) there h = absurd cc
+
+pub is_received : (d e : UnitView) (v : Volume) → received d v ≡ Ok e → put_in d v ≡ Ok e
+is_received d e v h = received_in d e v (put_in d v) refl h
+
+-- THE WAYS
+pub record IsUnloaded (changer : DeviceView) (d : UnitView) (r : Route) (after : DeviceView) (e : UnitView) : Type 0 where
+  pub volume : Volume
+  pub gives : IsGiven (held_in changer r.source) d e volume
+  pub mid : DeviceView
+  pub puts : put changer r.destination volume ≡ Ok mid
+  pub marks : after ≡ noting mid r.source None
+
+unloaded_put : (changer : DeviceView) (d : UnitView) (r : Route) (after : DeviceView) (e : UnitView) (v : Volume) (f : UnitView) (o : Result DeviceView PutFault)
+    → put changer r.destination v ≡ o → IsGiven (held_in changer r.source) d f v → put_down r f o ≡ Ok (after, e) → IsUnloaded changer d r after e
+unloaded_put changer d r after e v f (Ok mid) puts gives h =
+    let is : ◌≡◌ {A = DeviceView × UnitView} (noting mid r.source None, f) (after, e) = cc in
+    record {
+      volume = v;
+      gives = subst (λ (x : UnitView). IsGiven (held_in changer r.source) d x v) (ap (λ (p : DeviceView × UnitView). p.1) is) gives;
+      mid = mid;
+      puts = puts;
+      marks = sym (ap (λ (p : DeviceView × UnitView). p.0) is);
+    }
+unloaded_put changer d r after e v f (Err fault) puts gives h = absurd cc
+
+unloaded_given : (changer : DeviceView) (d : UnitView) (r : Route) (after : DeviceView) (e : UnitView) (o : Result (Volume × UnitView) Condition)
+    → given (held_in changer r.source) d ≡ o → unloaded_by changer r o ≡ Ok (after, e) → IsUnloaded changer d r after e
+unloaded_given changer d r after e (Ok it) there h = unloaded_put changer d r after e it.0 it.1 (put changer r.destination it.0) refl (is_given (held_in changer r.source) d it.1 it.0 there) h
+unloaded_given changer d r after e (Err condition) there h = absurd cc
+
+pub is_unloaded : (changer : DeviceView) (d : UnitView) (r : Route) (after : DeviceView) (e : UnitView) → unloaded changer d r ≡ Ok (after, e) → IsUnloaded changer d r after e
+is_unloaded changer d r after e h = unloaded_given changer d r after e (given (held_in changer r.source) d) refl h
+
+pub record IsLoaded (changer : DeviceView) (d : UnitView) (r : Route) (after : DeviceView) (e : UnitView) : Type 0 where
+  pub volume : Volume
+  pub mid : DeviceView
+  pub takes : taken changer r.source ≡ Ok (volume, mid)
+  pub comes : put_in d volume ≡ Ok e
+  pub marks : after ≡ noting mid r.destination (Some volume.tag)
+
+loaded_in : (changer : DeviceView) (d : UnitView) (r : Route) (after : DeviceView) (e : UnitView) (v : Volume) (mid : DeviceView) (o : Result UnitView Condition)
+    → taken changer r.source ≡ Ok (v, mid) → received d v ≡ o → taken_up r v mid o ≡ Ok (after, e) → IsLoaded changer d r after e
+loaded_in changer d r after e v mid (Ok f) takes comes h =
+    let is : ◌≡◌ {A = DeviceView × UnitView} (noting mid r.destination (Some v.tag), f) (after, e) = cc in
+    record {
+      volume = v;
+      mid = mid;
+      takes = takes;
+      comes = is_received d e v (comes ∙ ap unit_received (ap (λ (p : DeviceView × UnitView). p.1) is));
+      marks = sym (ap (λ (p : DeviceView × UnitView). p.0) is);
+    }
+loaded_in changer d r after e v mid (Err condition) takes comes h = absurd cc
+
+loaded_taken : (changer : DeviceView) (d : UnitView) (r : Route) (after : DeviceView) (e : UnitView) (o : Result (Volume × DeviceView) TakeFault)
+    → taken changer r.source ≡ o → loaded_by d r o ≡ Ok (after, e) → IsLoaded changer d r after e
+loaded_taken changer d r after e (Ok it) there h = loaded_in changer d r after e it.0 it.1 (received d it.0) there refl h
+loaded_taken changer d r after e (Err fault) there h = absurd cc
+
+pub is_loaded : (changer : DeviceView) (d : UnitView) (r : Route) (after : DeviceView) (e : UnitView) → loaded changer d r ≡ Ok (after, e) → IsLoaded changer d r after e
+is_loaded changer d r after e h = loaded_taken changer d r after e (taken changer r.source) refl h
+
+pub record IsPassed (changer : DeviceView) (giver taker : UnitView) (r : Route) (after : DeviceView) (e f : UnitView) : Type 0 where
+  pub volume : Volume
+  pub gives : IsGiven (held_in changer r.source) giver e volume
+  pub comes : put_in taker volume ≡ Ok f
+  pub marks : after ≡ noting (noting changer r.source None) r.destination (Some volume.tag)
+
+passed_in : (changer : DeviceView) (giver taker : UnitView) (r : Route) (after : DeviceView) (e f : UnitView) (v : Volume) (x : UnitView) (o : Result UnitView Condition)
+    → IsGiven (held_in changer r.source) giver x v → received taker v ≡ o → handed changer r v x o ≡ Ok (after, e, f) → IsPassed changer giver taker r after e f
+passed_in changer giver taker r after e f v x (Ok y) gives comes h =
+    let is : ◌≡◌ {A = DeviceView × UnitView × UnitView} (noting (noting changer r.source None) r.destination (Some v.tag), x, y) (after, e, f) = cc in
+    record {
+      volume = v;
+      gives = subst (λ (z : UnitView). IsGiven (held_in changer r.source) giver z v) (ap (λ (p : DeviceView × UnitView × UnitView). p.1) is) gives;
+      comes = is_received taker f v (comes ∙ ap unit_received (ap (λ (p : DeviceView × UnitView × UnitView). p.2) is));
+      marks = sym (ap (λ (p : DeviceView × UnitView × UnitView). p.0) is);
+    }
+passed_in changer giver taker r after e f v x (Err condition) gives comes h = absurd cc
+
+passed_given : (changer : DeviceView) (giver taker : UnitView) (r : Route) (after : DeviceView) (e f : UnitView) (o : Result (Volume × UnitView) Condition)
+    → given (held_in changer r.source) giver ≡ o → passed_by changer taker r o ≡ Ok (after, e, f) → IsPassed changer giver taker r after e f
+passed_given changer giver taker r after e f (Ok it) there h = passed_in changer giver taker r after e f it.0 it.1 (received taker it.0) (is_given (held_in changer r.source) giver it.1 it.0 there) refl h
+passed_given changer giver taker r after e f (Err condition) there h = absurd cc
+
+pub is_passed : (changer : DeviceView) (giver taker : UnitView) (r : Route) (after : DeviceView) (e f : UnitView) → passed changer giver taker r ≡ Ok (after, e, f) → IsPassed changer giver taker r after e f
+is_passed changer giver taker r after e f h = passed_given changer giver taker r after e f (given (held_in changer r.source) giver) refl h

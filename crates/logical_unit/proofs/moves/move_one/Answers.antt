@@ -1,0 +1,31 @@
+use Rattle.std.proofs.Common.{Some, None, sym, ap, ◌∙◌, subst, refl}
+use Rattle.unit_answers.specs.declared.reply.Reply.{Reply}
+use Rattle.logical_unit.specs.Step.{IsBusyOnlyFor}
+use Rattle.logical_unit.specs.UnitView.{UnitWithRoom, last_number}
+use Rattle.logical_unit.proofs.Numbers.{noted, answered_busy, answered_noted, ends_noted, joined, unmoved, drive_noted}
+use Rattle.logical_unit.proofs.moves.move_one.Goals as goal
+
+pub returns-in-Answered-clause-busy : goal.returns-in-Answered-clause-busy
+returns-in-Answered-clause-busy g c =
+    subst (λ (r : Reply). IsBusyOnlyFor c.args.changer.now c.args.nexus c.args.cdb.now c.args.bytes.now r) (sym c.of.ensures.reply)
+    (answered_busy c.args.changer.now c.begin.new.self c.args.nexus c.args.cdb.now c.args.bytes.now c.in-Answered.reply c.in-Answered.ensures)
+
+pub returns-in-Answered-clause-numbers : goal.returns-in-Answered-clause-numbers
+returns-in-Answered-clause-numbers g c =
+    unmoved _ (noted c.args.changer.now.unit.kept.lun c.in-Answered.reply) _ c.args.drive.now.unit c.args.drive.now.unit
+    (c.of.ensures.numbers ∙ ap (λ lun. noted lun c.in-Answered.reply) c.lun-lun.ensures)
+    (answered_noted c.args.changer.now c.begin.new.self c.args.nexus c.args.cdb.now c.args.bytes.now c.in-Answered.reply c.in-Answered.ensures) refl
+
+pub returns-in-Ok-clause-numbers : goal.returns-in-Ok-clause-numbers
+returns-in-Ok-clause-numbers g c =
+    let same = ap (λ (x : UnitWithRoom). last_number x.unit) c.carry_one.ensures.changer ∙ ap last_number c.in-Left.ensures.unit in
+    joined _ _ _ _ _ c.with.ensures.numbers
+    (c.of-in-Ok.ensures.numbers ∙ ap (λ lun. noted lun c.finish-reply.result) c.lun-lun.ensures ∙ ends_noted c.args.changer.now.unit c.carry_one.new.changer c.finish-reply.new.changer c.args.nexus c.in-Left.act c.in-Left.finding None c.finish-reply.result same c.finish-reply.ensures)
+    (drive_noted c.args.drive.now.unit c.carry_one.new.drive.unit _ _ c.lun-drive_lun.ensures c.in-Ok.ensures.number.1 c.in-Ok.ensures.last)
+
+pub returns-in-Err-clause-numbers : goal.returns-in-Err-clause-numbers
+returns-in-Err-clause-numbers g c =
+    let same = ap (λ (x : UnitWithRoom). last_number x.unit) c.carry_one.ensures.changer ∙ ap last_number c.in-Left.ensures.unit in
+    unmoved _ (noted c.args.changer.now.unit.kept.lun c.finish-reply-in-Err.result) _ c.args.drive.now.unit c.carry_one.new.drive.unit
+    (c.of-in-Err.ensures.numbers ∙ ap (λ lun. noted lun c.finish-reply-in-Err.result) c.lun-lun.ensures)
+    (ends_noted c.args.changer.now.unit c.carry_one.new.changer c.finish-reply-in-Err.new.changer c.args.nexus c.in-Left.act c.in-Left.finding (Some c.in-Err.halt) c.finish-reply-in-Err.result same c.finish-reply-in-Err.ensures) (ap last_number c.in-Err.ensures.same.1)

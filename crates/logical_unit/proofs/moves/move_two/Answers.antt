@@ -1,0 +1,32 @@
+use Rattle.std.proofs.Common.{Some, None, sym, ap, ◌∙◌, subst, refl}
+use Rattle.unit_answers.specs.declared.reply.Reply.{Reply}
+use Rattle.logical_unit.specs.Step.{IsBusyOnlyFor}
+use Rattle.logical_unit.specs.UnitView.{UnitWithRoom, last_number}
+use Rattle.logical_unit.proofs.Numbers.{noted, answered_busy, answered_noted, ends_noted, joined_two, unmoved_two, drive_noted}
+use Rattle.logical_unit.proofs.moves.move_two.Goals as goal
+
+pub returns-in-Answered-clause-busy : goal.returns-in-Answered-clause-busy
+returns-in-Answered-clause-busy g c =
+    subst (λ (r : Reply). IsBusyOnlyFor c.args.changer.now c.args.nexus c.args.cdb.now c.args.bytes.now r) (sym c.of.ensures.reply)
+    (answered_busy c.args.changer.now c.begin.new.self c.args.nexus c.args.cdb.now c.args.bytes.now c.in-Answered.reply c.in-Answered.ensures)
+
+pub returns-in-Answered-clause-numbers : goal.returns-in-Answered-clause-numbers
+returns-in-Answered-clause-numbers g c =
+    unmoved_two _ (noted c.args.changer.now.unit.kept.lun c.in-Answered.reply) _ c.args.low.now.unit c.args.low.now.unit c.args.high.now.unit c.args.high.now.unit
+    (c.of.ensures.numbers ∙ ap (λ lun. noted lun c.in-Answered.reply) c.lun-lun.ensures)
+    (answered_noted c.args.changer.now c.begin.new.self c.args.nexus c.args.cdb.now c.args.bytes.now c.in-Answered.reply c.in-Answered.ensures) refl refl
+
+pub returns-in-Ok-clause-numbers : goal.returns-in-Ok-clause-numbers
+returns-in-Ok-clause-numbers g c =
+    let same = ap (λ (x : UnitWithRoom). last_number x.unit) c.carry_two.ensures.changer ∙ ap last_number c.in-Left.ensures.unit in
+    joined_two _ _ _ _ _ _ _ _ c.with-receipt.ensures.numbers c.with.ensures.numbers
+    (c.of-in-Ok.ensures.numbers ∙ ap (λ lun. noted lun c.finish-reply.result) c.lun-lun.ensures ∙ ends_noted c.args.changer.now.unit c.carry_two.new.changer c.finish-reply.new.changer c.args.nexus c.in-Left.act c.in-Left.finding None c.finish-reply.result same c.finish-reply.ensures)
+    (drive_noted c.args.low.now.unit c.carry_two.new.low.unit _ _ c.lun-low_lun.ensures c.in-Ok.ensures.low.1 c.in-Ok.ensures.last_low)
+    (drive_noted c.args.high.now.unit c.carry_two.new.high.unit _ _ c.lun-high_lun.ensures c.in-Ok.ensures.high.1 c.in-Ok.ensures.last_high)
+
+pub returns-in-Err-clause-numbers : goal.returns-in-Err-clause-numbers
+returns-in-Err-clause-numbers g c =
+    let same = ap (λ (x : UnitWithRoom). last_number x.unit) c.carry_two.ensures.changer ∙ ap last_number c.in-Left.ensures.unit in
+    unmoved_two _ (noted c.args.changer.now.unit.kept.lun c.finish-reply-in-Err.result) _ c.args.low.now.unit c.carry_two.new.low.unit c.args.high.now.unit c.carry_two.new.high.unit
+    (c.of-in-Err.ensures.numbers ∙ ap (λ lun. noted lun c.finish-reply-in-Err.result) c.lun-lun.ensures)
+    (ends_noted c.args.changer.now.unit c.carry_two.new.changer c.finish-reply-in-Err.new.changer c.args.nexus c.in-Left.act c.in-Left.finding (Some c.in-Err.halt) c.finish-reply-in-Err.result same c.finish-reply-in-Err.ensures) (ap last_number c.in-Err.ensures.same.1) (ap last_number c.in-Err.ensures.same.2)

@@ -1,0 +1,54 @@
+use Rattle.std.proofs.Common.{rules, ◌≡◌, true, sym, ap, subst, ◌∙◌}
+use Rattle.scsi_cdb.specs.declared.kind.Kind.{Kind}
+use Rattle.device_server.specs.View.{kind_of}
+use Rattle.judgement.specs.Judge.{judged_as}
+use Rattle.judgement.specs.Present.{Present}
+use Rattle.unit_commands.specs.Commands.{spelled, act_of, act_of_spelled}
+use Rattle.unit_state.specs.Kept.{has_room, met}
+use Rattle.unit_state.specs.KeptView.{KeptView}
+use Rattle.logical_unit.specs.Begun.{IsLeft}
+use Rattle.logical_unit.specs.UnitView.{StateView, unit_of}
+use Rattle.logical_unit.proofs.Left.{Opens, opens}
+use Rattle.logical_unit.proofs.Plain.{IsPlainIf, spelled_plain}
+use Rattle.logical_unit.proofs.Legal.{answered_stands}
+use Rattle.logical_unit.proofs.state.UnitState.begin.Given as given
+use Rattle.logical_unit.proofs.state.UnitState.begin.Goals as goal
+
+-- what judgement left, with nothing changed
+opened : (g : given.Over) (c : goal.Joined-spelled-5 g)
+    → Opens (g.D.DeviceServer.shown c.args.server.now.value) c.self.inside.kept c.args.nexus c.args.cdb.now c.args.bytes.now c.args.route c.in_ok-act.act
+    (record { device = g.D.DeviceServer.shown c.judge.new.server.value; kept = c.judge.new.kept }) c.in_ok-finding.finding
+    (judged_as (record { device = g.D.DeviceServer.shown c.args.server.now.value; kept = met c.self.inside.kept c.args.nexus }) c.args.nexus (spelled (kind_of (g.D.DeviceServer.shown c.args.server.now.value)) c.args.cdb.now c.args.bytes.now) c.args.bytes.now)
+opened g c =
+    let kind_is : c.kind.result ≡ kind_of (g.D.DeviceServer.shown c.args.server.now.value) = search rules in
+    opens (g.D.DeviceServer.shown c.args.server.now.value) c.self.inside.kept c.args.nexus c.args.cdb.now c.args.bytes.now c.args.route c.in_ok-spelled.spelled c.in_ok-act.act _ c.in_ok-finding.finding c.in_ok-finding.reply
+    c.requires.kind c.requires.route (subst (λ (v : StateView). has_room v.kept c.args.nexus ≡ true) (sym c.self.view_is) c.requires.slot)
+    (c.in_ok-spelled.ensures.ok ∙ ap (λ (k : Kind). spelled k c.args.cdb.now c.args.bytes.now) kind_is) c.in_ok-act.ensures.ok c.in_ok-finding.ensures.ok (sym c.if-is_left.ensures)
+
+asked_by : (g : given.Over) (c : goal.Joined-spelled-5 g) → c.in_ok-act.act ≡ act_of (kind_of (g.D.DeviceServer.shown c.args.server.now.value)) c.args.cdb.now c.args.bytes.now
+asked_by g c =
+    let kind_is : c.kind.result ≡ kind_of (g.D.DeviceServer.shown c.args.server.now.value) = search rules in
+    c.in_ok-act.ensures.ok ∙ ap act_of_spelled (c.in_ok-spelled.ensures.ok ∙ ap (λ (k : Kind). spelled k c.args.cdb.now c.args.bytes.now) kind_is)
+
+pub invariant_of-self-then-is_left : goal.invariant_of-self-then-is_left
+invariant_of-self-then-is_left g c = (c.self.invariant.0, ap (λ (p : Present). p.kept) (opened g c).same ∙ c.self.invariant.1)
+
+pub returns-then-is_left-clause-begins : goal.returns-then-is_left-clause-begins
+returns-then-is_left-clause-begins g c =
+    let o = opened g c in
+    subst (λ (v : StateView). IsLeft (unit_of (g.D.DeviceServer.shown c.args.server.now.value) v) c.args.nexus c.args.cdb.now c.args.bytes.now c.args.route c.in_ok-act.act c.in_ok-finding.finding) c.self.view_is
+    (record { left = o.left; present = o.present; found = o.finding; asked = asked_by g c; memory = o.memory; awaits = o.awaits; ways = o.ways })
+
+pub returns-then-is_left-clause-stays : goal.returns-then-is_left-clause-stays
+returns-then-is_left-clause-stays g c =
+    ap (λ (k : KeptView). record { kept = k; base = record { kept = c.self.inside.base; last = c.self.inside.trail.base }; records = c.self.inside.trail.records; room = c.self.inside.trail.room }) (ap (λ (p : Present). p.kept) (opened g c).same) ∙ c.self.view_is
+
+pub returns-then-is_left-clause-device : goal.returns-then-is_left-clause-device
+returns-then-is_left-clause-device g c = λ left. ap (λ (p : Present). p.device) (opened g c).same
+
+pub invariant_of-self-2 : goal.invariant_of-self-2
+invariant_of-self-2 g c =
+    let plain = subst IsPlainIf (sym c.in_ok-spelled.ensures.ok) (spelled_plain c.kind.result c.args.cdb.now c.args.bytes.now) in
+    let room = subst (λ (v : StateView). has_room v.kept c.args.nexus ≡ true) (sym c.self.view_is) c.requires.slot in
+    rw c.note-number.ensures.records
+    (answered_stands c.self.inside.base c.self.inside.kept c.judge.new.kept c.self.inside.trail.records _ _ c.args.nexus c.in_ok-spelled.spelled c.args.bytes.now _ c.in_ok-act.act c.in_ok-finding.finding c.in_ok-finding.reply c.self.invariant room plain c.in_ok-act.ensures.ok c.in_ok-finding.ensures.ok)

@@ -1,0 +1,107 @@
+-- How a MOVE MEDIUM begins: it is judged at the changer, which answers it, or leaves it to the drives with nothing changed yet.
+use Rattle.std.specs.Prelude.{◌≡◌, ℕ, ◌<◌, Bool, true, false, List, [], Option, Some, None, IsOk, Result, Ok, Err, ◌⊎◌}
+use Rattle.scsi_cdb.specs.Commands.{reading}
+use Rattle.scsi_cdb.specs.declared.kind.Kind.TheVariants.{Changer}
+use Rattle.scsi_cdb.specs.declared.request.Request.TheVariants.{MoveMedium}
+use Rattle.scsi_nexus.specs.declared.nexus.Nexus.{Nexus}
+use Rattle.scsi_sense.specs.declared.condition.Condition.{Condition}
+use Rattle.scsi_sense.specs.declared.sense.Sense.{Sense}
+use Rattle.scsi_sense.specs.declared.status.Status.{Status}
+use Rattle.tape_medium.specs.declared.volume.Volume.{Volume}
+use Rattle.audit_log.specs.declared.act.Act.{Act}
+use Rattle.device_server.specs.View.{DeviceView, kind_of, taken, put}
+use Rattle.judgement.specs.Judge.{takes_memory}
+use Rattle.judgement.specs.declared.finding.Finding.{Finding}
+use Rattle.unit_answers.specs.declared.reply.Reply.{Reply}
+use Rattle.unit_answers.specs.Replies.{busy, good, check, IsWhole}
+use Rattle.unit_commands.specs.Commands.{spelled, act_of}
+use Rattle.unit_state.specs.Kept.{has_room}
+use Rattle.unit_state.specs.KeptView.{KeptView}
+use Rattle.logical_unit.specs.declared.begun.Begun.{Begun}
+use Rattle.logical_unit.specs.declared.begun.Begun.TheVariants.{Answered, Left}
+use Rattle.logical_unit.specs.declared.begun.Halt.{Halt}
+use Rattle.logical_unit.specs.declared.begun.Halt.TheVariants.{Refused, Busy}
+use Rattle.logical_unit.specs.declared.route.Route.{Route}
+use Rattle.logical_unit.specs.Legal.{IsJudged, kept_by}
+use Rattle.logical_unit.specs.Move.{is_left, judged_at}
+use Rattle.logical_unit.specs.Route.{drive_at}
+use Rattle.logical_unit.specs.Step.{answered, contacted_present, entry_of, recorded, HasNumber, IsBusyOnlyFor}
+use Rattle.logical_unit.specs.UnitView.{UnitView, UnitWithRoom, StateView}
+
+-- a CDB spells MOVE MEDIUM by this route
+pub record Spells (drives : ℕ) (cdb : List ℕ) (r : Route) : Type 0 where
+  pub transport : ℕ
+  pub invert : Bool
+  pub reads : reading Changer cdb ≡ Ok (MoveMedium transport r.source r.destination invert)
+  pub from : r.from ≡ drive_at drives r.source
+  pub to : r.to ≡ drive_at drives r.destination
+
+-- an end that is no drive's has the volume, or a free place for one
+pub record HasWays (changer : DeviceView) (r : Route) : Type 0 where
+  pub source : r.from ≡ None → IsOk (taken changer r.source)
+  pub destination : r.to ≡ None → (volume : Volume) → IsOk (put changer r.destination volume)
+
+-- any whole answer may end the command, whose record leaves what is kept
+pub record AwaitsEnd (k : KeptView) (n : Nexus) (act : Act) (finding : Finding) : Type 0 where
+  pub judged : (number : ℕ) (status : Status) (sense : Option Sense) → IsWhole status sense → IsJudged k (entry_of number (Some n) act finding status sense)
+  pub kept : (number : ℕ) (status : Status) (sense : Option Sense) → kept_by k (entry_of number (Some n) act finding status sense) ≡ k
+
+pub record IsAnswered (u v : UnitView) (n : Nexus) (cdb bytes : List ℕ) (reply : Reply) : Type 0 where
+  pub ended : is_left (judged_at u n cdb bytes).2.sense ≡ false
+  pub answer : answered u n cdb bytes ≡ (v, reply)
+
+pub record IsLeft (u : UnitView) (n : Nexus) (cdb bytes : List ℕ) (r : Route) (act : Act) (finding : Finding) : Type 0 where
+  pub left : is_left (judged_at u n cdb bytes).2.sense ≡ true
+  pub present : (judged_at u n cdb bytes).0 ≡ record { device = u.device; kept = u.kept }
+  pub found : (judged_at u n cdb bytes).1 ≡ finding
+  pub asked : act ≡ act_of (kind_of u.device) cdb bytes
+  pub memory : takes_memory (contacted_present u n) n (spelled (kind_of u.device) cdb bytes) ≡ true
+  pub awaits : AwaitsEnd u.kept n act finding
+  pub ways : HasWays u.device r
+
+abbrev pub Begins : (u v : UnitView) → Nexus → (cdb bytes : List ℕ) → Route → Begun → Type 0
+Begins u v n cdb bytes r (Answered reply) = IsAnswered u v n cdb bytes reply
+Begins u v n cdb bytes r (Left act finding) = IsLeft u n cdb bytes r act finding
+
+abbrev pub IsLeftOpen : Begun → Type 0
+IsLeftOpen (Answered reply) = ⊥
+IsLeftOpen (Left act finding) = Unit {0}
+
+-- what is kept and the room for the record stay
+abbrev pub StaysIf : (s t : StateView) → Begun → Type 0
+StaysIf s t (Answered reply) = Unit {0}
+StaysIf s t (Left act finding) = t ≡ s
+
+-- the same at a unit that may be BUSY
+pub record IsOpen (x y : UnitWithRoom) (n : Nexus) (cdb bytes : List ℕ) (r : Route) (act : Act) (finding : Finding) : Type 0 where
+  pub left : IsLeft x.unit n cdb bytes r act finding
+  pub slot : has_room x.unit.kept n ≡ true
+  pub number : HasNumber x.unit
+  pub unit : y.unit ≡ x.unit
+  pub room : 0 < y.room
+
+pub record IsEnded (x y : UnitWithRoom) (n : Nexus) (cdb bytes : List ℕ) (reply : Reply) : Type 0 where
+  pub slot : has_room x.unit.kept n ≡ true
+  pub number : HasNumber x.unit
+  pub answer : IsAnswered x.unit y.unit n cdb bytes reply
+
+pub record IsPutOff (x y : UnitWithRoom) (n : Nexus) (cdb bytes : List ℕ) (reply : Reply) : Type 0 where
+  pub refuses : reply ≡ busy
+  pub unit : y.unit ≡ x.unit
+  pub only : IsBusyOnlyFor x n cdb bytes busy
+
+abbrev pub BeginsAt : (x y : UnitWithRoom) → Nexus → (cdb bytes : List ℕ) → Route → Begun → Type 0
+BeginsAt x y n cdb bytes r (Answered reply) = IsPutOff x y n cdb bytes reply ⊎ IsEnded x y n cdb bytes reply
+BeginsAt x y n cdb bytes r (Left act finding) = IsOpen x y n cdb bytes r act finding
+
+-- why nothing is carried: what the changer reports, or there is no room for a drive's record, or no number
+abbrev pub Halts : {A : Type 0} → Result A Condition → Halt → Type 0
+Halts carried (Refused condition) = carried ≡ Err condition
+Halts carried Busy = Unit {0}
+
+-- the end of a command that judgement left open, by what became of the volume
+abbrev pub Finishes : (x y : UnitWithRoom) → Nexus → Act → Finding → Option Halt → Reply → Type 0
+Finishes x y n act finding None reply = (y.unit, reply) ≡ recorded x.unit n act (record { device = x.unit.device; kept = x.unit.kept }, finding, good [])
+Finishes x y n act finding (Some (Refused condition)) reply =
+    (y.unit, reply) ≡ recorded x.unit n act (record { device = x.unit.device; kept = x.unit.kept }, finding, check condition)
+Finishes x y n act finding (Some Busy) reply = (reply ≡ busy) × (y.unit ≡ x.unit)

@@ -1,0 +1,303 @@
+ghost use Rattle.std.specs.Prelude.{◌≡◌, ◌≢◌, ◌<◌, ◌+◌, [], ◌∷◌, ◌++◌, true, Ok, Err, IsOk, Some, None, IfOk, OnOk, IfErr, OnErr};
+ghost use Rattle.scsi_cdb.specs.declared.kind.Kind.TheVariants.{Changer};
+ghost use Rattle.device_server.specs.View.{kind_of, drives_of, held_in};
+ghost use Rattle.logical_unit.specs.Begun.{Spells, HasWays, Halts, AwaitsEnd, Finishes};
+ghost use Rattle.logical_unit.specs.Medium.{taken_out, put_in};
+ghost use Rattle.logical_unit.specs.Move.{TwoDrives, given, unloaded, loaded, passed, carried_one, carried_two, MovesOne, MovesTwo, numbers_of};
+ghost use Rattle.logical_unit.specs.Route.{named, route_of};
+ghost use Rattle.logical_unit.specs.Step.{HasNumber, LacksRecord, IsBusyOnlyFor};
+ghost use Rattle.logical_unit.specs.UnitView.{last_number, with_device};
+
+use crate::begun::{Begun, Halt};
+use crate::receipt::Receipt;
+use crate::route::{Route, route_of};
+use crate::unit::LogicalUnit;
+use audit_log::Act;
+use device_server::{DeviceServer, Payload};
+use judgement::Finding;
+use scsi_nexus::Nexus;
+use scsi_sense::Condition;
+use std::alloc::Global;
+use tape_medium::Volume;
+use unit_answers::Reply;
+
+/// Takes out the volume of a drive that gives it, with the number of its record.
+fn take_out<D: DeviceServer>(drive: &mut LogicalUnit<D>) -> (Volume, u64)
+    requires gives { IsOk (taken_out drive.old.unit) }
+    requires room { 0 < drive.old.room }
+    requires number { HasNumber drive.old.unit }
+    ensures unit { taken_out drive.old.unit ≡ Ok (result.0, drive.new.unit) }
+    ensures last { last_number drive.new.unit ≡ last_number drive.old.unit + 1 }
+    ensures number { result.1 ≡ last_number drive.old.unit + 1 }
+{
+    match drive.medium_out() {
+        Ok(taken) => taken,
+        Err(_) => unreachable!(),
+    }
+}
+
+/// Puts a volume into a drive that takes it, and answers the number of its record.
+fn take_in<D: DeviceServer>(drive: &mut LogicalUnit<D>, volume: Volume) -> u64
+    requires takes { IsOk (put_in drive.old.unit volume) }
+    requires room { 0 < drive.old.room }
+    requires number { HasNumber drive.old.unit }
+    ensures unit { put_in drive.old.unit volume ≡ Ok drive.new.unit }
+    ensures last { last_number drive.new.unit ≡ last_number drive.old.unit + 1 }
+    ensures number { result ≡ last_number drive.old.unit + 1 }
+{
+    match drive.medium_in(volume) {
+        Ok(number) => number,
+        Err(_) => unreachable!(),
+    }
+}
+
+/// Carries the volume of a drive into an element of the changer, and answers the number of the drive's record.
+/// All is tested, and all room made, before anything changes.
+fn unload<D: DeviceServer>(
+    changer: &mut LogicalUnit<D>,
+    drive: &mut LogicalUnit<D>,
+    route: Route,
+) -> Result<u64, Halt>
+    requires ways { HasWays changer.old.unit.device route }
+    requires to { route.to ≡ None }
+    ensures ok { OnOk result (unloaded changer.old.unit.device drive.old.unit route ≡ Ok (changer.new.unit.device, drive.new.unit)) }
+    ensures number { IfOk result (λ number. HasNumber drive.old.unit × (number ≡ last_number drive.old.unit + 1)) }
+    ensures last { OnOk result (last_number drive.new.unit ≡ last_number drive.old.unit + 1) }
+    ensures changer { changer.new ≡ with_device changer.old changer.new.unit.device }
+    ensures err { IfErr result (Halts (unloaded changer.old.unit.device drive.old.unit route)) }
+    ensures same { OnErr result ((changer.new ≡ changer.old) × (drive.new.unit ≡ drive.old.unit)) }
+{
+    let mark = changer.held(route.source);
+    if let Err(condition) = drive.gives(mark) {
+        return Err(Halt::Refused(condition));
+    }
+    if !drive.reserve() {
+        return Err(Halt::Busy);
+    }
+    let (volume, number) = take_out(drive);
+    changer.put_at(route.destination, volume);
+    changer.note_at(route.source, None);
+    Ok(number)
+}
+
+/// Carries the volume of an element of the changer into a drive, and answers the number of the drive's record.
+fn load<D: DeviceServer>(
+    changer: &mut LogicalUnit<D>,
+    drive: &mut LogicalUnit<D>,
+    route: Route,
+) -> Result<u64, Halt>
+    requires ways { HasWays changer.old.unit.device route }
+    requires from { route.from ≡ None }
+    ensures ok { OnOk result (loaded changer.old.unit.device drive.old.unit route ≡ Ok (changer.new.unit.device, drive.new.unit)) }
+    ensures number { IfOk result (λ number. HasNumber drive.old.unit × (number ≡ last_number drive.old.unit + 1)) }
+    ensures last { OnOk result (last_number drive.new.unit ≡ last_number drive.old.unit + 1) }
+    ensures changer { changer.new ≡ with_device changer.old changer.new.unit.device }
+    ensures err { IfErr result (Halts (loaded changer.old.unit.device drive.old.unit route)) }
+    ensures same { OnErr result ((changer.new ≡ changer.old) × (drive.new.unit ≡ drive.old.unit)) }
+{
+    if !drive.takes() {
+        return Err(Halt::Refused(Condition::InternalTargetFailure));
+    }
+    if !drive.reserve() {
+        return Err(Halt::Busy);
+    }
+    let volume = changer.take_at(route.source);
+    let tag = volume.tag;
+    let number = take_in(drive, volume);
+    changer.note_at(route.destination, Some(tag));
+    Ok(number)
+}
+
+/// Carries the volume of a drive into another, and answers the numbers of their records.
+fn pass<D: DeviceServer>(
+    changer: &mut LogicalUnit<D>,
+    giver: &mut LogicalUnit<D>,
+    taker: &mut LogicalUnit<D>,
+    route: Route,
+) -> Result<(u64, u64), Halt>
+    ensures ok { OnOk result (passed changer.old.unit.device giver.old.unit taker.old.unit route ≡ Ok (changer.new.unit.device, giver.new.unit, taker.new.unit)) }
+    ensures giver { IfOk result (λ it. HasNumber giver.old.unit × (it.0 ≡ last_number giver.old.unit + 1)) }
+    ensures last_giver { OnOk result (last_number giver.new.unit ≡ last_number giver.old.unit + 1) }
+    ensures taker { IfOk result (λ it. HasNumber taker.old.unit × (it.1 ≡ last_number taker.old.unit + 1)) }
+    ensures last_taker { OnOk result (last_number taker.new.unit ≡ last_number taker.old.unit + 1) }
+    ensures changer { changer.new ≡ with_device changer.old changer.new.unit.device }
+    ensures err { IfErr result (Halts (passed changer.old.unit.device giver.old.unit taker.old.unit route)) }
+    ensures same { OnErr result ((changer.new ≡ changer.old) × (giver.new.unit ≡ giver.old.unit) × (taker.new.unit ≡ taker.old.unit)) }
+{
+    let mark = changer.held(route.source);
+    if let Err(condition) = giver.gives(mark) {
+        return Err(Halt::Refused(condition));
+    }
+    if !taker.takes() {
+        return Err(Halt::Refused(Condition::InternalTargetFailure));
+    }
+    if !giver.reserve() {
+        return Err(Halt::Busy);
+    }
+    if !taker.reserve() {
+        return Err(Halt::Busy);
+    }
+    let (volume, given) = take_out(giver);
+    let tag = volume.tag;
+    let taken = take_in(taker, volume);
+    changer.note_at(route.source, None);
+    changer.note_at(route.destination, Some(tag));
+    Ok((given, taken))
+}
+
+/// Carries the volume of a move that names one drive, and answers the number of the drive's record.
+fn carry_one<D: DeviceServer>(
+    changer: &mut LogicalUnit<D>,
+    drive: &mut LogicalUnit<D>,
+    route: Route,
+) -> Result<u64, Halt>
+    requires ways { HasWays changer.old.unit.device route }
+    ensures ok { OnOk result (carried_one changer.old.unit.device drive.old.unit (Some route) ≡ Ok (changer.new.unit.device, drive.new.unit)) }
+    ensures number { IfOk result (λ number. HasNumber drive.old.unit × (number ≡ last_number drive.old.unit + 1)) }
+    ensures last { OnOk result (last_number drive.new.unit ≡ last_number drive.old.unit + 1) }
+    ensures changer { changer.new ≡ with_device changer.old changer.new.unit.device }
+    ensures err { IfErr result (Halts (carried_one changer.old.unit.device drive.old.unit (Some route))) }
+    ensures same { OnErr result ((changer.new ≡ changer.old) × (drive.new.unit ≡ drive.old.unit)) }
+{
+    match (route.from, route.to) {
+        (Some(_), None) => unload(changer, drive, route),
+        (None, Some(_)) => load(changer, drive, route),
+        (None, None) | (Some(_), Some(_)) => {
+            Err(Halt::Refused(Condition::InternalTargetFailure))
+        }
+    }
+}
+
+/// The same for a move that names two, whose numbers are answered in their order.
+fn carry_two<D: DeviceServer>(
+    changer: &mut LogicalUnit<D>,
+    low: &mut LogicalUnit<D>,
+    high: &mut LogicalUnit<D>,
+    route: Route,
+) -> Result<(u64, u64), Halt>
+    ensures ok { OnOk result (carried_two changer.old.unit.device (record { low = low.old.unit; high = high.old.unit }) (Some route) ≡ Ok (changer.new.unit.device, record { low = low.new.unit; high = high.new.unit })) }
+    ensures low { IfOk result (λ it. HasNumber low.old.unit × (it.0 ≡ last_number low.old.unit + 1)) }
+    ensures last_low { OnOk result (last_number low.new.unit ≡ last_number low.old.unit + 1) }
+    ensures high { IfOk result (λ it. HasNumber high.old.unit × (it.1 ≡ last_number high.old.unit + 1)) }
+    ensures last_high { OnOk result (last_number high.new.unit ≡ last_number high.old.unit + 1) }
+    ensures changer { changer.new ≡ with_device changer.old changer.new.unit.device }
+    ensures err { IfErr result (Halts (carried_two changer.old.unit.device (record { low = low.old.unit; high = high.old.unit }) (Some route))) }
+    ensures same { OnErr result ((changer.new ≡ changer.old) × (low.new.unit ≡ low.old.unit) × (high.new.unit ≡ high.old.unit)) }
+{
+    if route.is_upward() {
+        return pass(changer, low, high, route);
+    }
+    match pass(changer, high, low, route) {
+        Ok((high, low)) => Ok((low, high)),
+        Err(halt) => Err(halt),
+    }
+}
+
+/// Ends a move that judgement left to the drives, by what became of the volume.
+fn finish<D: DeviceServer>(
+    alloc: Global,
+    changer: &mut LogicalUnit<D>,
+    nexus: Nexus,
+    act: Act,
+    finding: Finding,
+    halt: Option<Halt>,
+) -> Reply
+    requires awaits { AwaitsEnd changer.old.unit.kept nexus act finding }
+    requires room { 0 < changer.old.room }
+    requires number { HasNumber changer.old.unit }
+    ensures { Finishes changer.old changer.new nexus act finding halt result }
+{
+    match halt {
+        None => changer.end(nexus, act, finding, Reply::good(Payload::none(alloc))),
+        Some(Halt::Refused(condition)) => {
+            changer.end(nexus, act, finding, Reply::check(alloc, condition))
+        }
+        Some(Halt::Busy) => Reply::busy(alloc),
+    }
+}
+
+/// A MOVE MEDIUM (SMC-3, "MOVE MEDIUM command") at the changer, which names one drive, as `named` says. It is
+/// judged at the changer as every command is. Where its map and marks refuse nothing, 53h/02h is reported for a
+/// drive whose removal is prevented, then 44h/00h for one whose bay isn't as the map says; else the volume goes,
+/// the changer's record says GOOD and the drive has a record of its own. A drive's reservation isn't asked. BUSY
+/// changes nothing.
+pub fn move_one<D: DeviceServer>(
+    alloc: Global,
+    changer: &mut LogicalUnit<D>,
+    drive: &mut LogicalUnit<D>,
+    nexus: Nexus,
+    cdb: &[u8],
+    bytes: &[u8],
+) -> Receipt
+    requires named { named (drives_of changer.old.unit.device) cdb.now ≡ drive.old.unit.kept.lun ∷ [] }
+    ensures units { MovesOne changer.old.unit drive.old.unit nexus cdb.now bytes.now ((changer.new.unit, result.reply), drive.new.unit) }
+    ensures busy { IsBusyOnlyFor changer.old nexus cdb.now bytes.now result.reply }
+    ensures numbers { result.numbers.items ≡ numbers_of changer.old.unit changer.new.unit ++ numbers_of drive.old.unit drive.new.unit }
+{
+    let lun = changer.lun();
+    let drive_lun = drive.lun();
+    let route = spelled_route(changer, cdb);
+    let (act, finding) = match changer.begin(alloc, nexus, cdb, bytes, route) {
+        Begun::Answered(reply) => return Receipt::of(lun, reply),
+        Begun::Left(act, finding) => (act, finding),
+    };
+    match carry_one(changer, drive, route) {
+        Ok(number) => {
+            let reply = finish(alloc, changer, nexus, act, finding, None);
+            Receipt::of(lun, reply).with(drive_lun, number)
+        }
+        Err(halt) => {
+            let reply = finish(alloc, changer, nexus, act, finding, Some(halt));
+            Receipt::of(lun, reply)
+        }
+    }
+}
+
+/// The same for one which names two drives, the lower first: the volume goes out of one and into the other.
+pub fn move_two<D: DeviceServer>(
+    alloc: Global,
+    changer: &mut LogicalUnit<D>,
+    low: &mut LogicalUnit<D>,
+    high: &mut LogicalUnit<D>,
+    nexus: Nexus,
+    cdb: &[u8],
+    bytes: &[u8],
+) -> Receipt
+    requires named { named (drives_of changer.old.unit.device) cdb.now ≡ low.old.unit.kept.lun ∷ high.old.unit.kept.lun ∷ [] }
+    ensures units { MovesTwo changer.old.unit (record { low = low.old.unit; high = high.old.unit }) nexus cdb.now bytes.now ((changer.new.unit, result.reply), record { low = low.new.unit; high = high.new.unit }) }
+    ensures busy { IsBusyOnlyFor changer.old nexus cdb.now bytes.now result.reply }
+    ensures numbers { result.numbers.items ≡ numbers_of changer.old.unit changer.new.unit ++ numbers_of low.old.unit low.new.unit ++ numbers_of high.old.unit high.new.unit }
+{
+    let lun = changer.lun();
+    let low_lun = low.lun();
+    let high_lun = high.lun();
+    let route = spelled_route(changer, cdb);
+    let (act, finding) = match changer.begin(alloc, nexus, cdb, bytes, route) {
+        Begun::Answered(reply) => return Receipt::of(lun, reply),
+        Begun::Left(act, finding) => (act, finding),
+    };
+    match carry_two(changer, low, high, route) {
+        Ok(numbers) => {
+            let reply = finish(alloc, changer, nexus, act, finding, None);
+            let receipt = Receipt::of(lun, reply).with(low_lun, numbers.0);
+            receipt.with(high_lun, numbers.1)
+        }
+        Err(halt) => {
+            let reply = finish(alloc, changer, nexus, act, finding, Some(halt));
+            Receipt::of(lun, reply)
+        }
+    }
+}
+
+/// The route that a CDB spells that names a drive.
+fn spelled_route<D: DeviceServer>(changer: &LogicalUnit<D>, cdb: &[u8]) -> Route
+    requires { named (drives_of changer.now.unit.device) cdb.now ≢ [] }
+    ensures spells { Spells (drives_of changer.now.unit.device) cdb.now result }
+    ensures route { route_of (drives_of changer.now.unit.device) cdb.now ≡ Some result }
+    ensures changer { kind_of changer.now.unit.device ≡ Changer }
+{
+    match route_of(changer.drives(), cdb) {
+        Some(route) => route,
+        None => unreachable!(),
+    }
+}

@@ -1,0 +1,42 @@
+use arrayvec::ArrayVec;
+use std::alloc::Global;
+use unit_answers::Reply;
+
+/// The answer to a MOVE MEDIUM, and the records that it left.
+#[derive(Drop)]
+pub struct Receipt {
+    pub reply: Reply,
+    /// For each record the unit that has it, by logical unit number, and its number there: the changer's, then
+    /// the drives', rising.
+    pub numbers: ArrayVec<(u8, u64), 3>,
+}
+
+impl Receipt {
+    ghost use Rattle.std.specs.Prelude.{◌≡◌, ◌<◌, ◌≤◌, ◌+◌, [], ◌∷◌, ◌++◌, ◌==◌, if◌then◌else◌};
+    ghost use Rattle.arrayvec.specs.ArrayVec.{array_vec_len};
+
+    /// Of an answer that left no record but the changer's, if that.
+    pub(crate) fn of(lun: u8, reply: Reply) -> Receipt
+        ensures reply { result.reply ≡ reply }
+        ensures numbers { result.numbers.items ≡ (if reply.number == 0 then [] else (lun, reply.number) ∷ []) }
+        ensures length { array_vec_len result.numbers ≤ 1 }
+    {
+        let mut numbers = ArrayVec::new();
+        if reply.number != 0 {
+            numbers.push((lun, reply.number));
+        }
+        Receipt { reply, numbers }
+    }
+
+    /// With the record of a drive.
+    pub(crate) fn with(self, lun: u8, number: u64) -> Receipt
+        requires { array_vec_len self.numbers < 3 }
+        ensures reply { result.reply ≡ self.reply }
+        ensures numbers { result.numbers.items ≡ self.numbers.items ++ (lun, number) ∷ [] }
+        ensures length { array_vec_len result.numbers ≡ array_vec_len self.numbers + 1 }
+    {
+        let Receipt { reply, mut numbers } = self;
+        numbers.push((lun, number));
+        Receipt { reply, numbers }
+    }
+}

@@ -1,0 +1,91 @@
+ghost use Rattle.std.specs.Prelude.{◌≡◌, IfSome};
+ghost use Rattle.logical_unit.specs.Begun.{Spells};
+ghost use Rattle.logical_unit.specs.Route.{drive_at, route_of, named};
+
+use arrayvec::ArrayVec;
+use scsi_cdb::{Kind, Request, decode};
+
+/// The address of the first data transfer element, the drive's at logical unit 1.
+const FIRST_DATA_TRANSFER: u16 = 0x0100;
+
+/// The ends of a MOVE MEDIUM by their element addresses, and the drives among them by logical unit number.
+#[derive(Clone, Copy, Debug, PartialEq, Eq)]
+pub struct Route {
+    pub source: u16,
+    pub destination: u16,
+    /// The drive that the volume comes out of.
+    pub from: Option<u16>,
+    /// The drive that it goes into.
+    pub to: Option<u16>,
+}
+
+impl Route {
+    ghost use Rattle.std.specs.Prelude.{◌≡◌};
+    ghost use Rattle.logical_unit.specs.Route.{is_upward};
+
+    /// Whether the volume goes from a drive to one of a higher number.
+    pub(crate) fn is_upward(self) -> bool
+        ensures { result ≡ is_upward self.from self.to }
+    {
+        match (self.from, self.to) {
+            (Some(from), Some(to)) => from < to,
+            (None, _) | (_, None) => true,
+        }
+    }
+}
+
+/// The drive whose element has an address, among so many drives.
+fn drive_at(drives: u16, address: u16) -> Option<u16>
+    ensures { result ≡ drive_at drives address }
+{
+    if address >= FIRST_DATA_TRANSFER && address - FIRST_DATA_TRANSFER < drives {
+        Some(address - FIRST_DATA_TRANSFER + 1)
+    } else {
+        None
+    }
+}
+
+/// The route that a CDB spells, at a changer with so many drives; other commands have none.
+pub(crate) fn route_of(drives: u16, cdb: &[u8]) -> Option<Route>
+    ensures route { result ≡ route_of drives cdb.now }
+    ensures spells { IfSome result (Spells drives cdb.now) }
+{
+    let Ok(
+        Request::MoveMedium {
+            source_element_address: source,
+            destination_element_address: destination,
+            ..
+        },
+    ) = decode(Kind::Changer, cdb)
+    else {
+        return None;
+    };
+    Some(Route {
+        source,
+        destination,
+        from: drive_at(drives, source),
+        to: drive_at(drives, destination),
+    })
+}
+
+/// The logical unit numbers of the drives that a CDB names, rising, each once: one or two for a MOVE MEDIUM
+/// (SMC-3, "MOVE MEDIUM command") with a data transfer element among its ends, at a changer with so many drives;
+/// none for any other.
+pub fn named(drives: u8, cdb: &[u8]) -> ArrayVec<u8, 2>
+    ensures { result.items ≡ named drives cdb.now }
+{
+    let mut luns = ArrayVec::new();
+    let Some(route) = route_of(u16::from(drives), cdb) else {
+        return luns;
+    };
+    match (route.from, route.to) {
+        (None, None) => {}
+        (Some(lun), None) | (None, Some(lun)) => luns.push(lun as u8),
+        (Some(from), Some(to)) if from == to => luns.push(from as u8),
+        (Some(from), Some(to)) => {
+            luns.push(from.min(to) as u8);
+            luns.push(from.max(to) as u8);
+        }
+    }
+    luns
+}
