@@ -1,5 +1,5 @@
 -- The accepted history of a unit along a run.
-use Rattle.std.proofs.Common.{◌≡◌, ◌≢◌, ℕ, zero, suc, Bool, true, false, cond, ◌==◌, List, [], ◌∷◌, Option, Some, None, inl, inr, refl, sym, ap, ◌∙◌, eq-eqb}
+use Rattle.std.proofs.Common.{◌≡◌, ◌≢◌, ℕ, zero, suc, Bool, true, false, cond, ◌==◌, List, [], ◌∷◌, Option, Some, None, inl, inr, refl, sym, ap, ◌∙◌, subst, eq-eqb, arith}
 use Rattle.std.proofs.lemmas.List.Sums.{fold-append}
 use Rattle.std.specs.Prelude.{slice_get, slice_set, if◌then◌else◌}
 use Rattle.std.proofs.lemmas.Map.Views.{exact_unsigned_eq}
@@ -7,17 +7,24 @@ use Rattle.scsi_cdb.specs.declared.kind.Kind.{Kind}
 use Rattle.scsi_nexus.specs.declared.nexus.Nexus.{Nexus}
 use Rattle.unit_attention.specs.Queues.{has_slot}
 use Rattle.pr_core.specs.State.{State}
-use Rattle.device_server.specs.View.{kind_of}
+use Rattle.device_server.specs.Marks.{KeepsMarks}
+use Rattle.device_server.specs.View.{DeviceView, kind_of, drives_of}
+use Rattle.device_server.proofs.MarkLemmas.{resets_keep_marks}
 use Rattle.unit_answers.specs.declared.reply.Reply.{Reply}
-use Rattle.judgement.specs.History.{Accepted, accepted_by, after_history}
+use Rattle.judgement.specs.History.{Accepted, accepted_as, accepted_by, after_history}
+use Rattle.logical_unit.specs.Move.{TwoDrives, MovesOne, MovesTwo, IsSameUnit}
+use Rattle.logical_unit.specs.Route.{named}
 use Rattle.logical_unit.specs.UnitView.{UnitView}
+use Rattle.logical_unit.proofs.NamedDrives.{has_route}
+use Rattle.logical_unit.proofs.SameUnits.{spells_move, one_same, two_same}
 use Rattle.logical_unit.proofs.History.{executes_keeps, executes_stays}
 use Rattle.device_server.proofs.SameDevice.{reset_same}
 use Rattle.logical_unit.specs.Step.{Executes, LosesAs}
 use Rattle.target_core.specs.declared.event.Event.{Event}
 use Rattle.target_core.specs.declared.event.Event.TheVariants as event
-use Rattle.target_core.specs.Run.{AtUnit, CommandsAt, IsLost, IsReset, LosesAt, ResetsAt, Steps, Runs}
+use Rattle.target_core.specs.Run.{AtUnit, AtDrive, AtDrives, MovesWith, MovesBetween, CommandsNaming, CommandsAt, IsLost, IsReset, LosesAt, ResetsAt, Steps, Runs}
 use Rattle.target_core.specs.Laws.{accepted_at, accepted_in}
+use Rattle.target_core.proofs.Ordered.{one_named, two_named}
 
 pub get-set_same : (xs : List UnitView) (i : ℕ) (x y : UnitView) → slice_get xs i ≡ Some y → slice_get (slice_set xs i x) i ≡ Some x
 get-set_same [] i x y h = cc
@@ -76,11 +83,6 @@ unit_grows us ms lun at u w n cdb bytes r here there a =
           record { unit = u; place = ap (λ (xs : List UnitView). slice_get xs lun) a.units ∙ get-set_other us at lun a.unit apart ∙ here; kind = refl; history = refl }
     ] refl
 
-commands_grow : (us ms : List UnitView) (lun at : ℕ) (u : UnitView) (n : Nexus) (cdb bytes : List ℕ) (r : Reply) (o : Option UnitView) → slice_get us at ≡ o → slice_get us lun ≡ Some u → CommandsAt us at o n cdb bytes (ms, r)
-    → Grows u ms lun (added_at lun at (accepted_by (kind_of u.device) n cdb bytes r.status))
-commands_grow us ms lun at u n cdb bytes r None there here step = absent_grows us ms lun at u (accepted_by (kind_of u.device) n cdb bytes r.status) there here step.0
-commands_grow us ms lun at u n cdb bytes r (Some w) there here step = unit_grows us ms lun at u w n cdb bytes r here there step
-
 -- a change of one unit that leaves its registrations leaves those of every unit
 changed_grows : (us ms : List UnitView) (lun at : ℕ) (u w x : UnitView) → slice_get us lun ≡ Some u → slice_get us at ≡ Some w → ms ≡ slice_set us at x → kind_of x.device ≡ kind_of w.device → x.kept.reservations ≡ w.kept.reservations → Grows u ms lun []
 changed_grows us ms lun at u w x here there is kind kept =
@@ -98,6 +100,78 @@ changed_grows us ms lun at u w x here there is kind kept =
           let apart : at ≢ lun = λ same. let yes : (at == lun) ≡ true = eq-eqb at lun same in cc in
           record { unit = u; place = ap (λ (xs : List UnitView). slice_get xs lun) is ∙ get-set_other us at lun x apart ∙ here; kind = refl; history = refl }
     ] refl
+
+-- a change of another unit beside it, which keeps its registrations
+beside_grows : (us xs : List UnitView) (lun at : ℕ) (u d e : UnitView) (added : List Accepted) → slice_get xs at ≡ Some d → IsSameUnit d e → Grows u xs lun added → Grows u (slice_set xs at e) lun added
+beside_grows us xs lun at u d e added there same g =
+    elim (at == lun) as (λ b. (at == lun) ≡ b → Grows u (slice_set xs at e) lun added) [
+      | true ↦ λ t.
+          let place : at ≡ lun = exact_unsigned_eq at lun t in
+          let one : g.unit ≡ d = same_unit g.unit d (sym g.place ∙ ap (slice_get xs) (sym place) ∙ there) in
+          record {
+            unit = e;
+            place = ap (λ k. slice_get (slice_set xs k e) lun) place ∙ get-set_same xs lun e g.unit g.place;
+            kind = same.device.kind ∙ ap (λ (x : UnitView). kind_of x.device) (sym one) ∙ g.kind;
+            history = same.reservations ∙ ap (λ (x : UnitView). x.kept.reservations) (sym one) ∙ g.history;
+          }
+      | false ↦ λ t.
+          let apart : at ≢ lun = λ p. let yes : (at == lun) ≡ true = eq-eqb at lun p in cc in
+          record { unit = g.unit; place = get-set_other xs at lun e apart ∙ g.place; kind = g.kind; history = g.history }
+    ] refl
+
+-- a MOVE MEDIUM adds nothing to any history
+pub adds_nothing : (device : DeviceView) (n : Nexus) (cdb bytes : List ℕ) (r : Reply) (l : ℕ) (more : List ℕ) → named (drives_of device) cdb ≡ l ∷ more → accepted_by (kind_of device) n cdb bytes r.status ≡ []
+adds_nothing device n cdb bytes r l more names = ap (accepted_as n r.status) (spells_move device cdb bytes l more (has_route device cdb l more names))
+
+nothing_at : (us : List UnitView) (lun : ℕ) (u c : UnitView) (n : Nexus) (cdb bytes : List ℕ) (r : Reply) → slice_get us lun ≡ Some u → slice_get us 0 ≡ Some c → accepted_by (kind_of c.device) n cdb bytes r.status ≡ []
+    → added_at lun 0 (accepted_by (kind_of u.device) n cdb bytes r.status) ≡ []
+nothing_at us zero u c n cdb bytes r here there none = ap (λ (x : UnitView). accepted_by (kind_of x.device) n cdb bytes r.status) (same_unit u c (sym here ∙ there)) ∙ none
+nothing_at us (suc k) u c n cdb bytes r here there none = let no : (0 == suc k) ≡ false = grind arith in ap (λ b. cond b (accepted_by (kind_of u.device) n cdb bytes r.status) []) no
+
+same_grows : (us ms : List UnitView) (lun at : ℕ) (u w x : UnitView) → slice_get us lun ≡ Some u → slice_get us at ≡ Some w → ms ≡ slice_set us at x → IsSameUnit w x → Grows u ms lun []
+same_grows us ms lun at u w x here there is same = changed_grows us ms lun at u w x here there is same.device.kind same.reservations
+
+with_grows : (us ms : List UnitView) (lun l : ℕ) (u c : UnitView) (n : Nexus) (cdb bytes : List ℕ) (r : Reply) (d : Option UnitView) → slice_get us lun ≡ Some u → slice_get us 0 ≡ Some c → slice_get us l ≡ d → named (drives_of c.device) cdb ≡ l ∷ []
+    → MovesWith us c l d n cdb bytes (ms, r) → Grows u ms lun (added_at lun 0 (accepted_by (kind_of u.device) n cdb bytes r.status))
+with_grows us ms lun l u c n cdb bytes r None here there drive names step = unit_grows us ms lun 0 u c n cdb bytes r here there step
+with_grows us ms lun l u c n cdb bytes r (Some d) here there drive names a =
+    let same = one_same c d a.changer a.other n cdb bytes r l [] names a.step in
+    let within = one_named c.device cdb l names in
+    let apart : 0 ≢ l = λ e. let low = within.0 in absurd (omega (arith, e, low)) in
+    let first = same_grows us (slice_set us 0 a.changer) lun 0 u c a.changer here there refl same.0 in
+    let second = beside_grows us (slice_set us 0 a.changer) lun l u d a.other [] (get-set_other us 0 l a.changer apart ∙ drive) same.1 first in
+    subst (λ (xs : List UnitView). Grows u xs lun (added_at lun 0 (accepted_by (kind_of u.device) n cdb bytes r.status))) (sym a.units)
+    (subst (λ (added : List Accepted). Grows u (slice_set (slice_set us 0 a.changer) l a.other) lun added) (sym (nothing_at us lun u c n cdb bytes r here there (adds_nothing c.device n cdb bytes r l [] names))) second)
+
+between_grows : (us ms : List UnitView) (lun l m : ℕ) (more : List ℕ) (u c : UnitView) (n : Nexus) (cdb bytes : List ℕ) (r : Reply) (d e : Option UnitView) → slice_get us lun ≡ Some u → slice_get us 0 ≡ Some c → slice_get us l ≡ d → slice_get us m ≡ e
+    → named (drives_of c.device) cdb ≡ l ∷ m ∷ more → MovesBetween us c l m d e n cdb bytes (ms, r) → Grows u ms lun (added_at lun 0 (accepted_by (kind_of u.device) n cdb bytes r.status))
+between_grows us ms lun l m more u c n cdb bytes r None e here there low high names step = unit_grows us ms lun 0 u c n cdb bytes r here there step
+between_grows us ms lun l m more u c n cdb bytes r (Some d) None here there low high names step = unit_grows us ms lun 0 u c n cdb bytes r here there step
+between_grows us ms lun l m more u c n cdb bytes r (Some d) (Some e) here there low high names a =
+    let ds : TwoDrives = record { low = d; high = e } in
+    let same = two_same c a.changer ds a.drives n cdb bytes r l (m ∷ more) names a.step in
+    let within = two_named c.device cdb l m more names in
+    let one : 0 ≢ l = λ p. let h = within.0 in absurd (omega (arith, p, h)) in
+    let two : 0 ≢ m = λ p. let h = within.1 in absurd (omega (arith, p, h)) in
+    let apart : l ≢ m = λ p. let h = within.1 in absurd (omega (arith, p, h)) in
+    let xs = slice_set us 0 a.changer in
+    let first = same_grows us xs lun 0 u c a.changer here there refl same.0 in
+    let second = beside_grows us xs lun l u d a.drives.low [] (get-set_other us 0 l a.changer one ∙ low) same.1 first in
+    let third = beside_grows us (slice_set xs l a.drives.low) lun m u e a.drives.high [] (get-set_other xs l m a.drives.low apart ∙ get-set_other us 0 m a.changer two ∙ high) same.2 second in
+    subst (λ (ys : List UnitView). Grows u ys lun (added_at lun 0 (accepted_by (kind_of u.device) n cdb bytes r.status))) (sym a.units)
+    (subst (λ (added : List Accepted). Grows u (slice_set (slice_set xs l a.drives.low) m a.drives.high) lun added) (sym (nothing_at us lun u c n cdb bytes r here there (adds_nothing c.device n cdb bytes r l (m ∷ more) names))) third)
+
+naming_grows : (us ms : List UnitView) (lun : ℕ) (names : List ℕ) (u c : UnitView) (n : Nexus) (cdb bytes : List ℕ) (r : Reply) → slice_get us lun ≡ Some u → slice_get us 0 ≡ Some c → named (drives_of c.device) cdb ≡ names
+    → CommandsNaming us c names n cdb bytes (ms, r) → Grows u ms lun (added_at lun 0 (accepted_by (kind_of u.device) n cdb bytes r.status))
+naming_grows us ms lun [] u c n cdb bytes r here there is step = unit_grows us ms lun 0 u c n cdb bytes r here there step
+naming_grows us ms lun (l ∷ []) u c n cdb bytes r here there is step = with_grows us ms lun l u c n cdb bytes r (slice_get us l) here there refl is step
+naming_grows us ms lun (l ∷ m ∷ more) u c n cdb bytes r here there is step = between_grows us ms lun l m more u c n cdb bytes r (slice_get us l) (slice_get us m) here there refl refl is step
+
+commands_grow : (us ms : List UnitView) (lun at : ℕ) (u : UnitView) (n : Nexus) (cdb bytes : List ℕ) (r : Reply) (o : Option UnitView) → slice_get us at ≡ o → slice_get us lun ≡ Some u → CommandsAt us at o n cdb bytes (ms, r)
+    → Grows u ms lun (added_at lun at (accepted_by (kind_of u.device) n cdb bytes r.status))
+commands_grow us ms lun at u n cdb bytes r None there here step = absent_grows us ms lun at u (accepted_by (kind_of u.device) n cdb bytes r.status) there here step.0
+commands_grow us ms lun zero u n cdb bytes r (Some c) there here step = naming_grows us ms lun (named (drives_of c.device) cdb) u c n cdb bytes r here there refl step
+commands_grow us ms lun (suc k) u n cdb bytes r (Some w) there here step = unit_grows us ms lun (suc k) u w n cdb bytes r here there step
 
 -- a loss and a reset leave a unit's registrations
 loses_keeps : (u v : UnitView) (n : Nexus) (number : Option ℕ) (known : Bool) → LosesAs known u n (v, number) → v.kept.reservations ≡ u.kept.reservations
@@ -124,6 +198,22 @@ loss_kind u v n r (inr lost) = lost_kind u v n lost.0 (has_slot u.kept.slots n) 
 pub reset_kind : (u v : UnitView) (r : Reply) → IsReset u (v, r) → kind_of v.device ≡ kind_of u.device
 reset_kind u v r (inl busy) = ap (λ (x : UnitView × Reply). kind_of x.0.device) busy
 reset_kind u v r (inr was) = ap (λ (x : UnitView × ℕ). kind_of x.0.device) was.1.1 ∙ (reset_same u.device).kind
+
+-- and its marks
+lost_marks : (u v : UnitView) (n : Nexus) (number : Option ℕ) (known : Bool) → LosesAs known u n (v, number) → v.device ≡ u.device
+lost_marks u v n number false is = ap (λ (x : UnitView × Option ℕ). x.0.device) is
+lost_marks u v n number true is = ap (λ (x : UnitView × Option ℕ). x.0.device) is.1
+
+same_marks : (a b : DeviceView) → b ≡ a → KeepsMarks a b
+same_marks a b is = subst (λ (x : DeviceView). KeepsMarks a x) (sym is) (record { device = record { kind = refl; drives = refl }; marks = refl })
+
+pub loss_marks : (u v : UnitView) (n : Nexus) (r : Reply) → IsLost u n (v, r) → KeepsMarks u.device v.device
+loss_marks u v n r (inl busy) = same_marks u.device v.device (ap (λ (x : UnitView × Reply). x.0.device) busy.0)
+loss_marks u v n r (inr lost) = same_marks u.device v.device (lost_marks u v n lost.0 (has_slot u.kept.slots n) lost.1)
+
+pub reset_marks : (u v : UnitView) (r : Reply) → IsReset u (v, r) → KeepsMarks u.device v.device
+reset_marks u v r (inl busy) = same_marks u.device v.device (ap (λ (x : UnitView × Reply). x.0.device) busy)
+reset_marks u v r (inr was) = subst (λ (x : UnitView × ℕ). KeepsMarks u.device x.0.device) (sym was.1.1) (resets_keep_marks u.device)
 
 loss_grows : (us ms : List UnitView) (r : Reply) (lun at : ℕ) (u : UnitView) (n : Nexus) (o : Option UnitView) → slice_get us at ≡ o → slice_get us lun ≡ Some u → LosesAt us at o n (ms, r) → Grows u ms lun []
 loss_grows us ms r lun at u n None there here is = record { unit = u; place = ap (λ (x : List UnitView × Reply). slice_get x.0 lun) is ∙ here; kind = refl; history = refl }

@@ -1,4 +1,5 @@
 pub mod Runs
+pub mod Ordered
 pub mod History
 pub mod Parts
 pub mod Served
@@ -7,3 +8,4 @@ pub mod EventRows
 pub mod SamePlace
 pub mod InOrder
 pub mod Places
+pub mod MovesInPlace

@@ -1,5 +1,5 @@
 -- A unit at its place among units with their room.
-use Rattle.std.proofs.Common.{◌≡◌, ◌<◌, ℕ, zero, suc, true, List, [], ◌∷◌, length, Option, Some, None, refl, sym, ap, ◌∙◌, subst, inl, inr, arith}
+use Rattle.std.proofs.Common.{◌≡◌, ◌<◌, ◌≤◌, ℕ, zero, suc, true, List, [], ◌∷◌, length, Option, Some, None, refl, sym, ap, ◌∙◌, subst, inl, inr, arith}
 use Rattle.std.specs.Prelude.{slice_get, slice_set, slice_index_or, unwrap_or}
 use Rattle.std.proofs.lemmas.List.{map-set}
 use Rattle.scsi_nexus.specs.declared.nexus.Nexus.{Nexus}
@@ -10,7 +10,7 @@ use Rattle.unit_answers.specs.Replies.{busy}
 use Rattle.logical_unit.specs.UnitView.{UnitView, UnitWithRoom, units_of}
 use Rattle.logical_unit.specs.Step.{Executes, Loses, Resets, drained}
 use Rattle.logical_unit.specs.Legal.{IsTrail}
-use Rattle.target_core.specs.Run.{CommandsAt, Commands, LosesAt, ResetsAt, DrainsAt, Drains, done, number_or_0}
+use Rattle.target_core.specs.Run.{AtUnit, CommandsAt, Commands, LosesAt, ResetsAt, DrainsAt, Drains, done, number_or_0}
 
 -- the unit at a place
 pub placed : (us : List UnitWithRoom) (i : ℕ) (d : UnitWithRoom) → i < length us → slice_get (units_of us) i ≡ Some (slice_index_or us i d).unit
@@ -22,17 +22,23 @@ placed (u ∷ us) (suc i) d within = placed us i d (omega (arith, within))
 pub units_of-set : (us : List UnitWithRoom) (i : ℕ) (w : UnitWithRoom) → units_of (slice_set us i w) ≡ slice_set (units_of us) i w.unit
 units_of-set us i w = map-set (λ (u : UnitWithRoom). u.unit) us i w
 
+-- a command to a drive is that unit's alone
+drive_at : (us : List UnitView) (i : ℕ) (u : UnitView) (n : Nexus) (cdb bytes : List ℕ) (new : List UnitView × Reply) → 1 ≤ i → AtUnit us i (Executes u n cdb bytes) new → CommandsAt us i (Some u) n cdb bytes new
+drive_at us zero u n cdb bytes new drive at = absurd (omega (arith, drive))
+drive_at us (suc k) u n cdb bytes new drive at = at
+
 number_or_0-is : (o : Option ℕ) → unwrap_or o 0 ≡ number_or_0 o
 number_or_0-is None = refl
 number_or_0-is (Some number) = refl
 
 module _ (us : List UnitWithRoom) (i : ℕ) (d w : UnitWithRoom) (within : i < length us) where
   -- a command, a loss, a reset and a drain of the unit at a place
-  pub commands_at : (n : Nexus) (cdb bytes : List ℕ) (r : Reply) → Executes (slice_index_or us i d).unit n cdb bytes (w.unit, r)
+  pub commands_at : (n : Nexus) (cdb bytes : List ℕ) (r : Reply) → 1 ≤ i → Executes (slice_index_or us i d).unit n cdb bytes (w.unit, r)
       → Commands (units_of us) i n cdb bytes (units_of (slice_set us i w), r)
-  commands_at n cdb bytes r e =
+  commands_at n cdb bytes r drive e =
+      let at : AtUnit (units_of us) i (Executes (slice_index_or us i d).unit n cdb bytes) (units_of (slice_set us i w), r) = record { unit = w.unit; step = e; units = units_of-set us i w } in
       subst (λ (o : Option UnitView). CommandsAt (units_of us) i o n cdb bytes (units_of (slice_set us i w), r)) (sym (placed us i d within))
-      (record { unit = w.unit; step = e; units = units_of-set us i w })
+      (drive_at (units_of us) i (slice_index_or us i d).unit n cdb bytes (units_of (slice_set us i w), r) drive at)
 
   pub loses_at : (n : Nexus) (r : Reply) (number : Option ℕ) → Loses (slice_index_or us i d).unit n (w.unit, number) → r ≡ done (unwrap_or number 0)
       → LosesAt (units_of us) i (slice_get (units_of us) i) n (units_of (slice_set us i w), r)

@@ -2,10 +2,13 @@
 use Rattle.std.specs.Prelude.{ℕ, ◌+◌, Bool, true, false, ◌&&◌, nat_le, List, [], ◌∷◌, length, Option, Some, None, if◌then◌else◌, ◌==◌}
 use Rattle.scsi_cdb.specs.declared.kind.Kind.{Kind}
 use Rattle.scsi_cdb.specs.declared.kind.Kind.TheVariants.{Drive, Changer}
-use Rattle.device_server.specs.View.{kind_of}
+use Rattle.tape_medium.specs.declared.volume.VolumeTag.{VolumeTag}
+use Rattle.device_server.specs.Marks.{marks}
+use Rattle.device_server.specs.View.{kind_of, held_in}
+use Rattle.logical_unit.specs.Move.{same_tag}
 use Rattle.logical_unit.specs.UnitView.{UnitView}
 use Rattle.target_core.specs.declared.order.CoreFault.{CoreFault}
-use Rattle.target_core.specs.declared.order.CoreFault.TheVariants.{Count, Order}
+use Rattle.target_core.specs.declared.order.CoreFault.TheVariants.{Count, Order, Disagree}
 
 abbrev pub is_drive : Kind → Bool
 is_drive Drive = true
@@ -25,8 +28,24 @@ are_drives (u ∷ us) from count =
 abbrev pub is_in_order : UnitView → List UnitView → ℕ → Bool
 is_in_order c ds count = is_changer (kind_of c.device) && (c.kept.lun == 0 && (c.kept.units == count && are_drives ds 1 count))
 
+-- whether a mark at the changer is the tag of what is in a drive's bay
+abbrev pub same_mark : (mark held : Option VolumeTag) → Bool
+same_mark None None = true
+same_mark (Some mark) (Some held) = same_tag mark held
+same_mark mark held = false
+
+-- whether the changer has a data transfer element for each drive, with the mark that is true of it
+abbrev pub agree : List (Option VolumeTag) → List UnitView → Bool
+agree [] [] = true
+agree (mark ∷ marks) (d ∷ ds) = same_mark mark (held_in d.device 0) && agree marks ds
+agree marks ds = false
+
+-- why a changer and drives in order make no target
+abbrev pub disagreement : UnitView → List UnitView → Option CoreFault
+disagreement c ds = if agree (marks c.device) ds then None else Some Disagree
+
 -- the first that applies; a target has a changer and one to four drives (profile)
 abbrev pub fault_of : List UnitView → Option CoreFault
 fault_of [] = Some Count
 fault_of (c ∷ ds) =
-    if nat_le 1 (length ds) && nat_le (length ds) 4 then (if is_in_order c ds (length ds + 1) then None else Some Order) else Some Count
+    if nat_le 1 (length ds) && nat_le (length ds) 4 then (if is_in_order c ds (length ds + 1) then disagreement c ds else Some Order) else Some Count

@@ -1,6 +1,6 @@
 -- What every run says of each of its commands: it is answered BUSY, with nothing changed, or it is decided by what the accepted acts before it
 -- left at its unit, by the permission table and the rules on keys alone.
-use Rattle.std.specs.Prelude.{◌≡◌, ◌≢◌, ◌↔◌, ◌⊎◌, ℕ, ◌+◌, true, false, List, [], ◌∷◌, ◌++◌, length, take, slice_get, Some, None}
+use Rattle.std.specs.Prelude.{◌≡◌, ◌≢◌, ◌↔◌, ◌⊎◌, ℕ, ◌+◌, true, false, List, [], ◌∷◌, ◌++◌, length, take, slice_get, Some, None, Ok}
 use Rattle.std.specs.Global.{Vec}
 use Rattle.scsi_cdb.specs.declared.action.InServiceAction.{InServiceAction}
 use Rattle.scsi_nexus.specs.declared.nexus.Nexus.{Nexus}
@@ -8,7 +8,8 @@ use Rattle.scsi_sense.specs.declared.status.Status.TheVariants.{Good, Busy, Rese
 use Rattle.audit_log.specs.declared.record.Record.{Record}
 use Rattle.pr_core.specs.State.{State, cell}
 use Rattle.pr_core.specs.declared.verdict.Verdict.TheVariants.{Allowed}
-use Rattle.device_server.specs.View.{kind_of}
+use Rattle.tape_medium.specs.declared.volume.Volume.{Volume}
+use Rattle.device_server.specs.View.{DeviceView, kind_of}
 use Rattle.unit_commands.specs.declared.command.Command.{Command}
 use Rattle.unit_commands.specs.declared.command.Command.TheVariants.{ReserveIn}
 use Rattle.unit_answers.specs.declared.reply.Reply.{Reply}
@@ -18,8 +19,12 @@ use Rattle.judgement.specs.Findings.{rule_of, in_conflict}
 use Rattle.judgement.specs.History.{accepted_by, after_history}
 use Rattle.unit_state.specs.Readings.{verdict_of, status_data}
 use Rattle.judgement.specs.Judge.{let_through}
+use Rattle.judgement.specs.Present.{Present}
+use Rattle.judgement.specs.declared.finding.Finding.{Finding}
 use Rattle.unit_state.specs.Kept.{has_room, met}
-use Rattle.unit_answers.specs.Replies.{busy, conflict, numbered}
+use Rattle.unit_answers.specs.Replies.{busy, conflict, numbered, IsWhole}
+use Rattle.logical_unit.specs.Medium.{taken_out, put_in}
+use Rattle.logical_unit.specs.Move.{is_left}
 use Rattle.logical_unit.specs.Step.{HasNumber, contacted_present, recorded, entry_of}
 use Rattle.logical_unit.specs.UnitView.{UnitView, last_number}
 use Rattle.target_core.specs.declared.event.Event.{Event}
@@ -50,10 +55,23 @@ pub record IsRefused (h : State) (now left : UnitView) (n : Nexus) (command : Co
   pub base : left.base ≡ now.base
   pub entry : left.records ≡ now.records ++ refusal_entry h now n command ∷ []
 
+-- the answer behind the check
+abbrev pub behind : UnitView → Nexus → Command → List ℕ → Present × Finding × Reply
+behind now n command bytes = let_through (contacted_present now n) n command bytes
+
+-- a MOVE MEDIUM that the changer leaves to the drives ends as they decide: GOOD, or CHECK CONDITION with the changer's elements as they were
+pub record IsByDrives (now left : UnitView) (n : Nexus) (command : Command) (bytes : List ℕ) (r : Reply) : Type 0 where
+  pub left_to_drives : is_left (behind now n command bytes).2.sense ≡ true
+  pub device : DeviceView
+  pub reply : Reply
+  pub whole : IsWhole reply.status reply.sense
+  pub refused : reply.status ≢ Good → device ≡ now.device
+  pub ends : (left, r) ≡ recorded now n (act_of_command command) (record { device = device; kept = now.kept }, (behind now n command bytes).1, reply)
+
 -- an allowed command
 pub record IsLetIn (h : State) (now left : UnitView) (n : Nexus) (command : Command) (bytes : List ℕ) (r : Reply) : Type 0 where
-  -- it goes on behind the check: an attention that waits is told, or the command is carried out by its own rules
-  pub goes_on : (left, r) ≡ recorded now n (act_of_command command) (let_through (contacted_present now n) n command bytes)
+  -- it goes on behind the check: an attention that waits is told, or the command is carried out by its own rules, a move by the drives' too
+  pub goes_on : ((left, r) ≡ recorded now n (act_of_command command) (behind now n command bytes)) ⊎ IsByDrives now left n command bytes r
   -- and a PERSISTENT RESERVE IN that ends GOOD shows what the history left
   pub shows : (action : InServiceAction) (allocation_length : ℕ) → command ≡ ReserveIn action allocation_length → r.status ≡ Good → r.payload ≡ take allocation_length (status_data h action)
 
@@ -87,6 +105,16 @@ pub record IsAnswered (h : State) (now left : UnitView) (n : Nexus) (cdb bytes :
   -- and RESERVATION CONFLICT comes from nowhere else
   pub only_there : r.status ≡ ReservationConflict → IsBarred h now n cdb bytes
 
+-- a drive that gave the volume of a GOOD move, or took it in
+pub record IsMovedAt (mid next : List UnitView) (k : ℕ) (r : Reply) : Type 0 where
+  pub good : r.status ≡ Good
+  pub was : UnitView
+  pub is : UnitView
+  pub there : slice_get mid k ≡ Some was
+  pub stays : slice_get next k ≡ Some is
+  pub volume : Volume
+  pub half : (taken_out was ≡ Ok (volume, is)) ⊎ (put_in was volume ≡ Ok is)
+
 -- a command to the unit at lun, from the units mid to the units next, where the unit's accepted history left h
 pub record IsServed (h : State) (mid next : List UnitView) (lun : ℕ) (n : Nexus) (cdb bytes : List ℕ) (r : Reply) : Type 0 where
   -- the unit before and after it
@@ -98,8 +126,8 @@ pub record IsServed (h : State) (mid next : List UnitView) (lun : ℕ) (n : Nexu
   pub history : now.kept.reservations ≡ h
   -- and then what the history leaves with this command, if it is accepted
   pub leaves : left.kept.reservations ≡ after_history h (accepted_by (kind_of now.device) n cdb bytes r.status)
-  -- every other unit stays as it was
-  pub others : (k : ℕ) → k ≢ lun → slice_get next k ≡ slice_get mid k
+  -- every other unit stays as it was, but for a drive that gives or takes the volume of a GOOD move
+  pub others : (k : ℕ) → k ≢ lun → (slice_get next k ≡ slice_get mid k) ⊎ IsMovedAt mid next k r
   -- it is answered BUSY, or by the history
   pub answer : IsBusy mid next r ⊎ IsAnswered h now left n cdb bytes r
   -- and BUSY must come where its sender has no slot and none is left, and where there is no number for its record

@@ -33,7 +33,7 @@ use Rattle.logical_unit.specs.Step.{made}
 use Rattle.logical_unit.specs.UnitView.{UnitView}
 use Rattle.target_core.specs.declared.event.Event.{Event}
 use Rattle.target_core.specs.declared.event.Event.TheVariants as event
-use Rattle.target_core.specs.declared.order.CoreFault.TheVariants.{Count, Order}
+use Rattle.target_core.specs.declared.order.CoreFault.TheVariants.{Count, Order, Disagree}
 use Rattle.target_core.specs.Faults.{fault_of}
 use Rattle.target_core.specs.Run.{Runs}
 use Rattle.target_core.specs.Headline.{by_history}
@@ -200,21 +200,45 @@ pub record LossesAndResets (tag : VolumeTag) : Type 0 where
       → (rs ≡ not_supported ∷ not_supported ∷ []) × (vs ≡ units tag)
 
 -- units that make a target, and why others don't
+abbrev pub changer_with : (drives lun count : ℕ) → UnitView
+changer_with drives lun count = made (Changer (empty_elements drives 8 0)) lun count 0
+
 abbrev pub changer_of : (lun count : ℕ) → UnitView
-changer_of lun count = made (Changer (empty_elements 1 8 0)) lun count 0
+changer_of lun count = changer_with 1 lun count
 
 abbrev pub drive_of : (lun count : ℕ) → UnitView
 drive_of lun count = made (Drive empty_drive) lun count 0
 
+-- a changer whose data transfer element has a mark, and a drive with a volume
+abbrev pub changer_marked : VolumeTag → UnitView
+changer_marked tag = made (Changer (record (empty_elements 1 8 0) { data_transfer = Some tag ∷ [] })) 0 2 0
+
+abbrev pub drive_with : VolumeTag → UnitView
+drive_with tag = made (Drive (record empty_drive { bay = Some (record { tag = tag; protected = false; tape = blank 1000 }); loaded = true })) 1 2 0
+
 pub record UnitsOfATarget : Type 0 where
   pub one_drive : fault_of (changer_of 0 2 ∷ drive_of 1 2 ∷ []) ≡ None
-  pub four_drives : fault_of (changer_of 0 5 ∷ drive_of 1 5 ∷ drive_of 2 5 ∷ drive_of 3 5 ∷ drive_of 4 5 ∷ []) ≡ None
+  pub four_drives : fault_of (changer_with 4 0 5 ∷ drive_of 1 5 ∷ drive_of 2 5 ∷ drive_of 3 5 ∷ drive_of 4 5 ∷ []) ≡ None
   pub none : fault_of [] ≡ Some Count
   pub no_drive : fault_of (changer_of 0 1 ∷ []) ≡ Some Count
-  pub five_drives : fault_of (changer_of 0 6 ∷ drive_of 1 6 ∷ drive_of 2 6 ∷ drive_of 3 6 ∷ drive_of 4 6 ∷ drive_of 5 6 ∷ []) ≡ Some Count
+  pub five_drives : fault_of (changer_with 5 0 6 ∷ drive_of 1 6 ∷ drive_of 2 6 ∷ drive_of 3 6 ∷ drive_of 4 6 ∷ drive_of 5 6 ∷ []) ≡ Some Count
   pub two_changers : fault_of (changer_of 0 2 ∷ changer_of 1 2 ∷ []) ≡ Some Order
   pub drive_first : fault_of (drive_of 0 2 ∷ changer_of 1 2 ∷ []) ≡ Some Order
-  pub no_unit_2 : fault_of (changer_of 0 3 ∷ drive_of 1 3 ∷ drive_of 3 3 ∷ []) ≡ Some Order
+  pub no_unit_2 : fault_of (changer_with 2 0 3 ∷ drive_of 1 3 ∷ drive_of 3 3 ∷ []) ≡ Some Order
   pub from_1 : fault_of (changer_of 1 2 ∷ drive_of 2 2 ∷ []) ≡ Some Order
   pub changer_of_another_count : fault_of (changer_of 0 3 ∷ drive_of 1 2 ∷ []) ≡ Some Order
   pub drive_of_another_count : fault_of (changer_of 0 2 ∷ drive_of 1 3 ∷ []) ≡ Some Order
+  pub two_elements_one_drive : fault_of (changer_with 2 0 2 ∷ drive_of 1 2 ∷ []) ≡ Some Disagree
+  pub one_element_two_drives : fault_of (changer_of 0 3 ∷ drive_of 1 3 ∷ drive_of 2 3 ∷ []) ≡ Some Disagree
+
+pub record MarksOfATarget (tag : VolumeTag) : Type 0 where
+  pub unmarked : fault_of (changer_of 0 2 ∷ drive_with tag ∷ []) ≡ Some Disagree
+  pub marked_in_vain : fault_of (changer_marked tag ∷ drive_of 1 2 ∷ []) ≡ Some Disagree
+
+-- the tags of the first and the second volume
+abbrev pub tag_of_byte : ℕ → VolumeTag
+tag_of_byte byte = record { 0 = replicate 32 byte }
+
+pub record MarksByTag : Type 0 where
+  pub same : fault_of (changer_marked (tag_of_byte 0x41) ∷ drive_with (tag_of_byte 0x41) ∷ []) ≡ None
+  pub another : fault_of (changer_marked (tag_of_byte 0x41) ∷ drive_with (tag_of_byte 0x42) ∷ []) ≡ Some Disagree

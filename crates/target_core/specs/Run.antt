@@ -1,13 +1,16 @@
 -- What a target does at each event, and runs of events.
-use Rattle.std.specs.Prelude.{◌≡◌, ◌⊎◌, ℕ, true, List, [], ◌∷◌, slice_get, slice_set, Option, Some, None}
+use Rattle.std.specs.Prelude.{◌≡◌, ◌⊎◌, ℕ, zero, suc, true, List, [], ◌∷◌, slice_get, slice_set, Option, Some, None}
 use Rattle.scsi_nexus.specs.declared.nexus.Nexus.{Nexus}
 use Rattle.scsi_sense.specs.declared.condition.Condition.TheVariants.{LogicalUnitNotSupported}
 use Rattle.unit_attention.specs.Queues.{has_slot}
 use Rattle.audit_log.specs.declared.record.Record.{Record}
+use Rattle.device_server.specs.View.{drives_of}
 use Rattle.unit_answers.specs.declared.reply.Reply.{Reply}
 use Rattle.logical_unit.specs.Legal.{IsTrail}
 use Rattle.unit_answers.specs.Replies.{AnswersAbsent, busy, good, check, numbered}
 use Rattle.logical_unit.specs.Step.{Executes, Loses, Resets, drained}
+use Rattle.logical_unit.specs.Move.{TwoDrives, MovesOne, MovesTwo}
+use Rattle.logical_unit.specs.Route.{named}
 use Rattle.logical_unit.specs.UnitView.{UnitView}
 use Rattle.target_core.specs.declared.event.Event.{Event}
 use Rattle.target_core.specs.declared.event.Event.TheVariants.{Command, Loss, Reset}
@@ -18,10 +21,44 @@ pub record AtUnit (us : List UnitView) (lun : ℕ) (Does : UnitView × Reply →
   pub step : Does (unit, new.1)
   pub units : new.0 ≡ slice_set us lun unit
 
+-- the changer does one step with a drive, or with two, and the others stay as they were
+pub record AtDrive (us : List UnitView) (drive : ℕ) (Does : (UnitView × Reply) × UnitView → Type 0) (new : List UnitView × Reply) : Type 0 where
+  pub changer : UnitView
+  pub other : UnitView
+  pub step : Does ((changer, new.1), other)
+  pub units : new.0 ≡ slice_set (slice_set us 0 changer) drive other
+
+pub record AtDrives (us : List UnitView) (low high : ℕ) (Does : (UnitView × Reply) × TwoDrives → Type 0) (new : List UnitView × Reply) : Type 0 where
+  pub changer : UnitView
+  pub drives : TwoDrives
+  pub step : Does ((changer, new.1), drives)
+  pub units : new.0 ≡ slice_set (slice_set (slice_set us 0 changer) low drives.low) high drives.high
+
+-- a MOVE MEDIUM at the changer c with the drives that it names, if they are there; without them the changer answers alone
+abbrev pub MovesWith : List UnitView → UnitView → ℕ → Option UnitView → Nexus → (cdb bytes : List ℕ) → List UnitView × Reply → Type 0
+MovesWith us c drive None n cdb bytes new = AtUnit us 0 (Executes c n cdb bytes) new
+MovesWith us c drive (Some d) n cdb bytes new = AtDrive us drive (MovesOne c d n cdb bytes) new
+
+abbrev pub MovesBetween : List UnitView → UnitView → (low high : ℕ) → (d e : Option UnitView) → Nexus → (cdb bytes : List ℕ) → List UnitView × Reply → Type 0
+MovesBetween us c low high (Some d) (Some e) n cdb bytes new = AtDrives us low high (MovesTwo c (record { low = d; high = e }) n cdb bytes) new
+MovesBetween us c low high d e n cdb bytes new = AtUnit us 0 (Executes c n cdb bytes) new
+
+-- a command to the changer, by the drives that it names: a MOVE MEDIUM one or two, any other none
+abbrev pub CommandsNaming : List UnitView → UnitView → List ℕ → Nexus → (cdb bytes : List ℕ) → List UnitView × Reply → Type 0
+CommandsNaming us c [] n cdb bytes new = AtUnit us 0 (Executes c n cdb bytes) new
+CommandsNaming us c (drive ∷ []) n cdb bytes new = MovesWith us c drive (slice_get us drive) n cdb bytes new
+CommandsNaming us c (low ∷ high ∷ more) n cdb bytes new = MovesBetween us c low high (slice_get us low) (slice_get us high) n cdb bytes new
+
+-- the drives that a CDB names at the changer of these units
+abbrev pub NamesAt : List UnitView → (cdb names : List ℕ) → Type 0
+NamesAt [] cdb names = ⊥
+NamesAt (c ∷ ds) cdb names = named (drives_of c.device) cdb ≡ names
+
 -- a command to a unit that is there, or to none
 abbrev pub CommandsAt : List UnitView → ℕ → Option UnitView → Nexus → (cdb bytes : List ℕ) → List UnitView × Reply → Type 0
 CommandsAt us lun None n cdb bytes new = (new.0 ≡ us) × AnswersAbsent cdb new.1
-CommandsAt us lun (Some u) n cdb bytes new = AtUnit us lun (Executes u n cdb bytes) new
+CommandsAt us zero (Some c) n cdb bytes new = CommandsNaming us c (named (drives_of c.device) cdb) n cdb bytes new
+CommandsAt us (suc k) (Some u) n cdb bytes new = AtUnit us (suc k) (Executes u n cdb bytes) new
 
 abbrev pub Commands : List UnitView → ℕ → Nexus → (cdb bytes : List ℕ) → List UnitView × Reply → Type 0
 Commands us lun n cdb bytes new = CommandsAt us lun (slice_get us lun) n cdb bytes new

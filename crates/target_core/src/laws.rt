@@ -1,5 +1,5 @@
 ghost use Rattle.target_core.specs.Headline.{Headline};
-ghost use Rattle.target_core.specs.Rows.{WorkedRun, BusyRuns, LossesAndResets, UnitsOfATarget};
+ghost use Rattle.target_core.specs.Rows.{WorkedRun, BusyRuns, LossesAndResets, UnitsOfATarget, MarksOfATarget, MarksByTag};
 ghost use Rattle.tape_medium.specs.declared.volume.VolumeTag.{VolumeTag};
 ghost use Rattle.target_core.specs.Laws.{AcceptedHistory, RunsJoin};
 
@@ -33,5 +33,7 @@ pub fn worked_run()
 
 /// Units that make a target, and why others don't.
 pub fn worked_units()
-    ensures { UnitsOfATarget }
+    ensures units { UnitsOfATarget }
+    ensures marks { (tag : VolumeTag) → MarksOfATarget tag }
+    ensures tags { MarksByTag }
 {}

@@ -1,10 +1,14 @@
-ghost use Rattle.std.specs.Prelude.{◌≡◌, ◌<◌, ◌+◌, length};
+ghost use Rattle.std.specs.Prelude.{◌≡◌, ◌<◌, ◌≤◌, ◌+◌, length, drop};
+ghost use Rattle.scsi_cdb.specs.declared.kind.Kind.TheVariants.{Changer};
+ghost use Rattle.device_server.specs.Marks.{marks};
+ghost use Rattle.device_server.specs.View.{kind_of, drives_of};
 ghost use Rattle.logical_unit.specs.UnitView.{units_of};
-ghost use Rattle.target_core.specs.Faults.{are_drives, fault_of};
+ghost use Rattle.target_core.specs.Faults.{are_drives, same_mark, agree, fault_of};
 
 use device_server::DeviceServer;
 use logical_unit::LogicalUnit;
 use scsi_cdb::Kind;
+use tape_medium::VolumeTag;
 use thiserror::Error;
 
 /// How many units a target has at most: a changer and four drives.
@@ -19,6 +23,10 @@ pub enum CoreFault {
     /// They aren't a changer and then drives, numbered by place, each made with this count of units.
     #[error("the units are not a changer and then drives by place")]
     Order,
+    /// The changer hasn't a data transfer element for each drive, or one of them doesn't have the tag of the volume in that
+    /// drive's bay.
+    #[error("the changer's data transfer elements are not as the drives")]
+    Disagree,
 }
 
 /// Why these units make no target, if they make none.
@@ -38,7 +46,41 @@ pub(crate) fn fault_of<D: DeviceServer>(units: &[LogicalUnit<D>]) -> Option<Core
     if !are_drives(drives, 1, count) {
         return Some(CoreFault::Order);
     }
+    if !agree(changer, drives, 0) {
+        return Some(CoreFault::Disagree);
+    }
     None
+}
+
+/// The address of the first data transfer element.
+const FIRST_DATA_TRANSFER: u16 = 0x0100;
+
+/// Whether a mark at the changer is the tag of what is in a drive's bay.
+fn is_same_mark(mark: Option<VolumeTag>, held: Option<VolumeTag>) -> bool
+    ensures { result ≡ same_mark mark held }
+{
+    match (mark, held) {
+        (None, None) => true,
+        (Some(mark), Some(held)) => mark.0 == held.0,
+        (None, Some(_)) | (Some(_), None) => false,
+    }
+}
+
+/// Whether the changer's data transfer elements from a number on are as these drives, and no more are there.
+fn agree<D: DeviceServer>(changer: &LogicalUnit<D>, drives: &[LogicalUnit<D>], from: u16) -> bool
+    requires few { from + length drives.now < 256 }
+    requires kind { kind_of changer.now.unit.device ≡ Changer }
+    requires within { from ≤ drives_of changer.now.unit.device }
+    ensures { result ≡ agree (drop from (marks changer.now.unit.device)) (units_of drives.now) }
+{
+    match drives {
+        [] => from == changer.drives(),
+        [drive, rest @ ..] => {
+            from < changer.drives()
+                && is_same_mark(changer.held(FIRST_DATA_TRANSFER + from), drive.held(0))
+                && agree(changer, rest, from + 1)
+        }
+    }
 }
 
 /// Whether units are drives numbered by place, each made with this count of units.

@@ -1,15 +1,16 @@
-ghost use Rattle.std.specs.Prelude.{◌≡◌, ◌<◌, length, slice_get, Some};
+ghost use Rattle.std.specs.Prelude.{◌≡◌, ◌<◌, ◌≤◌, [], ◌∷◌, length, slice_get, Some, None};
 ghost use Rattle.std.specs.Global.{Vec};
 ghost use Rattle.std.specs.Option.{option_map};
 ghost use Rattle.audit_log.specs.declared.record.Record.{Record};
 ghost use Rattle.logical_unit.specs.UnitView.{units_of};
-ghost use Rattle.target_core.specs.Run.{Commands, LosesAt, ResetsAt, Drains, done};
+ghost use Rattle.target_core.specs.Faults.{fault_of};
+ghost use Rattle.target_core.specs.Run.{NamesAt, Commands, LosesAt, ResetsAt, Drains, done};
 
 use crate::event::Event;
 use crate::order::{CoreFault, fault_of};
 use audit_log::Record;
 use device_server::{DeviceServer, Payload};
-use logical_unit::{Busy, LogicalUnit, Reply, absent};
+use logical_unit::{Busy, LogicalUnit, Reply, absent, move_one, move_two, named};
 use scsi_nexus::Nexus;
 use scsi_sense::Condition;
 use std::alloc::{AllocError, Global};
@@ -36,7 +37,7 @@ impl<D: DeviceServer> Model for TargetCore<D> {
     ghost invariant = { λ t. fault_of (units_of t.units.items) ≡ None };
 }
 
-/// A command to one of the units.
+/// A command to one of the drives.
 fn command_at<D: DeviceServer>(
     alloc: Global,
     units: &mut [LogicalUnit<D>],
@@ -45,10 +46,99 @@ fn command_at<D: DeviceServer>(
     cdb: &[u8],
     bytes: &[u8],
 ) -> Reply
-    requires { lun < length units.old }
+    requires within { lun < length units.old }
+    requires drive { 1 ≤ lun }
     ensures { Commands (units_of units.old) lun nexus cdb.now bytes.now (units_of units.new, result) }
 {
     units[lun].execute(alloc, nexus, cdb, bytes)
+}
+
+/// A MOVE MEDIUM at the changer that names one of the drives.
+fn move_at<D: DeviceServer>(
+    alloc: Global,
+    changer: &mut LogicalUnit<D>,
+    drives: &mut [LogicalUnit<D>],
+    lun: usize,
+    nexus: Nexus,
+    cdb: &[u8],
+    bytes: &[u8],
+) -> Reply
+    requires ordered { fault_of (units_of (changer.old ∷ drives.old)) ≡ None }
+    requires place { 1 ≤ lun }
+    requires within { lun ≤ length drives.old }
+    requires named { NamesAt (units_of (changer.old ∷ drives.old)) cdb.now (lun ∷ []) }
+    ensures { Commands (units_of (changer.old ∷ drives.old)) 0 nexus cdb.now bytes.now (units_of (changer.new ∷ drives.new), result) }
+{
+    move_one(alloc, changer, &mut drives[lun - 1], nexus, cdb, bytes).reply
+}
+
+/// A MOVE MEDIUM at the changer that names two.
+fn move_between<D: DeviceServer>(
+    alloc: Global,
+    changer: &mut LogicalUnit<D>,
+    drives: &mut [LogicalUnit<D>],
+    low: usize,
+    high: usize,
+    nexus: Nexus,
+    cdb: &[u8],
+    bytes: &[u8],
+) -> Reply
+    requires ordered { fault_of (units_of (changer.old ∷ drives.old)) ≡ None }
+    requires place { 1 ≤ low }
+    requires rising { low < high }
+    requires within { high ≤ length drives.old }
+    requires named { NamesAt (units_of (changer.old ∷ drives.old)) cdb.now (low ∷ high ∷ []) }
+    ensures { Commands (units_of (changer.old ∷ drives.old)) 0 nexus cdb.now bytes.now (units_of (changer.new ∷ drives.new), result) }
+{
+    let (lower, upper) = drives.split_at_mut(high - 1);
+    move_two(
+        alloc,
+        changer,
+        &mut lower[low - 1],
+        &mut upper[0],
+        nexus,
+        cdb,
+        bytes,
+    )
+    .reply
+}
+
+/// A command to the changer, alone or with the drives that it names.
+fn command_with_drives<D: DeviceServer>(
+    alloc: Global,
+    changer: &mut LogicalUnit<D>,
+    drives: &mut [LogicalUnit<D>],
+    nexus: Nexus,
+    cdb: &[u8],
+    bytes: &[u8],
+) -> Reply
+    requires { fault_of (units_of (changer.old ∷ drives.old)) ≡ None }
+    ensures { Commands (units_of (changer.old ∷ drives.old)) 0 nexus cdb.now bytes.now (units_of (changer.new ∷ drives.new), result) }
+{
+    let luns = named(drives.len() as u8, cdb);
+    match luns.as_slice() {
+        [] => changer.execute(alloc, nexus, cdb, bytes),
+        [lun] => move_at(alloc, changer, drives, usize::from(*lun), nexus, cdb, bytes),
+        [low, high, ..] => {
+            let (low, high) = (usize::from(*low), usize::from(*high));
+            move_between(alloc, changer, drives, low, high, nexus, cdb, bytes)
+        }
+    }
+}
+
+/// A command to the changer: a MOVE MEDIUM goes to it with the drives that it names.
+fn command_to_changer<D: DeviceServer>(
+    alloc: Global,
+    units: &mut [LogicalUnit<D>],
+    nexus: Nexus,
+    cdb: &[u8],
+    bytes: &[u8],
+) -> Reply
+    requires { fault_of (units_of units.old) ≡ None }
+    ensures { Commands (units_of units.old) 0 nexus cdb.now bytes.now (units_of units.new, result) }
+{
+    let (first, drives) = units.split_at_mut(1);
+    command_with_drives(alloc, &mut first[0], drives, nexus, cdb, bytes)
 }
 
 /// A command to a unit, or to none.
@@ -60,8 +150,12 @@ fn command_to<D: DeviceServer>(
     cdb: &[u8],
     bytes: &[u8],
 ) -> Reply
+    requires { fault_of (units_of units.old.items) ≡ None }
     ensures { Commands (units_of units.old.items) lun nexus cdb.now bytes.now (units_of units.new.items, result) }
 {
+    if lun == 0 {
+        return command_to_changer(alloc, units.as_mut_slice(), nexus, cdb, bytes);
+    }
     if lun < units.len() {
         command_at(alloc, units.as_mut_slice(), lun, nexus, cdb, bytes)
     } else {

@@ -9,6 +9,8 @@ mod command_lines;
 mod drives;
 mod every_unit;
 mod faults;
+mod full_volumes;
+mod moves;
 mod prevention;
 mod rows;
 mod targets;

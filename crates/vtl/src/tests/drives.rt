@@ -2,7 +2,7 @@
 
 use super::A;
 use super::rows::{POWER_ON, assert_output, push_lines};
-use super::targets::{changer, loaded_drive, target};
+use super::targets::{changer_marked, loaded_drive, target};
 use crate::device::Device;
 use crate::library::library;
 use crate::library_options::LibraryOptions;
@@ -37,7 +37,11 @@ fn replay_at_drive(
     script: &str,
     replies: &str,
 ) -> Result<LogicalUnit<Device>, Fail> {
-    let mut core = target(alloc, changer(alloc)?, loaded_drive(alloc, TAG)?)?;
+    let mut core = target(
+        alloc,
+        changer_marked(alloc, TAG)?,
+        loaded_drive(alloc, TAG)?,
+    )?;
     let mut whole = String::new(alloc);
     push_lines(&mut whole, 1, CONTACTS)?;
     whole.push_str(script)?;

@@ -2,7 +2,9 @@
 
 use super::empty_changer;
 use crate::device::Device;
+use changer_server::Changer;
 use device_server::DeviceServer;
+use element_map::Elements;
 use logical_unit::LogicalUnit;
 use std::alloc::{AllocError, Global};
 use std::test::Fail;
@@ -39,6 +41,16 @@ pub(super) fn loaded_drive(alloc: Global, tag: VolumeTag) -> Result<LogicalUnit<
 
 pub(super) fn changer(alloc: Global) -> Result<LogicalUnit<Device>, AllocError> {
     let server = Box::new(alloc, Device::Changer(empty_changer(alloc)?))?;
+    Ok(LogicalUnit::new(alloc, 0, 2, server))
+}
+
+/// A changer whose data transfer element has the mark of a volume.
+pub(super) fn changer_marked(alloc: Global, tag: VolumeTag) -> Result<LogicalUnit<Device>, Fail> {
+    let mut elements = Elements::new(alloc, 1, 1, 0)?;
+    if elements.mark(0x0100, Some(tag)).is_err() {
+        return Err("no mark".into());
+    }
+    let server = Box::new(alloc, Device::Changer(Changer::new(elements)))?;
     Ok(LogicalUnit::new(alloc, 0, 2, server))
 }
 

@@ -1,0 +1,143 @@
+-- Units that make a target: a changer, and then drives by place, with the marks that are true of them.
+use Rattle.std.proofs.Common.{◌≡◌, ◌≤◌, ◌<◌, ◌+◌, ◌-◌, ◌==◌, ◌&&◌, ℕ, zero, suc, Bool, true, false, List, [], ◌∷◌, length, Option, Some, None, refl, sym, ap, ◌∙◌, subst, inl, inr, arith}
+use Rattle.std.proofs.lemmas.Bool.Decides.{nat_tests}
+use Rattle.std.specs.Prelude.{cond, nat_le, nat_eq, drop, slice_get, ◌⊎◌}
+use Rattle.scsi_cdb.specs.declared.kind.Kind.{Kind}
+use Rattle.scsi_cdb.specs.declared.kind.Kind.TheVariants as kind
+use Rattle.tape_medium.specs.declared.volume.VolumeTag.{VolumeTag}
+use Rattle.device_server.specs.Marks.{marks}
+use Rattle.device_server.specs.View.{DeviceView, Drive, Changer, kind_of, drives_of, held_in}
+use Rattle.logical_unit.specs.Route.{drive_at, named}
+use Rattle.logical_unit.specs.UnitView.{UnitView, UnitWithRoom, units_of}
+use Rattle.logical_unit.proofs.NamedDrives.{HasRoute, BothNamed, has_route, drive_within, named_one, named_two}
+use Rattle.target_core.specs.Faults.{is_drive, is_changer, are_drives, is_in_order, same_mark, agree, fault_of}
+use Rattle.target_core.specs.Run.{NamesAt}
+use Rattle.target_core.specs.declared.order.CoreFault.{CoreFault}
+use Rattle.target_core.specs.declared.order.CoreFault.TheVariants.{Count, Order, Disagree}
+
+-- a conjunction, by its parts
+pub both : (a b : Bool) → (a && b) ≡ true → (a ≡ true) × (b ≡ true)
+both true b h = (refl, h)
+both false b h = absurd cc
+
+pub record IsOrdered (c : UnitView) (ds : List UnitView) : Type 0 where
+  pub some : 1 ≤ length ds
+  pub few : length ds ≤ 4
+  pub kind : kind_of c.device ≡ kind.Changer
+  pub lun : (c.kept.lun == 0) ≡ true
+  pub units : (c.kept.units == length ds + 1) ≡ true
+  pub places : are_drives ds 1 (length ds + 1) ≡ true
+  pub marked : agree (marks c.device) ds ≡ true
+
+no_fault : (count order marked : Bool) → cond count (cond order (cond marked None (Some Disagree)) (Some Order)) (Some Count) ≡ None → (count ≡ true) × (order ≡ true) × (marked ≡ true)
+no_fault true true true h = (refl, refl, refl)
+no_fault true true false h = absurd cc
+no_fault true false marked h = absurd cc
+no_fault false order marked h = absurd cc
+
+changer_is : (k : Kind) → is_changer k ≡ true → k ≡ kind.Changer
+changer_is kind.Changer h = refl
+changer_is kind.Drive h = absurd cc
+
+pub drive_is : (k : Kind) → is_drive k ≡ true → k ≡ kind.Drive
+drive_is kind.Drive h = refl
+drive_is kind.Changer h = absurd cc
+
+pub ordered : (c : UnitView) (ds : List UnitView) → fault_of (c ∷ ds) ≡ None → IsOrdered c ds
+ordered c ds h =
+    let tests = no_fault (nat_le 1 (length ds) && nat_le (length ds) 4) (is_in_order c ds (length ds + 1)) (agree (marks c.device) ds) h in
+    let count = both (nat_le 1 (length ds)) (nat_le (length ds) 4) tests.0 in
+    let order = both (is_changer (kind_of c.device)) (c.kept.lun == 0 && (c.kept.units == length ds + 1 && are_drives ds 1 (length ds + 1))) tests.1 in
+    let number = both (c.kept.lun == 0) (c.kept.units == length ds + 1 && are_drives ds 1 (length ds + 1)) order.1 in
+    let units = both (c.kept.units == length ds + 1) (are_drives ds 1 (length ds + 1)) number.1 in
+    let one = count.0 in
+    let four = count.1 in
+    record {
+      some = grind (arith, nat_tests);
+      few = grind (arith, nat_tests);
+      kind = changer_is (kind_of c.device) order.0;
+      lun = number.0;
+      units = units.0;
+      places = units.1;
+      marked = tests.2;
+    }
+
+-- as many marks as drives
+agree_length : (ms : List (Option VolumeTag)) (ds : List UnitView) → agree ms ds ≡ true → length ms ≡ length ds
+agree_length [] [] h = refl
+agree_length (m ∷ ms) (d ∷ ds) h = ap suc (agree_length ms ds (both (same_mark m (held_in d.device 0)) (agree ms ds) h).1)
+agree_length [] (d ∷ ds) h = absurd cc
+agree_length (m ∷ ms) [] h = absurd cc
+
+pub marks_length : (device : DeviceView) → kind_of device ≡ kind.Changer → length (marks device) ≡ drives_of device
+marks_length (Drive d) h = absurd cc
+marks_length (Changer e) h = refl
+
+pub has_drives : (c : UnitView) (ds : List UnitView) → IsOrdered c ds → drives_of c.device ≡ length ds
+has_drives c ds o = sym (marks_length c.device o.kind) ∙ agree_length (marks c.device) ds o.marked
+
+-- the drive at a place, with its number
+pub record IsDriveAt (d : UnitView) (place : ℕ) : Type 0 where
+  pub kind : kind_of d.device ≡ kind.Drive
+  pub lun : d.kept.lun ≡ place
+
+drive_at_place : (ds : List UnitView) (i from count : ℕ) (d : UnitView) → are_drives ds from count ≡ true → slice_get ds i ≡ Some d → IsDriveAt d (from + i)
+drive_at_place [] i from count d h there = absurd cc
+drive_at_place (z ∷ ds) zero from count d h there =
+    let is : z ≡ d = cc in
+    let k = both (is_drive (kind_of z.device)) (z.kept.lun == from && (z.kept.units == count && are_drives ds (from + 1) count)) h in
+    let l = (both (z.kept.lun == from) (z.kept.units == count && are_drives ds (from + 1) count) k.1).0 in
+    let number : z.kept.lun ≡ from = grind (arith, nat_tests) in
+    record { kind = ap (λ (u : UnitView). kind_of u.device) (sym is) ∙ drive_is (kind_of z.device) k.0; lun = ap (λ (u : UnitView). u.kept.lun) (sym is) ∙ number ∙ omega arith }
+drive_at_place (z ∷ ds) (suc i) from count d h there =
+    let k = both (is_drive (kind_of z.device)) (z.kept.lun == from && (z.kept.units == count && are_drives ds (from + 1) count)) h in
+    let l = (both (z.kept.lun == from) (z.kept.units == count && are_drives ds (from + 1) count) k.1).1 in
+    let rest = (both (z.kept.units == count) (are_drives ds (from + 1) count) l).1 in
+    let at = drive_at_place ds i (from + 1) count d rest there in
+    record { kind = at.kind; lun = at.lun ∙ omega arith }
+
+pub drive_of : (c : UnitView) (ds : List UnitView) (i : ℕ) (d : UnitView) → IsOrdered c ds → slice_get ds i ≡ Some d → IsDriveAt d (i + 1)
+drive_of c ds i d o there =
+    let at = drive_at_place ds i 1 (length ds + 1) d o.places there in
+    record { kind = at.kind; lun = at.lun ∙ omega arith }
+
+-- the drives that are named are there
+one_within : (from to : Option ℕ) (drives source destination l : ℕ) → (from ≡ Some l) ⊎ (to ≡ Some l) → from ≡ drive_at drives source → to ≡ drive_at drives destination → (1 ≤ l) × (l ≤ drives)
+one_within from to drives source destination l (inl is) f t = let w = drive_within drives source l (sym f ∙ is) in (w.0, w.1)
+one_within from to drives source destination l (inr is) f t = let w = drive_within drives destination l (sym t ∙ is) in (w.0, w.1)
+
+pub one_named : (device : DeviceView) (cdb : List ℕ) (l : ℕ) → named (drives_of device) cdb ≡ l ∷ [] → (1 ≤ l) × (l ≤ drives_of device)
+one_named device cdb l h =
+    let r = has_route device cdb l [] h in
+    one_within r.route.from r.route.to (drives_of device) r.route.source r.route.destination l (named_one r.route.from r.route.to l r.names) r.spells.from r.spells.to
+
+two_within : (from to : Option ℕ) (drives source destination l m : ℕ) → BothNamed from to l m → from ≡ drive_at drives source → to ≡ drive_at drives destination → (1 ≤ l) × (l < m) × (m ≤ drives)
+two_within from to drives source destination l m (less, inl up) f t =
+    let low = drive_within drives source l (sym f ∙ up.from_is) in
+    let high = drive_within drives destination m (sym t ∙ up.to_is) in
+    (low.0, less, high.1)
+two_within from to drives source destination l m (less, inr down) f t =
+    let high = drive_within drives source m (sym f ∙ down.from_is) in
+    let low = drive_within drives destination l (sym t ∙ down.to_is) in
+    (low.0, less, high.1)
+
+pub two_named : (device : DeviceView) (cdb : List ℕ) (l m : ℕ) (more : List ℕ) → named (drives_of device) cdb ≡ l ∷ m ∷ more → (1 ≤ l) × (l < m) × (m ≤ drives_of device)
+two_named device cdb l m more h =
+    let r = has_route device cdb l (m ∷ more) h in
+    two_within r.route.from r.route.to (drives_of device) r.route.source r.route.destination l m (named_two r.route.from r.route.to l m more r.names) r.spells.from r.spells.to
+
+-- no marks are left where there are as many drives
+pub agree_end : (ms : List (Option VolumeTag)) (k : ℕ) → k ≤ length ms → nat_eq k (length ms) ≡ agree (drop k ms) []
+agree_end [] zero h = refl
+agree_end [] (suc k) h = absurd (omega (arith, h))
+agree_end (m ∷ ms) zero h = grind arith
+agree_end (m ∷ ms) (suc k) h = let same : nat_eq (suc k) (suc (length ms)) ≡ nat_eq k (length ms) = grind (arith, nat_tests) in same ∙ agree_end ms k (omega (arith, h))
+
+pub drives_end : (device : DeviceView) (k drives : ℕ) → kind_of device ≡ kind.Changer → drives ≡ drives_of device → k ≤ drives_of device → nat_eq k drives ≡ agree (drop k (marks device)) []
+drives_end device k drives changer count within =
+    let l = marks_length device changer in
+    ap (nat_eq k) (count ∙ sym l) ∙ agree_end (marks device) k (subst (λ n. k ≤ n) (sym l) within)
+
+pub none_left : (xs : List UnitWithRoom) → length xs < 1 → units_of xs ≡ []
+none_left [] h = refl
+none_left (x ∷ xs) h = absurd (omega (arith, h))

@@ -1,0 +1,20 @@
+use Rattle.std.proofs.Common.{get_or, sym, ap, ◌∙◌, ◌∷◌}
+use Rattle.target_core.proofs.MovesInPlace.{names_at, one_within, two_within, alone_moved, empty_is, single_is, pair_is, lun_of, luns_of}
+use Rattle.target_core.proofs.target.command_with_drives.Goals as goal
+
+pub move_at-requires-clause-named : goal.move_at-requires-clause-named
+move_at-requires-clause-named g c =
+    names_at c.args.changer.now c.args.drives.now c.args.cdb.now _ c.requires
+    (sym c.named-luns.ensures ∙ sym c.as_slice.ensures.value ∙ single_is c.as_slice.result.now c.in-len1.len_at_least c.in-len1.len_below ∙ ap lun_of (sym c.from.ensures))
+
+pub move_between-requires-clause-named : goal.move_between-requires-clause-named
+move_between-requires-clause-named g c =
+    names_at c.args.changer.now c.args.drives.now c.args.cdb.now _ c.requires
+    (sym c.named-luns.ensures ∙ sym c.as_slice.ensures.value ∙ pair_is c.as_slice.result.now c.in-len2-up.len_at_least c.as_slice.ensures.fits
+    ∙ ap (λ l. luns_of l (get_or c.as_slice.result.now 1 0)) (sym c.from-low.ensures) ∙ ap (luns_of c.from-low.result) (sym c.from-high.ensures))
+
+pub returns-in-empty : goal.returns-in-empty
+returns-in-empty g c =
+    alone_moved c.args.changer.now c.execute.new.self c.args.drives.now c.args.nexus c.args.cdb.now c.args.bytes.now c.execute.result
+    (names_at c.args.changer.now c.args.drives.now c.args.cdb.now _ c.requires (sym c.named-luns.ensures ∙ sym c.as_slice.ensures.value ∙ empty_is c.as_slice.result.now c.in-empty.len_below))
+    c.execute.ensures.unit

@@ -1,0 +1,19 @@
+use Rattle.std.proofs.Common.{◌≡◌, ◌-◌, ◌+◌, ◌<◌, ◌++◌, length, refl, sym, ap, ◌∙◌, subst, arith}
+use Rattle.std.specs.Prelude.{slice_index_or, slice_set}
+use Rattle.logical_unit.specs.UnitView.{UnitWithRoom}
+use Rattle.target_core.proofs.MovesInPlace.{asked_in_parts, moved_in_parts}
+use Rattle.target_core.proofs.target.move_between.Goals as goal
+
+pub move_two-requires : goal.move_two-requires
+move_two-requires g c =
+    let parts = c.split_at_mut-lower.result in
+    record {
+      named = asked_in_parts c.args.changer.now c.args.drives.now parts.0.now parts.1.now c.args.cdb.now c.args.low c.args.high c.index-lower-low.result c.index-upper-0.result c.requires.ordered c.split_at_mut-lower.ensures.value
+          c.split_at_mut-lower.ensures.front_len c.requires.place c.requires.rising c.requires.within c.requires.named;
+    }
+
+pub returns : goal.returns
+returns g c =
+    let parts = c.split_at_mut-lower.result in
+    moved_in_parts c.args.changer.now c.args.drives.now parts.0.now parts.1.now c.args.nexus c.args.cdb.now c.args.bytes.now c.args.low c.args.high c.index-lower-low.result c.index-upper-0.result
+    c.move_two.new.changer c.move_two.new.low c.move_two.new.high c.move_two.result.reply c.requires.ordered c.split_at_mut-lower.ensures.value c.split_at_mut-lower.ensures.front_len c.requires.place c.requires.rising c.requires.within c.requires.named c.move_two.ensures.units
