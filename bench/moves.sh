@@ -28,7 +28,7 @@ END
 instructions() {
     valgrind --tool=callgrind --callgrind-out-file=/dev/null "$program" replay --drives 4 --slots "$1" --volumes "$1" \
         <"$work/$2" 2>"$work/counted" >"$work/lines"
-    if grep -q "^02 7000[^6]" "$work/lines"; then
+    if grep -q "^02 70000[^6]" "$work/lines"; then
         echo "a move was refused" >&2
         exit 1
     fi
