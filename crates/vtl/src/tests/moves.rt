@@ -29,12 +29,12 @@ const TWO_DRIVES: LibraryOptions = LibraryOptions {
     volumes: 2,
 };
 
-/// Replays lines `NEXUS LUN CDB [DATA]`, NEXUS the last digit of a SAS address at port 1, in a library of these
-/// options, and compares the whole output.
+/// Replays lines `NEXUS LUN CDB [DATA]`, NEXUS the last digit of a SAS address at port 1, in a library, and
+/// compares the whole output.
 fn assert_run(
     rt: &impl Abort,
     alloc: Global,
-    options: &LibraryOptions,
+    core: &mut TargetCore<Device>,
     audit: Audit,
     lines: &str,
     expected: &str,
@@ -46,8 +46,7 @@ fn assert_run(
     }
     let mut reader = script.as_str().as_bytes();
     let mut output = Vec::new(alloc);
-    let mut core = library(alloc, options)?;
-    replay(alloc, &mut core, &mut reader, &mut output, audit, 9)?;
+    replay(alloc, core, &mut reader, &mut output, audit, 9)?;
     assert_eq!(rt; output.as_slice(), expected.as_bytes());
     Ok(())
 }
@@ -57,7 +56,7 @@ fn moves_stop_at_a_full_element_and_at_prevention(rt: HostRuntime) -> Result<(),
     assert_run(
         &rt,
         rt.alloc(),
-        &TWO_VOLUMES,
+        &mut library(rt.alloc(), &TWO_VOLUMES)?,
         Audit::Lines,
         "a 0 000000000000\n\
          b 1 000000000000\n\
@@ -96,7 +95,7 @@ fn a_drives_reservation_does_not_govern_the_changer(rt: HostRuntime) -> Result<(
     assert_run(
         &rt,
         rt.alloc(),
-        &TWO_DRIVES,
+        &mut library(rt.alloc(), &TWO_DRIVES)?,
         Audit::Lines,
         "a 1 000000000000\n\
          b 0 000000000000\n\
@@ -130,7 +129,14 @@ fn a_drives_reservation_does_not_govern_the_changer(rt: HostRuntime) -> Result<(
 
 #[test]
 fn a_tour_of_moves(rt: HostRuntime) -> Result<(), Fail> {
-    assert_run(&rt, rt.alloc(), &TWO_DRIVES, Audit::Off, TOUR, TOUR_REPLIES)
+    assert_run(
+        &rt,
+        rt.alloc(),
+        &mut library(rt.alloc(), &TWO_DRIVES)?,
+        Audit::Off,
+        TOUR,
+        TOUR_REPLIES,
+    )
 }
 
 /// A volume to each drive, one out to the import/export element, one from drive to drive and to a shelf, and what is
@@ -164,7 +170,7 @@ fn a_backup_of_three_blocks_that_another_host_cannot_touch(rt: HostRuntime) -> R
     assert_run(
         &rt,
         rt.alloc(),
-        &LibraryOptions::USUAL,
+        &mut library(rt.alloc(), &LibraryOptions::USUAL)?,
         Audit::Off,
         BACKUP,
         BACKUP_REPLIES,
