@@ -1,4 +1,4 @@
-ghost use Rattle.std.specs.Prelude.{◌≡◌, ◌<◌};
+ghost use Rattle.std.specs.Prelude.{◌≡◌, ◌<◌, ◌↔◌, IsTrue};
 ghost use Rattle.scsi_sense.specs.Bits.{bit, flag};
 
 use crate::condition::Condition;
@@ -119,6 +119,34 @@ impl Sense {
             asc: bytes[ADDITIONAL_SENSE_CODE],
             ascq: bytes[ADDITIONAL_SENSE_CODE_QUALIFIER],
         })
+    }
+
+    /// Whether it is the same sense data, field by field.
+    pub fn is(&self, other: &Sense) -> bool
+        ensures { IsTrue result ↔ (self.now ≡ other.now) }
+    {
+        if self.valid != other.valid {
+            return false;
+        }
+        if self.filemark != other.filemark {
+            return false;
+        }
+        if self.eom != other.eom {
+            return false;
+        }
+        if self.ili != other.ili {
+            return false;
+        }
+        if self.key != other.key {
+            return false;
+        }
+        if self.information != other.information {
+            return false;
+        }
+        if self.asc != other.asc {
+            return false;
+        }
+        self.ascq == other.ascq
     }
 
     fn with(key: u8, asc: u8, ascq: u8) -> Sense

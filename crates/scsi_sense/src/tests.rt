@@ -10,6 +10,8 @@ fn writes_and_reads_what_a_host_gets(rt: HostRuntime) {
     let sense = Sense::of(Condition::PowerOnOrResetOccurred);
     assert_eq!(rt; sense.to_bytes().as_slice(), FIRST_CONTACT.as_slice());
     assert_eq!(rt; Sense::from_bytes(FIRST_CONTACT), Ok(sense));
+    assert!(rt; sense.is(&Sense::of(Condition::PowerOnOrResetOccurred)));
+    assert!(rt; !sense.is(&Sense::of(Condition::NexusLossOccurred)));
     assert_eq!(rt;
         Sense::from_bytes(&FIRST_CONTACT[..17]),
         Err(SenseFault::Short)
