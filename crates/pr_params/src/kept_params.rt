@@ -1,7 +1,8 @@
-ghost use Rattle.std.specs.Prelude.{◌≡◌, IfOk};
+ghost use Rattle.std.specs.Prelude.{◌≡◌, ◌≤◌, length, IfOk};
 
 use crate::list_fault::ListDefect;
 use crate::out_params::OutParams;
+use arrayvec::ArrayVec;
 use scsi_cdb::OutServiceAction;
 use scsi_nexus::Nexus;
 use std::alloc::{AllocError, Global};
@@ -27,6 +28,7 @@ struct Kept {
     all_ports: bool,
     listed: bool,
     targets: Vec<u64>,
+    ghost room: { length targets.items ≤ 256 },
 }
 
 impl Model for KeptParams {
@@ -77,5 +79,27 @@ impl KeptParams {
         ensures { result ≡ self.now.act }
     {
         self.kept.act
+    }
+
+    /// The command with room for as many addresses as a list may name.
+    pub fn open(&self) -> OutParams
+        ensures { result ≡ self.now }
+    {
+        let kept = &*self.kept;
+        let mut targets = ArrayVec::new();
+        let copied = targets.try_extend_from_slice(kept.targets.as_slice());
+        prove!(copied.is_ok());
+        OutParams {
+            rk: kept.rk,
+            sark: kept.sark,
+            dest: kept.dest,
+            act: kept.act,
+            scope_type: kept.scope_type,
+            unreg: kept.unreg,
+            defect: kept.defect,
+            all_ports: kept.all_ports,
+            listed: kept.listed,
+            targets,
+        }
     }
 }

@@ -137,6 +137,7 @@ fn keeps_a_command_with_its_addresses(rt: HostRuntime) -> Result<(), Fail> {
     assert!(rt; params.targets.try_push(0x5000_0000_0000_000c).is_ok());
     let kept = params.keep(rt.alloc())?;
     assert_eq!(rt; kept.act(), OutServiceAction::Register);
+    assert_eq!(rt; kept.open(), params);
     let text = format!(in rt.alloc(); "{kept:?}")?;
     assert!(rt; text.contains("sark: 7"));
     assert!(rt; text.contains("targets: [5764607523034234892]"));
