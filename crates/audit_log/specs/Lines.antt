@@ -1,11 +1,13 @@
 -- Records as lines of text (profile).
-use Rattle.std.specs.Prelude.{ℕ, List, ◌++◌, codes, Option, Some, None}
+use Rattle.std.specs.Prelude.{ℕ, List, ◌++◌, codes, Option, Some, None, if◌then◌else◌}
 use Rattle.std.specs.Fmt.{decimal}
 use Rattle.std.specs.Int.{w64, to_be_bytes}
 use Rattle.scsi_cdb.specs.Classes.{class_of_action}
 use Rattle.scsi_sense.specs.Status.{status_code}
 use Rattle.scsi_nexus.specs.declared.nexus.Nexus.{Nexus}
-use Rattle.permit_tables.specs.Text.{class_name, cell_text}
+use Rattle.permit_tables.specs.declared.res_type.ResType.{ResType}
+use Rattle.permit_tables.specs.Types.{is_all_registrants}
+use Rattle.permit_tables.specs.Text.{class_name, type_name, cell_text}
 use Rattle.permit_tables.specs.declared.cell.Cell.{Cell}
 use Rattle.pr_core.specs.declared.key_rule.KeyRule.{KeyRule}
 use Rattle.pr_core.specs.declared.key_rule.KeyRule.TheVariants.{K1, K2, K3, K4, K5, K6}
@@ -41,6 +43,13 @@ rule_text (Some K3) = codes "K3"
 rule_text (Some K4) = codes "K4"
 rule_text (Some K5) = codes "K5"
 rule_text (Some K6) = codes "K6"
+
+-- the reservation that stood: `-`, or TYPE/SAS.PORT, or TYPE/ALL under an all registrants type
+abbrev pub reservation_text : Option (ResType × Nexus) → List ℕ
+reservation_text None = codes "-"
+reservation_text (Some r) =
+    type_name r.0 ++ codes "/"
+    ++ (if is_all_registrants r.0 then codes "ALL" else nexus_text (Some r.1))
 
 -- NUMBER NEXUS WHAT STAGE CELL RULE STATUS
 unfoldable pub line_of : Record → List ℕ

@@ -1,6 +1,7 @@
-ghost use Rattle.std.specs.Prelude.{◌≡◌, codes};
+ghost use Rattle.std.specs.Prelude.{◌≡◌, Some, None, codes};
+ghost use Rattle.permit_tables.specs.declared.res_type.ResType.TheVariants.{We, Earo, Wear, Eaar};
 ghost use Rattle.audit_log.specs.TrailView.{CountsUp};
-ghost use Rattle.audit_log.specs.Lines.{line_of};
+ghost use Rattle.audit_log.specs.Lines.{line_of, reservation_text};
 ghost use Rattle.audit_log.specs.Rows.{first_contact, ready, wrong_key, lost, was_reset, taken_out, brought_in, medium_changed, refused_field, unknown_opcode};
 
 /// Worked rows: records and their lines.
@@ -22,6 +23,19 @@ pub fn line_rows()
         ≡ codes "10 5000c500112233ff.2 REGISTER 5 REGISTER/WERO/REGISTERED - 02" }
     ensures unknown_opcode { line_of unknown_opcode
         ≡ codes "1 500000000000000a.1 INVALID 1 - - 02" }
+{}
+
+/// Worked rows: reservations of a nexus, as they are written behind a line.
+pub fn reservation_rows()
+    ensures none { reservation_text None ≡ codes "-" }
+    ensures exclusive { reservation_text (Some (We, record { sas = 0x500000000000000A; port = 1 }))
+        ≡ codes "WE/500000000000000a.1" }
+    ensures registrants_only { reservation_text (Some (Earo, record { sas = 0x5000C500112233FF; port = 4 }))
+        ≡ codes "EARO/5000c500112233ff.4" }
+    ensures all_registrants { reservation_text (Some (Wear, record { sas = 0x500000000000000A; port = 1 }))
+        ≡ codes "WEAR/ALL" }
+    ensures exclusive_all { reservation_text (Some (Eaar, record { sas = 0x500000000000000A; port = 1 }))
+        ≡ codes "EAAR/ALL" }
 {}
 
 /// Law: in a trail the number of each record is told by its place, counted from the last number

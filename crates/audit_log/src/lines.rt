@@ -1,10 +1,10 @@
 ghost use Rattle.std.specs.Prelude.{◌≡◌, ◌++◌, IfOk, OnOk, OnErr, string_bytes};
-ghost use Rattle.audit_log.specs.Lines.{line_of, nexus_text, cell_text_or_dash, rule_text, act_text};
+ghost use Rattle.audit_log.specs.Lines.{line_of, nexus_text, cell_text_or_dash, rule_text, act_text, reservation_text};
 
 use crate::act::Act;
 use crate::hexadecimal::write_hex;
 use crate::record::Record;
-use permit_tables::{Cell, class_text};
+use permit_tables::{Cell, ResType, class_text};
 use pr_core::KeyRule;
 use scsi_nexus::Nexus;
 use std::alloc::{AllocError, Global};
@@ -56,6 +56,27 @@ fn write_nexus(text: &mut String, nexus: Option<Nexus>) -> Result<(), AllocError
         Some(Nexus { sas, port }) => {
             write_hex(text, sas.to_be_bytes().as_slice())?;
             write!(text, ".{port}")
+        }
+    }
+}
+
+/// Adds the reservation that stood: a dash where none did, or its type, a slash and its holder, or
+/// `ALL` in the holder's place under an all registrants type (profile).
+pub fn write_reservation(
+    text: &mut String,
+    held: Option<(ResType, Nexus)>,
+) -> Result<(), AllocError>
+    ensures { OnOk result (string_bytes text.new ≡ string_bytes text.old ++ reservation_text held) }
+{
+    match held {
+        None => text.push_str("-"),
+        Some((res_type, nexus)) => {
+            write!(text, "{res_type}/")?;
+            if res_type.is_all_registrants() {
+                text.push_str("ALL")
+            } else {
+                write_nexus(text, Some(nexus))
+            }
         }
     }
 }

@@ -178,3 +178,15 @@ fn only_commands_have_a_class(rt: HostRuntime) -> Result<(), Fail> {
     }
     Ok(())
 }
+
+#[test]
+fn reservation_as_text(rt: HostRuntime) -> Result<(), AllocError> {
+    let mut text = String::new(rt.alloc());
+    write_reservation(&mut text, None)?;
+    text.push_str(" ")?;
+    write_reservation(&mut text, Some((ResType::We, A)))?;
+    text.push_str(" ")?;
+    write_reservation(&mut text, Some((ResType::Wear, A)))?;
+    assert_eq!(rt; text.as_str(), "- WE/500000000000000a.1 WEAR/ALL");
+    Ok(())
+}
