@@ -1,8 +1,9 @@
 //! The changer.
 
-ghost use Rattle.std.specs.Prelude.{◌≡◌, IfOk, OnErr, take};
+ghost use Rattle.std.specs.Prelude.{◌≡◌, false, IfOk, OnErr, take};
 ghost use Rattle.tape_medium.specs.Elements.{move_refusal};
 ghost use Rattle.device_server.specs.Changer.{carried, changer_step};
+ghost use Rattle.device_server.specs.Volumes.{is_move};
 
 use crate::faults::{move_condition, put_fault, take_fault};
 use crate::mode::mode_data;
@@ -40,6 +41,7 @@ impl Changer {
     fn step(&mut self, alloc: Global, request: &Request) -> Result<Outcome, AllocError>
         ensures ok { IfOk result (λ outcome. changer_step self.old request.now ≡ (self.new, outcome)) }
         ensures err { OnErr result (self.new ≡ self.old) }
+        ensures want { OnErr result (is_move request.now ≡ false) }
     {
         match request {
             Request::TestUnitReady | Request::InitializeElementStatus => {

@@ -5,3 +5,4 @@ pub mod MarkLemmas
 pub mod TapeLemmas
 pub mod PlaceLemmas
 pub mod MoveLemmas
+pub mod FailureLemmas

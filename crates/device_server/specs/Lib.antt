@@ -12,3 +12,5 @@ pub mod Marks
 pub mod MarkRows
 pub mod Volumes
 pub mod VolumeRows
+pub mod Failures
+pub mod FailureRows

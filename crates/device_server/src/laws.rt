@@ -126,3 +126,18 @@ pub fn volumes_go_in_and_out()
     ensures puts { PutsOne }
     ensures marks { MarksMoveNothing }
 {}
+
+ghost use Rattle.device_server.specs.FailureRows.{FailuresOfAChanger};
+ghost use Rattle.device_server.specs.Failures.{DrivesNeverFail, ChangersFailForDrives};
+
+/// Which sense data tells of an internal target failure, and the moves that a changer leaves to drives.
+pub fn failures_of_a_changer()
+    ensures { (a b : VolumeTag) → FailuresOfAChanger a b }
+{}
+
+/// Law: no drive ends a command by 44h/00h, and a changer just a MOVE MEDIUM that its map and marks don't refuse and that takes a volume
+/// out of a drive or into one.
+pub fn fails_only_for_drives()
+    ensures drives { DrivesNeverFail }
+    ensures changers { ChangersFailForDrives }
+{}

@@ -9,7 +9,8 @@ use tape_medium::{Volume, VolumeTag};
 /// A drive has one place, 0, its bay. The places of a changer are its elements, by their addresses: storage and import/export elements
 /// hold volumes, data transfer elements have the tag of the volume in their drive.
 pub trait DeviceServer: Drop {
-    ghost use Rattle.std.specs.Prelude.{◌≡◌, Ok, Err, IfOk, OnOk, OnErr, IfErr};
+    ghost use Rattle.std.specs.Prelude.{◌≡◌, false, Ok, Err, IfOk, OnOk, OnErr, IfErr};
+    ghost use Rattle.device_server.specs.Volumes.{is_move};
     ghost use Rattle.device_server.specs.View.{DeviceView, kind_of, drives_of, held_in, performed, taken, put, marked, reset_of};
 
     ghost shown: { Self → DeviceView };
@@ -27,7 +28,7 @@ pub trait DeviceServer: Drop {
         ensures { result ≡ held_in (shown self.now) place };
 
     /// Carries out a command, with the data sent with it. Fields that are refused change nothing, and neither does want of memory. An
-    /// allocation length has cut the data.
+    /// allocation length has cut the data. A MOVE MEDIUM takes no memory.
     fn perform(
         &mut self,
         alloc: Global,
@@ -35,7 +36,8 @@ pub trait DeviceServer: Drop {
         bytes: &[u8],
     ) -> Result<Outcome, AllocError>
         ensures ok { IfOk result (λ outcome. performed (shown self.old) request.now bytes.now ≡ (shown self.new, outcome)) }
-        ensures err { OnErr result (shown self.new ≡ shown self.old) };
+        ensures err { OnErr result (shown self.new ≡ shown self.old) }
+        ensures want { OnErr result (is_move request.now ≡ false) };
 
     /// Takes a volume out. A refusal changes nothing.
     fn take_volume(&mut self, place: u16) -> Result<Volume, TakeFault>

@@ -1,10 +1,11 @@
 //! The drive, and its commands by what they need of the bay.
 
-ghost use Rattle.std.specs.Prelude.{◌≡◌, None, IfOk, OnErr};
+ghost use Rattle.std.specs.Prelude.{◌≡◌, false, None, IfOk, OnErr};
 ghost use Rattle.scsi_cdb.specs.declared.kind.Kind.TheVariants as kind;
 ghost use Rattle.device_server.specs.Fields.{field_fault_of, mode_select_fault};
 ghost use Rattle.device_server.specs.Mode.{block_length_after};
 ghost use Rattle.device_server.specs.Drive.{on_tape};
+ghost use Rattle.device_server.specs.Volumes.{is_move};
 
 use crate::mode::{block_length_after, mode_data};
 use crate::positioning::{locate, position_data, space};
@@ -60,6 +61,7 @@ impl TapeDrive {
         requires { field_fault_of kind.Drive request.now bytes.now ≡ None }
         ensures ok { IfOk result (λ outcome. drive_step self.old request.now bytes.now ≡ (self.new, outcome)) }
         ensures err { OnErr result (self.new ≡ self.old) }
+        ensures want { OnErr result (is_move request.now ≡ false) }
     {
         match request {
             Request::ReadBlockLimits => {
@@ -151,6 +153,7 @@ impl TapeDrive {
     ) -> Result<Outcome, AllocError>
         ensures ok { IfOk result (λ outcome. in_bay self.old self.old.bay request.now bytes.now ≡ (self.new, outcome)) }
         ensures err { OnErr result (self.new ≡ self.old) }
+        ensures want { OnErr result (is_move request.now ≡ false) }
     {
         match &mut self.bay {
             None => Ok(Outcome::check(alloc, Condition::MediumNotPresent)),
@@ -267,6 +270,7 @@ fn on_tape(
 ) -> Result<Outcome, AllocError>
     ensures ok { IfOk result (λ outcome. on_tape block_length protected tape.old request.now bytes.now ≡ (tape.new, outcome)) }
     ensures err { OnErr result (tape.new ≡ tape.old) }
+    ensures want { OnErr result (is_move request.now ≡ false) }
 {
     match request {
         Request::TestUnitReady => Ok(Outcome::good(Payload::none(alloc))),

@@ -1,0 +1,31 @@
+-- Which devices end which commands by INTERNAL TARGET FAILURE, 44h/00h (SPC-4, "Sense key and additional sense code definitions"): no drive
+-- any, and a changer just a MOVE MEDIUM that its map and marks don't refuse and that takes a volume out of a drive or into one.
+use Rattle.std.specs.Prelude.{◌≡◌, ℕ, ◌==◌, ◌&&◌, ◌||◌, not, Bool, true, false, List, Option, Some, None, is_none}
+use Rattle.scsi_cdb.specs.declared.request.Request.{Request}
+use Rattle.scsi_cdb.specs.declared.request.Request.TheVariants.{MoveMedium}
+use Rattle.scsi_sense.specs.declared.sense.Sense.{Sense}
+use Rattle.tape_medium.specs.Elements.{Elements, Element, DataTransfer, element_at, move_refusal}
+use Rattle.device_server.specs.Drive.{DriveView}
+use Rattle.device_server.specs.View.{Drive, Changer, performed}
+
+-- whether sense data tells of one, by the additional sense code
+abbrev pub is_failure : Option Sense → Bool
+is_failure None = false
+is_failure (Some sense) = sense.asc == 0x44
+
+-- whether an element is a drive's
+abbrev pub is_data_transfer : Element → Bool
+is_data_transfer (DataTransfer i) = true
+is_data_transfer at = false
+
+-- whether a command is a move that nothing refuses, but that isn't one for the changer alone
+abbrev pub is_for_drives : Elements → Request → Bool
+is_for_drives e (MoveMedium transport source destination invert) =
+    not invert && (is_none (move_refusal e transport source destination) && (is_data_transfer (element_at e source) || is_data_transfer (element_at e destination)))
+is_for_drives e request = false
+
+abbrev pub DrivesNeverFail : Type 0
+DrivesNeverFail = (d : DriveView) (request : Request) (bytes : List ℕ) → is_failure (performed (Drive d) request bytes).1.sense ≡ false
+
+abbrev pub ChangersFailForDrives : Type 0
+ChangersFailForDrives = (e : Elements) (request : Request) (bytes : List ℕ) → is_failure (performed (Changer e) request bytes).1.sense ≡ is_for_drives e request
