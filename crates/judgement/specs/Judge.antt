@@ -19,6 +19,7 @@ use Rattle.pr_core.specs.declared.verdict.Verdict.TheVariants.{Allowed, Denied, 
 use Rattle.audit_log.specs.declared.stage.Stage.{Stage}
 use Rattle.audit_log.specs.declared.stage.Stage.TheVariants.{Spelling, ResetAttention, OtherAttention, Fields, Device}
 use Rattle.device_server.specs.View.{DeviceView, kind_of, field_fault, performed}
+use Rattle.device_server.specs.Volumes.{is_move}
 use Rattle.device_server.specs.declared.outcome.Outcome.{Outcome}
 use Rattle.unit_commands.specs.declared.command.Command.{Command}
 use Rattle.unit_commands.specs.declared.command.Command.TheVariants as command
@@ -159,10 +160,11 @@ is_carried_out u n command =
     is_none (waiting (class_of_command command) (first_reset_of u.kept.slots n))
     && (is_allowed_by (verdict_of u.kept.reservations n command) && is_none (waiting (class_of_command command) (first_other_of u.kept.slots n)))
 
--- whether a command's own rules may take memory: PREVENT ALLOW MEDIUM REMOVAL and PERSISTENT RESERVE OUT take none
+-- whether a command's own rules may take memory: PREVENT ALLOW MEDIUM REMOVAL, PERSISTENT RESERVE OUT and MOVE MEDIUM take none
 abbrev pub asks_memory : Command → Bool
 asks_memory (Prevent prevent) = false
 asks_memory (ReserveOut params) = false
+asks_memory (command.Device request) = not (is_move request)
 asks_memory command = true
 
 -- whether a command that is judged may take memory beside the room for its record: a parameter list of PERSISTENT RESERVE OUT is kept, and

@@ -1,7 +1,8 @@
-ghost use Rattle.std.specs.Prelude.{◌≡◌, ◌&&◌, true, None, is_none, OnErr, IfOk};
+ghost use Rattle.std.specs.Prelude.{◌≡◌, ◌&&◌, true, false, None, is_none, OnErr, IfOk};
 ghost use Rattle.unit_attention.specs.Queues.{first_reset_of, first_other_of};
 ghost use Rattle.pr_core.specs.declared.verdict.Verdict.TheVariants.{Allowed};
 ghost use Rattle.device_server.specs.View.{kind_of};
+ghost use Rattle.device_server.specs.Volumes.{is_move};
 ghost use Rattle.unit_state.specs.Kept.{has_room, met};
 ghost use Rattle.pr_core.specs.Judge.{verdict};
 ghost use Rattle.judgement.specs.Findings.{at_stage};
@@ -143,6 +144,7 @@ fn perform<D: DeviceServer>(
     requires { has_room kept.old nexus ≡ true }
     ensures ok { IfOk result (λ it. performs (record { device = D.shown server.old.value; kept = met kept.old nexus }) nexus request.now bytes.now ≡ (record { device = D.shown server.new.value; kept = kept.new }, it.0, it.1)) }
     ensures err { OnErr result ((D.shown server.new.value ≡ D.shown server.old.value) × (kept.new ≡ kept.old)) }
+    ensures want { OnErr result (is_move request.now ≡ false) }
 {
     if let Some(condition) = field_fault(server.kind(), request, bytes) {
         kept.meet(nexus);

@@ -1,6 +1,6 @@
 -- What judgement at a changer leaves to the drives: nothing stood before the command, nothing has changed, and any whole answer may end it.
 use Rattle.std.proofs.Common.{◌≡◌, ℕ, Bool, true, false, List, Option, Some, None, Result, Ok, Err, refl, sym, ap, ◌∙◌, subst, inr}
-use Rattle.std.specs.Prelude.{cond, ◌&&◌, is_none, is_some, [], ◌∷◌}
+use Rattle.std.specs.Prelude.{cond, is_some, [], ◌∷◌}
 use Rattle.std.specs.FinMap.{put}
 use Rattle.scsi_nexus.specs.Order.{nexus_cmp}
 use Rattle.scsi_cdb.specs.declared.classes.Class.TheVariants.{MoveMedium}
@@ -42,7 +42,7 @@ use Rattle.unit_state.specs.Readings.{verdict_of}
 use Rattle.unit_attention.proofs.Contact.{first_reset_new}
 use Rattle.judgement.specs.Findings.{at_stage, at_device, in_cell, let_in, in_conflict}
 use Rattle.judgement.specs.declared.finding.Finding.{Finding}
-use Rattle.judgement.specs.Judge.{waiting, cell_of, tells, at_cell, carried_out, let_through, checked, commanded, judged_as, takes_memory, is_allowed_by}
+use Rattle.judgement.specs.Judge.{waiting, cell_of, tells, at_cell, carried_out, let_through, checked, commanded, judged_as}
 use Rattle.judgement.specs.Present.{Present}
 use Rattle.logical_unit.specs.Begun.{Spells, HasWays, AwaitsEnd}
 use Rattle.logical_unit.specs.Legal.{IsCommand, IsChecked, IsLetThrough, Says, SaysItsOwn}
@@ -210,19 +210,12 @@ module _ (device : DeviceView) (k : KeptView) (n : Nexus) (t s d : ℕ) (i : Boo
     kept = λ m status sense. same;
   }
 
-  memory : GoesOn unit n move → takes_memory unit n (Ok move) ≡ true
-  memory goes =
-      ap (λ (o : Option Kind). is_none o && (is_allowed_by (verdict_of unit.kept.reservations n move) && is_none (waiting (class_of_command move) (first_other_of unit.kept.slots n)))) goes.ready
-      ∙ ap (λ (v : Verdict). is_allowed_by v && is_none (waiting (class_of_command move) (first_other_of unit.kept.slots n))) goes.allowed
-      ∙ ap (λ (o : Option Kind). is_none o) goes.clear
-
 -- what is left, with nothing changed
 pub record Opens (device : DeviceView) (k : KeptView) (n : Nexus) (cdb bytes : List ℕ) (r : Route) (a : Act) (after : Present) (f : Finding) (x : Present × Finding × Reply) : Type 0 where
   pub left : is_left x.2.sense ≡ true
   pub present : x.0 ≡ record { device = device; kept = k }
   pub finding : x.1 ≡ f
   pub same : after ≡ record { device = device; kept = k }
-  pub memory : takes_memory (record { device = device; kept = met k n }) n (spelled (kind_of device) cdb bytes) ≡ true
   pub awaits : AwaitsEnd k n a f
   pub ways : HasWays device r
 
@@ -249,7 +242,6 @@ opens (Changer e) k n cdb bytes r s a after f reply changer spells room spelt as
       present = ap (λ (x : Present × Finding × Reply). x.0) (at_changer ∙ answer) ∙ ap (λ (v : KeptView). record { device = Changer e; kept = v }) met_is;
       finding = ap (λ (x : Present × Finding × Reply). x.1) (at_changer ∙ judged_is);
       same = sym (ap (λ (x : Present × Finding × Reply). x.0) judged_is) ∙ ap (λ (x : Present × Finding × Reply). x.0) answer ∙ ap (λ (v : KeptView). record { device = Changer e; kept = v }) met_is;
-      memory = ap (λ (x : Result Command Condition). takes_memory u n x) is ∙ memory (Changer e) k n spells.transport r.source r.destination spells.invert own.goes_on;
       awaits = subst (λ (x : Act). AwaitsEnd k n x f) asked_is (subst (λ (x : Finding). AwaitsEnd k n (act.Command MoveMedium) x) finding_is (awaits (Changer e) k n spells.transport r.source r.destination spells.invert own.goes_on room met_is));
       ways = has_ways e spells.transport r by.free spells.from spells.to;
     }

@@ -9,6 +9,12 @@ pub mod Halves
 pub mod Moved
 pub mod SameUnits
 pub mod Numbers
+pub mod EndsOf
+pub mod Quiet
+pub mod Contents
+pub mod Outsiders
 pub mod Executed
 pub mod Conflicts
 pub mod Shown
+pub mod MoveBusy
+pub mod Replay

@@ -1,5 +1,5 @@
 -- The numbers of the records that a move leaves.
-use Rattle.std.proofs.Common.{◌≡◌, ℕ, ◌+◌, ◌==◌, List, [], ◌∷◌, ◌++◌, Option, Some, None, Ok, refl, sym, ap, ◌∙◌, subst, inl, inr, arith}
+use Rattle.std.proofs.Common.{◌≡◌, ℕ, ◌+◌, ◌==◌, List, [], ◌∷◌, ◌++◌, Option, Some, None, Ok, refl, sym, ap, ◌∙◌, inl, inr, arith}
 use Rattle.std.proofs.lemmas.Grind.{common_steps}
 use Rattle.std.proofs.lemmas.List.{append-nil}
 use Rattle.std.specs.Prelude.{◌⊎◌, cond}
@@ -20,10 +20,9 @@ use Rattle.logical_unit.specs.declared.begun.Halt.{Halt}
 use Rattle.logical_unit.specs.declared.begun.Halt.TheVariants.{Refused, Busy}
 use Rattle.logical_unit.specs.Medium.{taken_out, put_in}
 use Rattle.logical_unit.specs.Move.{numbers_of, judged_at}
-use Rattle.logical_unit.specs.Step.{IsBusyOnlyFor, recorded, entry_of, event_of, with_entry}
+use Rattle.logical_unit.specs.Step.{recorded, entry_of, event_of, with_entry}
 use Rattle.logical_unit.specs.UnitView.{UnitView, UnitWithRoom, last_number}
 use Rattle.logical_unit.proofs.Halves.{is_out, is_in}
-use Rattle.logical_unit.proofs.History.{answers_no_busy}
 
 -- a record more
 entry_last : (u : UnitView) (now : Present) (e : Record) → last_number (with_entry u now e) ≡ last_number u + 1
@@ -46,11 +45,6 @@ none_more u v h = grind (arith, common_steps)
 
 pub one_more : (u v : UnitView) → last_number v ≡ last_number u + 1 → numbers_of u v ≡ (u.kept.lun, last_number u + 1) ∷ []
 one_more u v h = grind (arith, common_steps)
-
--- what the changer answered
-pub answered_busy : (x y : UnitWithRoom) (n : Nexus) (cdb bytes : List ℕ) (reply : Reply) → IsPutOff x y n cdb bytes reply ⊎ IsEnded x y n cdb bytes reply → IsBusyOnlyFor x n cdb bytes reply
-answered_busy x y n cdb bytes reply (inl off) = subst (λ (r : Reply). IsBusyOnlyFor x n cdb bytes r) (sym off.refuses) off.only
-answered_busy x y n cdb bytes reply (inr ended) = λ is. absurd (answers_no_busy x.unit n cdb bytes (ap (λ (z : UnitView × Reply). z.1.status) ended.answer.answer ∙ is))
 
 -- the number on a receipt
 abbrev pub noted : (lun : ℕ) → Reply → List (ℕ × ℕ)

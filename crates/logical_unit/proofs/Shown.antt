@@ -120,7 +120,8 @@ list_leaves Fields k n p class CheckCondition changed h = refl
 list_leaves Fields k n p class Busy changed h = refl
 list_leaves Fields k n p class ReservationConflict changed h = refl
 
-one_shows : (k : KeptView) (nexus : Option Nexus) (act : Act) (e : Record) → IsJudgedAs k nexus act e
+-- one record
+pub one_shows : (k : KeptView) (nexus : Option Nexus) (act : Act) (e : Record) → IsJudgedAs k nexus act e
     → (left_as k nexus act e.stage e.status e.mode_changed).reservations ≡ after_history k.reservations (accepted_of nexus act e.status)
 one_shows k (Some n) (Command class) e j = listless_leaves e.stage (met k n) n class e.status e.mode_changed
 one_shows k (Some n) (ReserveOut p) e j = list_leaves e.stage (met k n) n p (class_of_action p.act) e.status e.mode_changed (commanded (met k n) n p (class_of_action p.act) e j.judged)

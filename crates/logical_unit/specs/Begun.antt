@@ -10,11 +10,10 @@ use Rattle.scsi_sense.specs.declared.status.Status.{Status}
 use Rattle.tape_medium.specs.declared.volume.Volume.{Volume}
 use Rattle.audit_log.specs.declared.act.Act.{Act}
 use Rattle.device_server.specs.View.{DeviceView, kind_of, taken, put}
-use Rattle.judgement.specs.Judge.{takes_memory}
 use Rattle.judgement.specs.declared.finding.Finding.{Finding}
 use Rattle.unit_answers.specs.declared.reply.Reply.{Reply}
 use Rattle.unit_answers.specs.Replies.{busy, good, check, IsWhole}
-use Rattle.unit_commands.specs.Commands.{spelled, act_of}
+use Rattle.unit_commands.specs.Commands.{act_of}
 use Rattle.unit_state.specs.Kept.{has_room}
 use Rattle.unit_state.specs.KeptView.{KeptView}
 use Rattle.logical_unit.specs.declared.begun.Begun.{Begun}
@@ -25,7 +24,7 @@ use Rattle.logical_unit.specs.declared.route.Route.{Route}
 use Rattle.logical_unit.specs.Legal.{IsJudged, kept_by}
 use Rattle.logical_unit.specs.Move.{is_left, judged_at}
 use Rattle.logical_unit.specs.Route.{drive_at}
-use Rattle.logical_unit.specs.Step.{answered, contacted_present, entry_of, recorded, HasNumber, IsBusyOnlyFor}
+use Rattle.logical_unit.specs.Step.{answered, entry_of, recorded, HasNumber, IsBusyOnlyFor}
 use Rattle.logical_unit.specs.UnitView.{UnitView, UnitWithRoom, StateView}
 
 -- a CDB spells MOVE MEDIUM by this route
@@ -55,7 +54,6 @@ pub record IsLeft (u : UnitView) (n : Nexus) (cdb bytes : List ℕ) (r : Route) 
   pub present : (judged_at u n cdb bytes).0 ≡ record { device = u.device; kept = u.kept }
   pub found : (judged_at u n cdb bytes).1 ≡ finding
   pub asked : act ≡ act_of (kind_of u.device) cdb bytes
-  pub memory : takes_memory (contacted_present u n) n (spelled (kind_of u.device) cdb bytes) ≡ true
   pub awaits : AwaitsEnd u.kept n act finding
   pub ways : HasWays u.device r
 
@@ -94,10 +92,10 @@ abbrev pub BeginsAt : (x y : UnitWithRoom) → Nexus → (cdb bytes : List ℕ) 
 BeginsAt x y n cdb bytes r (Answered reply) = IsPutOff x y n cdb bytes reply ⊎ IsEnded x y n cdb bytes reply
 BeginsAt x y n cdb bytes r (Left act finding) = IsOpen x y n cdb bytes r act finding
 
--- why nothing is carried: what the changer reports, or there is no room for a drive's record, or no number
-abbrev pub Halts : {A : Type 0} → Result A Condition → Halt → Type 0
-Halts carried (Refused condition) = carried ≡ Err condition
-Halts carried Busy = Unit {0}
+-- why nothing is carried: what the changer reports; or the volume would be carried, but what a drive's record needs is lacking
+abbrev pub Halts : {A : Type 0} → Result A Condition → (Lacks : Type 0) → Halt → Type 0
+Halts carried Lacks (Refused condition) = carried ≡ Err condition
+Halts carried Lacks Busy = IsOk carried × Lacks
 
 -- the end of a command that judgement left open, by what became of the volume
 abbrev pub Finishes : (x y : UnitWithRoom) → Nexus → Act → Finding → Option Halt → Reply → Type 0

@@ -1,6 +1,8 @@
 pub mod UnitView
 pub mod Step
 pub mod Legal
+pub mod Audit
+pub mod Contents
 pub mod Medium
 pub mod Route
 pub mod Move
@@ -9,3 +11,4 @@ pub mod History
 pub mod Check
 pub mod Rows
 pub mod MoveRows
+pub mod AuditRows

@@ -7,6 +7,7 @@ use Rattle.scsi_nexus.specs.declared.nexus.Nexus.{Nexus}
 use Rattle.scsi_sense.specs.declared.condition.Condition.{Condition}
 use Rattle.scsi_sense.specs.declared.condition.Condition.TheVariants.{InternalTargetFailure, MediumRemovalPrevented}
 use Rattle.scsi_sense.specs.declared.sense.Sense.{Sense}
+use Rattle.scsi_sense.specs.declared.status.Status.TheVariants as status
 use Rattle.tape_medium.specs.declared.volume.Volume.{Volume}
 use Rattle.tape_medium.specs.declared.volume.VolumeTag.{VolumeTag}
 use Rattle.device_server.specs.Ends.{IsSameDevice}
@@ -23,8 +24,8 @@ use Rattle.logical_unit.specs.declared.medium_fault.MediumFault.TheVariants.{Not
 use Rattle.logical_unit.specs.declared.route.Route.{Route}
 use Rattle.logical_unit.specs.Medium.{taken_out, put_in}
 use Rattle.logical_unit.specs.Route.{route_of, is_upward, named}
-use Rattle.logical_unit.specs.Step.{contacted_present, recorded, HasNumber}
-use Rattle.logical_unit.specs.UnitView.{UnitView, last_number}
+use Rattle.logical_unit.specs.Step.{contacted_present, recorded, HasNumber, LacksRecord}
+use Rattle.logical_unit.specs.UnitView.{UnitView, UnitWithRoom, last_number}
 
 -- whether the changer leaves its command to the drives: it reports INTERNAL TARGET FAILURE, which it does of nothing else
 abbrev pub is_left : Option Sense → Bool
@@ -149,7 +150,7 @@ abbrev pub is_carried : {A : Type 0} → Present × Finding × Reply → Result 
 is_carried answer carried = is_left answer.2.sense && is_ok carried
 
 -- BUSY with nothing changed, which must come where there is no slot for the sender or a last record number is used, that of a drive only
--- where the volume would be carried, and may come for want of memory; or the move
+-- where the volume would be carried, and may come for want of room for a record; or the move
 abbrev pub MovesOne : (c d : UnitView) → Nexus → (cdb bytes : List ℕ) → (UnitView × Reply) × UnitView → Type 0
 MovesOne c d n cdb bytes new =
     (new ≡ ((c, busy), d))
@@ -163,6 +164,21 @@ MovesTwo c ds n cdb bytes new =
     ⊎ ((has_room c.kept n ≡ true) × HasNumber c
     × (is_carried (judged_at c n cdb bytes) (carried_two c.device ds (route_at c cdb)) ≡ true → HasNumber ds.low × HasNumber ds.high)
     × (new ≡ moved_two c ds n cdb bytes))
+
+-- BUSY comes only where there is no slot for the sender, or no room or no number for the record at the changer; or where the volume would
+-- be carried, and there is no room or no number for the record of a drive. A move takes no other memory.
+abbrev pub LacksAtChanger : UnitWithRoom → Nexus → Type 0
+LacksAtChanger c n = (has_room c.unit.kept n ≡ false) ⊎ LacksRecord c
+
+abbrev pub OneIsBusyOnlyFor : (c d : UnitWithRoom) → Nexus → (cdb bytes : List ℕ) → Reply → Type 0
+OneIsBusyOnlyFor c d n cdb bytes reply = reply.status ≡ status.Busy
+    → LacksAtChanger c n ⊎ ((is_carried (judged_at c.unit n cdb bytes) (carried_one c.unit.device d.unit (route_at c.unit cdb)) ≡ true) × LacksRecord d)
+
+abbrev pub TwoAreBusyOnlyFor : (c low high : UnitWithRoom) → Nexus → (cdb bytes : List ℕ) → Reply → Type 0
+TwoAreBusyOnlyFor c low high n cdb bytes reply = reply.status ≡ status.Busy
+    → LacksAtChanger c n
+    ⊎ ((is_carried (judged_at c.unit n cdb bytes) (carried_two c.unit.device (record { low = low.unit; high = high.unit }) (route_at c.unit cdb)) ≡ true)
+    × (LacksRecord low ⊎ LacksRecord high))
 
 -- the record that a unit has more, by its logical unit number and the record's
 abbrev pub numbers_of : (before after : UnitView) → List (ℕ × ℕ)

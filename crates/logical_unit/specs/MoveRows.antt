@@ -1,7 +1,8 @@
 -- Worked rows: MOVE MEDIUM between a changer at LUN 0, with one drive at 0100h and storage elements 0400h and 0401h, and that drive, LUN 1.
 -- A and B had contact with both; nobody is registered at the changer, but where a row says so.
-use Rattle.std.specs.Prelude.{◌≡◌, ℕ, true, false, List, [], ◌∷◌, map, replicate, Option, Some, None}
+use Rattle.std.specs.Prelude.{◌≡◌, ℕ, Bool, true, false, List, [], ◌∷◌, map, replicate, Option, Some, None}
 use Rattle.scsi_cdb.specs.declared.classes.Class.TheVariants as class
+use Rattle.scsi_cdb.specs.declared.request.Request.TheVariants as request
 use Rattle.scsi_nexus.specs.declared.nexus.Nexus.{Nexus}
 use Rattle.scsi_sense.specs.declared.status.Status.{Status}
 use Rattle.scsi_sense.specs.declared.status.Status.TheVariants.{Good, CheckCondition, ReservationConflict}
@@ -17,8 +18,11 @@ use Rattle.audit_log.specs.declared.act.Act.TheVariants as act
 use Rattle.audit_log.specs.declared.stage.Stage.TheVariants.{Device, ReservationCheck}
 use Rattle.device_server.specs.View.{DeviceView, Changer}
 use Rattle.unit_answers.specs.declared.reply.Reply.{Reply}
+use Rattle.unit_commands.specs.declared.command.Command.TheVariants.{Prevent}
+use Rattle.unit_commands.specs.declared.command.Command.TheVariants as command
 use Rattle.unit_state.specs.KeptView.{KeptView}
-use Rattle.logical_unit.specs.Move.{TwoDrives, moved_one, moved_two, numbers_of}
+use Rattle.judgement.specs.Judge.{asks_memory}
+use Rattle.logical_unit.specs.Move.{TwoDrives, judged_at, route_at, carried_one, is_carried, moved_one, moved_two, numbers_of}
 use Rattle.logical_unit.specs.Route.{named}
 use Rattle.logical_unit.specs.Rows.{a, b, held, slots_with, volume, drive_of, unit_with, drive_held, drive_prevented, Answer, answer_with, sense_with}
 use Rattle.logical_unit.specs.UnitView.{UnitView}
@@ -133,6 +137,25 @@ pub record RefusedMoves : Type 0 where
   pub other_volume : IsRefused a (changer_of (library (Some first_tag ∷ []) None None)) (full_drive 1 second_tag) drive_1 slot_2 (checks 4 0x44 0)
   pub bay_full : IsRefused a (changer_of (library (None ∷ []) (Some (volume first_tag)) None)) (full_drive 1 second_tag) slot_1 drive_1 (checks 4 0x44 0)
   pub element_full : IsRefused a (changer_of (library (Some first_tag ∷ []) (Some (volume second_tag)) None)) (full_drive 1 first_tag) drive_1 slot_1 (checks 5 0x3B 0x0D)
+
+-- whether a move with one drive carries its volume
+abbrev pub carries : (c d : UnitView) → (source destination : ℕ × ℕ) → Nexus → Bool
+carries c d source destination n =
+    let cdb = move source destination in is_carried (judged_at c n cdb []) (carried_one c.device d (route_at c cdb))
+
+-- it does where nothing refuses it, at the changer or at the drive
+pub record CarriedOrNot : Type 0 where
+  pub into : carries (changer_of (library (None ∷ []) (Some (volume first_tag)) None)) (empty_drive 1) slot_1 drive_1 a ≡ true
+  pub out_of : carries (changer_of (library (Some first_tag ∷ []) None None)) (drive_held first_tag) drive_1 slot_2 b ≡ true
+  pub prevented : carries (changer_of (library (Some first_tag ∷ []) None None)) (drive_prevented first_tag) drive_1 slot_2 b ≡ false
+  pub of_nothing : carries (changer_of (library (None ∷ []) None None)) (empty_drive 1) slot_1 drive_1 a ≡ false
+  pub at_a_held_changer : carries (unit_with (library (Some first_tag ∷ []) None None) (record (kept_free 0) { reservations = held })) (full_drive 1 first_tag) drive_1 slot_1 b ≡ false
+
+-- of the device's commands just MOVE MEDIUM takes no memory
+pub record MemoryOfCommands : Type 0 where
+  pub move : asks_memory (command.Device (request.MoveMedium 0 0x400 0x100 false)) ≡ false
+  pub ready : asks_memory (command.Device request.TestUnitReady) ≡ true
+  pub prevent : asks_memory (Prevent 1) ≡ false
 
 -- B's move where A holds Exclusive Access on the changer
 pub record AtAHeldChanger : Type 0 where

@@ -14,7 +14,7 @@ use Rattle.judgement.specs.declared.finding.Finding.{Finding}
 use Rattle.unit_answers.specs.declared.reply.Reply.{Reply}
 use Rattle.unit_commands.specs.Commands.{spelled, act_of}
 use Rattle.judgement.specs.Findings.{at_stage}
-use Rattle.unit_answers.specs.Replies.{busy, numbered}
+use Rattle.unit_answers.specs.Replies.{busy, good, numbered}
 use Rattle.judgement.specs.Present.{Present}
 use Rattle.logical_unit.specs.UnitView.{UnitView, UnitWithRoom, last_number}
 use Rattle.unit_state.specs.Kept.{at_power_on, has_room, met, kept_after_loss, kept_after_reset}
@@ -106,6 +106,24 @@ Loses u n new = LosesAs (has_slot u.kept.slots n) u n new
 -- a reset that isn't BUSY, with the number of its record
 abbrev pub Resets : UnitView → UnitView × ℕ → Type 0
 Resets u new = HasNumber u × (new ≡ (resets u, last_number u + 1))
+
+-- GOOD for an event that isn't a command, with the number of its record, 0 where it has none
+abbrev pub done : ℕ → Reply
+done number = numbered (good []) number
+
+abbrev pub number_or_0 : Option ℕ → ℕ
+number_or_0 None = 0
+number_or_0 (Some number) = number
+
+-- an I_T nexus loss at a unit: BUSY with nothing changed, where the nexus has a slot; or the loss
+abbrev pub IsLost : UnitView → Nexus → UnitView × Reply → Type 0
+IsLost u n new =
+    ((new ≡ (u, busy)) × (has_slot u.kept.slots n ≡ true))
+    ⊎ ((number : Option ℕ) × Loses u n (new.0, number) × (new.1 ≡ done (number_or_0 number)))
+
+-- a reset of a unit: BUSY with nothing changed, or the reset
+abbrev pub IsReset : UnitView → UnitView × Reply → Type 0
+IsReset u new = (new ≡ (u, busy)) ⊎ ((number : ℕ) × Resets u (new.0, number) × (new.1 ≡ done number))
 
 -- once its records are handed out: the present is the base
 abbrev pub drained : UnitView → UnitView

@@ -31,6 +31,18 @@ pub fn trail_shows_history()
     ensures { TrailHistory }
 {}
 
+ghost use Rattle.logical_unit.specs.Audit.{ShowsReservations, TrailsReplay};
+ghost use Rattle.logical_unit.specs.AuditRows.{AuditLines};
+
+/// In a legal trail the reservation in each line of `audit` is the one that the records before it leave of
+/// what was kept before the first, and what a record accepted is allowed and not refused where it stands;
+/// worked lines.
+pub fn audit_shows_reservations()
+    ensures lines { ShowsReservations }
+    ensures replay { TrailsReplay }
+    ensures rows { AuditLines }
+{}
+
 ghost use Rattle.logical_unit.specs.Move.{OneStays, TwoStay};
 
 /// A MOVE MEDIUM leaves the changer and each drive that it names the same unit: of the same kind and size, with
@@ -72,7 +84,7 @@ pub fn legal_and_illegal_records()
     ensures illegal { IllegalRecords }
 {}
 
-ghost use Rattle.logical_unit.specs.MoveRows.{NamedDrives, IntoADrive, OutOfAReservedDrive, RefusedMoves, AtAHeldChanger, BetweenDrives, NumbersOfRecords};
+ghost use Rattle.logical_unit.specs.MoveRows.{NamedDrives, IntoADrive, OutOfAReservedDrive, CarriedOrNot, MemoryOfCommands, RefusedMoves, AtAHeldChanger, BetweenDrives, NumbersOfRecords};
 
 /// The drives that a MOVE MEDIUM names.
 pub fn named_drives()
@@ -84,6 +96,12 @@ pub fn carried_volumes()
     ensures into { IntoADrive }
     ensures out { OutOfAReservedDrive }
     ensures between { BetweenDrives }
+{}
+
+/// Which moves with a drive carry a volume, and which of the device's commands takes no memory.
+pub fn carried_or_not()
+    ensures moves { CarriedOrNot }
+    ensures memory { MemoryOfCommands }
 {}
 
 /// Moves that are refused for what is at the drive or at the changer, with no volume moved.

@@ -1,6 +1,7 @@
 //! One logical unit: how a command is judged, carried out, answered and recorded.
 #![tactic(auto)]
 
+mod audit;
 mod begun;
 pub mod laws;
 mod medium_fault;

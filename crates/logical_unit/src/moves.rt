@@ -1,11 +1,12 @@
-ghost use Rattle.std.specs.Prelude.{◌≡◌, ◌≢◌, ◌<◌, ◌+◌, [], ◌∷◌, ◌++◌, true, Ok, Err, IsOk, Some, None, IfOk, OnOk, IfErr, OnErr};
+ghost use Rattle.std.specs.Prelude.{◌≡◌, ◌≢◌, ◌⊎◌, ◌<◌, ◌+◌, [], ◌∷◌, ◌++◌, true, Ok, Err, IsOk, Some, None, IfOk, OnOk, IfErr, OnErr};
 ghost use Rattle.scsi_cdb.specs.declared.kind.Kind.TheVariants.{Changer};
 ghost use Rattle.device_server.specs.View.{kind_of, drives_of, held_in};
 ghost use Rattle.logical_unit.specs.Begun.{Spells, HasWays, Halts, AwaitsEnd, Finishes};
+ghost use Rattle.logical_unit.specs.Contents.{SameContents, MayNotChange};
 ghost use Rattle.logical_unit.specs.Medium.{taken_out, put_in};
-ghost use Rattle.logical_unit.specs.Move.{TwoDrives, given, unloaded, loaded, passed, carried_one, carried_two, MovesOne, MovesTwo, numbers_of};
+ghost use Rattle.logical_unit.specs.Move.{TwoDrives, given, unloaded, loaded, passed, carried_one, carried_two, MovesOne, MovesTwo, OneIsBusyOnlyFor, TwoAreBusyOnlyFor, numbers_of};
 ghost use Rattle.logical_unit.specs.Route.{named, route_of};
-ghost use Rattle.logical_unit.specs.Step.{HasNumber, LacksRecord, IsBusyOnlyFor};
+ghost use Rattle.logical_unit.specs.Step.{HasNumber, LacksRecord};
 ghost use Rattle.logical_unit.specs.UnitView.{last_number, with_device};
 
 use crate::begun::{Begun, Halt};
@@ -64,7 +65,7 @@ fn unload<D: DeviceServer>(
     ensures number { IfOk result (λ number. HasNumber drive.old.unit × (number ≡ last_number drive.old.unit + 1)) }
     ensures last { OnOk result (last_number drive.new.unit ≡ last_number drive.old.unit + 1) }
     ensures changer { changer.new ≡ with_device changer.old changer.new.unit.device }
-    ensures err { IfErr result (Halts (unloaded changer.old.unit.device drive.old.unit route)) }
+    ensures err { IfErr result (Halts (unloaded changer.old.unit.device drive.old.unit route) (LacksRecord drive.old)) }
     ensures same { OnErr result ((changer.new ≡ changer.old) × (drive.new.unit ≡ drive.old.unit)) }
 {
     let mark = changer.held(route.source);
@@ -92,7 +93,7 @@ fn load<D: DeviceServer>(
     ensures number { IfOk result (λ number. HasNumber drive.old.unit × (number ≡ last_number drive.old.unit + 1)) }
     ensures last { OnOk result (last_number drive.new.unit ≡ last_number drive.old.unit + 1) }
     ensures changer { changer.new ≡ with_device changer.old changer.new.unit.device }
-    ensures err { IfErr result (Halts (loaded changer.old.unit.device drive.old.unit route)) }
+    ensures err { IfErr result (Halts (loaded changer.old.unit.device drive.old.unit route) (LacksRecord drive.old)) }
     ensures same { OnErr result ((changer.new ≡ changer.old) × (drive.new.unit ≡ drive.old.unit)) }
 {
     if !drive.takes() {
@@ -121,7 +122,7 @@ fn pass<D: DeviceServer>(
     ensures taker { IfOk result (λ it. HasNumber taker.old.unit × (it.1 ≡ last_number taker.old.unit + 1)) }
     ensures last_taker { OnOk result (last_number taker.new.unit ≡ last_number taker.old.unit + 1) }
     ensures changer { changer.new ≡ with_device changer.old changer.new.unit.device }
-    ensures err { IfErr result (Halts (passed changer.old.unit.device giver.old.unit taker.old.unit route)) }
+    ensures err { IfErr result (Halts (passed changer.old.unit.device giver.old.unit taker.old.unit route) (LacksRecord giver.old ⊎ LacksRecord taker.old)) }
     ensures same { OnErr result ((changer.new ≡ changer.old) × (giver.new.unit ≡ giver.old.unit) × (taker.new.unit ≡ taker.old.unit)) }
 {
     let mark = changer.held(route.source);
@@ -156,7 +157,7 @@ fn carry_one<D: DeviceServer>(
     ensures number { IfOk result (λ number. HasNumber drive.old.unit × (number ≡ last_number drive.old.unit + 1)) }
     ensures last { OnOk result (last_number drive.new.unit ≡ last_number drive.old.unit + 1) }
     ensures changer { changer.new ≡ with_device changer.old changer.new.unit.device }
-    ensures err { IfErr result (Halts (carried_one changer.old.unit.device drive.old.unit (Some route))) }
+    ensures err { IfErr result (Halts (carried_one changer.old.unit.device drive.old.unit (Some route)) (LacksRecord drive.old)) }
     ensures same { OnErr result ((changer.new ≡ changer.old) × (drive.new.unit ≡ drive.old.unit)) }
 {
     match (route.from, route.to) {
@@ -181,7 +182,7 @@ fn carry_two<D: DeviceServer>(
     ensures high { IfOk result (λ it. HasNumber high.old.unit × (it.1 ≡ last_number high.old.unit + 1)) }
     ensures last_high { OnOk result (last_number high.new.unit ≡ last_number high.old.unit + 1) }
     ensures changer { changer.new ≡ with_device changer.old changer.new.unit.device }
-    ensures err { IfErr result (Halts (carried_two changer.old.unit.device (record { low = low.old.unit; high = high.old.unit }) (Some route))) }
+    ensures err { IfErr result (Halts (carried_two changer.old.unit.device (record { low = low.old.unit; high = high.old.unit }) (Some route)) (LacksRecord low.old ⊎ LacksRecord high.old)) }
     ensures same { OnErr result ((changer.new ≡ changer.old) × (low.new.unit ≡ low.old.unit) × (high.new.unit ≡ high.old.unit)) }
 {
     if route.is_upward() {
@@ -220,7 +221,9 @@ fn finish<D: DeviceServer>(
 /// judged at the changer as every command is. Where its map and marks refuse nothing, 53h/02h is reported for a
 /// drive whose removal is prevented, then 44h/00h for one whose bay isn't as the map says; else the volume goes,
 /// the changer's record says GOOD and the drive has a record of its own. A drive's reservation isn't asked. BUSY
-/// changes nothing.
+/// changes nothing; it comes only where there is no slot for the sender, or no room or no number for the record
+/// at the changer, or at the drive, of a volume that would go. A sender to whom the permission table closes the
+/// changing classes at the changer leaves its elements, and the drive.
 pub fn move_one<D: DeviceServer>(
     alloc: Global,
     changer: &mut LogicalUnit<D>,
@@ -231,8 +234,10 @@ pub fn move_one<D: DeviceServer>(
 ) -> Receipt
     requires named { named (drives_of changer.old.unit.device) cdb.now ≡ drive.old.unit.kept.lun ∷ [] }
     ensures units { MovesOne changer.old.unit drive.old.unit nexus cdb.now bytes.now ((changer.new.unit, result.reply), drive.new.unit) }
-    ensures busy { IsBusyOnlyFor changer.old nexus cdb.now bytes.now result.reply }
+    ensures busy { OneIsBusyOnlyFor changer.old drive.old nexus cdb.now bytes.now result.reply }
     ensures numbers { result.numbers.items ≡ numbers_of changer.old.unit changer.new.unit ++ numbers_of drive.old.unit drive.new.unit }
+    ensures outsider { MayNotChange changer.old.unit.kept.reservations nexus → SameContents changer.old.unit.device changer.new.unit.device }
+    ensures stays { MayNotChange changer.old.unit.kept.reservations nexus → drive.new.unit ≡ drive.old.unit }
 {
     let lun = changer.lun();
     let drive_lun = drive.lun();
@@ -265,8 +270,10 @@ pub fn move_two<D: DeviceServer>(
 ) -> Receipt
     requires named { named (drives_of changer.old.unit.device) cdb.now ≡ low.old.unit.kept.lun ∷ high.old.unit.kept.lun ∷ [] }
     ensures units { MovesTwo changer.old.unit (record { low = low.old.unit; high = high.old.unit }) nexus cdb.now bytes.now ((changer.new.unit, result.reply), record { low = low.new.unit; high = high.new.unit }) }
-    ensures busy { IsBusyOnlyFor changer.old nexus cdb.now bytes.now result.reply }
+    ensures busy { TwoAreBusyOnlyFor changer.old low.old high.old nexus cdb.now bytes.now result.reply }
     ensures numbers { result.numbers.items ≡ numbers_of changer.old.unit changer.new.unit ++ numbers_of low.old.unit low.new.unit ++ numbers_of high.old.unit high.new.unit }
+    ensures outsider { MayNotChange changer.old.unit.kept.reservations nexus → SameContents changer.old.unit.device changer.new.unit.device }
+    ensures stay { MayNotChange changer.old.unit.kept.reservations nexus → (low.new.unit ≡ low.old.unit) × (high.new.unit ≡ high.old.unit) }
 {
     let lun = changer.lun();
     let low_lun = low.lun();

@@ -1,3 +1,4 @@
+use crate::audit::span_lines;
 use crate::begun::Begun;
 use crate::route::Route;
 use audit_log::{Act, Record, Stage, Trail};
@@ -38,10 +39,11 @@ impl Model for UnitState {
 }
 
 impl UnitState {
-    ghost use Rattle.std.specs.Prelude.{◌≡◌, ◌<◌, ◌+◌, ◌^◌, ◌⊎◌, ℕ, true, false, [], IsTrue};
+    ghost use Rattle.std.specs.Prelude.{◌≡◌, ◌<◌, ◌+◌, ◌^◌, ◌⊎◌, ℕ, true, false, [], map, string_bytes, IfOk, IsTrue};
     ghost use Rattle.unit_attention.specs.Queues.{has_slot};
     ghost use Rattle.logical_unit.specs.UnitView.{Base, StateView, last_in};
     ghost use Rattle.unit_state.specs.Kept.{at_power_on, has_room, is_prevented, HaveSlots};
+    ghost use Rattle.logical_unit.specs.Audit.{span_lines};
     ghost use Rattle.logical_unit.specs.Legal.{IsTrail};
 
     /// At power on, for a unit of this number among so many. The first record will have the number
@@ -66,6 +68,13 @@ impl UnitState {
         ensures { result ≡ self.now.kept.units }
     {
         self.kept.units()
+    }
+
+    /// The last number that was used.
+    pub(crate) fn last(&self) -> u64
+        ensures { result ≡ last_in self.now }
+    {
+        self.trail.last()
     }
 
     /// Whether a sender has a slot, or one is left for it.
@@ -96,6 +105,15 @@ impl UnitState {
         ensures trail { IsTrail self.now.base self.now.records self.now.kept }
     {
         self.trail.records()
+    }
+
+    /// A line for each record, with the reservation that stood before it.
+    #[tactic(auto, using(crate::proofs::Replay::trails_replay))]
+    pub(crate) fn audit(&self, alloc: Global) -> Result<Vec<String>, AllocError>
+        ensures { IfOk result (λ lines. map string_bytes lines.items ≡ span_lines self.now.base.kept.reservations self.now.records) }
+    {
+        let entries = self.records();
+        span_lines(alloc, self.base.reservations(), entries)
     }
 
     /// Makes room for one record more, where there is a number for it. Nothing else changes.

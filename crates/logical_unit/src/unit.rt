@@ -8,7 +8,7 @@ use judgement::Finding;
 use scsi_cdb::Kind;
 use scsi_nexus::Nexus;
 use scsi_sense::Condition;
-use std::alloc::Global;
+use std::alloc::{AllocError, Global};
 use std::marker::Model;
 use tape_medium::{Volume, VolumeTag};
 use thiserror::Error;
@@ -26,7 +26,8 @@ pub struct Busy;
 #[derive(Drop)]
 pub struct LogicalUnit<D: DeviceServer> {
     server: Box<D>,
-    state: UnitState,
+    // the tables are some 25 KB: behind a pointer, a unit is small to move
+    state: Box<UnitState>,
 }
 
 impl<D: DeviceServer> Model for LogicalUnit<D> {
@@ -34,30 +35,46 @@ impl<D: DeviceServer> Model for LogicalUnit<D> {
 
     ghost Value = { UnitWithRoom };
 
-    ghost view = { λ u. unit_with_room (D.shown u.server.value) u.state };
+    ghost view = { λ u. unit_with_room (D.shown u.server.value) u.state.value };
 }
 
 impl<D: DeviceServer> LogicalUnit<D> {
-    ghost use Rattle.std.specs.Prelude.{◌≡◌};
+    ghost use Rattle.std.specs.Prelude.{◌≡◌, map, string_bytes, IfOk, IfErr};
+    ghost use Rattle.logical_unit.specs.Audit.{audit_of};
     ghost use Rattle.device_server.specs.View.{kind_of, drives_of, held_in};
     ghost use Rattle.unit_state.specs.Kept.{is_prevented, HaveSlots};
     ghost use Rattle.logical_unit.specs.Step.{made};
     ghost use Rattle.logical_unit.specs.Legal.{IsTrail};
+    ghost use Rattle.logical_unit.specs.UnitView.{last_number};
 
-    /// A unit at power on, with its logical unit number and the count of the target's units.
-    pub fn new(alloc: Global, lun: u8, units: u8, server: Box<D>) -> LogicalUnit<D>
-        ensures { result ≡ record { unit = made (D.shown server.value) lun units 0; room = 0 } }
+    /// A unit at power on, with its logical unit number and the count of the target's units. Where
+    /// memory is refused, the device is handed back.
+    pub fn new(
+        alloc: Global,
+        lun: u8,
+        units: u8,
+        server: Box<D>,
+    ) -> Result<LogicalUnit<D>, (AllocError, Box<D>)>
+        ensures ok { IfOk result (λ unit. unit ≡ record { unit = made (D.shown server.value) lun units 0; room = 0 }) }
+        ensures err { IfErr result (λ back. back.1.value ≡ server.value) }
     {
         LogicalUnit::new_after(alloc, lun, units, server, 0)
     }
 
     /// The same, with its first record numbered after `last`.
-    pub fn new_after(alloc: Global, lun: u8, units: u8, server: Box<D>, last: u64) -> LogicalUnit<D>
-        ensures { result ≡ record { unit = made (D.shown server.value) lun units last; room = 0 } }
+    pub fn new_after(
+        alloc: Global,
+        lun: u8,
+        units: u8,
+        server: Box<D>,
+        last: u64,
+    ) -> Result<LogicalUnit<D>, (AllocError, Box<D>)>
+        ensures ok { IfOk result (λ unit. unit ≡ record { unit = made (D.shown server.value) lun units last; room = 0 }) }
+        ensures err { IfErr result (λ back. back.1.value ≡ server.value) }
     {
-        LogicalUnit {
-            server,
-            state: UnitState::new(alloc, lun, units, last),
+        match Box::new(alloc, UnitState::new(alloc, lun, units, last)) {
+            Ok(state) => Ok(LogicalUnit { server, state }),
+            Err(refused) => Err((refused.into(), server)),
         }
     }
 
@@ -96,6 +113,13 @@ impl<D: DeviceServer> LogicalUnit<D> {
         self.state.units()
     }
 
+    /// The last record number that was used, 0 if none was.
+    pub fn last(&self) -> u64
+        ensures { result ≡ last_number self.now.unit }
+    {
+        self.state.last()
+    }
+
     /// Whether a nexus prevents the removal of media (SPC-4, "PREVENT ALLOW MEDIUM REMOVAL command").
     /// Each nexus that does has a slot, and is among them once.
     pub fn prevented(&self) -> bool
@@ -112,6 +136,15 @@ impl<D: DeviceServer> LogicalUnit<D> {
     {
         self.state.records()
     }
+
+    /// A line for each record, oldest first: its line, a space, and the reservation that stood before
+    /// it, as `-`, `WE/500000000000000a.1` or, of an all registrants type, `WEAR/ALL` (profile). One walk
+    /// over the records.
+    pub fn audit(&self, alloc: Global) -> Result<Vec<String>, AllocError>
+        ensures { IfOk result (λ lines. map string_bytes lines.items ≡ audit_of self.now.unit) }
+    {
+        self.state.audit(alloc)
+    }
 }
 
 impl<D: DeviceServer> LogicalUnit<D> {
@@ -120,24 +153,28 @@ impl<D: DeviceServer> LogicalUnit<D> {
     ghost use Rattle.logical_unit.specs.UnitView.{UnitView, last_number};
     ghost use Rattle.logical_unit.specs.Step.{HasNumber, LacksRecord, IsBusyOnlyFor, Executes, Loses, Resets, drained};
     ghost use Rattle.logical_unit.specs.Medium.{taken_out, put_in, IsRefusal};
+    ghost use Rattle.logical_unit.specs.Contents.{SameContents, MayNotChange};
     ghost use Rattle.logical_unit.specs.Legal.{IsTrail};
 
     /// One command, from its CDB and the data sent with it. BUSY leaves the unit as it was; any other
     /// answer leaves one record. A command to whose sender an attention is told, a conflict and bytes
     /// that spell no command are BUSY only where there is no slot, no number or no room for the record;
-    /// PERSISTENT RESERVE OUT and what comes to its own rules also for want of memory.
+    /// PERSISTENT RESERVE OUT and what comes to its own rules also for want of memory. A sender to whom
+    /// the permission table closes the changing classes leaves what is in the unit.
     pub fn execute(&mut self, alloc: Global, nexus: Nexus, cdb: &[u8], bytes: &[u8]) -> Reply
         ensures unit { Executes self.old.unit nexus cdb.now bytes.now (self.new.unit, result) }
         ensures busy { IsBusyOnlyFor self.old nexus cdb.now bytes.now result }
+        ensures outsider { MayNotChange self.old.unit.kept.reservations nexus → SameContents self.old.unit.device self.new.unit.device }
     {
-        if !self.state.has_room(nexus) {
-            return Reply::busy(alloc);
-        }
-        if !self.state.reserve() {
-            return Reply::busy(alloc);
-        }
         let server = &mut self.server;
-        let Ok(reply) = self.state.answer(alloc, server, nexus, cdb, bytes) else {
+        let state = &mut *self.state;
+        if !state.has_room(nexus) {
+            return Reply::busy(alloc);
+        }
+        if !state.reserve() {
+            return Reply::busy(alloc);
+        }
+        let Ok(reply) = state.answer(alloc, server, nexus, cdb, bytes) else {
             return Reply::busy(alloc);
         };
         reply

@@ -67,6 +67,13 @@ impl Kept {
         self.units
     }
 
+    /// The registrations, the reservation and the generation.
+    pub fn reservations(&self) -> &PrState
+        ensures { result.now ≡ self.now.reservations }
+    {
+        &self.reservations
+    }
+
     /// Whether a sender has a slot, or one is left for it.
     pub fn has_room(&self, nexus: Nexus) -> bool
         ensures { result ≡ has_room self.now nexus }

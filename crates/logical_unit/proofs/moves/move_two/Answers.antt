@@ -1,14 +1,14 @@
-use Rattle.std.proofs.Common.{Some, None, sym, ap, ◌∙◌, subst, refl}
+use Rattle.std.proofs.Common.{[], ◌∷◌, Some, None, inl, sym, ap, ◌∙◌, subst, refl}
 use Rattle.unit_answers.specs.declared.reply.Reply.{Reply}
-use Rattle.logical_unit.specs.Step.{IsBusyOnlyFor}
 use Rattle.logical_unit.specs.UnitView.{UnitWithRoom, last_number}
-use Rattle.logical_unit.proofs.Numbers.{noted, answered_busy, answered_noted, ends_noted, joined_two, unmoved_two, drive_noted}
+use Rattle.logical_unit.proofs.MoveBusy.{answered_lacks}
+use Rattle.logical_unit.proofs.Numbers.{noted, answered_noted, ends_noted, joined_two, unmoved_two, drive_noted}
+use Rattle.logical_unit.proofs.Outsiders.{never_left}
 use Rattle.logical_unit.proofs.moves.move_two.Goals as goal
 
 pub returns-in-Answered-clause-busy : goal.returns-in-Answered-clause-busy
-returns-in-Answered-clause-busy g c =
-    subst (λ (r : Reply). IsBusyOnlyFor c.args.changer.now c.args.nexus c.args.cdb.now c.args.bytes.now r) (sym c.of.ensures.reply)
-    (answered_busy c.args.changer.now c.begin.new.self c.args.nexus c.args.cdb.now c.args.bytes.now c.in-Answered.reply c.in-Answered.ensures)
+returns-in-Answered-clause-busy g c = λ busy.
+    inl (answered_lacks c.args.changer.now c.begin.new.self c.args.nexus c.args.cdb.now c.args.bytes.now c.in-Answered.reply c.args.low.now.unit.kept.lun (c.args.high.now.unit.kept.lun ∷ []) c.requires.named c.in-Answered.ensures (sym (ap (λ (r : Reply). r.status) c.of.ensures.reply) ∙ busy))
 
 pub returns-in-Answered-clause-numbers : goal.returns-in-Answered-clause-numbers
 returns-in-Answered-clause-numbers g c =
@@ -30,3 +30,10 @@ returns-in-Err-clause-numbers g c =
     unmoved_two _ (noted c.args.changer.now.unit.kept.lun c.finish-reply-in-Err.result) _ c.args.low.now.unit c.carry_two.new.low.unit c.args.high.now.unit c.carry_two.new.high.unit
     (c.of-in-Err.ensures.numbers ∙ ap (λ lun. noted lun c.finish-reply-in-Err.result) c.lun-lun.ensures)
     (ends_noted c.args.changer.now.unit c.carry_two.new.changer c.finish-reply-in-Err.new.changer c.args.nexus c.in-Left.act c.in-Left.finding (Some c.in-Err.halt) c.finish-reply-in-Err.result same c.finish-reply-in-Err.ensures) (ap last_number c.in-Err.ensures.same.1) (ap last_number c.in-Err.ensures.same.2)
+
+-- nothing is carried for a sender that may change nothing here
+pub returns-in-Ok-clause-outsider : goal.returns-in-Ok-clause-outsider
+returns-in-Ok-clause-outsider g c closed = absurd (never_left c.args.changer.now.unit c.args.nexus c.args.cdb.now c.args.bytes.now c.args.low.now.unit.kept.lun (c.args.high.now.unit.kept.lun ∷ []) c.requires.named closed c.in-Left.ensures.left.left)
+
+pub returns-in-Ok-clause-stay : goal.returns-in-Ok-clause-stay
+returns-in-Ok-clause-stay g c closed = absurd (never_left c.args.changer.now.unit c.args.nexus c.args.cdb.now c.args.bytes.now c.args.low.now.unit.kept.lun (c.args.high.now.unit.kept.lun ∷ []) c.requires.named closed c.in-Left.ensures.left.left)

@@ -37,7 +37,7 @@ pub returns-then-is_left-clause-begins : goal.returns-then-is_left-clause-begins
 returns-then-is_left-clause-begins g c =
     let o = opened g c in
     subst (λ (v : StateView). IsLeft (unit_of (g.D.DeviceServer.shown c.args.server.now.value) v) c.args.nexus c.args.cdb.now c.args.bytes.now c.args.route c.in_ok-act.act c.in_ok-finding.finding) c.self.view_is
-    (record { left = o.left; present = o.present; found = o.finding; asked = asked_by g c; memory = o.memory; awaits = o.awaits; ways = o.ways })
+    (record { left = o.left; present = o.present; found = o.finding; asked = asked_by g c; awaits = o.awaits; ways = o.ways })
 
 pub returns-then-is_left-clause-stays : goal.returns-then-is_left-clause-stays
 returns-then-is_left-clause-stays g c =

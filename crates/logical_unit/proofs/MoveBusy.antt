@@ -1,0 +1,35 @@
+-- What a MOVE MEDIUM with the drives that it names is BUSY for.
+use Rattle.std.proofs.Common.{◌≡◌, ℕ, true, false, List, ◌∷◌, Result, ap, sym, ◌∙◌, subst, inl, inr}
+use Rattle.std.specs.Prelude.{◌⊎◌}
+use Rattle.scsi_nexus.specs.declared.nexus.Nexus.{Nexus}
+use Rattle.scsi_sense.specs.declared.condition.Condition.{Condition}
+use Rattle.scsi_sense.specs.declared.status.Status.TheVariants.{Busy}
+use Rattle.device_server.specs.View.{kind_of, drives_of}
+use Rattle.unit_answers.specs.declared.reply.Reply.{Reply}
+use Rattle.unit_commands.specs.Commands.{spelled}
+use Rattle.unit_commands.specs.declared.command.Command.{Command}
+use Rattle.judgement.specs.Judge.{takes_memory}
+use Rattle.logical_unit.specs.Begun.{IsPutOff, IsEnded}
+use Rattle.logical_unit.specs.Move.{LacksAtChanger}
+use Rattle.logical_unit.specs.Route.{named}
+use Rattle.logical_unit.specs.Step.{contacted_present}
+use Rattle.logical_unit.specs.UnitView.{UnitView, UnitWithRoom}
+use Rattle.logical_unit.proofs.History.{answers_no_busy}
+use Rattle.logical_unit.proofs.NamedDrives.{has_route}
+use Rattle.logical_unit.proofs.SameUnits.{spells_move}
+
+-- it takes no memory beside the room for records
+no_memory : (u : UnitView) (n : Nexus) (cdb bytes : List ℕ) (l : ℕ) (more : List ℕ) → named (drives_of u.device) cdb ≡ l ∷ more → takes_memory (contacted_present u n) n (spelled (kind_of u.device) cdb bytes) ≡ true → ⊥
+no_memory u n cdb bytes l more names h =
+    let is = spells_move u.device cdb bytes l more (has_route u.device cdb l more names) in
+    let none : false ≡ true = subst (λ (s : Result Command Condition). takes_memory (contacted_present u n) n s ≡ true) is h in
+    cc
+
+-- where the changer answers it
+pub answered_lacks : (x y : UnitWithRoom) (n : Nexus) (cdb bytes : List ℕ) (reply : Reply) (l : ℕ) (more : List ℕ) → named (drives_of x.unit.device) cdb ≡ l ∷ more
+    → IsPutOff x y n cdb bytes reply ⊎ IsEnded x y n cdb bytes reply → reply.status ≡ Busy → LacksAtChanger x n
+answered_lacks x y n cdb bytes reply l more names (inl off) busy = elim (off.only (sym (ap (λ (r : Reply). r.status) off.refuses) ∙ busy)) [
+  | inl memory ↦ absurd (no_memory x.unit n cdb bytes l more names memory)
+  | inr lacks ↦ lacks
+]
+answered_lacks x y n cdb bytes reply l more names (inr ended) busy = absurd (answers_no_busy x.unit n cdb bytes (ap (λ (z : UnitView × Reply). z.1.status) ended.answer.answer ∙ busy))

@@ -1,0 +1,30 @@
+-- What is in a unit, and who may not change it.
+use Rattle.std.specs.Prelude.{◌≡◌, ℕ, false, List, Option, Some, None}
+use Rattle.scsi_nexus.specs.declared.nexus.Nexus.{Nexus}
+use Rattle.permit_tables.specs.Permission.{Changing, row_allows}
+use Rattle.tape_medium.specs.declared.volume.Volume.{Volume}
+use Rattle.pr_core.specs.State.{State, res_type, role}
+use Rattle.device_server.specs.View.{DeviceView, Drive, Changer}
+use Rattle.unit_answers.specs.declared.reply.Reply.{Reply}
+use Rattle.logical_unit.specs.Step.{Executes}
+use Rattle.logical_unit.specs.UnitView.{UnitView}
+
+-- a volume at another position
+abbrev pub SameVolume : Option Volume → Option Volume → Type 0
+SameVolume None None = Unit {0}
+SameVolume (Some v) (Some w) = (v.tag ≡ w.tag) × (v.protected ≡ w.protected) × (v.tape.objects ≡ w.tape.objects) × (v.tape.capacity ≡ w.tape.capacity)
+SameVolume o p = ⊥
+
+-- a drive with the same volume, loaded and set as before, or a changer with the same elements
+abbrev pub SameContents : DeviceView → DeviceView → Type 0
+SameContents (Drive d) (Drive e) = (d.loaded ≡ e.loaded) × (d.block_length ≡ e.block_length) × SameVolume d.bay e.bay
+SameContents (Changer d) (Changer e) = d ≡ e
+SameContents d e = ⊥
+
+-- the permission table closes the changing classes to a nexus: WE and EA to who doesn't hold, a group type to who isn't registered
+abbrev pub MayNotChange : State → Nexus → Type 0
+MayNotChange v n = row_allows Changing (res_type v) (role v n) ≡ false
+
+-- a command of such a nexus leaves what is in the unit
+abbrev pub OutsiderChangesNothing : Type 0
+OutsiderChangesNothing = (u v : UnitView) (n : Nexus) (cdb bytes : List ℕ) (r : Reply) → MayNotChange u.kept.reservations n → Executes u n cdb bytes (v, r) → SameContents u.device v.device
