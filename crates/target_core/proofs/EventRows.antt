@@ -7,10 +7,10 @@ use Rattle.unit_attention.specs.declared.kind.Kind.TheVariants.{NexusLoss, BusDe
 use Rattle.unit_answers.specs.declared.reply.Reply.{Reply}
 use Rattle.unit_state.specs.Kept.{has_room}
 use Rattle.unit_answers.specs.Replies.{busy}
-use Rattle.logical_unit.specs.Step.{HasNumber, Executes}
+use Rattle.logical_unit.specs.Step.{HasNumber, Executes, IsLost, IsReset, done, number_or_0}
 use Rattle.logical_unit.specs.UnitView.{UnitView}
 use Rattle.target_core.specs.declared.event.Event.TheVariants as event
-use Rattle.target_core.specs.Run.{AtUnit, Commands, IsLost, IsReset, Steps, Runs, done, number_or_0}
+use Rattle.target_core.specs.Run.{AtUnit, Commands, Steps, Runs}
 use Rattle.target_core.specs.Rows.{a, changer, drive, units, last_number_used, with_slots, IsBusyToA, BusyRuns, good_with, not_supported, met_a, LossesAndResets}
 
 never : (u : UnitView) → (has_room u.kept a ≡ true → HasNumber u → ⊥) → IsBusyToA u

@@ -12,17 +12,17 @@ use Rattle.device_server.specs.View.{DeviceView, kind_of, drives_of}
 use Rattle.device_server.proofs.MarkLemmas.{resets_keep_marks}
 use Rattle.unit_answers.specs.declared.reply.Reply.{Reply}
 use Rattle.judgement.specs.History.{Accepted, accepted_as, accepted_by, after_history}
-use Rattle.logical_unit.specs.Move.{TwoDrives, MovesOne, MovesTwo, IsSameUnit}
+use Rattle.logical_unit.specs.Move.{TwoDrives, IsSameUnit}
 use Rattle.logical_unit.specs.Route.{named}
 use Rattle.logical_unit.specs.UnitView.{UnitView}
 use Rattle.logical_unit.proofs.NamedDrives.{has_route}
 use Rattle.logical_unit.proofs.SameUnits.{spells_move, one_same, two_same}
 use Rattle.logical_unit.proofs.History.{executes_keeps, executes_stays}
 use Rattle.device_server.proofs.SameDevice.{reset_same}
-use Rattle.logical_unit.specs.Step.{Executes, LosesAs}
+use Rattle.logical_unit.specs.Step.{Executes, LosesAs, IsLost, IsReset}
 use Rattle.target_core.specs.declared.event.Event.{Event}
 use Rattle.target_core.specs.declared.event.Event.TheVariants as event
-use Rattle.target_core.specs.Run.{AtUnit, AtDrive, AtDrives, MovesWith, MovesBetween, CommandsNaming, CommandsAt, IsLost, IsReset, LosesAt, ResetsAt, Steps, Runs}
+use Rattle.target_core.specs.Run.{AtUnit, MovesWith, MovesBetween, CommandsNaming, CommandsAt, LosesAt, ResetsAt, Steps, Runs}
 use Rattle.target_core.specs.Laws.{accepted_at, accepted_in}
 use Rattle.target_core.proofs.Ordered.{one_named, two_named}
 

@@ -1,5 +1,5 @@
 -- The order of the units along steps, and the marks of the changer, which stay true of the drives.
-use Rattle.std.proofs.Common.{◌≡◌, ◌≢◌, ◌≤◌, ◌<◌, ◌+◌, ◌-◌, ◌&&◌, ◌==◌, ℕ, zero, suc, Bool, true, false, List, [], ◌∷◌, length, Option, Some, None, Result, Ok, Err, refl, sym, ap, ◌∙◌, subst, inl, inr, arith}
+use Rattle.std.proofs.Common.{◌≡◌, ◌≢◌, ◌≤◌, ◌+◌, ◌-◌, ◌&&◌, ◌==◌, ℕ, zero, suc, Bool, true, false, List, [], ◌∷◌, length, Option, Some, None, Result, Ok, Err, refl, sym, ap, ◌∙◌, subst, inl, inr, arith}
 use Rattle.std.proofs.lemmas.Bool.Decides.{nat_tests}
 use Rattle.std.proofs.lemmas.List.{length-set}
 use Rattle.std.specs.Prelude.{◌⊎◌, cond, nat_le, nat_eq, slice_get, slice_set, IsOk}
@@ -14,9 +14,9 @@ use Rattle.tape_medium.specs.declared.volume.VolumeTag.{VolumeTag}
 use Rattle.device_server.specs.Marks.{marks, KeepsMarks}
 use Rattle.device_server.specs.View.{DeviceView, Drive, Changer, kind_of, drives_of, held_in, marked}
 use Rattle.device_server.specs.declared.fault.BadPlace.{BadPlace}
-use Rattle.device_server.proofs.MarkLemmas.{resets_keep_marks, drives_give, drives_get, changers_give, changers_get, marks_one, each_is_marked}
+use Rattle.device_server.proofs.MarkLemmas.{drives_give, drives_get, changers_give, changers_get, marks_one, each_is_marked}
 use Rattle.unit_answers.specs.declared.reply.Reply.{Reply}
-use Rattle.logical_unit.specs.Move.{TwoDrives, same_tag, noting, unloaded, loaded, passed, carried_by_one, carried_one, upward, downward, carried_two, route_at, MovesOne, MovesTwo, IsSameUnit}
+use Rattle.logical_unit.specs.Move.{TwoDrives, noting, unloaded, loaded, passed, carried_by_one, carried_one, upward, downward, carried_two, route_at, MovesOne, MovesTwo, IsSameUnit}
 use Rattle.logical_unit.specs.Medium.{taken_out, put_in}
 use Rattle.logical_unit.specs.Route.{drive_at, is_upward, named_by, named}
 use Rattle.logical_unit.specs.Step.{Executes, drained}
@@ -25,14 +25,13 @@ use Rattle.logical_unit.specs.declared.route.Route.{Route}
 use Rattle.logical_unit.proofs.Halves.{is_out, is_in, is_unloaded, is_loaded, is_passed}
 use Rattle.logical_unit.proofs.History.{executes_stays, executes_marks}
 use Rattle.logical_unit.proofs.Moved.{Became, one_became, two_became}
-use Rattle.logical_unit.proofs.NamedDrives.{HasRoute, AreNamed, has_route, drive_within, named_one, named_two}
+use Rattle.logical_unit.proofs.NamedDrives.{HasRoute, AreNamed, has_route, drive_within, named_two}
 use Rattle.logical_unit.proofs.SameUnits.{noting_same, one_same, two_same}
 use Rattle.target_core.specs.Faults.{is_drive, is_changer, are_drives, same_mark, agree, fault_of}
 use Rattle.target_core.specs.Run.{AtUnit, AtDrive, AtDrives, MovesWith, MovesBetween, CommandsNaming, CommandsAt, LosesAt, ResetsAt, DrainsAt}
-use Rattle.target_core.specs.declared.order.CoreFault.{CoreFault}
 use Rattle.target_core.specs.declared.order.CoreFault.TheVariants.{Count, Order, Disagree}
 use Rattle.target_core.proofs.History.{get-set_other, loss_kind, reset_kind, loss_marks, reset_marks}
-use Rattle.target_core.proofs.Ordered.{both, IsOrdered, ordered, has_drives, IsDriveAt, drive_of, one_named, two_named}
+use Rattle.target_core.proofs.Ordered.{both, IsOrdered, ordered, one_named, two_named}
 use Rattle.target_core.proofs.SamePlace.{place_of, executes_place, loss_place, reset_place}
 
 -- what the order of units looks at: the kind of each, its number, and how many units it was made with

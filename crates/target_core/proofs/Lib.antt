@@ -9,3 +9,14 @@ pub mod SamePlace
 pub mod InOrder
 pub mod Places
 pub mod MovesInPlace
+pub mod Devices
+pub mod CommandWays
+pub mod Agreement
+pub mod StaysTarget
+pub mod NoFailures
+pub mod VolumePlaces
+pub mod VolumeCarries
+pub mod VolumeSteps
+pub mod MovedRun
+pub mod CartridgeDevices
+pub mod CartridgeSteps

@@ -1,5 +1,5 @@
 -- Units that make a target: a changer, and then drives by place, with the marks that are true of them.
-use Rattle.std.proofs.Common.{◌≡◌, ◌≤◌, ◌<◌, ◌+◌, ◌-◌, ◌==◌, ◌&&◌, ℕ, zero, suc, Bool, true, false, List, [], ◌∷◌, length, Option, Some, None, refl, sym, ap, ◌∙◌, subst, inl, inr, arith}
+use Rattle.std.proofs.Common.{◌≡◌, ◌≤◌, ◌<◌, ◌+◌, ◌==◌, ◌&&◌, ℕ, zero, suc, Bool, true, false, List, [], ◌∷◌, length, Option, Some, None, refl, sym, ap, ◌∙◌, subst, inl, inr, arith}
 use Rattle.std.proofs.lemmas.Bool.Decides.{nat_tests}
 use Rattle.std.specs.Prelude.{cond, nat_le, nat_eq, drop, slice_get, ◌⊎◌}
 use Rattle.scsi_cdb.specs.declared.kind.Kind.{Kind}
@@ -9,10 +9,8 @@ use Rattle.device_server.specs.Marks.{marks}
 use Rattle.device_server.specs.View.{DeviceView, Drive, Changer, kind_of, drives_of, held_in}
 use Rattle.logical_unit.specs.Route.{drive_at, named}
 use Rattle.logical_unit.specs.UnitView.{UnitView, UnitWithRoom, units_of}
-use Rattle.logical_unit.proofs.NamedDrives.{HasRoute, BothNamed, has_route, drive_within, named_one, named_two}
+use Rattle.logical_unit.proofs.NamedDrives.{BothNamed, has_route, drive_within, named_one, named_two}
 use Rattle.target_core.specs.Faults.{is_drive, is_changer, are_drives, is_in_order, same_mark, agree, fault_of}
-use Rattle.target_core.specs.Run.{NamesAt}
-use Rattle.target_core.specs.declared.order.CoreFault.{CoreFault}
 use Rattle.target_core.specs.declared.order.CoreFault.TheVariants.{Count, Order, Disagree}
 
 -- a conjunction, by its parts

@@ -8,9 +8,9 @@ use Rattle.audit_log.specs.declared.record.Record.{Record}
 use Rattle.unit_answers.specs.declared.reply.Reply.{Reply}
 use Rattle.unit_answers.specs.Replies.{busy}
 use Rattle.logical_unit.specs.UnitView.{UnitView, UnitWithRoom, units_of}
-use Rattle.logical_unit.specs.Step.{Executes, Loses, Resets, drained}
+use Rattle.logical_unit.specs.Step.{Executes, Loses, Resets, drained, done, number_or_0}
 use Rattle.logical_unit.specs.Legal.{IsTrail}
-use Rattle.target_core.specs.Run.{AtUnit, CommandsAt, Commands, LosesAt, ResetsAt, DrainsAt, Drains, done, number_or_0}
+use Rattle.target_core.specs.Run.{AtUnit, CommandsAt, Commands, LosesAt, ResetsAt, DrainsAt, Drains}
 
 -- the unit at a place
 pub placed : (us : List UnitWithRoom) (i : ℕ) (d : UnitWithRoom) → i < length us → slice_get (units_of us) i ≡ Some (slice_index_or us i d).unit

@@ -5,9 +5,8 @@ use Rattle.unit_attention.specs.Queues.{has_slot}
 use Rattle.unit_answers.specs.declared.reply.Reply.{Reply}
 use Rattle.unit_state.specs.KeptView.{KeptView}
 use Rattle.logical_unit.specs.UnitView.{UnitView}
-use Rattle.logical_unit.specs.Step.{Executes, LosesAs}
+use Rattle.logical_unit.specs.Step.{Executes, LosesAs, IsLost, IsReset}
 use Rattle.logical_unit.proofs.History.{executes_stays}
-use Rattle.target_core.specs.Run.{IsLost, IsReset}
 
 -- the number of a unit, and how many units it was made with
 abbrev pub place_of : KeptView → ℕ × ℕ

@@ -47,7 +47,7 @@ use Rattle.judgement.specs.History.{accepted_by, after_history}
 use Rattle.target_core.specs.declared.event.Event.TheVariants as event
 use Rattle.target_core.specs.Run.{AtUnit, AtDrive, AtDrives, MovesWith, MovesBetween, CommandsNaming, CommandsAt}
 use Rattle.target_core.proofs.History.{get-set_same, get-set_other, adds_nothing}
-use Rattle.target_core.specs.Headline.{by_history, refusal_entry, IsRefused, IsLetIn, IsDecidedBy, IsBusy, IsBarred, IsAnswered, IsMovedAt, IsByDrives, IsServed, Headline}
+use Rattle.target_core.specs.Headline.{by_history, refusal_entry, IsRefused, IsLetIn, IsDecidedBy, IsBusy, IsBarred, IsAnswered, IsMovedAt, IsServed, Headline}
 use Rattle.judgement.proofs.Carried.{judged_free}
 use Rattle.target_core.proofs.Parts.{parts, run_grows, set-same}
 

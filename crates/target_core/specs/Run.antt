@@ -1,14 +1,13 @@
 -- What a target does at each event, and runs of events.
-use Rattle.std.specs.Prelude.{◌≡◌, ◌⊎◌, ℕ, zero, suc, true, List, [], ◌∷◌, slice_get, slice_set, Option, Some, None}
+use Rattle.std.specs.Prelude.{◌≡◌, ℕ, zero, suc, List, [], ◌∷◌, slice_get, slice_set, Option, Some, None}
 use Rattle.scsi_nexus.specs.declared.nexus.Nexus.{Nexus}
 use Rattle.scsi_sense.specs.declared.condition.Condition.TheVariants.{LogicalUnitNotSupported}
-use Rattle.unit_attention.specs.Queues.{has_slot}
 use Rattle.audit_log.specs.declared.record.Record.{Record}
 use Rattle.device_server.specs.View.{drives_of}
 use Rattle.unit_answers.specs.declared.reply.Reply.{Reply}
 use Rattle.logical_unit.specs.Legal.{IsTrail}
-use Rattle.unit_answers.specs.Replies.{AnswersAbsent, busy, good, check, numbered}
-use Rattle.logical_unit.specs.Step.{Executes, Loses, Resets, drained}
+use Rattle.unit_answers.specs.Replies.{AnswersAbsent, check}
+use Rattle.logical_unit.specs.Step.{Executes, IsLost, IsReset, drained}
 use Rattle.logical_unit.specs.Move.{TwoDrives, MovesOne, MovesTwo}
 use Rattle.logical_unit.specs.Route.{named}
 use Rattle.logical_unit.specs.UnitView.{UnitView}
@@ -63,26 +62,8 @@ CommandsAt us (suc k) (Some u) n cdb bytes new = AtUnit us (suc k) (Executes u n
 abbrev pub Commands : List UnitView → ℕ → Nexus → (cdb bytes : List ℕ) → List UnitView × Reply → Type 0
 Commands us lun n cdb bytes new = CommandsAt us lun (slice_get us lun) n cdb bytes new
 
--- GOOD for an event that isn't a command, with the number of its record, 0 where it has none
-abbrev pub done : ℕ → Reply
-done number = numbered (good []) number
-
-abbrev pub number_or_0 : Option ℕ → ℕ
-number_or_0 None = 0
-number_or_0 (Some number) = number
-
 abbrev pub unsupported : Reply
 unsupported = check LogicalUnitNotSupported
-
--- an I_T nexus loss at a unit: BUSY with nothing changed, where the nexus has a slot; or the loss
-abbrev pub IsLost : UnitView → Nexus → UnitView × Reply → Type 0
-IsLost u n new =
-    ((new ≡ (u, busy)) × (has_slot u.kept.slots n ≡ true))
-    ⊎ ((number : Option ℕ) × Loses u n (new.0, number) × (new.1 ≡ done (number_or_0 number)))
-
--- a reset of a unit: BUSY with nothing changed, or the reset
-abbrev pub IsReset : UnitView → UnitView × Reply → Type 0
-IsReset u new = (new ≡ (u, busy)) ⊎ ((number : ℕ) × Resets u (new.0, number) × (new.1 ≡ done number))
 
 -- an I_T nexus loss, and a reset, at a unit that is there, or at none
 abbrev pub LosesAt : List UnitView → ℕ → Option UnitView → Nexus → List UnitView × Reply → Type 0

@@ -4,7 +4,8 @@ ghost use Rattle.std.specs.Option.{option_map};
 ghost use Rattle.audit_log.specs.declared.record.Record.{Record};
 ghost use Rattle.logical_unit.specs.UnitView.{units_of};
 ghost use Rattle.target_core.specs.Faults.{fault_of};
-ghost use Rattle.target_core.specs.Run.{NamesAt, Commands, LosesAt, ResetsAt, Drains, done};
+ghost use Rattle.logical_unit.specs.Step.{done};
+ghost use Rattle.target_core.specs.Run.{NamesAt, Commands, LosesAt, ResetsAt, Drains};
 
 use crate::event::Event;
 use crate::order::{CoreFault, fault_of};

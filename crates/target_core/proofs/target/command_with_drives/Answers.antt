@@ -1,5 +1,5 @@
-use Rattle.std.proofs.Common.{get_or, sym, ap, ◌∙◌, ◌∷◌}
-use Rattle.target_core.proofs.MovesInPlace.{names_at, one_within, two_within, alone_moved, empty_is, single_is, pair_is, lun_of, luns_of}
+use Rattle.std.proofs.Common.{get_or, sym, ap, ◌∙◌}
+use Rattle.target_core.proofs.MovesInPlace.{names_at, alone_moved, empty_is, single_is, pair_is, lun_of, luns_of}
 use Rattle.target_core.proofs.target.command_with_drives.Goals as goal
 
 pub move_at-requires-clause-named : goal.move_at-requires-clause-named

@@ -1,5 +1,5 @@
 use Rattle.std.proofs.Common.{ap, ◌∙◌}
-use Rattle.target_core.specs.Run.{done}
+use Rattle.logical_unit.specs.Step.{done}
 use Rattle.target_core.proofs.Places.{loses_at, busy_loss_at}
 use Rattle.target_core.proofs.target.lose_at.Goals as goal
 

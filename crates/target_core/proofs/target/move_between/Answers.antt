@@ -1,6 +1,3 @@
-use Rattle.std.proofs.Common.{◌≡◌, ◌-◌, ◌+◌, ◌<◌, ◌++◌, length, refl, sym, ap, ◌∙◌, subst, arith}
-use Rattle.std.specs.Prelude.{slice_index_or, slice_set}
-use Rattle.logical_unit.specs.UnitView.{UnitWithRoom}
 use Rattle.target_core.proofs.MovesInPlace.{asked_in_parts, moved_in_parts}
 use Rattle.target_core.proofs.target.move_between.Goals as goal
 

@@ -1,0 +1,14 @@
+use Rattle.target_core.proofs.MovedRun.{moved_run, not_kept, other_cartridges, failed_run}
+use Rattle.target_core.proofs.library_laws.worked_moves.Goals as goal
+
+pub returns-clause-run : goal.returns-clause-run
+returns-clause-run c = moved_run
+
+pub returns-clause-not_kept : goal.returns-clause-not_kept
+returns-clause-not_kept c = not_kept
+
+pub returns-clause-other_cartridges : goal.returns-clause-other_cartridges
+returns-clause-other_cartridges c = other_cartridges
+
+pub returns-clause-failure : goal.returns-clause-failure
+returns-clause-failure c = failed_run
