@@ -1,0 +1,72 @@
+-- The worked rows, computed.
+use Rattle.std.proofs.Common.{◌≡◌, ℕ, ◌==◌, Bool, true, false, Option, Some, None, refl, ap, inl, inr}
+use Rattle.scsi_nexus.specs.declared.nexus.Nexus.{Nexus}
+use Rattle.scsi_nexus.specs.Order.{same_nexus}
+use Rattle.permit_tables.specs.declared.res_type.ResType.{ResType}
+use Rattle.permit_tables.specs.Types.{code_of}
+use Rattle.std.specs.Global.{Vec}
+use Rattle.scsi_cdb.specs.Commands as cdb
+use Rattle.tape_medium.specs.declared.volume.VolumeTag.{VolumeTag}
+use Rattle.pr_core.specs.State.{keys_after}
+use Rattle.protected_span.specs.Rows.{a, WorkedSpan, StruckOut, ConditionsAreNeeded, ConditionsSay, MayNot, Contents}
+
+pub worked_span : (tag : VolumeTag) → WorkedSpan tag
+unfolding cdb.command_of keys_after
+worked_span tag = record { all = refl; alone = refl; data_beside = refl; data_alone = refl; device = refl; beside = refl }
+
+pub struck_out : (cdb : Vec ℕ) → StruckOut cdb
+struck_out cdb = record { commands = refl; others = refl }
+
+pub needed : (tag : VolumeTag) → ConditionsAreNeeded tag
+unfolding cdb.command_of keys_after
+needed tag = record {
+  preempt_beside = refl;
+  preempt_alone = refl;
+  register_beside = refl;
+  register_alone = refl;
+  move_allowed = refl;
+  move_beside = refl;
+  move_alone = refl;
+  key_changed = refl;
+  release_late = refl;
+  release_alone = refl;
+  unloads_beside = refl;
+  unloads_alone = refl;
+}
+
+-- whether A has a reservation, and whether one is of Exclusive Access
+abbrev by_a : Option (ResType × Nexus) → Bool
+by_a None = false
+by_a (Some r) = same_nexus r.1 a
+
+abbrev is_exclusive_access : Option (ResType × Nexus) → Bool
+is_exclusive_access None = false
+is_exclusive_access (Some r) = code_of r.0 == 3
+
+pub say : (tag : VolumeTag) → ConditionsSay tag
+say tag = record {
+  no_preempt = λ m. m;
+  no_abort = λ m. m;
+  no_move = λ m. m;
+  no_other = λ m. cc;
+  no_other_ignoring = λ m. cc;
+  itself = refl;
+  begins = record { holds = refl; alone = refl };
+  not_holding = λ s. let e : true ≡ false = ap by_a s.holds in cc;
+  another_prevents = λ s. let e = s.alone in cc;
+  group_prevents = λ s. let e = s.alone in cc;
+  write_exclusive = λ s. let e : false ≡ true = ap is_exclusive_access s.holds in cc;
+  registrants_only = λ s. elim s.held [ inl e ↦ cc | inr e ↦ cc ];
+}
+
+pub may_not : MayNot
+may_not = record { we = refl; ea = refl; wero = refl; earo = refl; wear = refl; eaar = refl; registered = λ e. cc; holder = λ e. cc; unreserved = λ e. cc }
+
+pub contents : (tag : VolumeTag) → Contents tag
+contents tag = record {
+  moved = (refl, refl, (refl, refl, refl, refl));
+  written = λ e. let same = e.2.2 in cc;
+  gone = λ e. e.2;
+  unloaded = λ e. let same = e.0 in cc;
+  set = λ e. let same = e.1 in cc;
+}

@@ -1,0 +1,5 @@
+pub mod Reached
+pub mod Struck
+pub mod Span
+pub mod Contents
+pub mod Rows
