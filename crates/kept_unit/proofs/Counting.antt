@@ -1,0 +1,158 @@
+-- The numbers of a call, counted at each unit; and a unit that is kept stays so.
+use Rattle.std.proofs.Common.{◌≡◌, ◌≢◌, ◌⊎◌, ℕ, ◌+◌, ◌<◌, Bool, true, false, Option, Some, List, [], ◌∷◌, ◌++◌, length, refl, sym, ap, ◌∙◌, subst, inl, inr, arith, length-append}
+use Rattle.std.specs.Prelude.{cond, nat_eq}
+use Rattle.std.proofs.lemmas.Bool.Decides.{nat_tests}
+use Rattle.std.proofs.lemmas.List.Sums.{sum_by-append}
+use Rattle.scsi_nexus.specs.declared.nexus.Nexus.{Nexus}
+use Rattle.unit_attention.specs.Queues.{has_slot}
+use Rattle.audit_log.specs.declared.act.Act.{Act}
+use Rattle.audit_log.specs.declared.record.Record.{Record}
+use Rattle.device_server.specs.View.{kind_of, drives_of}
+use Rattle.judgement.specs.Present.{Present}
+use Rattle.judgement.specs.declared.finding.Finding.{Finding}
+use Rattle.unit_answers.specs.declared.reply.Reply.{Reply}
+use Rattle.unit_answers.specs.Replies.{busy}
+use Rattle.unit_commands.specs.Commands.{act_of}
+use Rattle.logical_unit.specs.Move.{numbers_of, IsSameUnit, judged_at}
+use Rattle.logical_unit.specs.Step.{Executes, LosesAs, loses, IsLost, number_or_0, recorded, entry_of}
+use Rattle.logical_unit.specs.UnitView.{UnitView, last_number}
+use Rattle.logical_unit.proofs.History.{executes_stays}
+use Rattle.logical_unit.proofs.Numbers.{none_more, one_more}
+use Rattle.kept_unit.specs.Answers.{count_at, own_number}
+use Rattle.kept_unit.specs.Keeping.{IsKept}
+
+-- a unit's own number is at no other unit
+pub only_own : (lun n k : ℕ) → (k ≡ lun → ⊥) → count_at k (own_number lun n) ≡ 0
+only_own lun n k other = grind (arith, nat_tests)
+
+-- one record more, of an act
+pub record Recorded (u v : UnitView) (asked : Act) : Type 0 where
+  pub entry : Record
+  pub records : v.records ≡ u.records ++ entry ∷ []
+  pub act : entry.act ≡ asked
+  pub last : last_number v ≡ last_number u + 1
+
+pub recorded_one : (u v : UnitView) (n : Nexus) (act : Act) (p : Present) (f : Finding) (given r : Reply) → (v, r) ≡ recorded u n act (p, f, given) → Recorded u v act
+recorded_one u v n act p f given r e =
+    let more : v.records ≡ u.records ++ entry_of (last_number u + 1) (Some n) act f given.status given.sense ∷ [] = ap (λ (x : UnitView × Reply). x.0.records) e in
+    let base : v.base.last ≡ u.base.last = ap (λ (x : UnitView × Reply). x.0.base.last) e in
+    let longer : length v.records ≡ length u.records + 1 = ap length more ∙ length-append u.records _ in
+    record { entry = entry_of (last_number u + 1) (Some n) act f given.status given.sense; records = more; act = refl; last = omega (arith, base, longer) }
+
+-- a command is BUSY with nothing changed, or it has a record
+pub executed : (u v : UnitView) (n : Nexus) (cdb bytes : List ℕ) (r : Reply) → Executes u n cdb bytes (v, r)
+    → ((v ≡ u) × (r ≡ busy)) ⊎ (Recorded u v (act_of (kind_of u.device) cdb bytes) × (r.number ≡ last_number u + 1))
+executed u v n cdb bytes r (inl e) = inl (ap (λ (x : UnitView × Reply). x.0) e, ap (λ (x : UnitView × Reply). x.1) e)
+executed u v n cdb bytes r (inr e) =
+    let j = judged_at u n cdb bytes in
+    inr (recorded_one u v n (act_of (kind_of u.device) cdb bytes) j.0 j.1 j.2 r e.2, ap (λ (x : UnitView × Reply). x.1.number) e.2)
+
+none_counted : (lun n : ℕ) → n ≡ 0 → count_at lun (own_number lun n) ≡ 0
+none_counted lun n none = rw none refl
+
+one_counted : (lun n m : ℕ) → n ≡ m + 1 → count_at lun (own_number lun n) ≡ 1
+one_counted lun n m one = grind (arith, nat_tests)
+
+pub grown : (lun : ℕ) (u v : UnitView) (n : Nexus) (cdb bytes : List ℕ) (r : Reply) → Executes u n cdb bytes (v, r)
+    → last_number v ≡ last_number u + count_at lun (own_number lun r.number)
+grown lun u v n cdb bytes r step = elim (executed u v n cdb bytes r step) [
+  | inl same ↦ ap last_number same.0 ∙ rw (none_counted lun r.number (ap (λ (x : Reply). x.number) same.1)) (omega arith)
+  | inr more ↦ rw (one_counted lun r.number (last_number u) more.1) more.0.last
+]
+
+-- a command without a number is BUSY
+none_is_zero : (lun n : ℕ) → own_number lun n ≡ [] → n ≡ 0
+none_is_zero lun n none = grind (arith, nat_tests)
+
+pub unnumbered : (lun : ℕ) (u v : UnitView) (n : Nexus) (cdb bytes : List ℕ) (r : Reply) → Executes u n cdb bytes (v, r) → own_number lun r.number ≡ [] → r ≡ busy
+unnumbered lun u v n cdb bytes r step none = elim (executed u v n cdb bytes r step) [
+  | inl same ↦ same.1
+  | inr more ↦ absurd (let zero = none_is_zero lun r.number none in let one = more.1 in omega (arith, zero, one))
+]
+
+-- after a command the unit is kept
+pub stays_kept : (lun : ℕ) (u v : UnitView) (n : Nexus) (cdb bytes : List ℕ) (r : Reply) (count total total' was since : ℕ) → Executes u n cdb bytes (v, r)
+    → IsKept lun u total was since → count ≡ count_at lun (own_number lun r.number) → total' ≡ total + count → IsKept lun v total' was since
+stays_kept lun u v n cdb bytes r count total total' was since step kept is more =
+    let s = executes_stays u v n cdb bytes r step in
+    let grew = grown lun u v n cdb bytes r step in
+    let before = kept.last in
+    record {
+      kind = s.device.kind ∙ kept.kind;
+      place = s.lun ∙ kept.place;
+      few = subst (λ (d : ℕ). d < 256) (sym s.device.drives) kept.few;
+      last = omega (arith, grew, before, is, more);
+      first = kept.first;
+    }
+
+-- so is one that stays the same unit, with as many numbers more
+pub same_kept : (lun : ℕ) (u v : UnitView) (count total total' was since : ℕ) → IsSameUnit u v → IsKept lun u total was since
+    → last_number v ≡ last_number u + count → total' ≡ total + count → IsKept lun v total' was since
+same_kept lun u v count total total' was since same kept grew more =
+    let before = kept.last in
+    record {
+      kind = same.device.kind ∙ kept.kind;
+      place = same.lun ∙ kept.place;
+      few = subst (λ (d : ℕ). d < 256) (sym same.device.drives) kept.few;
+      last = omega (arith, grew, before, more);
+      first = kept.first;
+    }
+
+-- after the loss of a nexus too
+record Happened (lun : ℕ) (u v : UnitView) (r : Reply) : Type 0 where
+  pub kind : kind_of v.device ≡ kind_of u.device
+  pub drives : drives_of v.device ≡ drives_of u.device
+  pub place : v.kept.lun ≡ u.kept.lun
+  pub last : last_number v ≡ last_number u + count_at lun (own_number lun r.number)
+
+unchanged : (lun : ℕ) (u v : UnitView) (r : Reply) → v ≡ u → r.number ≡ 0 → Happened lun u v r
+unchanged lun u v r is none =
+    subst (λ (x : UnitView). Happened lun u x r) (sym is) (record { kind = refl; drives = refl; place = refl; last = rw (none_counted lun r.number none) (omega arith) })
+
+loses_as : (lun : ℕ) (b : Bool) (u v : UnitView) (n : Nexus) (number : Option ℕ) (r : Reply) → LosesAs b u n (v, number) → r.number ≡ number_or_0 number → Happened lun u v r
+loses_as lun false u v n number r h is = unchanged lun u v r (ap (λ (x : UnitView × Option ℕ). x.0) h) (is ∙ ap (λ (x : UnitView × Option ℕ). number_or_0 x.1) h)
+loses_as lun true u v n number r h is =
+    let one = one_counted lun r.number (last_number u) (is ∙ ap (λ (x : UnitView × Option ℕ). number_or_0 x.1) h.1) in
+    let longer : length (loses u n).records ≡ length u.records + 1 = length-append u.records _ in
+    subst (λ (x : UnitView). Happened lun u x r) (sym (ap (λ (x : UnitView × Option ℕ). x.0) h.1))
+    (record { kind = refl; drives = refl; place = refl; last = omega (arith, one, longer) })
+
+lost_happened : (lun : ℕ) (u v : UnitView) (n : Nexus) (r : Reply) → IsLost u n (v, r) → Happened lun u v r
+lost_happened lun u v n r (inl same) = unchanged lun u v r (ap (λ (x : UnitView × Reply). x.0) same.0) (ap (λ (x : UnitView × Reply). x.1.number) same.0)
+lost_happened lun u v n r (inr lost) = loses_as lun (has_slot u.kept.slots n) u v n lost.0 r lost.1 (ap (λ (x : Reply). x.number) lost.2)
+
+pub lost_kept : (lun : ℕ) (u v : UnitView) (n : Nexus) (r : Reply) (count total total' was since : ℕ) → IsLost u n (v, r)
+    → IsKept lun u total was since → count ≡ count_at lun (own_number lun r.number) → total' ≡ total + count → IsKept lun v total' was since
+lost_kept lun u v n r count total total' was since step kept is more =
+    let s = lost_happened lun u v n r step in
+    let grew = s.last in
+    let before = kept.last in
+    record {
+      kind = s.kind ∙ kept.kind;
+      place = s.place ∙ kept.place;
+      few = subst (λ (d : ℕ). d < 256) (sym s.drives) kept.few;
+      last = omega (arith, grew, before, is, more);
+      first = kept.first;
+    }
+
+-- THE NUMBERS OF SEVERAL UNITS: each has one record more, or none
+abbrev pub NoneOrOne : UnitView → UnitView → Type 0
+NoneOrOne u v = (last_number v ≡ last_number u) ⊎ (last_number v ≡ last_number u + 1)
+
+count_single : (k n : ℕ) → count_at k ((k, n) ∷ []) ≡ 1
+count_single k n = grind (arith, nat_tests)
+
+count_apart : (k l n : ℕ) → k ≢ l → count_at k ((l, n) ∷ []) ≡ 0
+count_apart k l n apart = grind (arith, nat_tests)
+
+pub count_own : (k : ℕ) (u v : UnitView) → NoneOrOne u v → u.kept.lun ≡ k → last_number v ≡ last_number u + count_at k (numbers_of u v)
+count_own k u v (inl same) is = same ∙ rw (none_more u v same) (omega arith)
+count_own k u v (inr more) is =
+    more ∙ ap (λ c. last_number u + c) (sym (ap (count_at k) (one_more u v more ∙ ap (λ (l : ℕ). (l, last_number u + 1) ∷ []) is) ∙ count_single k (last_number u + 1)))
+
+pub count_other : (k : ℕ) (u v : UnitView) → NoneOrOne u v → k ≢ u.kept.lun → count_at k (numbers_of u v) ≡ 0
+count_other k u v (inl same) apart = ap (count_at k) (none_more u v same)
+count_other k u v (inr more) apart = ap (count_at k) (one_more u v more) ∙ count_apart k u.kept.lun (last_number u + 1) apart
+
+pub count_both : (k : ℕ) (xs ys : List (ℕ × ℕ)) → count_at k (xs ++ ys) ≡ count_at k xs + count_at k ys
+count_both k xs ys = sum_by-append (λ (p : ℕ × ℕ). cond (nat_eq p.0 k) 1 0) xs ys

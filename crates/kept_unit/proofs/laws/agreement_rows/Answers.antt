@@ -1,0 +1,74 @@
+use Rattle.std.proofs.Common.{◌≡◌, ℕ, true, List, [], ◌∷◌, Option, Some, refl, ap, ◌∙◌, inl, inr, arith}
+use Rattle.std.specs.Prelude.{All}
+use Rattle.std.proofs.lemmas.List.Elements.{All-nil, All-cons}
+use Rattle.audit_log.specs.declared.record.Record.{Record}
+use Rattle.scsi_sense.specs.declared.status.Status.TheVariants.{Good, ReservationConflict}
+use Rattle.kept_unit.specs.declared.entry.Entry.{Entry}
+use Rattle.kept_unit.specs.Agreeing.{IsTold, SeatFits, Stands, rises, numbers_in}
+use Rattle.kept_unit.specs.AgreementRows.{ready, came_in, trail, asked, moved}
+use Rattle.kept_unit.proofs.Spans.{span_length}
+use Rattle.kept_unit.proofs.laws.agreement_rows.Goals as goal
+
+-- what each entry tells of drive 1
+abbrev Told : (base : ℕ) → List Record → Entry → ℕ × ℕ → Type 0
+Told base records e n = n.0 ≡ 1 → Stands 1 base records e n.1
+
+told_asked : IsTold 1 5 trail asked
+unfolding IsTold
+told_asked = All-cons (Told 5 trail asked) (1, 6) [] (λ e. inr (ready Good, refl, (refl, refl, refl, refl))) (All-nil (Told 5 trail asked))
+
+told_moved : IsTold 1 5 trail moved
+unfolding IsTold
+told_moved =
+    All-cons (Told 5 trail moved) (0, 9) ((1, 7) ∷ []) (λ (e : 0 ≡ 1). absurd (omega arith))
+    (All-cons (Told 5 trail moved) (1, 7) [] (λ e. inr (came_in, refl, (refl, refl, refl))) (All-nil (Told 5 trail moved)))
+
+gone_asked : IsTold 1 7 [] asked
+unfolding IsTold
+gone_asked = All-cons (Told 7 [] asked) (1, 6) [] (λ e. inl (omega arith)) (All-nil (Told 7 [] asked))
+
+gone_moved : IsTold 1 7 [] moved
+unfolding IsTold
+gone_moved =
+    All-cons (Told 7 [] moved) (0, 9) ((1, 7) ∷ []) (λ (e : 0 ≡ 1). absurd (omega arith))
+    (All-cons (Told 7 [] moved) (1, 7) [] (λ e. inl (omega arith)) (All-nil (Told 7 [] moved)))
+
+-- a seat of one entry, and two seats
+seat : (base : ℕ) (records : List Record) (e : Entry) → IsTold 1 base records e → rises 5 (numbers_in 1 (e ∷ [])) ≡ true → SeatFits 1 5 base records (e ∷ [])
+seat base records e told up = record { told = All-cons (IsTold 1 base records) e [] told (All-nil (IsTold 1 base records)); rise = up }
+
+abbrev Fitting : (base : ℕ) → List Record → List Entry → Type 0
+Fitting base records es = SeatFits 1 5 base records es
+
+two : (base : ℕ) (records : List Record) (d e : Entry) → Fitting base records (d ∷ []) → Fitting base records (e ∷ []) → All (Fitting base records) ((d ∷ []) ∷ (e ∷ []) ∷ [])
+two base records d e first second = All-cons (Fitting base records) (d ∷ []) ((e ∷ []) ∷ []) first (All-cons (Fitting base records) (e ∷ []) [] second (All-nil (Fitting base records)))
+
+-- the record of an entry that has another status
+not_told : IsTold 1 5 (ready ReservationConflict ∷ came_in ∷ []) asked → ⊥
+unfolding IsTold
+not_told told = elim (told 0 (1, 6) (omega arith) refl) [
+  | inl used ↦ absurd (omega (arith, used))
+  | inr stands ↦
+      let is : ◌≡◌ {A = Option Record} (Some (ready ReservationConflict)) (Some stands.0) = stands.1 in
+      let same : stands.0.status ≡ Good = stands.2.2 in
+      let other : ready ReservationConflict ≡ stands.0 = cc in
+      let both : ReservationConflict ≡ Good = ap (λ (r : Record). r.status) other ∙ same in
+      absurd cc
+]
+
+pub returns : goal.returns
+returns c = record {
+  two_seats = record { once = record { moves = []; below = tt; is = refl }; each = two 5 trail asked moved (seat 5 trail asked told_asked refl) (seat 5 trail moved told_moved refl) };
+  other_order = record { once = record { moves = (0, 1) ∷ []; below = (omega arith, omega arith, tt); is = refl }; each = two 5 trail moved asked (seat 5 trail moved told_moved refl) (seat 5 trail asked told_asked refl) };
+  one_seat = record {
+    once = record { moves = []; below = tt; is = refl };
+    each = All-cons (Fitting 5 trail) (asked ∷ moved ∷ []) []
+        (record { told = All-cons (IsTold 1 5 trail) asked (moved ∷ []) told_asked (All-cons (IsTold 1 5 trail) moved [] told_moved (All-nil (IsTold 1 5 trail))); rise = refl })
+        (All-nil (Fitting 5 trail));
+  };
+  handed_out = record { once = record { moves = []; below = tt; is = refl }; each = two 7 [] asked moved (seat 7 [] asked gone_asked refl) (seat 7 [] moved gone_moved refl) };
+  falling = λ a. (let up = (a.each 0 (moved ∷ asked ∷ []) (omega arith)).rise in absurd cc);
+  untold = λ a. (let length : 1 ≡ 2 = span_length 5 2 (6 ∷ []) a.once in omega arith);
+  told_twice = λ a. (let length : 3 ≡ 2 = span_length 5 2 (6 ∷ 6 ∷ 7 ∷ []) a.once in omega arith);
+  other_status = λ a. not_told ((a.each 0 (asked ∷ []) (omega arith)).told 0 asked (omega arith));
+}

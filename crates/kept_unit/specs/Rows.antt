@@ -1,0 +1,46 @@
+-- Worked rows: what an entry keeps of an act, and the numbers of records by unit.
+use Rattle.std.specs.Prelude.{◌≡◌, ℕ, false, List, [], ◌∷◌, Some, None}
+use Rattle.scsi_cdb.specs.declared.action.OutServiceAction.TheVariants as out
+use Rattle.scsi_cdb.specs.declared.classes.Class.TheVariants as class
+use Rattle.scsi_cdb.specs.declared.kind.Kind.TheVariants.{Drive, Changer}
+use Rattle.pr_params.specs.declared.out_params.OutParams.{OutParams}
+use Rattle.audit_log.specs.declared.act.Act.TheVariants as act
+use Rattle.kept_unit.specs.declared.deed.Deed.TheVariants as deed
+use Rattle.kept_unit.specs.Answers.{own_number, at, count_at, OnlyAt}
+use Rattle.kept_unit.specs.Deeds.{deed_of, deed_if}
+use Rattle.kept_unit.specs.Keeping.{kind_at}
+
+-- a PREEMPT
+abbrev pub preempt : OutParams
+preempt = record { rk = 5; sark = 2; dest = None; act = out.Preempt; scope_type = 3; unreg = false; defect = None; all_ports = false; listed = false; targets = record { items = [] } }
+
+pub record DeedRows : Type 0 where
+  -- a command by its class, PERSISTENT RESERVE OUT by that of its service action
+  pub write : deed_of (act.Command class.Write) ≡ deed.Command class.Write
+  pub reserve_out : deed_of (act.ReserveOut preempt) ≡ deed.Command class.Preempt
+  pub invalid : deed_of act.Invalid ≡ deed.Invalid
+  pub loss : deed_of act.Loss ≡ deed.Loss
+  pub was_reset : deed_of act.Reset ≡ deed.Reset
+  -- a volume, whichever way it goes
+  pub came_in : deed_of act.MediumIn ≡ deed.Medium
+  pub taken_out : deed_of act.MediumOut ≡ deed.Medium
+  -- where there is no record, nothing
+  pub recorded : deed_if ((1, 7) ∷ []) deed.Loss ≡ Some deed.Loss
+  pub unrecorded : deed_if [] deed.Loss ≡ None
+
+-- the numbers of a move from drive 2 to drive 4: record 9 of the changer, 3 and 9 of the drives
+abbrev pub of_a_move : List (ℕ × ℕ)
+of_a_move = (0, 9) ∷ (2, 3) ∷ (4, 9) ∷ []
+
+pub record NumberRows : Type 0 where
+  pub own : own_number 1 7 ≡ (1, 7) ∷ []
+  pub none : own_number 1 0 ≡ []
+  pub one : count_at 2 of_a_move ≡ 1
+  pub other : count_at 9 of_a_move ≡ 0
+  pub number : at 4 of_a_move ≡ 9 ∷ []
+  pub several : at 1 ((1, 7) ∷ (0, 9) ∷ (1, 8) ∷ []) ≡ 7 ∷ 8 ∷ []
+  pub only : OnlyAt 1 ((1, 7) ∷ [])
+  pub not_only : OnlyAt 0 of_a_move → ⊥
+  pub changer : kind_at 0 ≡ Changer
+  pub first_drive : kind_at 1 ≡ Drive
+  pub no_unit : kind_at 255 ≡ Drive

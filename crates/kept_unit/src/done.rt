@@ -1,0 +1,162 @@
+ghost use Rattle.std.specs.Prelude.{◌≡◌, [], None, Some};
+ghost use Rattle.scsi_sense.specs.declared.condition.Condition.TheVariants.{LogicalUnitNotSupported};
+ghost use Rattle.unit_answers.specs.Replies.{AnswersAbsent, busy, check};
+ghost use Rattle.kept_unit.specs.Answers.{entry_of, IsAnswer, LeavesNothing, lost, was_reset, ran};
+ghost use Rattle.kept_unit.specs.Questions.{question_of};
+
+use crate::deed::Deed;
+use crate::entry::Entry;
+use crate::numbers::Numbers;
+use arrayvec::ArrayVec;
+use logical_unit::{Receipt, Reply, absent};
+use scsi_nexus::Nexus;
+use scsi_sense::Condition;
+use std::alloc::Global;
+use std::marker::Model;
+
+/// What was asked: a command is the very slices that were lent to the call.
+#[derive(Clone, Copy)]
+pub enum Asked<'a> {
+    /// That an I_T nexus is lost.
+    Loss,
+    /// A reset of the unit.
+    Reset,
+    /// A command, by its CDB and the data sent with it.
+    Command { cdb: &'a [u8], bytes: &'a [u8] },
+}
+
+/// A call with its answer. Only the calls of this crate make one: with a number, only a step of a unit does.
+#[derive(Drop)]
+pub struct Done<'a> {
+    nexus: Option<Nexus>,
+    lun: u8,
+    asked: Asked<'a>,
+    deed: Option<Deed>,
+    receipt: Receipt,
+}
+
+impl<'a> Model for Done<'a> {
+    ghost use Rattle.kept_unit.specs.Answers.{DoneValue};
+
+    ghost Value = { DoneValue };
+
+    ghost use Rattle.kept_unit.specs.Questions.{question_of};
+
+    ghost view = { λ d. record { nexus = d.nexus; lun = d.lun; asked = question_of d.asked; deed = d.deed; reply = d.receipt.reply; numbers = d.receipt.numbers.items } };
+}
+
+/// The answer to a call, with its receipt.
+pub(crate) fn done_with<'a>(
+    nexus: Option<Nexus>,
+    lun: u8,
+    asked: Asked<'a>,
+    deed: Option<Deed>,
+    receipt: Receipt,
+) -> Done<'a>
+    ensures answer { IsAnswer result nexus lun (question_of asked.entry) }
+    ensures reply { result.reply ≡ receipt.reply }
+    ensures numbers { result.numbers ≡ receipt.numbers.items }
+    ensures deed { result.deed ≡ deed }
+{
+    Done {
+        nexus,
+        lun,
+        asked,
+        deed,
+        receipt,
+    }
+}
+
+/// An answer that leaves no record.
+fn plain<'a>(nexus: Option<Nexus>, lun: u8, asked: Asked<'a>, reply: Reply) -> Done<'a>
+    ensures answer { IsAnswer result nexus lun (question_of asked.entry) }
+    ensures reply { result.reply ≡ reply }
+    ensures none { LeavesNothing result }
+{
+    let numbers = ArrayVec::new();
+    done_with(nexus, lun, asked, None, Receipt { reply, numbers })
+}
+
+impl<'a> Done<'a> {
+    /// The answer to a command at a logical unit that doesn't exist, or BUSY for want of memory.
+    pub fn absent(alloc: Global, nexus: Nexus, lun: u8, cdb: &'a [u8], bytes: &'a [u8]) -> Done<'a>
+        ensures answer { IsAnswer result (Some nexus) lun (ran cdb.now bytes.now) }
+        ensures reply { AnswersAbsent cdb.now result.reply }
+        ensures none { LeavesNothing result }
+    {
+        let reply = absent(alloc, cdb);
+        plain(Some(nexus), lun, Asked::Command { cdb, bytes }, reply)
+    }
+
+    /// The answer to the loss of a nexus at a logical unit that doesn't exist.
+    pub fn absent_loss(alloc: Global, nexus: Nexus, lun: u8) -> Done<'a>
+        ensures answer { IsAnswer result (Some nexus) lun lost }
+        ensures reply { result.reply ≡ check LogicalUnitNotSupported }
+        ensures none { LeavesNothing result }
+    {
+        let reply = Reply::check(alloc, Condition::LogicalUnitNotSupported);
+        plain(Some(nexus), lun, Asked::Loss, reply)
+    }
+
+    /// The answer to a reset of a logical unit that doesn't exist.
+    pub fn absent_reset(alloc: Global, lun: u8) -> Done<'a>
+        ensures answer { IsAnswer result None lun was_reset }
+        ensures reply { result.reply ≡ check LogicalUnitNotSupported }
+        ensures none { LeavesNothing result }
+    {
+        let reply = Reply::check(alloc, Condition::LogicalUnitNotSupported);
+        plain(None, lun, Asked::Reset, reply)
+    }
+
+    /// BUSY: nothing has changed.
+    pub fn busy(alloc: Global, nexus: Option<Nexus>, lun: u8, asked: Asked<'a>) -> Done<'a>
+        ensures answer { IsAnswer result nexus lun (question_of asked.entry) }
+        ensures reply { result.reply ≡ busy }
+        ensures none { LeavesNothing result }
+    {
+        plain(nexus, lun, asked, Reply::busy(alloc))
+    }
+
+    /// The nexus of the call; none for a reset.
+    pub fn nexus(&self) -> Option<Nexus>
+        ensures { result ≡ self.now.nexus }
+    {
+        self.nexus
+    }
+
+    /// The logical unit number that the call was for.
+    pub fn lun(&self) -> u8
+        ensures { result ≡ self.now.lun }
+    {
+        self.lun
+    }
+
+    /// What was asked.
+    pub fn asked(&self) -> Asked<'a>
+        ensures { question_of result ≡ self.now.asked }
+    {
+        self.asked
+    }
+
+    /// The reply, and for each record that the call left the unit that has it, and its number there.
+    pub fn receipt(&self) -> &Receipt
+        ensures reply { result.now.reply ≡ self.now.reply }
+        ensures numbers { result.now.numbers.items ≡ self.now.numbers }
+    {
+        &self.receipt
+    }
+
+    /// What a seat keeps of the call. Takes no memory.
+    pub fn entry(&self) -> Entry
+        ensures { result ≡ entry_of self.now }
+    {
+        Entry {
+            nexus: self.nexus,
+            lun: self.lun,
+            deed: self.deed,
+            status: self.receipt.reply.status,
+            sense: self.receipt.reply.sense,
+            numbers: Numbers::of(&self.receipt.numbers),
+        }
+    }
+}

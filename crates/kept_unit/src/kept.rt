@@ -1,0 +1,239 @@
+ghost use Rattle.std.specs.Prelude.{◌≡◌, ◌+◌, ◌<◌, ◌^◌, [], ℕ, Some, None, IfOk, IsTrue, ◌↔◌};
+ghost use Rattle.device_server.specs.View.{kind_of, drives_of};
+ghost use Rattle.unit_answers.specs.Replies.{busy};
+ghost use Rattle.unit_commands.specs.Commands.{act_of};
+ghost use Rattle.logical_unit.specs.Legal.{IsTrail};
+ghost use Rattle.logical_unit.specs.Step.{Executes, IsLost, IsReset, done, drained};
+ghost use Rattle.logical_unit.specs.UnitView.{last_number};
+ghost use Rattle.kept_unit.specs.Agreeing.{Agrees};
+ghost use Rattle.kept_unit.specs.Answers.{IsAnswer, lost, was_reset, ran, count_at, own_number, OnlyAt};
+ghost use Rattle.kept_unit.specs.Deeds.{deed_of, deed_if};
+ghost use Rattle.kept_unit.specs.Keeping.{kind_at};
+
+use crate::agree::agree;
+use crate::deed::{Deed, last_deed};
+use crate::done::{Asked, Done, done_with};
+use crate::entry::Entry;
+use crate::numbers::{count_at, own_number};
+use audit_log::Record;
+use device_server::{DeviceServer, Payload};
+use logical_unit::{Busy, LogicalUnit, Receipt, Reply};
+use scsi_nexus::Nexus;
+use std::alloc::{AllocError, Global};
+use std::marker::{Brand, Model};
+use std::sync::ledger::{Book, Ledger, Share};
+
+/// The ledger of one unit since it was kept.
+pub trait Site: Ledger {
+    /// The last record number that the unit had used then.
+    ghost since: { ℕ };
+}
+
+impl Site for Brand {
+    ghost since = { 0 };
+}
+
+/// The unit of a logical unit number, of which 0 is the changer's, with the book of its ledger and the last record number
+/// that it had used when it was kept. The book's total is the count of the numbers that it has used since.
+#[derive(Drop)]
+pub struct Kept<const LUN: u8, L: Site, D: DeviceServer> {
+    pub(crate) unit: LogicalUnit<D>,
+    pub(crate) book: Book<L>,
+    first: u64,
+}
+
+impl<const LUN: u8, L: Site, D: DeviceServer> Model for Kept<LUN, L, D> {
+    ghost use Rattle.kept_unit.specs.Keeping.{KeptValue, IsKept};
+
+    ghost Value = { KeptValue };
+
+    ghost view = { λ k. record { unit = k.unit.unit; total = k.book.total } };
+
+    ghost invariant = { λ k. IsKept LUN k.unit.unit k.book.total k.first L.since };
+}
+
+/// GOOD for an event that isn't a command, with the number of its record, 0 where it has none.
+fn done(alloc: Global, number: u64) -> Reply
+    ensures { result ≡ done number }
+{
+    Reply::good(Payload::none(alloc)).numbered(number)
+}
+
+/// An I_T nexus loss at a unit.
+fn lose_nexus<D: DeviceServer>(alloc: Global, unit: &mut LogicalUnit<D>, nexus: Nexus) -> Reply
+    ensures { IsLost unit.old.unit nexus (unit.new.unit, result) }
+{
+    match unit.lose(nexus) {
+        Ok(number) => done(alloc, number.unwrap_or(0)),
+        Err(Busy) => Reply::busy(alloc),
+    }
+}
+
+/// A reset of a unit.
+fn reset_unit<D: DeviceServer>(alloc: Global, unit: &mut LogicalUnit<D>) -> Reply
+    ensures { IsReset unit.old.unit (unit.new.unit, result) }
+{
+    match unit.reset() {
+        Ok(number) => done(alloc, number),
+        Err(Busy) => Reply::busy(alloc),
+    }
+}
+
+/// The receipt of an event at one unit.
+fn own_receipt(lun: u8, reply: Reply) -> Receipt
+    ensures reply { result.reply ≡ reply }
+    ensures numbers { result.numbers.items ≡ own_number lun reply.number }
+    ensures only { OnlyAt lun result.numbers.items }
+{
+    let numbers = own_number(lun, reply.number);
+    Receipt { reply, numbers }
+}
+
+impl<const LUN: u8, L: Site, D: DeviceServer> Kept<LUN, L, D> {
+    /// Keeps a unit, with a book that counts nothing yet.
+    pub fn new(unit: LogicalUnit<D>, book: Book<L>) -> Kept<LUN, L, D>
+        requires kind { kind_of unit.unit.device ≡ kind_at LUN }
+        requires lun { unit.unit.kept.lun ≡ LUN }
+        requires few { drives_of unit.unit.device < 2 ^ 8 }
+        requires since { last_number unit.unit ≡ L.since }
+        requires unused { book.total ≡ 0 }
+        ensures unit { result.unit ≡ unit.unit }
+        ensures total { result.total ≡ 0 }
+    {
+        let first = unit.last();
+        Kept { unit, book, first }
+    }
+
+    /// How many data transfer elements a changer has; 0 for a drive.
+    pub fn drives(&self) -> u8
+        ensures { result ≡ drives_of self.now.unit.device }
+    {
+        self.unit.drives() as u8
+    }
+
+    /// Whether the entries of all seats agree with the trail. Takes memory for the unit's numbers, and the time to sort
+    /// them.
+    pub fn agree(&self, alloc: Global, seats: &[&[Entry]]) -> Result<bool, AllocError>
+        ensures { IfOk result (λ b. IsTrue b ↔ Agrees (λ s. s.now) LUN L.since self.now.unit.base.last self.now.unit.records seats.now) }
+    {
+        let records = self.unit.records();
+        let base = self.unit.last() - records.len() as u64;
+        agree(alloc, LUN, self.first, base, records, seats)
+    }
+
+    /// A share with every part counts the numbers that the unit has used since it was kept. Nothing changes.
+    pub fn audit(&mut self, share: &mut Share<L>)
+        ensures same { self.new ≡ self.old }
+        ensures amount { share.new.amount ≡ share.old.amount }
+        ensures parts { share.new.parts ≡ share.old.parts }
+        ensures whole { share.old.parts ≡ L.parts → last_number self.old.unit ≡ L.since + share.old.amount }
+    {
+        self.book.audit(share);
+    }
+
+    /// The unit. Its book is let go.
+    pub fn into_unit(self) -> LogicalUnit<D>
+        ensures unit { result.unit ≡ self.unit }
+        ensures kind { kind_of result.unit.device ≡ kind_at LUN }
+        ensures lun { result.unit.kept.lun ≡ LUN }
+        ensures last { last_number result.unit ≡ L.since + self.total }
+    {
+        let Kept {
+            unit,
+            book: _,
+            first: _,
+        } = self;
+        unit
+    }
+
+    /// Hands out the records, a legal trail that gives what the unit keeps now, and keeps none. The numbers go on. Takes no
+    /// memory.
+    pub fn drain(&mut self, alloc: Global) -> Vec<Record>
+        ensures records { result.items ≡ self.old.unit.records }
+        ensures trail { IsTrail self.old.unit.base self.old.unit.records self.old.unit.kept }
+        ensures unit { self.new.unit ≡ drained self.old.unit }
+        ensures book { self.new.total ≡ self.old.total }
+    {
+        self.unit.drain(alloc)
+    }
+
+    /// One command at the unit, its record counted in the book and in the part. Without a number it is BUSY, and nothing
+    /// has changed.
+    pub fn step<'a>(
+        &mut self,
+        alloc: Global,
+        part: &mut Share<L>,
+        nexus: Nexus,
+        cdb: &'a [u8],
+        bytes: &'a [u8],
+    ) -> Done<'a>
+        requires { 0 < part.old.parts }
+        ensures answer { IsAnswer result (Some nexus) LUN (ran cdb.now bytes.now) }
+        ensures step { Executes self.old.unit nexus cdb.now bytes.now (self.new.unit, result.reply) }
+        ensures numbers { result.numbers ≡ own_number LUN result.reply.number }
+        ensures only { OnlyAt LUN result.numbers }
+        ensures deed { result.deed ≡ deed_if result.numbers (deed_of (act_of (kind_at LUN) cdb.now bytes.now)) }
+        ensures unnumbered { result.numbers ≡ [] → result.reply ≡ busy }
+        ensures book { self.new.total ≡ self.old.total + count_at LUN result.numbers }
+        ensures part { part.new.amount ≡ part.old.amount + count_at LUN result.numbers }
+        ensures parts { part.new.parts ≡ part.old.parts }
+    {
+        let reply = self.unit.execute(alloc, nexus, cdb, bytes);
+        let receipt = own_receipt(LUN, reply);
+        let numbers = receipt.numbers.as_slice();
+        self.book.add(part, count_at(LUN, numbers));
+        let deed = last_deed(self.unit.records(), numbers);
+        let asked = Asked::Command { cdb, bytes };
+        done_with(Some(nexus), LUN, asked, deed, receipt)
+    }
+
+    /// An I_T nexus loss at the unit, its record counted in the book and in the part. Without a number it is BUSY with
+    /// nothing changed, or the nexus has no slot.
+    pub fn lose(&mut self, alloc: Global, part: &mut Share<L>, nexus: Nexus) -> Done<'static>
+        requires { 0 < part.old.parts }
+        ensures answer { IsAnswer result (Some nexus) LUN lost }
+        ensures step { IsLost self.old.unit nexus (self.new.unit, result.reply) }
+        ensures numbers { result.numbers ≡ own_number LUN result.reply.number }
+        ensures only { OnlyAt LUN result.numbers }
+        ensures deed { result.deed ≡ deed_if result.numbers Deed.Loss }
+        ensures book { self.new.total ≡ self.old.total + count_at LUN result.numbers }
+        ensures part { part.new.amount ≡ part.old.amount + count_at LUN result.numbers }
+        ensures parts { part.new.parts ≡ part.old.parts }
+    {
+        let reply = lose_nexus(alloc, &mut self.unit, nexus);
+        let receipt = own_receipt(LUN, reply);
+        let numbers = receipt.numbers.as_slice();
+        self.book.add(part, count_at(LUN, numbers));
+        let deed = told_deed(Deed::Loss, numbers);
+        done_with(Some(nexus), LUN, Asked::Loss, deed, receipt)
+    }
+
+    /// A reset of the unit, its record counted in the book and in the part. Without a number it is BUSY, and nothing has
+    /// changed.
+    pub fn reset(&mut self, alloc: Global, part: &mut Share<L>) -> Done<'static>
+        requires { 0 < part.old.parts }
+        ensures answer { IsAnswer result None LUN was_reset }
+        ensures step { IsReset self.old.unit (self.new.unit, result.reply) }
+        ensures numbers { result.numbers ≡ own_number LUN result.reply.number }
+        ensures only { OnlyAt LUN result.numbers }
+        ensures deed { result.deed ≡ deed_if result.numbers Deed.Reset }
+        ensures unnumbered { result.numbers ≡ [] → result.reply ≡ busy }
+        ensures book { self.new.total ≡ self.old.total + count_at LUN result.numbers }
+        ensures part { part.new.amount ≡ part.old.amount + count_at LUN result.numbers }
+        ensures parts { part.new.parts ≡ part.old.parts }
+    {
+        let reply = reset_unit(alloc, &mut self.unit);
+        let receipt = own_receipt(LUN, reply);
+        let numbers = receipt.numbers.as_slice();
+        self.book.add(part, count_at(LUN, numbers));
+        let deed = told_deed(Deed::Reset, numbers);
+        done_with(None, LUN, Asked::Reset, deed, receipt)
+    }
+}
+
+/// A deed, where the call left a record.
+fn told_deed(deed: Deed, numbers: &[(u8, u64)]) -> Option<Deed>
+    ensures { result ≡ deed_if numbers.now deed }
+{
+    if numbers.is_empty() { None } else { Some(deed) }
+}
