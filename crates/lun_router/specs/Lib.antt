@@ -1,0 +1,3 @@
+pub mod Seats
+pub mod Opening
+pub mod Answering

@@ -1,0 +1,277 @@
+ghost use Rattle.std.specs.Prelude.{◌≡◌, ◌≢◌, ◌↔◌, IfOk, IfErr, IfSome, IsTrue, IsErr, is_some, map, vec_len};
+ghost use Rattle.std.specs.Option.{option_map};
+ghost use Rattle.kept_unit.specs.Agreeing.{Agrees};
+ghost use Rattle.lun_router.specs.Opening.{HasUnits};
+
+use crate::gate::Gate;
+use crate::library::Library;
+use crate::seat::Seat;
+use device_server::DeviceServer;
+use kept_unit::{Entry, Kept, Site};
+use logical_unit::LogicalUnit;
+use std::alloc::{AllocError, Global};
+use std::sync::Mutex;
+use thiserror::Error;
+
+/// Why a library isn't closed.
+#[derive(Clone, Copy, Debug, PartialEq, Eq, Error)]
+pub enum CloseFault {
+    /// The entries of the seats aren't what the trails say.
+    #[error("the entries of the seats do not agree with the trails")]
+    Mismatch,
+    /// There are more seats than were made, or fewer.
+    #[error("not every seat is here")]
+    SeatMissing,
+    /// Memory for comparing was refused.
+    #[error("out of memory")]
+    NoMemory,
+}
+
+/// The units of a library that was closed, each with its trail.
+#[derive(Drop)]
+pub struct Histories<D: DeviceServer> {
+    pub changer: LogicalUnit<D>,
+    pub first: LogicalUnit<D>,
+    pub second: Option<LogicalUnit<D>>,
+    pub third: Option<LogicalUnit<D>>,
+    pub fourth: Option<LogicalUnit<D>>,
+}
+
+/// What lay under the locks.
+#[derive(Drop)]
+struct Opened<L0: Site, L1: Site, L2: Site, L3: Site, L4: Site, D: DeviceServer> {
+    changer: Kept<0, L0, D>,
+    first: Kept<1, L1, D>,
+    second: Option<Kept<2, L2, D>>,
+    third: Option<Kept<3, L3, D>>,
+    fourth: Option<Kept<4, L4, D>>,
+}
+
+/// What lay under a lock, if there is one.
+fn taken_out<const LUN: u8, L: Site, D: DeviceServer>(
+    lock: Option<Mutex<Kept<LUN, L, D>>>,
+) -> Option<Kept<LUN, L, D>>
+    ensures { is_some result ≡ is_some lock }
+{
+    match lock {
+        Some(lock) => Some(lock.into_inner()),
+        None => None,
+    }
+}
+
+/// Puts a unit under a lock again, if there is one.
+fn put_back<const LUN: u8, L: Site, D: DeviceServer>(
+    kept: Option<Kept<LUN, L, D>>,
+) -> Option<Mutex<Kept<LUN, L, D>>>
+    ensures { is_some result ≡ is_some kept }
+{
+    match kept {
+        Some(kept) => Some(Mutex::new(kept)),
+        None => None,
+    }
+}
+
+/// Whether the entries of all seats agree with the trail of a unit, if there is one.
+fn agree_if_there<const LUN: u8, L: Site, D: DeviceServer>(
+    alloc: Global,
+    kept: &Option<Kept<LUN, L, D>>,
+    seats: &[&[Entry]],
+) -> Result<bool, AllocError>
+    ensures { IfOk result (λ agreed. IsTrue agreed → IfSome kept.now (λ k. Agrees (λ s. s.now) LUN L.since k.unit.base.last k.unit.records seats.now)) }
+{
+    match kept {
+        Some(kept) => kept.agree(alloc, seats),
+        None => Ok(true),
+    }
+}
+
+/// The unit that was kept, if there is one.
+fn unit_if_there<const LUN: u8, L: Site, D: DeviceServer>(
+    kept: Option<Kept<LUN, L, D>>,
+) -> Option<LogicalUnit<D>>
+    ensures unit { option_map (λ u. u.unit) result ≡ option_map (λ k. k.unit) kept }
+    ensures there { is_some result ≡ is_some kept }
+{
+    match kept {
+        Some(kept) => Some(kept.into_unit()),
+        None => None,
+    }
+}
+
+impl<L0: Site, L1: Site, L2: Site, L3: Site, L4: Site, D: DeviceServer> Opened<
+    L0,
+    L1,
+    L2,
+    L3,
+    L4,
+    D,
+> {
+    /// Whether the entries of all seats agree with each trail.
+    fn agree(&self, alloc: Global, seats: &[&[Entry]]) -> Result<bool, AllocError>
+        ensures changer { IfOk result (λ agreed. IsTrue agreed → Agrees (λ s. s.now) 0 L0.since self.now.changer.unit.base.last self.now.changer.unit.records seats.now) }
+        ensures first { IfOk result (λ agreed. IsTrue agreed → Agrees (λ s. s.now) 1 L1.since self.now.first.unit.base.last self.now.first.unit.records seats.now) }
+        ensures second { IfOk result (λ agreed. IsTrue agreed → IfSome self.now.second (λ k. Agrees (λ s. s.now) 2 L2.since k.unit.base.last k.unit.records seats.now)) }
+        ensures third { IfOk result (λ agreed. IsTrue agreed → IfSome self.now.third (λ k. Agrees (λ s. s.now) 3 L3.since k.unit.base.last k.unit.records seats.now)) }
+        ensures fourth { IfOk result (λ agreed. IsTrue agreed → IfSome self.now.fourth (λ k. Agrees (λ s. s.now) 4 L4.since k.unit.base.last k.unit.records seats.now)) }
+    {
+        Ok(
+            self.changer.agree(alloc, seats)?
+                && self.first.agree(alloc, seats)?
+                && agree_if_there(alloc, &self.second, seats)?
+                && agree_if_there(alloc, &self.third, seats)?
+                && agree_if_there(alloc, &self.fourth, seats)?,
+        )
+    }
+
+    /// The units.
+    fn histories(self) -> Histories<D>
+        ensures changer { result.changer.unit ≡ self.changer.unit }
+        ensures first { result.first.unit ≡ self.first.unit }
+        ensures second { option_map (λ u. u.unit) result.second ≡ option_map (λ k. k.unit) self.second }
+        ensures third { option_map (λ u. u.unit) result.third ≡ option_map (λ k. k.unit) self.third }
+        ensures fourth { option_map (λ u. u.unit) result.fourth ≡ option_map (λ k. k.unit) self.fourth }
+        ensures there { (is_some result.second ≡ is_some self.second) × (is_some result.third ≡ is_some self.third) × (is_some result.fourth ≡ is_some self.fourth) }
+    {
+        let Opened {
+            changer,
+            first,
+            second,
+            third,
+            fourth,
+        } = self;
+        Histories {
+            changer: changer.into_unit(),
+            first: first.into_unit(),
+            second: unit_if_there(second),
+            third: unit_if_there(third),
+            fourth: unit_if_there(fourth),
+        }
+    }
+}
+
+/// The entries of each seat.
+fn told<'a, L0: Site, L1: Site, L2: Site, L3: Site, L4: Site>(
+    alloc: Global,
+    seats: &'a [Seat<L0, L1, L2, L3, L4>],
+) -> Result<Vec<&'a [Entry]>, AllocError>
+    ensures { IfOk result (λ all. map (λ r. r.now) all.items ≡ map (λ s. s.entries) seats.now) }
+{
+    let mut all = Vec::new(alloc);
+    for s in seats {
+        all.push(s.entries())?;
+    }
+    Ok(all)
+}
+
+/// Whether the seats agree with each trail.
+fn agreed<L0: Site, L1: Site, L2: Site, L3: Site, L4: Site, D: DeviceServer>(
+    alloc: Global,
+    units: &Opened<L0, L1, L2, L3, L4, D>,
+    seats: &[Seat<L0, L1, L2, L3, L4>],
+) -> Result<bool, AllocError>
+    ensures changer { IfOk result (λ agreed. IsTrue agreed → Agrees (λ s. s.entries) 0 L0.since units.now.changer.unit.base.last units.now.changer.unit.records seats.now) }
+    ensures first { IfOk result (λ agreed. IsTrue agreed → Agrees (λ s. s.entries) 1 L1.since units.now.first.unit.base.last units.now.first.unit.records seats.now) }
+    ensures second { IfOk result (λ agreed. IsTrue agreed → IfSome units.now.second (λ k. Agrees (λ s. s.entries) 2 L2.since k.unit.base.last k.unit.records seats.now)) }
+    ensures third { IfOk result (λ agreed. IsTrue agreed → IfSome units.now.third (λ k. Agrees (λ s. s.entries) 3 L3.since k.unit.base.last k.unit.records seats.now)) }
+    ensures fourth { IfOk result (λ agreed. IsTrue agreed → IfSome units.now.fourth (λ k. Agrees (λ s. s.entries) 4 L4.since k.unit.base.last k.unit.records seats.now)) }
+{
+    let slices = told(alloc, seats)?;
+    units.agree(alloc, slices.as_slice())
+}
+
+impl<L0: Site, L1: Site, L2: Site, L3: Site, L4: Site, D: DeviceServer, G: Gate> Library<
+    L0,
+    L1,
+    L2,
+    L3,
+    L4,
+    D,
+    G,
+> {
+    /// Ends the library, with all its seats. Where the answer is the units, each number that a unit has used since the
+    /// library was opened stands in exactly one entry, and each entry's numbers were used; the record of an entry is that of
+    /// its call, with its nexus, deed, status and sense data, and a move's records at drives say that a volume was taken out
+    /// or came in, without a nexus; along one seat the numbers of a unit rise. Records that were handed out are compared by
+    /// number alone. A refusal hands library and seats back. Takes memory for the units' numbers.
+    pub fn close(
+        self,
+        alloc: Global,
+        seats: Vec<Seat<L0, L1, L2, L3, L4>>,
+    ) -> Result<
+        Histories<D>,
+        (
+            CloseFault,
+            Library<L0, L1, L2, L3, L4, D, G>,
+            Vec<Seat<L0, L1, L2, L3, L4>>,
+        ),
+    >
+        ensures changer { IfOk result (λ h. Agrees (λ s. s.entries) 0 L0.since h.changer.unit.base.last h.changer.unit.records seats.items) }
+        ensures first { IfOk result (λ h. Agrees (λ s. s.entries) 1 L1.since h.first.unit.base.last h.first.unit.records seats.items) }
+        ensures second { IfOk result (λ h. IfSome h.second (λ u. Agrees (λ s. s.entries) 2 L2.since u.unit.base.last u.unit.records seats.items)) }
+        ensures third { IfOk result (λ h. IfSome h.third (λ u. Agrees (λ s. s.entries) 3 L3.since u.unit.base.last u.unit.records seats.items)) }
+        ensures fourth { IfOk result (λ h. IfSome h.fourth (λ u. Agrees (λ s. s.entries) 4 L4.since u.unit.base.last u.unit.records seats.items)) }
+        ensures units { IfOk result (λ h. HasUnits self.units h.second h.third h.fourth) }
+        ensures missing { vec_len seats ≢ self.seats → IsErr result }
+        ensures only_missing { IfErr result (λ back. (back.0 ≡ CloseFault.SeatMissing) ↔ (vec_len seats ≢ self.seats)) }
+        ensures library { IfErr result (λ back. back.1 ≡ self) }
+        ensures seats { IfErr result (λ back. back.2 ≡ seats) }
+    {
+        if seats.len() != self.seats {
+            return Err((CloseFault::SeatMissing, self, seats));
+        }
+        let Library {
+            seats: made,
+            count,
+            changer,
+            first,
+            second,
+            third,
+            fourth,
+            gate,
+        } = self;
+        let units = Opened {
+            changer: changer.into_inner(),
+            first: first.into_inner(),
+            second: taken_out(second),
+            third: taken_out(third),
+            fourth: taken_out(fourth),
+        };
+        let fault = match agreed(alloc, &units, &seats) {
+            Ok(true) => return Ok(units.histories()),
+            Ok(false) => CloseFault::Mismatch,
+            Err(_) => CloseFault::NoMemory,
+        };
+        let library = locked_again(made, count, units, gate);
+        Err((fault, library, seats))
+    }
+}
+
+/// The library again, as it was.
+fn locked_again<L0: Site, L1: Site, L2: Site, L3: Site, L4: Site, D: DeviceServer, G: Gate>(
+    seats: usize,
+    count: u8,
+    units: Opened<L0, L1, L2, L3, L4, D>,
+    gate: G,
+) -> Library<L0, L1, L2, L3, L4, D, G>
+    requires { HasUnits count units.second units.third units.fourth }
+    ensures seats { result.seats ≡ seats }
+    ensures units { result.units ≡ count }
+{
+    let Opened {
+        changer,
+        first,
+        second,
+        third,
+        fourth,
+    } = units;
+    Library {
+        seats,
+        count,
+        changer: Mutex::new(changer),
+        first: Mutex::new(first),
+        second: put_back(second),
+        third: put_back(third),
+        fourth: put_back(fourth),
+        gate,
+    }
+}

@@ -1,0 +1,49 @@
+use crate::gate::Gate;
+use device_server::DeviceServer;
+use kept_unit::{Kept, Site};
+use std::marker::Model;
+use std::sync::Mutex;
+
+/// The units of a library, each under a lock of its own: a changer as logical unit 0 and one to four drives. Contracts see
+/// how many seats were made, and how many units there are.
+#[derive(Drop)]
+pub struct Library<L0: Site, L1: Site, L2: Site, L3: Site, L4: Site, D: DeviceServer, G: Gate> {
+    pub(crate) seats: usize,
+    pub(crate) count: u8,
+    pub(crate) changer: Mutex<Kept<0, L0, D>>,
+    pub(crate) first: Mutex<Kept<1, L1, D>>,
+    pub(crate) second: Option<Mutex<Kept<2, L2, D>>>,
+    pub(crate) third: Option<Mutex<Kept<3, L3, D>>>,
+    pub(crate) fourth: Option<Mutex<Kept<4, L4, D>>>,
+    pub(crate) gate: G,
+}
+
+impl<L0: Site, L1: Site, L2: Site, L3: Site, L4: Site, D: DeviceServer, G: Gate> Model
+    for Library<L0, L1, L2, L3, L4, D, G> {
+    ghost use Rattle.lun_router.specs.Opening.{LibraryValue, HasUnits};
+
+    ghost Value = { LibraryValue };
+
+    ghost view = { λ l. record { seats = l.seats; units = l.count } };
+
+    ghost invariant = { λ l. HasUnits l.count l.second l.third l.fourth };
+}
+
+impl<L0: Site, L1: Site, L2: Site, L3: Site, L4: Site, D: DeviceServer, G: Gate> Library<
+    L0,
+    L1,
+    L2,
+    L3,
+    L4,
+    D,
+    G,
+> {
+    ghost use Rattle.std.specs.Prelude.{◌≡◌};
+
+    /// How many units there are.
+    pub fn units(&self) -> u8
+        ensures { result ≡ self.now.units }
+    {
+        self.count
+    }
+}

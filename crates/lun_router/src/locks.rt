@@ -1,0 +1,273 @@
+//! One call at the unit under a lock, or at the units under several: the changer's lock is taken first, then those of the
+//! drives by rising number.
+ghost use Rattle.std.specs.Prelude.{◌≡◌, ◌≢◌, ◌⊎◌, ◌<◌, ◌+◌, [], ◌∷◌, ℕ, Some, None, IsSome, IsNone, IfSome, ◌↔◌};
+ghost use Rattle.scsi_cdb.specs.declared.kind.Kind.TheVariants.{Changer};
+ghost use Rattle.scsi_sense.specs.declared.condition.Condition.TheVariants.{LogicalUnitNotSupported};
+ghost use Rattle.device_server.specs.View.{drives_of};
+ghost use Rattle.unit_answers.specs.Replies.{AnswersAbsent, busy, check};
+ghost use Rattle.unit_commands.specs.Commands.{act_of};
+ghost use Rattle.logical_unit.specs.Route.{named};
+ghost use Rattle.logical_unit.specs.Step.{done};
+ghost use Rattle.kept_unit.specs.declared.deed.Deed.TheVariants as Deed;
+ghost use Rattle.kept_unit.specs.Answers.{IsAnswer, ran, lost, was_reset, count_at, OnlyAt};
+ghost use Rattle.kept_unit.specs.Deeds.{deed_of, deed_if};
+ghost use Rattle.kept_unit.specs.Keeping.{kind_at};
+ghost use Rattle.lun_router.specs.Answering.{IsSomeTrail};
+
+use crate::gate::Gate;
+use audit_log::Record;
+use device_server::DeviceServer;
+use kept_unit::{Done, Kept, Site, move_kept_one, move_kept_two};
+use scsi_nexus::Nexus;
+use std::alloc::Global;
+use std::sync::ledger::Share;
+use std::sync::{Mutex, Wait};
+
+/// A command at the unit under this lock.
+pub(crate) fn step_at<'a, const LUN: u8, L: Site, D: DeviceServer, G: Gate, R: Wait>(
+    rt: &R,
+    alloc: Global,
+    gate: &G,
+    lock: &Mutex<Kept<LUN, L, D>>,
+    part: &mut Share<L>,
+    nexus: Nexus,
+    cdb: &'a [u8],
+    bytes: &'a [u8],
+) -> Done<'a>
+    requires { part.old.parts ≡ 1 }
+    ensures answer { IsAnswer result (Some nexus) LUN (ran cdb.now bytes.now) }
+    ensures deed { result.deed ≡ deed_if result.numbers (deed_of (act_of (kind_at LUN) cdb.now bytes.now)) }
+    ensures only { OnlyAt LUN result.numbers }
+    ensures unnumbered { result.numbers ≡ [] → result.reply ≡ busy }
+    ensures part { part.new.amount ≡ part.old.amount + count_at LUN result.numbers }
+    ensures parts { part.new.parts ≡ 1 }
+{
+    let mut kept = lock.lock(rt);
+    gate.inside(LUN, nexus);
+    kept.step(alloc, part, nexus, cdb, bytes)
+}
+
+/// The same where the unit may be absent.
+pub(crate) fn step_if_there<'a, const LUN: u8, L: Site, D: DeviceServer, G: Gate, R: Wait>(
+    rt: &R,
+    alloc: Global,
+    gate: &G,
+    lock: &Option<Mutex<Kept<LUN, L, D>>>,
+    part: &mut Share<L>,
+    nexus: Nexus,
+    cdb: &'a [u8],
+    bytes: &'a [u8],
+) -> Done<'a>
+    requires { part.old.parts ≡ 1 }
+    ensures answer { IsAnswer result (Some nexus) LUN (ran cdb.now bytes.now) }
+    ensures deed { result.deed ≡ deed_if result.numbers (deed_of (act_of (kind_at LUN) cdb.now bytes.now)) }
+    ensures only { OnlyAt LUN result.numbers }
+    ensures there { IsSome lock.now → result.numbers ≡ [] → result.reply ≡ busy }
+    ensures absent { IsNone lock.now → AnswersAbsent cdb.now result.reply }
+    ensures part { part.new.amount ≡ part.old.amount + count_at LUN result.numbers }
+    ensures parts { part.new.parts ≡ 1 }
+{
+    match lock {
+        Some(lock) => step_at(rt, alloc, gate, lock, part, nexus, cdb, bytes),
+        None => Done::absent(alloc, nexus, LUN, cdb, bytes),
+    }
+}
+
+/// The loss of a nexus at the unit under this lock.
+pub(crate) fn lose_at<const LUN: u8, L: Site, D: DeviceServer, R: Wait>(
+    rt: &R,
+    alloc: Global,
+    lock: &Mutex<Kept<LUN, L, D>>,
+    part: &mut Share<L>,
+    nexus: Nexus,
+) -> Done<'static>
+    requires { part.old.parts ≡ 1 }
+    ensures answer { IsAnswer result (Some nexus) LUN lost }
+    ensures deed { result.deed ≡ deed_if result.numbers Deed.Loss }
+    ensures only { OnlyAt LUN result.numbers }
+    ensures unnumbered { result.numbers ≡ [] → (result.reply ≡ busy) ⊎ (result.reply ≡ done 0) }
+    ensures part { part.new.amount ≡ part.old.amount + count_at LUN result.numbers }
+    ensures parts { part.new.parts ≡ 1 }
+{
+    let mut kept = lock.lock(rt);
+    kept.lose(alloc, part, nexus)
+}
+
+/// The same where the unit may be absent.
+pub(crate) fn lose_if_there<const LUN: u8, L: Site, D: DeviceServer, R: Wait>(
+    rt: &R,
+    alloc: Global,
+    lock: &Option<Mutex<Kept<LUN, L, D>>>,
+    part: &mut Share<L>,
+    nexus: Nexus,
+) -> Done<'static>
+    requires { part.old.parts ≡ 1 }
+    ensures answer { IsAnswer result (Some nexus) LUN lost }
+    ensures deed { result.deed ≡ deed_if result.numbers Deed.Loss }
+    ensures only { OnlyAt LUN result.numbers }
+    ensures there { IsSome lock.now → result.numbers ≡ [] → (result.reply ≡ busy) ⊎ (result.reply ≡ done 0) }
+    ensures absent { IsNone lock.now → result.reply ≡ check LogicalUnitNotSupported }
+    ensures part { part.new.amount ≡ part.old.amount + count_at LUN result.numbers }
+    ensures parts { part.new.parts ≡ 1 }
+{
+    match lock {
+        Some(lock) => lose_at(rt, alloc, lock, part, nexus),
+        None => Done::absent_loss(alloc, nexus, LUN),
+    }
+}
+
+/// A reset of the unit under this lock.
+pub(crate) fn reset_at<const LUN: u8, L: Site, D: DeviceServer, R: Wait>(
+    rt: &R,
+    alloc: Global,
+    lock: &Mutex<Kept<LUN, L, D>>,
+    part: &mut Share<L>,
+) -> Done<'static>
+    requires { part.old.parts ≡ 1 }
+    ensures answer { IsAnswer result None LUN was_reset }
+    ensures deed { result.deed ≡ deed_if result.numbers Deed.Reset }
+    ensures only { OnlyAt LUN result.numbers }
+    ensures unnumbered { result.numbers ≡ [] → result.reply ≡ busy }
+    ensures part { part.new.amount ≡ part.old.amount + count_at LUN result.numbers }
+    ensures parts { part.new.parts ≡ 1 }
+{
+    let mut kept = lock.lock(rt);
+    kept.reset(alloc, part)
+}
+
+/// The same where the unit may be absent.
+pub(crate) fn reset_if_there<const LUN: u8, L: Site, D: DeviceServer, R: Wait>(
+    rt: &R,
+    alloc: Global,
+    lock: &Option<Mutex<Kept<LUN, L, D>>>,
+    part: &mut Share<L>,
+) -> Done<'static>
+    requires { part.old.parts ≡ 1 }
+    ensures answer { IsAnswer result None LUN was_reset }
+    ensures deed { result.deed ≡ deed_if result.numbers Deed.Reset }
+    ensures only { OnlyAt LUN result.numbers }
+    ensures there { IsSome lock.now → result.numbers ≡ [] → result.reply ≡ busy }
+    ensures absent { IsNone lock.now → result.reply ≡ check LogicalUnitNotSupported }
+    ensures part { part.new.amount ≡ part.old.amount + count_at LUN result.numbers }
+    ensures parts { part.new.parts ≡ 1 }
+{
+    match lock {
+        Some(lock) => reset_at(rt, alloc, lock, part),
+        None => Done::absent_reset(alloc, LUN),
+    }
+}
+
+/// The records of the unit under this lock, handed out.
+pub(crate) fn drain_at<const LUN: u8, L: Site, D: DeviceServer, R: Wait>(
+    rt: &R,
+    alloc: Global,
+    lock: &Mutex<Kept<LUN, L, D>>,
+) -> Vec<Record>
+    ensures { IsSomeTrail result.items }
+{
+    lock.lock(rt).drain(alloc)
+}
+
+/// The same where the unit may be absent.
+pub(crate) fn drain_if_there<const LUN: u8, L: Site, D: DeviceServer, R: Wait>(
+    rt: &R,
+    alloc: Global,
+    lock: &Option<Mutex<Kept<LUN, L, D>>>,
+) -> Option<Vec<Record>>
+    ensures there { IsSome result ↔ IsSome lock.now }
+    ensures trail { IfSome result (λ entries. IsSomeTrail entries.items) }
+{
+    match lock {
+        Some(lock) => Some(drain_at(rt, alloc, lock)),
+        None => None,
+    }
+}
+
+/// A MOVE MEDIUM over the changer and the drive under this lock. Where the drive is absent, the changer alone answers.
+pub(crate) fn move_with_one<'a, const LUN: u8, C: Site, L: Site, D: DeviceServer, R: Wait>(
+    rt: &R,
+    alloc: Global,
+    changer: &mut Kept<0, C, D>,
+    lock: Option<&Mutex<Kept<LUN, L, D>>>,
+    part: &mut Share<C>,
+    drive_part: &mut Share<L>,
+    nexus: Nexus,
+    cdb: &'a [u8],
+    bytes: &'a [u8],
+) -> Done<'a>
+    requires part { part.old.parts ≡ 1 }
+    requires drive_part { drive_part.old.parts ≡ 1 }
+    requires drive { 0 < LUN }
+    requires named { named (drives_of changer.old.unit.device) cdb.now ≡ LUN ∷ [] }
+    ensures answer { IsAnswer result (Some nexus) 0 (ran cdb.now bytes.now) }
+    ensures deed { result.deed ≡ deed_if result.numbers (deed_of (act_of Changer cdb.now bytes.now)) }
+    ensures only { (k : ℕ) → k ≢ 0 → k ≢ LUN → count_at k result.numbers ≡ 0 }
+    ensures unnumbered { result.numbers ≡ [] → result.reply ≡ busy }
+    ensures part { part.new.amount ≡ part.old.amount + count_at 0 result.numbers }
+    ensures drive_part { drive_part.new.amount ≡ drive_part.old.amount + count_at LUN result.numbers }
+    ensures parts { (part.new.parts ≡ 1) × (drive_part.new.parts ≡ 1) }
+{
+    match lock {
+        Some(lock) => {
+            let mut drive = lock.lock(rt);
+            move_kept_one(
+                alloc,
+                changer,
+                &mut *drive,
+                part,
+                drive_part,
+                nexus,
+                cdb,
+                bytes,
+            )
+        }
+        None => changer.step(alloc, part, nexus, cdb, bytes),
+    }
+}
+
+/// The same over the drives under two locks, the lower first.
+pub(crate) fn move_with_two<
+    'a,
+    const LOW: u8,
+    const HIGH: u8,
+    C: Site,
+    L: Site,
+    H: Site,
+    D: DeviceServer,
+    R: Wait,
+>(
+    rt: &R,
+    alloc: Global,
+    changer: &mut Kept<0, C, D>,
+    low: Option<&Mutex<Kept<LOW, L, D>>>,
+    high: Option<&Mutex<Kept<HIGH, H, D>>>,
+    part: &mut Share<C>,
+    low_part: &mut Share<L>,
+    high_part: &mut Share<H>,
+    nexus: Nexus,
+    cdb: &'a [u8],
+    bytes: &'a [u8],
+) -> Done<'a>
+    requires part { part.old.parts ≡ 1 }
+    requires low_part { low_part.old.parts ≡ 1 }
+    requires high_part { high_part.old.parts ≡ 1 }
+    requires drives { (0 < LOW) × (LOW < HIGH) }
+    requires named { named (drives_of changer.old.unit.device) cdb.now ≡ LOW ∷ HIGH ∷ [] }
+    ensures answer { IsAnswer result (Some nexus) 0 (ran cdb.now bytes.now) }
+    ensures deed { result.deed ≡ deed_if result.numbers (deed_of (act_of Changer cdb.now bytes.now)) }
+    ensures only { (k : ℕ) → k ≢ 0 → k ≢ LOW → k ≢ HIGH → count_at k result.numbers ≡ 0 }
+    ensures unnumbered { result.numbers ≡ [] → result.reply ≡ busy }
+    ensures part { part.new.amount ≡ part.old.amount + count_at 0 result.numbers }
+    ensures low_part { low_part.new.amount ≡ low_part.old.amount + count_at LOW result.numbers }
+    ensures high_part { high_part.new.amount ≡ high_part.old.amount + count_at HIGH result.numbers }
+    ensures parts { (part.new.parts ≡ 1) × (low_part.new.parts ≡ 1) × (high_part.new.parts ≡ 1) }
+{
+    let (Some(low), Some(high)) = (low, high) else {
+        return changer.step(alloc, part, nexus, cdb, bytes);
+    };
+    let mut low = low.lock(rt);
+    let mut high = high.lock(rt);
+    move_kept_two(
+        alloc, changer, &mut *low, &mut *high, part, low_part, high_part, nexus, cdb, bytes,
+    )
+}

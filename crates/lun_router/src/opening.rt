@@ -1,0 +1,189 @@
+ghost use Rattle.std.specs.Prelude.{◌≡◌, ◌<◌, ◌+◌, [], All, IfOk, IfErr, is_some, length, vec_len};
+ghost use Rattle.std.specs.Option.{ForSome};
+ghost use Rattle.logical_unit.specs.UnitView.{last_number};
+ghost use Rattle.lun_router.specs.Opening.{IsAt, IsSince};
+
+use crate::apart::{Apart, take_apart};
+use crate::gate::Gate;
+use crate::library::Library;
+use crate::seat::{Parts, Seat};
+use device_server::DeviceServer;
+use kept_unit::{Kept, Site};
+use logical_unit::LogicalUnit;
+use std::alloc::{AllocError, Global};
+use std::sync::Mutex;
+use std::sync::ledger::{Blank, Share};
+use target_core::TargetCore;
+
+/// A new ledger for each logical unit number that a unit can have, each cut into as many parts as there will be seats.
+#[derive(Drop)]
+pub struct Blanks {
+    pub zero: Blank,
+    pub one: Blank,
+    pub two: Blank,
+    pub three: Blank,
+    pub four: Blank,
+}
+
+/// Puts a unit under a lock.
+fn keep<const LUN: u8, L: Site, D: DeviceServer>(
+    unit: LogicalUnit<D>,
+    blank: Blank,
+) -> (Mutex<Kept<LUN, L, D>>, Share<L>)
+    requires blank { (blank.name ≡ L.name) × (blank.parts ≡ L.parts) }
+    requires unit { IsAt LUN unit.unit }
+    requires since { last_number unit.unit ≡ L.since }
+    ensures parts { result.1.parts ≡ L.parts }
+    ensures amount { result.1.amount ≡ 0 }
+{
+    let (book, share) = blank.open::<L>();
+    (Mutex::new(Kept::new(unit, book)), share)
+}
+
+/// The same where the unit may be absent. Its book then goes, and the shares stay at nothing.
+fn keep_if_there<const LUN: u8, L: Site, D: DeviceServer>(
+    unit: Option<LogicalUnit<D>>,
+    blank: Blank,
+) -> (Option<Mutex<Kept<LUN, L, D>>>, Share<L>)
+    requires blank { (blank.name ≡ L.name) × (blank.parts ≡ L.parts) }
+    requires unit { ForSome unit (λ u. IsAt LUN u.unit) }
+    requires since { ForSome unit (λ u. last_number u.unit ≡ L.since) }
+    ensures there { is_some result.0 ≡ is_some unit }
+    ensures parts { result.1.parts ≡ L.parts }
+    ensures amount { result.1.amount ≡ 0 }
+{
+    match unit {
+        Some(unit) => {
+            let (lock, share) = keep(unit, blank);
+            (Some(lock), share)
+        }
+        None => {
+            let (_, share) = blank.open::<L>();
+            (None, share)
+        }
+    }
+}
+
+/// The shares of all ledgers, before they are cut.
+#[derive(Drop)]
+struct Wholes<L0: Site, L1: Site, L2: Site, L3: Site, L4: Site> {
+    zero: Share<L0>,
+    one: Share<L1>,
+    two: Share<L2>,
+    three: Share<L3>,
+    four: Share<L4>,
+}
+
+/// A seat with a part of each, which was told nothing.
+fn cut<L0: Site, L1: Site, L2: Site, L3: Site, L4: Site>(
+    alloc: Global,
+    wholes: &mut Wholes<L0, L1, L2, L3, L4>,
+) -> Seat<L0, L1, L2, L3, L4>
+    requires parts { (0 < wholes.old.zero.parts) × (0 < wholes.old.one.parts) × (0 < wholes.old.two.parts) × (0 < wholes.old.three.parts) × (0 < wholes.old.four.parts) }
+    requires amounts { (wholes.old.zero.amount ≡ 0) × (wholes.old.one.amount ≡ 0) × (wholes.old.two.amount ≡ 0) × (wholes.old.three.amount ≡ 0) × (wholes.old.four.amount ≡ 0) }
+    ensures seat { result.entries ≡ [] }
+    ensures amounts { (wholes.new.zero.amount ≡ 0) × (wholes.new.one.amount ≡ 0) × (wholes.new.two.amount ≡ 0) × (wholes.new.three.amount ≡ 0) × (wholes.new.four.amount ≡ 0) }
+    ensures parts { (wholes.new.zero.parts + 1 ≡ wholes.old.zero.parts) × (wholes.new.one.parts + 1 ≡ wholes.old.one.parts) × (wholes.new.two.parts + 1 ≡ wholes.old.two.parts) × (wholes.new.three.parts + 1 ≡ wholes.old.three.parts) × (wholes.new.four.parts + 1 ≡ wholes.old.four.parts) }
+{
+    let Wholes {
+        zero,
+        one,
+        two,
+        three,
+        four,
+    } = wholes;
+    let parts = Parts {
+        zero: zero.split_off(1, 0),
+        one: one.split_off(1, 0),
+        two: two.split_off(1, 0),
+        three: three.split_off(1, 0),
+        four: four.split_off(1, 0),
+    };
+    let entries = Vec::new(alloc);
+    Seat { parts, entries }
+}
+
+impl<L0: Site, L1: Site, L2: Site, L3: Site, L4: Site, D: DeviceServer, G: Gate> Library<
+    L0,
+    L1,
+    L2,
+    L3,
+    L4,
+    D,
+    G,
+> {
+    /// Puts each unit of a target under a lock of its own, and makes so many seats. It is called by a function that is
+    /// generic over the five ledgers, which its caller picks with `Brand`: the blanks' names, and the last record numbers
+    /// that the units have used. A refusal hands the target back; the blanks are spent.
+    pub fn new(
+        alloc: Global,
+        core: TargetCore<D>,
+        seats: usize,
+        blanks: Blanks,
+        gate: G,
+    ) -> Result<
+        (
+            Library<L0, L1, L2, L3, L4, D, G>,
+            Vec<Seat<L0, L1, L2, L3, L4>>,
+        ),
+        (AllocError, TargetCore<D>),
+    >
+        requires some { 0 < seats }
+        requires zero { (blanks.zero.name ≡ L0.name) × (blanks.zero.parts ≡ L0.parts) × (L0.parts ≡ seats) }
+        requires one { (blanks.one.name ≡ L1.name) × (blanks.one.parts ≡ L1.parts) × (L1.parts ≡ seats) }
+        requires two { (blanks.two.name ≡ L2.name) × (blanks.two.parts ≡ L2.parts) × (L2.parts ≡ seats) }
+        requires three { (blanks.three.name ≡ L3.name) × (blanks.three.parts ≡ L3.parts) × (L3.parts ≡ seats) }
+        requires four { (blanks.four.name ≡ L4.name) × (blanks.four.parts ≡ L4.parts) × (L4.parts ≡ seats) }
+        requires since { IsSince core L0.since L1.since L2.since L3.since L4.since }
+        ensures units { IfOk result (λ opened. opened.0.units ≡ length core) }
+        ensures seats { IfOk result (λ opened. (opened.0.seats ≡ seats) × (vec_len opened.1 ≡ seats)) }
+        ensures untold { IfOk result (λ opened. All (λ s. s.entries ≡ []) opened.1.items) }
+        ensures back { IfErr result (λ back. back.1 ≡ core) }
+    {
+        let mut all = Vec::new(alloc);
+        if let Err(refused) = all.reserve(seats) {
+            return Err((refused.into(), core));
+        }
+        let Apart {
+            count,
+            changer,
+            first,
+            second,
+            third,
+            fourth,
+        } = take_apart(core);
+        let Blanks {
+            zero,
+            one,
+            two,
+            three,
+            four,
+        } = blanks;
+        let (changer, zero) = keep(changer, zero);
+        let (first, one) = keep(first, one);
+        let (second, two) = keep_if_there(second, two);
+        let (third, three) = keep_if_there(third, three);
+        let (fourth, four) = keep_if_there(fourth, four);
+        let mut wholes = Wholes {
+            zero,
+            one,
+            two,
+            three,
+            four,
+        };
+        for _i in 0..seats {
+            all.push_reserved(cut(alloc, &mut wholes));
+        }
+        let library = Library {
+            seats,
+            count,
+            changer,
+            first,
+            second,
+            third,
+            fourth,
+            gate,
+        };
+        Ok((library, all))
+    }
+}

@@ -1,0 +1,236 @@
+ghost use Rattle.std.specs.Prelude.{◌≡◌, ◌≤◌, Some, None, IsNone, IfSome, ◌↔◌};
+ghost use Rattle.unit_commands.specs.Commands.{act_of};
+ghost use Rattle.kept_unit.specs.declared.deed.Deed.TheVariants as deed;
+ghost use Rattle.kept_unit.specs.Answers.{IsAnswer, ran, lost, was_reset};
+ghost use Rattle.kept_unit.specs.Deeds.{deed_of, deed_if};
+ghost use Rattle.kept_unit.specs.Keeping.{kind_at};
+ghost use Rattle.lun_router.specs.Answering.{AnswersAsAbsent, LeavesNoneFor, LosesNoneFor, RefusesAsAbsent, IsSomeTrail};
+ghost use Rattle.lun_router.specs.Seats.{Rise, Notes};
+
+use crate::gate::Gate;
+use crate::library::Library;
+use crate::locks::{
+    drain_at, drain_if_there, lose_at, lose_if_there, reset_at, reset_if_there, step_at,
+    step_if_there,
+};
+use crate::seat::{Parts, Seat};
+use audit_log::Record;
+use device_server::DeviceServer;
+use kept_unit::{Asked, Done, Site};
+use scsi_nexus::Nexus;
+use std::alloc::Global;
+use std::sync::Wait;
+
+impl<L0: Site, L1: Site, L2: Site, L3: Site, L4: Site, D: DeviceServer, G: Gate> Library<
+    L0,
+    L1,
+    L2,
+    L3,
+    L4,
+    D,
+    G,
+> {
+    /// A command at its unit, or at none.
+    fn route<'a, R: Wait>(
+        &self,
+        rt: &R,
+        alloc: Global,
+        parts: &mut Parts<L0, L1, L2, L3, L4>,
+        nexus: Nexus,
+        lun: u8,
+        cdb: &'a [u8],
+        bytes: &'a [u8],
+    ) -> Done<'a>
+        ensures answer { IsAnswer result (Some nexus) lun (ran cdb.now bytes.now) }
+        ensures deed { result.deed ≡ deed_if result.numbers (deed_of (act_of (kind_at lun) cdb.now bytes.now)) }
+        ensures absent { AnswersAsAbsent self.now.units lun cdb.now result.reply }
+        ensures unnumbered { LeavesNoneFor self.now.units lun result.numbers result.reply }
+        ensures rise { Rise parts.old result.numbers parts.new }
+    {
+        let gate = &self.gate;
+        match lun {
+            0 => self.step_changer(rt, alloc, parts, nexus, cdb, bytes),
+            1 => step_at(
+                rt,
+                alloc,
+                gate,
+                &self.first,
+                &mut parts.one,
+                nexus,
+                cdb,
+                bytes,
+            ),
+            2 => step_if_there(
+                rt,
+                alloc,
+                gate,
+                &self.second,
+                &mut parts.two,
+                nexus,
+                cdb,
+                bytes,
+            ),
+            3 => step_if_there(
+                rt,
+                alloc,
+                gate,
+                &self.third,
+                &mut parts.three,
+                nexus,
+                cdb,
+                bytes,
+            ),
+            4 => step_if_there(
+                rt,
+                alloc,
+                gate,
+                &self.fourth,
+                &mut parts.four,
+                nexus,
+                cdb,
+                bytes,
+            ),
+            _ => Done::absent(alloc, nexus, lun, cdb, bytes),
+        }
+    }
+
+    /// The loss of a nexus at a unit, or at none.
+    fn route_loss<R: Wait>(
+        &self,
+        rt: &R,
+        alloc: Global,
+        parts: &mut Parts<L0, L1, L2, L3, L4>,
+        nexus: Nexus,
+        lun: u8,
+    ) -> Done<'static>
+        ensures answer { IsAnswer result (Some nexus) lun lost }
+        ensures deed { result.deed ≡ deed_if result.numbers deed.Loss }
+        ensures absent { RefusesAsAbsent self.now.units lun result.reply }
+        ensures unnumbered { LosesNoneFor self.now.units lun result.numbers result.reply }
+        ensures rise { Rise parts.old result.numbers parts.new }
+    {
+        match lun {
+            0 => lose_at(rt, alloc, &self.changer, &mut parts.zero, nexus),
+            1 => lose_at(rt, alloc, &self.first, &mut parts.one, nexus),
+            2 => lose_if_there(rt, alloc, &self.second, &mut parts.two, nexus),
+            3 => lose_if_there(rt, alloc, &self.third, &mut parts.three, nexus),
+            4 => lose_if_there(rt, alloc, &self.fourth, &mut parts.four, nexus),
+            _ => Done::absent_loss(alloc, nexus, lun),
+        }
+    }
+
+    /// A reset of a unit, or of none.
+    fn route_reset<R: Wait>(
+        &self,
+        rt: &R,
+        alloc: Global,
+        parts: &mut Parts<L0, L1, L2, L3, L4>,
+        lun: u8,
+    ) -> Done<'static>
+        ensures answer { IsAnswer result None lun was_reset }
+        ensures deed { result.deed ≡ deed_if result.numbers deed.Reset }
+        ensures absent { RefusesAsAbsent self.now.units lun result.reply }
+        ensures unnumbered { LeavesNoneFor self.now.units lun result.numbers result.reply }
+        ensures rise { Rise parts.old result.numbers parts.new }
+    {
+        match lun {
+            0 => reset_at(rt, alloc, &self.changer, &mut parts.zero),
+            1 => reset_at(rt, alloc, &self.first, &mut parts.one),
+            2 => reset_if_there(rt, alloc, &self.second, &mut parts.two),
+            3 => reset_if_there(rt, alloc, &self.third, &mut parts.three),
+            4 => reset_if_there(rt, alloc, &self.fourth, &mut parts.four),
+            _ => Done::absent_reset(alloc, lun),
+        }
+    }
+
+    /// A command of a nexus to a logical unit, with an entry of its answer in the seat. A MOVE MEDIUM goes to the changer
+    /// with the drives that it names. The seat's room comes first: where it is refused, the answer is BUSY, and nothing has
+    /// changed. May wait for another call at the same units.
+    pub fn submit<'a, R: Wait>(
+        &self,
+        rt: &R,
+        alloc: Global,
+        seat: &mut Seat<L0, L1, L2, L3, L4>,
+        nexus: Nexus,
+        lun: u8,
+        cdb: &'a [u8],
+        bytes: &'a [u8],
+    ) -> Done<'a>
+        ensures answer { IsAnswer result (Some nexus) lun (ran cdb.now bytes.now) }
+        ensures deed { result.deed ≡ deed_if result.numbers (deed_of (act_of (kind_at lun) cdb.now bytes.now)) }
+        ensures absent { AnswersAsAbsent self.now.units lun cdb.now result.reply }
+        ensures unnumbered { LeavesNoneFor self.now.units lun result.numbers result.reply }
+        ensures notes { Notes seat.old result seat.new }
+    {
+        let Seat { parts, entries } = seat;
+        if entries.reserve(1).is_err() {
+            return Done::busy(alloc, Some(nexus), lun, Asked::Command { cdb, bytes });
+        }
+        let done = self.route(rt, alloc, parts, nexus, lun, cdb, bytes);
+        entries.push_reserved(done.entry());
+        done
+    }
+
+    /// An I_T nexus loss at a logical unit, with an entry of its answer in the seat, as of a command.
+    pub fn lose<R: Wait>(
+        &self,
+        rt: &R,
+        alloc: Global,
+        seat: &mut Seat<L0, L1, L2, L3, L4>,
+        nexus: Nexus,
+        lun: u8,
+    ) -> Done<'static>
+        ensures answer { IsAnswer result (Some nexus) lun lost }
+        ensures deed { result.deed ≡ deed_if result.numbers deed.Loss }
+        ensures absent { RefusesAsAbsent self.now.units lun result.reply }
+        ensures unnumbered { LosesNoneFor self.now.units lun result.numbers result.reply }
+        ensures notes { Notes seat.old result seat.new }
+    {
+        let Seat { parts, entries } = seat;
+        if entries.reserve(1).is_err() {
+            return Done::busy(alloc, Some(nexus), lun, Asked::Loss);
+        }
+        let done = self.route_loss(rt, alloc, parts, nexus, lun);
+        entries.push_reserved(done.entry());
+        done
+    }
+
+    /// A reset of a logical unit, with an entry of its answer in the seat, as of a command.
+    pub fn reset<R: Wait>(
+        &self,
+        rt: &R,
+        alloc: Global,
+        seat: &mut Seat<L0, L1, L2, L3, L4>,
+        lun: u8,
+    ) -> Done<'static>
+        ensures answer { IsAnswer result None lun was_reset }
+        ensures deed { result.deed ≡ deed_if result.numbers deed.Reset }
+        ensures absent { RefusesAsAbsent self.now.units lun result.reply }
+        ensures unnumbered { LeavesNoneFor self.now.units lun result.numbers result.reply }
+        ensures notes { Notes seat.old result seat.new }
+    {
+        let Seat { parts, entries } = seat;
+        if entries.reserve(1).is_err() {
+            return Done::busy(alloc, None, lun, Asked::Reset);
+        }
+        let done = self.route_reset(rt, alloc, parts, lun);
+        entries.push_reserved(done.entry());
+        done
+    }
+
+    /// Hands out the records of a unit, a legal trail; its numbers go on, and no entry is added. `None` where there is no
+    /// such unit. Takes no memory.
+    pub fn drain<R: Wait>(&self, rt: &R, alloc: Global, lun: u8) -> Option<Vec<Record>>
+        ensures none { IsNone result ↔ (self.now.units ≤ lun) }
+        ensures trail { IfSome result (λ entries. IsSomeTrail entries.items) }
+    {
+        match lun {
+            0 => Some(drain_at(rt, alloc, &self.changer)),
+            1 => Some(drain_at(rt, alloc, &self.first)),
+            2 => drain_if_there(rt, alloc, &self.second),
+            3 => drain_if_there(rt, alloc, &self.third),
+            4 => drain_if_there(rt, alloc, &self.fourth),
+            _ => None,
+        }
+    }
+}

@@ -1,0 +1,53 @@
+use kept_unit::{Entry, Site};
+use std::marker::Model;
+use std::sync::ledger::Share;
+
+/// One part of each unit's ledger, with the count of the numbers that it was told. Contracts see the counts.
+#[derive(Drop)]
+pub struct Parts<L0: Site, L1: Site, L2: Site, L3: Site, L4: Site> {
+    pub(crate) zero: Share<L0>,
+    pub(crate) one: Share<L1>,
+    pub(crate) two: Share<L2>,
+    pub(crate) three: Share<L3>,
+    pub(crate) four: Share<L4>,
+}
+
+impl<L0: Site, L1: Site, L2: Site, L3: Site, L4: Site> Model for Parts<L0, L1, L2, L3, L4> {
+    ghost use Rattle.std.specs.Prelude.{◌≡◌};
+    ghost use Rattle.lun_router.specs.Seats.{Amounts};
+
+    ghost Value = { Amounts };
+
+    ghost view = { λ p. record { zero = p.zero.amount; one = p.one.amount; two = p.two.amount; three = p.three.amount; four = p.four.amount } };
+
+    ghost invariant = { λ p. (p.zero.parts ≡ 1) × (p.one.parts ≡ 1) × (p.two.parts ≡ 1) × (p.three.parts ≡ 1) × (p.four.parts ≡ 1) };
+}
+
+/// What one session holds of a library: a part of each ledger, and what it was told. Each part counts the numbers of its
+/// unit that the entries have.
+#[derive(Drop)]
+pub struct Seat<L0: Site, L1: Site, L2: Site, L3: Site, L4: Site> {
+    pub(crate) parts: Parts<L0, L1, L2, L3, L4>,
+    pub(crate) entries: Vec<Entry>,
+}
+
+impl<L0: Site, L1: Site, L2: Site, L3: Site, L4: Site> Model for Seat<L0, L1, L2, L3, L4> {
+    ghost use Rattle.lun_router.specs.Seats.{SeatValue, IsCounted};
+
+    ghost Value = { SeatValue };
+
+    ghost view = { λ s. record { entries = s.entries.items; amounts = s.parts } };
+
+    ghost invariant = { λ s. IsCounted s.entries.items s.parts };
+}
+
+impl<L0: Site, L1: Site, L2: Site, L3: Site, L4: Site> Seat<L0, L1, L2, L3, L4> {
+    ghost use Rattle.std.specs.Prelude.{◌≡◌};
+
+    /// An entry for each call that was made with the seat, in order; a BUSY for want of the seat's own room has none.
+    pub fn entries(&self) -> &[Entry]
+        ensures { result.now ≡ self.now.entries }
+    {
+        self.entries.as_slice()
+    }
+}
