@@ -1,0 +1,81 @@
+//! The devices of the measured library.
+ghost use Rattle.device_server.specs.View.{Drive, Changer};
+ghost use Rattle.router_bench.specs.declared.device.Device.TheVariants as device;
+
+use changer_server::Changer;
+use device_server::{BadPlace, DeviceServer, Outcome, PutFault, TakeFault};
+use scsi_cdb::{Kind, Request};
+use std::alloc::{AllocError, Global};
+use tape_medium::{Volume, VolumeTag};
+use tape_server::TapeDrive;
+
+#[derive(Drop)]
+pub(crate) enum Device {
+    Changer(Changer),
+    Tape(TapeDrive),
+}
+
+impl DeviceServer for Device {
+    ghost shown = { λ d. elim d [ device.Changer elements ↦ Changer elements | device.Tape drive ↦ Drive drive ] };
+
+    fn kind(&self) -> Kind {
+        match self {
+            Device::Changer(changer) => changer.kind(),
+            Device::Tape(drive) => drive.kind(),
+        }
+    }
+
+    fn drives(&self) -> u16 {
+        match self {
+            Device::Changer(changer) => changer.drives(),
+            Device::Tape(drive) => drive.drives(),
+        }
+    }
+
+    fn held(&self, place: u16) -> Option<VolumeTag> {
+        match self {
+            Device::Changer(changer) => changer.held(place),
+            Device::Tape(drive) => drive.held(place),
+        }
+    }
+
+    fn perform(
+        &mut self,
+        alloc: Global,
+        request: &Request,
+        bytes: &[u8],
+    ) -> Result<Outcome, AllocError> {
+        match self {
+            Device::Changer(changer) => changer.perform(alloc, request, bytes),
+            Device::Tape(drive) => drive.perform(alloc, request, bytes),
+        }
+    }
+
+    fn take_volume(&mut self, place: u16) -> Result<Volume, TakeFault> {
+        match self {
+            Device::Changer(changer) => changer.take_volume(place),
+            Device::Tape(drive) => drive.take_volume(place),
+        }
+    }
+
+    fn put_volume(&mut self, place: u16, volume: Volume) -> Result<(), (Volume, PutFault)> {
+        match self {
+            Device::Changer(changer) => changer.put_volume(place, volume),
+            Device::Tape(drive) => drive.put_volume(place, volume),
+        }
+    }
+
+    fn mark(&mut self, place: u16, tag: Option<VolumeTag>) -> Result<(), BadPlace> {
+        match self {
+            Device::Changer(changer) => changer.mark(place, tag),
+            Device::Tape(drive) => drive.mark(place, tag),
+        }
+    }
+
+    fn reset(&mut self) {
+        match self {
+            Device::Changer(changer) => changer.reset(),
+            Device::Tape(drive) => drive.reset(),
+        }
+    }
+}

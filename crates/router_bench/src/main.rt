@@ -1,0 +1,18 @@
+//! How long commands take through a library that threads share: told on standard output where an argument asks for it.
+#![tactic(auto)]
+
+mod days;
+mod device;
+mod figures;
+mod single;
+mod targets;
+mod work;
+
+use std::{env, io};
+
+fn main(rt: HostRuntime) -> io::Result<()> {
+    let is_told = env::args(&rt)?.count() >= 2;
+    let scale = if is_told { 10 } else { 1 };
+    single::measure(&rt, rt.alloc(), scale, is_told)?;
+    days::run(&rt, rt.alloc(), scale, is_told)
+}

@@ -1,0 +1,60 @@
+//! The same commands in one thread, through a target without locks.
+
+use crate::device::Device;
+use crate::figures::tell;
+use crate::targets::four_drives;
+use crate::work::{BLOCKS, REWIND, TEST_UNIT_READY, Task, loading, nexus_at};
+use std::alloc::{AllocError, Global};
+use std::io;
+use std::rt::Clock;
+use std::time::Instant;
+use target_core::{Event, TargetCore};
+
+fn event(alloc: Global, lun: u8, cdb: &[u8], bytes: Vec<u8>) -> Result<Event, AllocError> {
+    Ok(Event::Command {
+        nexus: nexus_at(0),
+        lun,
+        cdb: cdb.to_vec(alloc)?,
+        bytes,
+    })
+}
+
+/// Asks so often, with a REWIND before each round of blocks.
+fn ask(alloc: Global, core: &mut TargetCore<Device>, command: &Event, rewind: &Event, count: u32) {
+    for turn in 0..count {
+        if turn % BLOCKS == 0 {
+            let _ = core.step(alloc, rewind);
+        }
+        let _ = core.step(alloc, command);
+    }
+}
+
+pub(crate) fn measure(
+    rt: &(impl Clock + Print),
+    alloc: Global,
+    scale: u32,
+    is_told: bool,
+) -> io::Result<()> {
+    let mut core = four_drives(alloc)?;
+    for lun in [0, 1] {
+        let _ = core.step(
+            alloc,
+            &event(alloc, lun, &TEST_UNIT_READY, Vec::new(alloc))?,
+        );
+    }
+    let _ = core.step(alloc, &event(alloc, 0, &loading(0), Vec::new(alloc))?);
+    let _ = core.step(alloc, &event(alloc, 1, &TEST_UNIT_READY, Vec::new(alloc))?);
+    let rewind = event(alloc, 1, &REWIND, Vec::new(alloc))?;
+    for task in [Task::Ready, Task::Write, Task::Read] {
+        let command = event(alloc, 1, &task.cdb(), task.data(alloc)?)?;
+        let count = task.count(scale);
+        let start = Instant::now(rt)?;
+        ask(alloc, &mut core, &command, &rewind, count);
+        tell(rt, "step", 1, task, count, start.elapsed(rt)?, is_told)?;
+    }
+    let records = core.drain(alloc, 1).map_or(0, |records| records.len());
+    if !is_told {
+        println!(rt; "step left {records} records")?;
+    }
+    Ok(())
+}
