@@ -1,0 +1,50 @@
+//! The bytes of a frame (profile).
+
+/// How many bytes tell the length of the body that follows.
+pub(crate) const LENGTH_FIELD: usize = 4;
+
+/// The most bytes of a body.
+pub const LONGEST_BODY: usize = 131_072;
+
+/// The kinds of frames: the first byte of a body.
+pub(crate) const LOGIN: u8 = 0x01;
+
+pub(crate) const COMMAND: u8 = 0x02;
+
+pub(crate) const RESET: u8 = 0x03;
+
+pub(crate) const LOGOUT: u8 = 0x04;
+
+/// How many bytes a LOGIN has behind its kind: the initiator's SAS address and the target port.
+pub(crate) const LOGIN_FIELDS: usize = 10;
+
+/// Where the port of a LOGIN begins, behind its kind.
+pub(crate) const PORT: usize = 8;
+
+/// The target ports are 1 to this one.
+pub(crate) const PORTS: u16 = 4;
+
+/// How many bytes a COMMAND has behind its kind before its CDB: the logical unit number and the length of the CDB.
+pub(crate) const COMMAND_FIELDS: usize = 2;
+
+/// The most bytes of a CDB.
+pub(crate) const LONGEST_CDB: usize = 16;
+
+/// The kinds of reply frames.
+pub(crate) const LOGIN_REPLY: u8 = 0x81;
+
+pub(crate) const COMMAND_REPLY: u8 = 0x82;
+
+pub(crate) const RESET_REPLY: u8 = 0x83;
+
+pub(crate) const LOGOUT_REPLY: u8 = 0x84;
+
+/// How many bytes a COMMAND's reply has before its data, without sense data: kind, status, the length of the
+/// sense data, and the record's number.
+pub(crate) const COMMAND_REPLY_FIELDS: usize = 11;
+
+/// The most bytes of data in a reply.
+pub const LONGEST_DATA: usize = 65_536;
+
+/// How many bytes fixed format sense data has (SPC-4, "Fixed format sense data").
+pub(crate) const SENSE_LENGTH: u8 = 18;
