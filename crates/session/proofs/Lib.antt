@@ -1,0 +1,3 @@
+pub mod Answered
+pub mod Read
+pub mod Conversed

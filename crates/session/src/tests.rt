@@ -1,0 +1,294 @@
+use crate::{Directory, End, SessionFault, Station, serve};
+use kept_unit::Done;
+use scsi_nexus::Nexus;
+use std::alloc::Global;
+use std::io::{self, Read, Write};
+use std::process::Abort;
+use std::test::Fail;
+
+const A: Nexus = Nexus {
+    sas: 0x5000_0000_0000_000A,
+    port: 1,
+};
+
+/// LOGIN of A.
+const LOGIN: &[u8] = b"\0\0\0\x0b\x01\x50\0\0\0\0\0\0\x0a\0\x01";
+
+/// A LOGIN of A, a TEST UNIT READY to unit 0, and a LOGOUT.
+const ONE_SESSION: &[u8] = b"\0\0\0\x0b\x01\x50\0\0\0\0\0\0\x0a\0\x01\
+    \0\0\0\x09\x02\0\x06\0\0\0\0\0\0\
+    \0\0\0\x01\x04";
+
+const ACCEPTED: &[u8] = b"\0\0\0\x02\x81\0";
+
+/// The three replies, of a station that has no unit at all: 25h/00h, without a record.
+const REPLIES: &[u8] = b"\0\0\0\x02\x81\0\
+    \0\0\0\x1d\x82\x02\x12\x70\0\x05\0\0\0\0\x0a\0\0\0\0\x25\0\0\0\0\0\0\0\0\0\0\0\0\0\
+    \0\0\0\x01\x84";
+
+/// A station whose units are absent. It counts what was lost, and may have a session of the nexus already.
+#[derive(Drop)]
+struct Empty {
+    losses: u64,
+    is_connected: bool,
+}
+
+impl Station for Empty {
+    ghost notes = { λ _ _ _. Unit {0} };
+
+    ghost count = { λ _. 2 };
+
+    fn submit<'a>(
+        &mut self,
+        alloc: Global,
+        nexus: Nexus,
+        lun: u8,
+        cdb: &'a [u8],
+        bytes: &'a [u8],
+    ) -> Done<'a> {
+        Done::absent(alloc, nexus, lun, cdb, bytes)
+    }
+
+    fn reset(&mut self, alloc: Global, lun: u8) -> Done<'static> {
+        Done::absent_reset(alloc, lun)
+    }
+
+    fn lose(&mut self, alloc: Global, nexus: Nexus, lun: u8) -> Done<'static> {
+        self.losses = self.losses.saturating_add(1);
+        Done::absent_loss(alloc, nexus, lun)
+    }
+
+    fn units(&self) -> u8 {
+        2
+    }
+
+    fn login(&mut self, _nexus: Nexus) -> Result<usize, SessionFault> {
+        if self.is_connected {
+            Err(SessionFault::AlreadyConnected)
+        } else {
+            Ok(7)
+        }
+    }
+
+    fn logout(&mut self, _key: usize) {}
+}
+
+/// Gives its bytes one by one, and fails at one of its reads.
+#[derive(Drop)]
+struct Trickle<'a> {
+    bytes: &'a [u8],
+    reads: u64,
+    fails_at: u64,
+}
+
+impl<'a> Read for Trickle<'a> {
+    fn read(&mut self, buffer: &mut [u8]) -> io::Result<usize> {
+        self.reads = self.reads.saturating_add(1);
+        if self.reads == self.fails_at {
+            return Err(io::Error::from(io::ErrorKind::BrokenPipe));
+        }
+        match (self.bytes.split_first(), buffer.first_mut()) {
+            (Some((byte, rest)), Some(first)) => {
+                *first = *byte;
+                self.bytes = rest;
+                Ok(1)
+            }
+            _ => Ok(0),
+        }
+    }
+}
+
+/// Takes writes up to one that fails.
+#[derive(Drop)]
+struct Failing {
+    writes: u64,
+    fails_at: u64,
+}
+
+impl Write for Failing {
+    fn write(&mut self, buffer: &[u8]) -> io::Result<usize> {
+        self.writes = self.writes.saturating_add(1);
+        if self.writes == self.fails_at {
+            return Err(io::Error::from(io::ErrorKind::BrokenPipe));
+        }
+        Ok(buffer.len())
+    }
+
+    fn flush(&mut self) -> io::Result<()> {
+        Ok(())
+    }
+}
+
+/// Serves a stream that comes at once, and one that comes byte by byte: how each ends, what it is answered, and whether
+/// the nexus was lost.
+fn assert_session(
+    rt: &impl Abort,
+    alloc: Global,
+    input: &[u8],
+    end: Result<End, SessionFault>,
+    replies: &[u8],
+    losses: u64,
+) -> Result<(), Fail> {
+    let mut station = Empty {
+        losses: 0,
+        is_connected: false,
+    };
+    let mut reader = input;
+    let mut output = Vec::new(alloc);
+    let ended = serve(alloc, &mut station, &mut reader, &mut output, 9);
+    assert_eq!(rt; ended, end);
+    assert_eq!(rt; output.as_slice(), replies);
+    assert_eq!(rt; station.losses, losses);
+    let mut station = Empty {
+        losses: 0,
+        is_connected: false,
+    };
+    let mut reader = Trickle {
+        bytes: input,
+        reads: 0,
+        fails_at: 0,
+    };
+    let mut output = Vec::new(alloc);
+    let ended = serve(alloc, &mut station, &mut reader, &mut output, 99);
+    assert_eq!(rt; ended, end);
+    assert_eq!(rt; output.as_slice(), replies);
+    assert_eq!(rt; station.losses, losses);
+    Ok(())
+}
+
+#[test]
+fn one_session(rt: HostRuntime) -> Result<(), Fail> {
+    assert_session(&rt, rt.alloc(), ONE_SESSION, Ok(End::Logout), REPLIES, 2)
+}
+
+#[test]
+fn reset_of_a_unit(rt: HostRuntime) -> Result<(), Fail> {
+    let input = b"\0\0\0\x0b\x01\x50\0\0\0\0\0\0\x0a\0\x01\0\0\0\x02\x03\0";
+    let replies = b"\0\0\0\x02\x81\0\0\0\0\x02\x83\x02";
+    assert_session(&rt, rt.alloc(), input, Ok(End::Closed), replies, 2)
+}
+
+/// Each proper prefix of a session ends within a frame or between two.
+#[test]
+fn every_prefix_of_a_session(rt: HostRuntime) -> Result<(), Fail> {
+    for length in 0..ONE_SESSION.len() {
+        let prefix = &ONE_SESSION[..length];
+        let end = if length == 0 || length == 15 || length == 28 {
+            End::Closed
+        } else {
+            End::Cut
+        };
+        let replies = if length < 15 {
+            b"".as_slice()
+        } else if length < 28 {
+            ACCEPTED
+        } else {
+            &REPLIES[..39]
+        };
+        let losses = if length < 15 { 0 } else { 2 };
+        assert_session(&rt, rt.alloc(), prefix, Ok(end), replies, losses)?;
+    }
+    Ok(())
+}
+
+#[test]
+fn faulty_streams(rt: HostRuntime) -> Result<(), Fail> {
+    let alloc = rt.alloc();
+    let bad = Err(SessionFault::BadFrame);
+    assert_session(&rt, alloc, b"\0\0\0\0", bad, b"", 0)?;
+    assert_session(
+        &rt,
+        alloc,
+        b"\0\x02\0\x01",
+        Err(SessionFault::TooLong),
+        b"",
+        0,
+    )?;
+    assert_session(&rt, alloc, b"\0\0\0\x05\x09", bad, b"", 0)?;
+    let port_0 = b"\0\0\0\x0b\x01\x50\0\0\0\0\0\0\x0a\0\0";
+    assert_session(&rt, alloc, port_0, bad, b"", 0)?;
+    let second_login = b"\0\0\0\x0b\x01\x50\0\0\0\0\0\0\x0a\0\x01\0\0\0\x0b\x01";
+    assert_session(&rt, alloc, second_login, bad, ACCEPTED, 2)?;
+    let long_cdb = b"\0\0\0\x0b\x01\x50\0\0\0\0\0\0\x0a\0\x01\0\0\0\x13\x02\0\x11";
+    assert_session(&rt, alloc, long_cdb, bad, ACCEPTED, 2)
+}
+
+/// A read that fails at each place, and one read too few, end a session as its input's fault.
+#[test]
+fn reads_fail(rt: HostRuntime) -> Result<(), Fail> {
+    for fails_at in 1..34 {
+        let mut station = Empty {
+            losses: 0,
+            is_connected: false,
+        };
+        let mut reader = Trickle {
+            bytes: ONE_SESSION,
+            reads: 0,
+            fails_at,
+        };
+        let mut output = Vec::new(rt.alloc());
+        let ended = serve(rt.alloc(), &mut station, &mut reader, &mut output, 99);
+        assert_eq!(rt; ended, Err(SessionFault::Read));
+        let losses = if fails_at < 16 { 0 } else { 2 };
+        assert_eq!(rt; station.losses, losses);
+    }
+    let mut station = Empty {
+        losses: 0,
+        is_connected: false,
+    };
+    let mut reader = LOGIN;
+    let mut output = Vec::new(rt.alloc());
+    let ended = serve(rt.alloc(), &mut station, &mut reader, &mut output, 1);
+    assert_eq!(rt; ended, Err(SessionFault::Read));
+    assert_eq!(rt; station.losses, 2);
+    Ok(())
+}
+
+/// A write that fails ends a session, and the nexus is lost all the same.
+#[test]
+fn writes_fail(rt: HostRuntime) {
+    for fails_at in 1..4 {
+        let mut station = Empty {
+            losses: 0,
+            is_connected: false,
+        };
+        let mut reader = Trickle {
+            bytes: ONE_SESSION,
+            reads: 0,
+            fails_at: 0,
+        };
+        let mut writer = Failing {
+            writes: 0,
+            fails_at,
+        };
+        let ended = serve(rt.alloc(), &mut station, &mut reader, &mut writer, 99);
+        assert_eq!(rt; ended, Err(SessionFault::Write));
+        assert_eq!(rt; station.losses, 2);
+    }
+}
+
+#[test]
+fn second_session_of_a_nexus(rt: HostRuntime) {
+    let mut station = Empty {
+        losses: 0,
+        is_connected: true,
+    };
+    let mut reader = ONE_SESSION;
+    let mut output = Vec::new(rt.alloc());
+    let ended = serve(rt.alloc(), &mut station, &mut reader, &mut output, 9);
+    assert_eq!(rt; ended, Err(SessionFault::AlreadyConnected));
+    assert_eq!(rt; output.as_slice(), b"\0\0\0\x02\x81\x01".as_slice());
+    assert_eq!(rt; station.losses, 0);
+}
+
+#[test]
+fn directory_forgets(rt: HostRuntime) -> Result<(), Fail> {
+    let mut directory = Directory::new(rt.alloc());
+    let key = directory.login(A)?;
+    assert_eq!(rt; directory.login(A), Err(SessionFault::AlreadyConnected));
+    let other = directory.login(Nexus { port: 2, ..A })?;
+    assert!(rt; key != other);
+    directory.logout(key);
+    assert_eq!(rt; directory.login(A), Ok(key));
+    Ok(())
+}
