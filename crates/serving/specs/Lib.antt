@@ -1,0 +1,4 @@
+pub mod Devices
+pub mod Faults
+pub mod Hosted
+pub mod Posts

@@ -1,0 +1,76 @@
+ghost use Rattle.std.specs.Prelude.{◌≡◌, ◌∷◌, ◌++◌, [], IfOk, OnOk};
+ghost use Rattle.std.specs.Io.KnownBytes.{Appends};
+ghost use Rattle.std.specs.Option.{option_map};
+ghost use Rattle.logical_unit.specs.UnitView.{units_of};
+ghost use Rattle.serving.specs.Hosted.{IsClosed, if_there};
+
+use crate::device::Device;
+use crate::host_fault::HostFault;
+use kept_unit::Site;
+use logical_unit::LogicalUnit;
+use lun_router::{Histories, Library, Pass, Seat};
+use replay_output::{Audit, audit_text};
+use std::alloc::{AllocError, Global};
+use std::io::Write;
+
+/// Closes a library with its seats, and writes the lines that are wanted of the records, LUN 0 first. The lines are made before the first of
+/// them is written.
+pub(crate) fn close_and_write<L0: Site, L1: Site, L2: Site, L3: Site, L4: Site, W: Write>(
+    alloc: Global,
+    library: Library<L0, L1, L2, L3, L4, Device, Pass>,
+    seats: Vec<Seat<L0, L1, L2, L3, L4>>,
+    audit: Audit,
+    writer: &mut W,
+) -> Result<(), HostFault>
+    ensures { OnOk result (IsClosed audit L0.since L1.since L2.since L3.since L4.since (W.contents writer.old) (W.contents writer.new)) }
+{
+    let histories = match library.close(alloc, seats) {
+        Ok(histories) => histories,
+        Err((fault, _, _)) => return Err(HostFault::Close(fault)),
+    };
+    let units = units_in(alloc, histories)?;
+    let text = audit_text(alloc, audit, &units)?;
+    write_out(writer, text.as_bytes())?;
+    Ok(())
+}
+
+/// The units of a library that was closed, LUN 0 first.
+fn units_in(
+    alloc: Global,
+    histories: Histories<Device>,
+) -> Result<Vec<LogicalUnit<Device>>, AllocError>
+    ensures { IfOk result (λ units. units_of units.items ≡ histories.changer.unit ∷ histories.first.unit ∷ if_there (option_map (λ u. u.unit) histories.second) ++ if_there (option_map (λ u. u.unit) histories.third) ++ if_there (option_map (λ u. u.unit) histories.fourth)) }
+{
+    let Histories {
+        changer,
+        first,
+        second,
+        third,
+        fourth,
+    } = histories;
+    let mut units = Vec::new(alloc);
+    units.push(changer)?;
+    units.push(first)?;
+    if let Some(second) = second {
+        units.push(second)?;
+    }
+    if let Some(third) = third {
+        units.push(third)?;
+    }
+    if let Some(fourth) = fourth {
+        units.push(fourth)?;
+    }
+    Ok(units)
+}
+
+fn write_out<W: Write>(writer: &mut W, bytes: &[u8]) -> Result<(), HostFault>
+    ensures { OnOk result (Appends (W.contents writer.old) (W.contents writer.new) bytes.now) }
+{
+    match writer.write_all(bytes) {
+        Ok(()) => match writer.flush() {
+            Ok(()) => Ok(()),
+            Err(_) => Err(HostFault::Write),
+        },
+        Err(_) => Err(HostFault::Write),
+    }
+}

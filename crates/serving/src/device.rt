@@ -1,0 +1,82 @@
+ghost use Rattle.std.specs.Prelude.{◌≡◌};
+
+use changer_server::Changer;
+use device_server::{BadPlace, DeviceServer, Outcome, PutFault, TakeFault};
+use scsi_cdb::{Kind, Request};
+use std::alloc::{AllocError, Global};
+use tape_medium::{Volume, VolumeTag};
+use tape_server::TapeDrive;
+
+/// A device of the library.
+#[derive(Drop)]
+pub enum Device {
+    Changer(Changer),
+    Tape(TapeDrive),
+}
+
+impl DeviceServer for Device {
+    ghost use Rattle.serving.specs.Devices.{shown_as};
+
+    ghost shown = { shown_as };
+
+    fn kind(&self) -> Kind {
+        match self {
+            Device::Changer(changer) => changer.kind(),
+            Device::Tape(drive) => drive.kind(),
+        }
+    }
+
+    fn drives(&self) -> u16 {
+        match self {
+            Device::Changer(changer) => changer.drives(),
+            Device::Tape(drive) => drive.drives(),
+        }
+    }
+
+    fn held(&self, place: u16) -> Option<VolumeTag> {
+        match self {
+            Device::Changer(changer) => changer.held(place),
+            Device::Tape(drive) => drive.held(place),
+        }
+    }
+
+    fn perform(
+        &mut self,
+        alloc: Global,
+        request: &Request,
+        bytes: &[u8],
+    ) -> Result<Outcome, AllocError> {
+        match self {
+            Device::Changer(changer) => changer.perform(alloc, request, bytes),
+            Device::Tape(drive) => drive.perform(alloc, request, bytes),
+        }
+    }
+
+    fn take_volume(&mut self, place: u16) -> Result<Volume, TakeFault> {
+        match self {
+            Device::Changer(changer) => changer.take_volume(place),
+            Device::Tape(drive) => drive.take_volume(place),
+        }
+    }
+
+    fn put_volume(&mut self, place: u16, volume: Volume) -> Result<(), (Volume, PutFault)> {
+        match self {
+            Device::Changer(changer) => changer.put_volume(place, volume),
+            Device::Tape(drive) => drive.put_volume(place, volume),
+        }
+    }
+
+    fn mark(&mut self, place: u16, tag: Option<VolumeTag>) -> Result<(), BadPlace> {
+        match self {
+            Device::Changer(changer) => changer.mark(place, tag),
+            Device::Tape(drive) => drive.mark(place, tag),
+        }
+    }
+
+    fn reset(&mut self) {
+        match self {
+            Device::Changer(changer) => changer.reset(),
+            Device::Tape(drive) => drive.reset(),
+        }
+    }
+}

@@ -1,0 +1,157 @@
+ghost use Rattle.std.specs.Prelude.{◌≡◌, ◌<◌, OnOk};
+ghost use Rattle.lun_router.specs.Opening.{IsSince};
+ghost use Rattle.serving.specs.Hosted.{IsHosted};
+
+use crate::closing::close_and_write;
+use crate::device::Device;
+use crate::host_fault::{HostFault, earlier};
+use crate::post::Post;
+use crate::worker::{Reception, Worker};
+use kept_unit::Site;
+use lun_router::{Blanks, Library, Pass, Seat};
+use replay_output::Audit;
+use session::Directory;
+use std::alloc::Global;
+use std::io::Write;
+use std::marker::Brand;
+use std::os::unix::net::UnixListener;
+use std::sync::ledger::Blank;
+use std::sync::{Mutex, Wait};
+use std::thread;
+use std::thread::Threads;
+use target_core::TargetCore;
+
+/// Serves a target to so many connections of a listener, each by a worker of its own and as the nexus that its LOGIN
+/// names. After the last has ended the library is closed, and the lines that are wanted of the records are written, LUN 0
+/// first, also where a session had a fault.
+///
+/// Of the faults that happened the first in the order of `HostFault` is told.
+pub fn host<R: Threads + Wait + Sync, W: Write>(
+    rt: &R,
+    alloc: Global,
+    core: TargetCore<Device>,
+    listener: &UnixListener,
+    sessions: u8,
+    audit: Audit,
+    writer: &mut W,
+) -> Result<(), HostFault>
+    requires some { 0 < sessions }
+    ensures { OnOk result (IsHosted core audit (W.contents writer.old) (W.contents writer.new)) }
+{
+    let parts = u64::from(sessions);
+    let blanks = Blanks {
+        zero: Blank::new(parts),
+        one: Blank::new(parts),
+        two: Blank::new(parts),
+        three: Blank::new(parts),
+        four: Blank::new(parts),
+    };
+    let reception = Reception {
+        listener,
+        accepted: Mutex::new(0),
+        sessions: parts,
+    };
+    host_by::<Brand, Brand, Brand, Brand, Brand, R, W>(
+        rt,
+        alloc,
+        core,
+        usize::from(sessions),
+        blanks,
+        &reception,
+        audit,
+        writer,
+    )
+}
+
+/// The same, generic over the five ledgers.
+fn host_by<
+    L0: Site + Send + Sync,
+    L1: Site + Send + Sync,
+    L2: Site + Send + Sync,
+    L3: Site + Send + Sync,
+    L4: Site + Send + Sync,
+    R: Threads + Wait + Sync,
+    W: Write,
+>(
+    rt: &R,
+    alloc: Global,
+    core: TargetCore<Device>,
+    workers: usize,
+    blanks: Blanks,
+    reception: &Reception<'_>,
+    audit: Audit,
+    writer: &mut W,
+) -> Result<(), HostFault>
+    requires some { 0 < workers }
+    requires zero { (blanks.zero.name ≡ L0.name) × (blanks.zero.parts ≡ L0.parts) × (L0.parts ≡ workers) }
+    requires one { (blanks.one.name ≡ L1.name) × (blanks.one.parts ≡ L1.parts) × (L1.parts ≡ workers) }
+    requires two { (blanks.two.name ≡ L2.name) × (blanks.two.parts ≡ L2.parts) × (L2.parts ≡ workers) }
+    requires three { (blanks.three.name ≡ L3.name) × (blanks.three.parts ≡ L3.parts) × (L3.parts ≡ workers) }
+    requires four { (blanks.four.name ≡ L4.name) × (blanks.four.parts ≡ L4.parts) × (L4.parts ≡ workers) }
+    requires since { IsSince core L0.since L1.since L2.since L3.since L4.since }
+    ensures { OnOk result (IsHosted core audit (W.contents writer.old) (W.contents writer.new)) }
+{
+    let opened = Library::<L0, L1, L2, L3, L4, Device, Pass>::new(
+        alloc, core, workers, blanks, Pass,
+    );
+    let (library, seats) = match opened {
+        Ok(opened) => opened,
+        Err((refused, _)) => return Err(refused.into()),
+    };
+    let (seats, served) = serve_all(rt, alloc, &library, seats, reception)?;
+    match close_and_write(alloc, library, seats, audit, writer) {
+        Ok(()) => match served {
+            None => Ok(()),
+            Some(fault) => Err(fault),
+        },
+        Err(fault) => Err(earlier(served, Some(fault)).unwrap_or(fault)),
+    }
+}
+
+/// Serves sessions with a worker at each seat, and hands the seats back with the fault that is told, if there was one.
+fn serve_all<
+    L0: Site + Send + Sync,
+    L1: Site + Send + Sync,
+    L2: Site + Send + Sync,
+    L3: Site + Send + Sync,
+    L4: Site + Send + Sync,
+    R: Threads + Wait + Sync,
+>(
+    rt: &R,
+    alloc: Global,
+    library: &Library<L0, L1, L2, L3, L4, Device, Pass>,
+    seats: Vec<Seat<L0, L1, L2, L3, L4>>,
+    reception: &Reception<'_>,
+) -> Result<(Vec<Seat<L0, L1, L2, L3, L4>>, Option<HostFault>), HostFault> {
+    let count = seats.len();
+    let directory = Mutex::new(Directory::new(alloc));
+    // Room for handing the seats back is made before the first session.
+    let mut back = Vec::new(alloc);
+    back.reserve(count)?;
+    let mut workers = Vec::new(alloc);
+    for seat in seats {
+        let post = Post {
+            rt,
+            library,
+            directory: &directory,
+            seat,
+            nexus: None,
+        };
+        workers.push(Worker { post, fault: None })?;
+    }
+    thread::for_each_mut(
+        rt,
+        workers.as_mut_slice(),
+        count.max(1),
+        &|_place, worker| worker.work(alloc, reception),
+    );
+    let mut told = None;
+    for worker in workers {
+        let Worker { post, fault } = worker;
+        told = earlier(told, fault);
+        if back.push(post.seat).is_err() {
+            told = earlier(told, Some(HostFault::NoMemory));
+        }
+    }
+    Ok((back, told))
+}
