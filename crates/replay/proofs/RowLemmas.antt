@@ -6,9 +6,8 @@ use Rattle.hex.specs.Hex.{encode_with}
 use Rattle.tape_medium.specs.Elements.{empty_elements}
 use Rattle.audit_log.specs.Lines.{line_of}
 use Rattle.device_server.specs.View.{Changer}
-use Rattle.logical_unit.specs.Step.{made, resets}
+use Rattle.logical_unit.specs.Step.{made, resets, done}
 use Rattle.target_core.specs.declared.event.Event.TheVariants as event
-use Rattle.target_core.specs.Run.{done}
 use Rattle.replay_output.specs.Replies.{reply_line}
 use Rattle.replay_script.specs.Text.{pieces}
 use Rattle.replay_script.specs.Words.{unit_in}

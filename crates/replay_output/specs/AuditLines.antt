@@ -3,9 +3,10 @@ use Rattle.std.specs.Prelude.{ℕ, List, [], ◌∷◌, ◌++◌}
 use Rattle.std.specs.List.{flat_map}
 use Rattle.audit_log.specs.Lines.{line_of}
 use Rattle.audit_log.specs.declared.record.Record.{Record}
+use Rattle.logical_unit.specs.Audit.{audit_of}
 use Rattle.logical_unit.specs.UnitView.{UnitView}
 use Rattle.replay_output.specs.declared.audit_lines.Audit.{Audit}
-use Rattle.replay_output.specs.declared.audit_lines.Audit.TheVariants.{Off, Lines}
+use Rattle.replay_output.specs.declared.audit_lines.Audit.TheVariants.{Off, Lines, Spans}
 
 -- a record's line, with its line feed
 abbrev pub audit_line : Record → List ℕ
@@ -19,7 +20,16 @@ lines_of_records entries = flat_map audit_line entries
 abbrev pub lines_of_units : List UnitView → List ℕ
 lines_of_units us = flat_map (λ u. lines_of_records u.records) us
 
+-- lines, each with its line feed
+abbrev pub text_of_lines : List (List ℕ) → List ℕ
+text_of_lines lines = flat_map (λ line. line ++ 10 ∷ []) lines
+
+-- with the reservation that stood before each record
+abbrev pub spans_of_units : List UnitView → List ℕ
+spans_of_units us = flat_map (λ u. text_of_lines (audit_of u)) us
+
 -- what follows the reply lines
 abbrev pub audit_text : Audit → List UnitView → List ℕ
 audit_text Off us = []
 audit_text Lines us = lines_of_units us
+audit_text Spans us = spans_of_units us

@@ -13,7 +13,7 @@ use Rattle.device_server.specs.View.{Drive}
 use Rattle.unit_answers.specs.declared.reply.Reply.{Reply}
 use Rattle.logical_unit.specs.Step.{made}
 use Rattle.logical_unit.specs.UnitView.{UnitView}
-use Rattle.replay_output.specs.declared.audit_lines.Audit.TheVariants.{Off, Lines}
+use Rattle.replay_output.specs.declared.audit_lines.Audit.TheVariants.{Off, Lines, Spans}
 use Rattle.replay_output.specs.AuditLines.{audit_text}
 use Rattle.replay_output.specs.Replies.{reply_line, text_of}
 
@@ -71,3 +71,6 @@ pub record AuditTexts : Type 0 where
   pub off : audit_text Off units ≡ []
   pub lines : audit_text Lines units
       ≡ line (codes "1 - RESET 6 - - 00") ++ line (codes "2 500000000000000a.1 LOSS 6 - - 00") ++ line (codes "1 - MEDIUM-IN 6 - - 00")
+  -- nobody reserved anything
+  pub spans : audit_text Spans units
+      ≡ line (codes "1 - RESET 6 - - 00 -") ++ line (codes "2 500000000000000a.1 LOSS 6 - - 00 -") ++ line (codes "1 - MEDIUM-IN 6 - - 00 -")

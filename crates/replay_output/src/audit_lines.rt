@@ -1,6 +1,6 @@
-ghost use Rattle.std.specs.Prelude.{◌≡◌, ◌++◌, IfOk, OnOk, string_bytes};
+ghost use Rattle.std.specs.Prelude.{◌≡◌, ◌++◌, map, IfOk, OnOk, string_bytes};
 ghost use Rattle.logical_unit.specs.UnitView.{units_of};
-ghost use Rattle.replay_output.specs.AuditLines.{audit_line, audit_text, lines_of_records, lines_of_units};
+ghost use Rattle.replay_output.specs.AuditLines.{audit_line, audit_text, lines_of_records, lines_of_units, spans_of_units, text_of_lines};
 
 use audit_log::{Record, write_line};
 use device_server::DeviceServer;
@@ -15,10 +15,13 @@ pub enum Audit {
     Off,
     /// A line for each record.
     Lines,
+    /// The same, with the reservation that stood before the record.
+    Spans,
 }
 
-/// What follows the reply lines: nothing, or a line for each record of each unit, the units in the order
-/// in which they stand, and each unit's records oldest first.
+/// What follows the reply lines: nothing, or a line for each record of each unit, with or without the
+/// reservation that stood before it, the units in the order in which they stand, and each unit's records
+/// oldest first.
 pub fn audit_text<D: DeviceServer>(
     alloc: Global,
     audit: Audit,
@@ -30,6 +33,7 @@ pub fn audit_text<D: DeviceServer>(
     match audit {
         Audit::Off => {}
         Audit::Lines => write_units(alloc, &mut text, units)?,
+        Audit::Spans => write_spans(alloc, &mut text, units)?,
     }
     Ok(text)
 }
@@ -64,4 +68,30 @@ fn write_record(alloc: Global, text: &mut String, entry: &Record) -> Result<(), 
 {
     write_line(alloc, text, entry)?;
     text.push('\n')
+}
+
+/// Adds the lines of each unit's records with the reservations that stood before them.
+fn write_spans<D: DeviceServer>(
+    alloc: Global,
+    text: &mut String,
+    units: &[LogicalUnit<D>],
+) -> Result<(), AllocError>
+    ensures { OnOk result (string_bytes text.new ≡ string_bytes text.old ++ spans_of_units (units_of units.now)) }
+{
+    for unit in units {
+        let lines = unit.audit(alloc)?;
+        write_lines(text, &lines)?;
+    }
+    Ok(())
+}
+
+/// Adds lines, each with its line feed.
+fn write_lines(text: &mut String, lines: &[String]) -> Result<(), AllocError>
+    ensures { OnOk result (string_bytes text.new ≡ string_bytes text.old ++ text_of_lines (map string_bytes lines.now)) }
+{
+    for line in lines {
+        text.push_str(line.as_str())?;
+        text.push_str("\n")?;
+    }
+    Ok(())
 }

@@ -1,17 +1,11 @@
--- What contracts see of the devices of the library, and of its units.
+-- What contracts see of the units of the library.
 use Rattle.std.specs.Prelude.{ℕ, zero, suc, ◌+◌, List, [], ◌∷◌, ◌++◌}
 use Rattle.device_server.specs.Drive.{empty_drive}
-use Rattle.device_server.specs.View.{DeviceView, Drive, Changer}
+use Rattle.device_server.specs.View.{Drive, Changer}
 use Rattle.logical_unit.specs.Step.{made}
 use Rattle.logical_unit.specs.UnitView.{UnitView}
 use Rattle.vtl.specs.declared.library_options.LibraryOptions.{LibraryOptions}
 use Rattle.vtl.specs.Stock.{stocked}
-use Rattle.vtl.specs.declared.device.Device.{Device}
-use Rattle.vtl.specs.declared.device.Device.TheVariants as device
-
-abbrev pub shown_as : Device → DeviceView
-shown_as (device.Changer elements) = Changer elements
-shown_as (device.Tape drive) = Drive drive
 
 -- the first so many drives of a library with a count of units, empty at power on: the logical units from 1 on
 abbrev pub drives_to : (drives count : ℕ) → List UnitView

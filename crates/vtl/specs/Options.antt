@@ -2,7 +2,8 @@
 use Rattle.std.specs.Prelude.{◌≤◌}
 use Rattle.vtl.specs.declared.library_options.LibraryOptions.{LibraryOptions}
 use Rattle.vtl.specs.declared.command_line.Task.{Task}
-use Rattle.vtl.specs.declared.command_line.Task.TheVariants.{Replay}
+use Rattle.vtl.specs.declared.command_line.Task.TheVariants.{Replay, Serve}
+use Rattle.vtl.specs.declared.serve.Place.{Place}
 
 pub record AreInRange (options : LibraryOptions) : Type 0 where
   pub some_drives : 1 ≤ options.drives
@@ -12,5 +13,11 @@ pub record AreInRange (options : LibraryOptions) : Type 0 where
   pub few_portals : options.portals ≤ 16
   pub few_volumes : options.volumes ≤ 1024
 
+-- from 1 to 64 sessions
+pub record IsPlace (place : Place) : Type 0 where
+  pub some_sessions : 1 ≤ place.sessions
+  pub few_sessions : place.sessions ≤ 64
+
 abbrev pub HasOptionsInRange : Task → Type 0
 HasOptionsInRange (Replay options audit) = AreInRange options
+HasOptionsInRange (Serve options place audit) = AreInRange options × IsPlace place

@@ -1,7 +1,8 @@
 ghost use Rattle.std.specs.Prelude.{IfOk};
-ghost use Rattle.vtl.specs.Options.{AreInRange, HasOptionsInRange};
+ghost use Rattle.vtl.specs.Options.{AreInRange, HasOptionsInRange, IsPlace};
 
 use crate::library_options::LibraryOptions;
+use crate::serve::Place;
 use clap::error::ErrorKind;
 use clap::{Arg, ArgAction, ArgMatches, Command, value_parser};
 use replay_output::Audit;
@@ -10,11 +11,13 @@ use std::fmt;
 use thiserror::Error;
 
 /// What the program is asked to do.
-#[derive(Clone, Copy, Debug, PartialEq, Eq)]
+#[derive(Debug, Drop, PartialEq, Eq)]
 pub enum Task {
     /// Run the script of standard input at a library, and print its replies and what is wanted of the
     /// records.
     Replay(LibraryOptions, Audit),
+    /// Serve a library at a socket, and print what is wanted of the records at the end.
+    Serve(LibraryOptions, Place, Audit),
 }
 
 /// Why a command line names no task.
@@ -62,12 +65,20 @@ pub fn task_of(alloc: Global, words: &[String]) -> Result<Task, CommandLineFault
     let replay = Command::new(alloc, "replay").about(
         "Runs the script of standard input and prints a line for each reply",
     );
+    let serve = Command::new(alloc, "serve").about(
+        "Serves the library behind a Unix socket, and prints a line for each record at the end",
+    );
     let command = Command::new(alloc, "vtl")
         .about("A tape library as a SCSI target")
         .version("0.1.0")
         .subcommand_required(true)
-        .subcommand(with_audit(alloc, with_library(alloc, replay)?)?)?;
+        .subcommand(with_audit(alloc, with_library(alloc, replay)?)?)?
+        .subcommand(with_place(alloc, with_library(alloc, serve)?)?)?;
     let matches = command.try_get_matches_from(words)?;
+    if let Some(serve) = matches.subcommand_matches("serve") {
+        let place = place_of(alloc, serve)?;
+        return Ok(Task::Serve(library_of(serve), place, records_of(serve)));
+    }
     match matches.subcommand_matches("replay") {
         Some(replay) => Ok(Task::Replay(library_of(replay), audit_of(replay))),
         // `clap` asks for a subcommand, and there is no other.
@@ -104,13 +115,18 @@ fn with_library<'a>(alloc: Global, command: Command<'a>) -> Result<Command<'a>, 
     command.arg(drives)?.arg(slots)?.arg(portals)?.arg(volumes)
 }
 
-/// The option that asks for the records.
+/// The options that ask for the records, of which one may be given.
 fn with_audit<'a>(alloc: Global, command: Command<'a>) -> Result<Command<'a>, AllocError> {
     let audit = Arg::new(alloc, "audit")
         .long("audit")
         .action(ArgAction::SetTrue)
         .help("Prints a line for each record of each unit behind the replies, LUN 0 first");
-    command.arg(audit)
+    let spans = Arg::new(alloc, "spans")
+        .long("spans")
+        .action(ArgAction::SetTrue)
+        .conflicts_with("audit")?
+        .help("The same, each with the reservation that stood before its record");
+    command.arg(audit)?.arg(spans)
 }
 
 /// What the library of a command is made of.
@@ -142,9 +158,50 @@ fn library_of(command: &ArgMatches) -> LibraryOptions
 
 /// What a command wants of the records.
 fn audit_of(command: &ArgMatches) -> Audit {
-    if command.get_flag("audit") {
+    if command.get_flag("spans") {
+        Audit::Spans
+    } else if command.get_flag("audit") {
         Audit::Lines
     } else {
         Audit::Off
     }
+}
+
+/// The options that say where a library is served, and to whom.
+fn with_place<'a>(alloc: Global, command: Command<'a>) -> Result<Command<'a>, AllocError> {
+    let socket = Arg::new(alloc, "socket")
+        .long("socket")
+        .value_name("PATH")
+        .required(true)
+        .help("Where the socket's file is made");
+    let sessions = Arg::new(alloc, "sessions")
+        .long("sessions")
+        .value_name("N")
+        .value_parser(value_parser!(u8).range(1..=64))
+        .required(true)
+        .help("How many connections are accepted, each as a session");
+    let spans = Arg::new(alloc, "spans")
+        .long("spans")
+        .action(ArgAction::SetTrue)
+        .help("Prints with each line the reservation that stood before its record");
+    command.arg(socket)?.arg(sessions)?.arg(spans)
+}
+
+/// What is printed of the records of a library that was served.
+fn records_of(command: &ArgMatches) -> Audit {
+    if command.get_flag("spans") {
+        Audit::Spans
+    } else {
+        Audit::Lines
+    }
+}
+
+/// Where the library of a command is served.
+fn place_of(alloc: Global, command: &ArgMatches) -> Result<Place, AllocError>
+    ensures { IfOk result IsPlace }
+{
+    // `clap` sees to it that neither value is absent: what stands behind each getter says that to the prover alone.
+    let socket = String::from_str(alloc, command.get_str("socket").unwrap_or(""))?;
+    let sessions = command.get_one::<u8>("sessions").unwrap_or(1).clamp(1, 64);
+    Ok(Place { socket, sessions })
 }

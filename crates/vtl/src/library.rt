@@ -1,12 +1,14 @@
 ghost use Rattle.std.specs.Prelude.{◌≡◌, ◌≤◌, IfOk};
+ghost use Rattle.logical_unit.specs.Step.{made};
 ghost use Rattle.logical_unit.specs.UnitView.{units_of};
 ghost use Rattle.vtl.specs.Devices.{library_of};
 ghost use Rattle.vtl.specs.Options.{AreInRange};
 
-use crate::device::Device;
 use crate::library_options::LibraryOptions;
 use crate::stock::stocked;
+use device_server::DeviceServer;
 use logical_unit::LogicalUnit;
+use serving::Device;
 use std::alloc::{AllocError, Global};
 use tape_server::TapeDrive;
 use target_core::TargetCore;
@@ -19,16 +21,31 @@ pub fn library(alloc: Global, options: &LibraryOptions) -> Result<TargetCore<Dev
     ensures { IfOk result (λ core. core ≡ library_of options.now) }
 {
     let count = options.drives + 1;
-    let changer = Box::new(alloc, Device::Changer(stocked(alloc, options)?))?;
+    let changer = Device::Changer(stocked(alloc, options)?);
     let mut units = Vec::new(alloc);
-    units.push(LogicalUnit::new(alloc, 0, count, changer))?;
+    units.push(unit_at(alloc, 0, count, changer)?)?;
     'drives: for place in 0..options.drives {
-        let drive = Box::new(alloc, Device::Tape(TapeDrive::new()))?;
-        units.push(LogicalUnit::new(alloc, place + 1, count, drive))?;
+        let drive = Device::Tape(TapeDrive::new());
+        units.push(unit_at(alloc, place + 1, count, drive)?)?;
     }
     match TargetCore::new(units) {
         Ok(core) => Ok(core),
         // Its units are in the order of a target.
         Err(_) => unreachable!(),
+    }
+}
+
+/// A unit at power on over a device, among so many.
+pub(crate) fn unit_at<D: DeviceServer>(
+    alloc: Global,
+    lun: u8,
+    units: u8,
+    device: D,
+) -> Result<LogicalUnit<D>, AllocError>
+    ensures { IfOk result (λ unit. unit ≡ record { unit = made (D.shown device) lun units 0; room = 0 }) }
+{
+    match LogicalUnit::new(alloc, lun, units, Box::new(alloc, device)?) {
+        Ok(unit) => Ok(unit),
+        Err((refused, _)) => Err(refused),
     }
 }

@@ -1,13 +1,15 @@
-//! The program `vtl`: runs a script of commands through a tape library and prints its replies.
+//! The program `vtl`: runs a script of commands through a tape library and prints its replies, or serves the library
+//! behind a Unix socket.
 #![tactic(auto)]
 
 mod command_line;
-mod device;
 mod laws;
 mod library;
 mod library_options;
 mod program;
 mod program_fault;
+mod serve;
+mod serve_fault;
 mod stock;
 #[cfg(test)]
 mod tests;

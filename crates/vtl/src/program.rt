@@ -7,17 +7,25 @@ use crate::command_line::{CommandLineFault, Task, task_of};
 use crate::library::library;
 use crate::library_options::{LibraryOptions, fits};
 use crate::program_fault::ProgramFault;
+use crate::serve::serve;
 use replay::{ReplayFault, replay};
 use replay_output::Audit;
+use std::fs::Files;
 use std::io::Write;
+use std::net::Net;
 use std::rt::Env;
+use std::sync::Wait;
+use std::thread::Threads;
 use std::{env, io};
 
 /// The most reads of standard input.
 const TURNS: u64 = 0xFFFF_FFFF;
 
 /// Does what the command line asks for, writes on `errors` why it couldn't, and answers the exit status.
-pub fn run<R: AllocGlobal + Env + Input + Print, W: Write>(rt: &R, errors: &mut W) -> u8 {
+pub fn run<R: AllocGlobal + Env + Files + Input + Net + Print + Sync + Threads + Wait, W: Write>(
+    rt: &R,
+    errors: &mut W,
+) -> u8 {
     let outcome = perform(rt);
     // Where the line can't be written, the status alone tells.
     let _ = tell(rt, errors, &outcome);
@@ -34,7 +42,7 @@ fn status_of(outcome: &Result<(), ProgramFault>) -> u8
     }
 }
 
-/// Writes a fault as one line. What `clap` says of a command line has lines of its own, which go to
+/// Writes a fault as its lines. What `clap` says of a command line has lines of its own, which go to
 /// standard output where they are help or the version.
 fn tell<R: Print, W: Write>(
     rt: &R,
@@ -56,11 +64,17 @@ fn tell<R: Print, W: Write>(
     }
 }
 
-fn perform<R: AllocGlobal + Env + Input + Print>(rt: &R) -> Result<(), ProgramFault> {
+fn perform<R: AllocGlobal + Env + Files + Input + Net + Print + Sync + Threads + Wait>(
+    rt: &R,
+) -> Result<(), ProgramFault> {
     match task_of_arguments(rt)? {
         Task::Replay(options, audit) => {
             fits(options.volumes, options.slots)?;
             Ok(replay_standard_input(rt, options, audit)?)
+        }
+        Task::Serve(options, place, audit) => {
+            fits(options.volumes, options.slots)?;
+            Ok(serve(rt, options, place, audit)?)
         }
     }
 }

@@ -1,5 +1,6 @@
 use crate::command_line::CommandLineFault;
 use crate::library_options::OptionFault;
+use crate::serve_fault::ServeFault;
 use clap::error::ErrorKind;
 use replay::ReplayFault;
 use std::alloc::AllocError;
@@ -12,6 +13,7 @@ pub enum ProgramFault {
     CommandLine(#[from] CommandLineFault),
     Options(#[from] OptionFault),
     Replay(#[from] ReplayFault),
+    Serve(#[from] ServeFault),
 }
 
 impl ProgramFault {
@@ -32,6 +34,7 @@ impl ProgramFault {
             ProgramFault::CommandLine(CommandLineFault::NoMemory) => 3,
             ProgramFault::Options(OptionFault::MoreVolumes) => 2,
             ProgramFault::Replay(fault) => fault.status(),
+            ProgramFault::Serve(fault) => fault.status(),
         }
     }
 }
@@ -46,6 +49,7 @@ impl fmt::Display for ProgramFault {
             ProgramFault::CommandLine(fault) => write!(f, "{fault}"),
             ProgramFault::Options(fault) => write!(f, "{fault}"),
             ProgramFault::Replay(fault) => write!(f, "{fault}"),
+            ProgramFault::Serve(fault) => write!(f, "{fault}"),
         }
     }
 }

@@ -13,6 +13,7 @@ mod full_volumes;
 mod moves;
 mod prevention;
 mod rows;
+mod spans;
 mod targets;
 mod volumes;
 mod want_of_memory;

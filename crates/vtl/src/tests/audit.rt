@@ -22,11 +22,86 @@ pub(super) fn assert_audited<D: DeviceServer>(
     script: &str,
     expected: &str,
 ) -> Result<(), Fail> {
+    assert_written(rt, alloc, core, Audit::Lines, script, expected)
+}
+
+/// The same, with what is wanted of the records.
+fn assert_written<D: DeviceServer>(
+    rt: &impl Abort,
+    alloc: Global,
+    core: &mut TargetCore<D>,
+    audit: Audit,
+    script: &str,
+    expected: &str,
+) -> Result<(), Fail> {
     let mut reader = script.as_bytes();
     let mut output = Vec::new(alloc);
-    replay(alloc, core, &mut reader, &mut output, Audit::Lines, 9)?;
+    replay(alloc, core, &mut reader, &mut output, audit, 9)?;
     assert_eq!(rt; output.as_slice(), expected.as_bytes());
     Ok(())
+}
+
+#[test]
+fn shows_the_reservation_before_each_record(rt: HostRuntime) -> Result<(), Fail> {
+    assert_written(
+        &rt,
+        rt.alloc(),
+        &mut library(rt.alloc(), &LibraryOptions::USUAL)?,
+        Audit::Spans,
+        "500000000000000a.1 0 000000000000\n\
+         500000000000000a.1 0 5f000000000000001800 000000000000000000000000000000010000000000000000\n\
+         500000000000000a.1 0 5f010100000000001800 000000000000000100000000000000000000000000000000\n\
+         500000000000000a.1 0 000000000000\n",
+        "02 700006000000000a00000000290000000000 -\n\
+         00 - -\n\
+         00 - -\n\
+         00 - -\n\
+         1 500000000000000a.1 TEST-UNIT-READY 2 - - 02 -\n\
+         2 500000000000000a.1 REGISTER 6 REGISTER/NONE/OTHER - 00 -\n\
+         3 500000000000000a.1 RESERVE 6 RESERVE/NONE/REGISTERED - 00 -\n\
+         4 500000000000000a.1 TEST-UNIT-READY 6 TEST-UNIT-READY/WE/HOLDER - 00 WE/500000000000000a.1\n",
+    )
+}
+
+// A makes a reservation of all registrants, a loss and a conflict leave it, and its CLEAR ends it; drive 1 has none.
+#[test]
+fn shows_reservations_of_all_registrants(rt: HostRuntime) -> Result<(), Fail> {
+    assert_written(
+        &rt,
+        rt.alloc(),
+        &mut library(rt.alloc(), &LibraryOptions::USUAL)?,
+        Audit::Spans,
+        "500000000000000a.1 0 000000000000\n\
+         500000000000000a.1 0 5f060000000000001800 000000000000000000000000000000010000000000000000\n\
+         500000000000000a.1 0 5f010800000000001800 000000000000000100000000000000000000000000000000\n\
+         loss 500000000000000a.1 0\n\
+         500000000000000b.2 0 1e0000000100\n\
+         500000000000000b.2 0 1e0000000100\n\
+         500000000000000a.1 0 000000000000\n\
+         500000000000000a.1 0 5f030000000000001800 000000000000000100000000000000000000000000000000\n\
+         500000000000000a.1 0 000000000000\n\
+         500000000000000a.1 1 000000000000\n",
+        "02 700006000000000a00000000290000000000 -\n\
+         00 - -\n\
+         00 - -\n\
+         00 - -\n\
+         02 700006000000000a00000000290000000000 -\n\
+         18 - -\n\
+         02 700006000000000a00000000290700000000 -\n\
+         00 - -\n\
+         00 - -\n\
+         02 700006000000000a00000000290000000000 -\n\
+         1 500000000000000a.1 TEST-UNIT-READY 2 - - 02 -\n\
+         2 500000000000000a.1 REGISTER-IGNORE 6 REGISTER-IGNORE/NONE/OTHER - 00 -\n\
+         3 500000000000000a.1 RESERVE 6 RESERVE/NONE/REGISTERED - 00 -\n\
+         4 500000000000000a.1 LOSS 6 - - 00 EAAR/ALL\n\
+         5 500000000000000b.2 PREVENT-REMOVAL 2 - - 02 EAAR/ALL\n\
+         6 500000000000000b.2 PREVENT-REMOVAL 3 PREVENT-REMOVAL/EAAR/OTHER - 18 EAAR/ALL\n\
+         7 500000000000000a.1 TEST-UNIT-READY 2 - - 02 EAAR/ALL\n\
+         8 500000000000000a.1 CLEAR 6 CLEAR/EAAR/HOLDER - 00 EAAR/ALL\n\
+         9 500000000000000a.1 TEST-UNIT-READY 6 TEST-UNIT-READY/NONE/OTHER - 00 -\n\
+         1 500000000000000a.1 TEST-UNIT-READY 2 - - 02 -\n",
+    )
 }
 
 #[test]
@@ -245,7 +320,9 @@ fn goes_on_counting_after_a_drain(rt: HostRuntime) -> Result<(), Fail> {
 fn is_busy_behind_the_last_number(rt: HostRuntime) -> Result<(), Fail> {
     let alloc = rt.alloc();
     let server = Box::new(alloc, empty_changer(alloc)?)?;
-    let mut unit = LogicalUnit::new_after(alloc, 0, 1, server, u64::MAX - 1);
+    let Ok(mut unit) = LogicalUnit::new_after(alloc, 0, 1, server, u64::MAX - 1) else {
+        return Err("no unit".into());
+    };
     let first = unit.execute(alloc, A, &[0; 6], &[]);
     assert_eq!(rt; first.status, Status::CheckCondition);
     assert_eq!(rt; first.number, 18_446_744_073_709_551_615);

@@ -9,7 +9,15 @@ use std::test::Fail;
 fn reads_command_lines(rt: HostRuntime) -> Result<(), Fail> {
     let rows = [
         ("vtl", 2, "requires a subcommand"),
-        ("vtl serve", 2, "unrecognized subcommand 'serve'"),
+        ("vtl server", 2, "unrecognized subcommand 'server'"),
+        ("vtl serve --sessions 1", 2, "--socket <PATH>"),
+        ("vtl serve --socket s", 2, "--sessions <N>"),
+        ("vtl serve --socket s --sessions 0", 2, "0 is not in 1..=64"),
+        (
+            "vtl serve --socket s --sessions 65",
+            2,
+            "65 is not in 1..=64",
+        ),
         ("vtl replay more", 2, "unexpected argument 'more'"),
         ("vtl --audit replay", 2, "unexpected argument '--audit'"),
         ("vtl replay --audit=1", 2, "unexpected value '1'"),
@@ -18,6 +26,13 @@ fn reads_command_lines(rt: HostRuntime) -> Result<(), Fail> {
             2,
             "cannot be used multiple times",
         ),
+        (
+            "vtl replay --audit --spans",
+            2,
+            "'--audit' cannot be used with '--spans'",
+        ),
+        ("vtl replay --spans --audit", 2, "cannot be used with"),
+        ("vtl replay --spans=1", 2, "unexpected value '1'"),
         ("vtl replay --drives 0", 2, "0 is not in 1..=4"),
         ("vtl replay --drives 5", 2, "5 is not in 1..=4"),
         ("vtl replay --drives one", 2, "invalid value 'one'"),
@@ -28,6 +43,7 @@ fn reads_command_lines(rt: HostRuntime) -> Result<(), Fail> {
         ("vtl --help", 0, "Usage: vtl <COMMAND>"),
         ("vtl replay --help", 0, "Usage: vtl replay"),
         ("vtl replay --help", 0, "--audit"),
+        ("vtl replay --help", 0, "--spans"),
         ("vtl --version", 0, "vtl 0.1.0"),
     ];
     for (line, status, text) in rows {
@@ -53,6 +69,7 @@ fn reads_options(rt: HostRuntime) -> Result<(), Fail> {
     let rows = [
         ("vtl replay", (1, 8, 0, 1), Audit::Off),
         ("vtl replay --audit", (1, 8, 0, 1), Audit::Lines),
+        ("vtl replay --spans", (1, 8, 0, 1), Audit::Spans),
         (
             "vtl replay --drives 4 --slots 1024 --portals 16 --volumes 1024",
             (4, 1024, 16, 1024),
@@ -73,12 +90,31 @@ fn reads_options(rt: HostRuntime) -> Result<(), Fail> {
             Ok(task) => task,
             Err(_) => return Err("no task".into()),
         };
-        let Task::Replay(options, wanted) = task;
+        let Task::Replay(options, wanted) = task else {
+            return Err("another task".into());
+        };
         assert_eq!(rt; options.drives, drives, "{line}");
         assert_eq!(rt; options.slots, slots, "{line}");
         assert_eq!(rt; options.portals, portals, "{line}");
         assert_eq!(rt; options.volumes, volumes, "{line}");
         assert_eq!(rt; wanted, audit, "{line}");
     }
+    Ok(())
+}
+
+#[test]
+fn reads_where_to_serve(rt: HostRuntime) -> Result<(), Fail> {
+    let line = "vtl serve --drives 2 --sessions 64 --spans --socket /run/vtl";
+    let mut words = Vec::new(rt.alloc());
+    for word in line.split(' ') {
+        words.push(String::from_str(rt.alloc(), word)?)?;
+    }
+    let Ok(Task::Serve(options, place, audit)) = task_of(rt.alloc(), &words) else {
+        return Err("another task".into());
+    };
+    assert_eq!(rt; (options.drives, options.slots), (2, 8));
+    assert_eq!(rt; place.socket.as_str(), "/run/vtl");
+    assert_eq!(rt; place.sessions, 64);
+    assert_eq!(rt; audit, Audit::Spans);
     Ok(())
 }

@@ -3,7 +3,6 @@
 use super::A;
 use super::rows::{POWER_ON, assert_output, push_lines};
 use super::targets::{changer_marked, loaded_drive, target};
-use crate::device::Device;
 use crate::library::library;
 use crate::library_options::LibraryOptions;
 use audit_log::line;
@@ -11,6 +10,7 @@ use logical_unit::LogicalUnit;
 use replay::replay;
 use replay_output::Audit;
 use scsi_sense::{Sense, Status};
+use serving::Device;
 use std::alloc::Global;
 use std::fmt::Write;
 use std::process::Abort;

@@ -1,12 +1,12 @@
 //! Worked rows: moves between the changer's elements and the drives, and what the drives' hosts see of them.
 
 use super::targets::{changer, changer_marked, empty_drive, loaded_drive};
-use crate::device::Device;
 use crate::library::library;
 use crate::library_options::LibraryOptions;
 use logical_unit::{LogicalUnit, named};
 use replay::replay;
 use replay_output::Audit;
+use serving::Device;
 use std::alloc::Global;
 use std::fmt::Write;
 use std::process::Abort;

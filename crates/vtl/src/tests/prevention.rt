@@ -1,7 +1,7 @@
 //! Who prevents the removal of media, and when that ends.
 
 use super::{A, B, empty_changer};
-use crate::library::library;
+use crate::library::{library, unit_at};
 use crate::library_options::LibraryOptions;
 use changer_server::Changer;
 use logical_unit::LogicalUnit;
@@ -21,7 +21,7 @@ const TEST_UNIT_READY: &[u8] = &[0; 6];
 
 /// A unit that A and B made contact with.
 fn unit(alloc: Global) -> Result<LogicalUnit<Changer>, AllocError> {
-    let mut unit = LogicalUnit::new(alloc, 0, 1, Box::new(alloc, empty_changer(alloc)?)?);
+    let mut unit = unit_at(alloc, 0, 1, empty_changer(alloc)?)?;
     for nexus in [A, B] {
         let _ = unit.execute(alloc, nexus, TEST_UNIT_READY, &[]);
     }

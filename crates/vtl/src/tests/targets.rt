@@ -1,11 +1,12 @@
 //! Targets and drives for the tests, and a volume for them.
 
 use super::empty_changer;
-use crate::device::Device;
+use crate::library::unit_at;
 use changer_server::Changer;
 use device_server::DeviceServer;
 use element_map::Elements;
 use logical_unit::LogicalUnit;
+use serving::Device;
 use std::alloc::{AllocError, Global};
 use std::test::Fail;
 use tape_medium::{Tape, Volume, VolumeTag};
@@ -27,7 +28,10 @@ pub(super) fn volume(alloc: Global, tag: VolumeTag) -> Volume {
 /// An empty drive as logical unit 1, whose first record will be numbered after `last`.
 pub(super) fn empty_drive(alloc: Global, last: u64) -> Result<LogicalUnit<Device>, AllocError> {
     let server = Box::new(alloc, Device::Tape(TapeDrive::new()))?;
-    Ok(LogicalUnit::new_after(alloc, 1, 2, server, last))
+    match LogicalUnit::new_after(alloc, 1, 2, server, last) {
+        Ok(unit) => Ok(unit),
+        Err((refused, _)) => Err(refused),
+    }
 }
 
 /// A drive with a volume in it, of which record 1 tells.
@@ -40,8 +44,7 @@ pub(super) fn loaded_drive(alloc: Global, tag: VolumeTag) -> Result<LogicalUnit<
 }
 
 pub(super) fn changer(alloc: Global) -> Result<LogicalUnit<Device>, AllocError> {
-    let server = Box::new(alloc, Device::Changer(empty_changer(alloc)?))?;
-    Ok(LogicalUnit::new(alloc, 0, 2, server))
+    unit_at(alloc, 0, 2, Device::Changer(empty_changer(alloc)?))
 }
 
 /// A changer whose data transfer element has the mark of a volume.
@@ -50,8 +53,8 @@ pub(super) fn changer_marked(alloc: Global, tag: VolumeTag) -> Result<LogicalUni
     if elements.mark(0x0100, Some(tag)).is_err() {
         return Err("no mark".into());
     }
-    let server = Box::new(alloc, Device::Changer(Changer::new(elements)))?;
-    Ok(LogicalUnit::new(alloc, 0, 2, server))
+    let device = Device::Changer(Changer::new(elements));
+    Ok(unit_at(alloc, 0, 2, device)?)
 }
 
 pub(super) fn target<D: DeviceServer>(

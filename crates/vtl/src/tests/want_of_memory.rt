@@ -4,18 +4,18 @@
 use super::audit::assert_audited;
 use super::targets::target;
 use super::{A, empty_changer};
-use crate::device::Device;
+use crate::library::unit_at;
 use device_server::{BadPlace, DeviceServer, Outcome, PutFault, TakeFault};
-use logical_unit::LogicalUnit;
 use scsi_cdb::{Kind, Request};
 use scsi_sense::Status;
+use serving::Device;
 use std::alloc::{AllocError, Global};
 use std::test::Fail;
 use tape_medium::{Volume, VolumeTag};
 use tape_server::TapeDrive;
 use target_core::{Event, TargetCore};
 
-/// A device that wants memory at its calls of these numbers, from 1 on.
+/// A device that wants memory at its calls of these numbers, from 1 on, but of a MOVE MEDIUM, which takes none.
 #[derive(Drop)]
 struct WantingDevice {
     device: Device,
@@ -25,7 +25,7 @@ struct WantingDevice {
 }
 
 impl DeviceServer for WantingDevice {
-    ghost use Rattle.vtl.specs.Devices.{shown_as};
+    ghost use Rattle.serving.specs.Devices.{shown_as};
 
     ghost shown = { λ d. shown_as d.device };
 
@@ -48,6 +48,9 @@ impl DeviceServer for WantingDevice {
         bytes: &[u8],
     ) -> Result<Outcome, AllocError> {
         self.calls = self.calls.saturating_add(1);
+        if matches!(request, Request::MoveMedium { .. }) {
+            return self.device.perform(alloc, request, bytes);
+        }
         if self.first <= self.calls && self.calls <= self.last {
             return Err(AllocError);
         }
@@ -87,8 +90,8 @@ fn wanting_target(alloc: Global) -> Result<TargetCore<WantingDevice>, Fail> {
     };
     target(
         alloc,
-        LogicalUnit::new(alloc, 0, 2, Box::new(alloc, changer)?),
-        LogicalUnit::new(alloc, 1, 2, Box::new(alloc, drive)?),
+        unit_at(alloc, 0, 2, changer)?,
+        unit_at(alloc, 1, 2, drive)?,
     )
 }
 

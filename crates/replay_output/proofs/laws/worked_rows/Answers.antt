@@ -20,4 +20,4 @@ returns-clause-replies c = record {
 
 pub returns-clause-records : goal.returns-clause-records
 unfolding line_of digits
-returns-clause-records c = record { off = refl; lines = refl }
+returns-clause-records c = record { off = refl; lines = refl; spans = refl }
