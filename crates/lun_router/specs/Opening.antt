@@ -34,6 +34,6 @@ last_at None = 0
 last_at (Some u) = last_number u
 
 -- these are the last record numbers of the units that there are
-abbrev pub IsSince : List UnitView → (zero one two three four : ℕ) → Type 0
-IsSince us zero one two three four =
-    LastIs (slice_get us 0) zero × LastIs (slice_get us 1) one × LastIs (slice_get us 2) two × LastIs (slice_get us 3) three × LastIs (slice_get us 4) four
+abbrev pub IsSince : List UnitView → (changer first second third fourth : ℕ) → Type 0
+IsSince us changer first second third fourth =
+    LastIs (slice_get us 0) changer × LastIs (slice_get us 1) first × LastIs (slice_get us 2) second × LastIs (slice_get us 3) third × LastIs (slice_get us 4) fourth
