@@ -1,5 +1,5 @@
 -- The conditions that sense data reports (SPC-4, "Sense key and additional sense code definitions").
-use Rattle.std.specs.Prelude.{ℕ, false}
+use Rattle.std.specs.Prelude.{◌≡◌, ℕ, false, Option, Some, MatchOption}
 use Rattle.scsi_sense.specs.declared.condition.Condition.{Condition}
 use Rattle.scsi_sense.specs.declared.condition.Condition.TheVariants.{NoAdditionalSenseInformation, FilemarkDetected, BeginningOfMediumDetected, InitializingCommandRequired, MediumNotPresent, InternalTargetFailure, ParameterListLengthError, InvalidCommandOperationCode, InvalidElementAddress, InvalidFieldInCdb, LogicalUnitNotSupported, InvalidFieldInParameterList, InvalidReleaseOfPersistentReservation, SavingParametersNotSupported, MediumDestinationElementFull, MediumSourceElementEmpty, MediumRemovalPrevented, InsufficientRegistrationResources, NotReadyToReadyChange, PowerOnOrResetOccurred, BusDeviceResetFunctionOccurred, NexusLossOccurred, ModeParametersChanged, ReservationsPreempted, ReservationsReleased, RegistrationsPreempted, WriteProtected, EndOfDataDetected, EndOfMediumDetected}
 use Rattle.scsi_sense.specs.declared.sense.Sense.{Sense}
@@ -73,3 +73,19 @@ sense_for RegistrationsPreempted = reports unit_attention 0x2A 0x05
 sense_for WriteProtected = reports data_protect 0x27 0x00
 sense_for EndOfDataDetected = reports blank_check 0x00 0x05
 sense_for EndOfMediumDetected = reports volume_overflow 0x00 0x02
+
+-- the sense data has the sense key, the additional sense code and the qualifier of the condition
+abbrev pub HasCodesOf : Sense → Condition → Type 0
+HasCodesOf s c = (s.key ≡ (sense_for c).key) × (s.asc ≡ (sense_for c).asc) × (s.ascq ≡ (sense_for c).ascq)
+
+-- the condition whose codes the sense data has, or none where it has those of no condition
+abbrev pub IsConditionOf : Sense → Option Condition → Type 0
+IsConditionOf s found = MatchOption found ((c : Condition) → ¬ HasCodesOf s c) (HasCodesOf s)
+
+-- sense data has the codes of one condition at most
+abbrev pub OneConditionAtMost : Type 0
+OneConditionAtMost = (s : Sense) (a b : Option Condition) → IsConditionOf s a → IsConditionOf s b → a ≡ b
+
+-- the sense data of a condition has the codes of this one
+abbrev pub ConditionsReadBack : Type 0
+ConditionsReadBack = (c : Condition) (found : Option Condition) → IsConditionOf (sense_for c) found → found ≡ Some c

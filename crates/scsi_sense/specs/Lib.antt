@@ -2,3 +2,5 @@ pub mod Bits
 pub mod FixedSense
 pub mod Conditions
 pub mod Status
+pub mod SenseKeys
+pub mod Text

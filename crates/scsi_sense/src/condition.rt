@@ -1,3 +1,7 @@
+ghost use Rattle.std.specs.Prelude.{◌≡◌, ℕ, Some};
+
+use std::fmt;
+
 /// What a command may have to report, by sense key and additional sense code with its qualifier
 /// (SPC-4, "Sense key and additional sense code definitions").
 #[derive(Clone, Copy, Debug, PartialEq, Eq)]
@@ -60,4 +64,59 @@ pub enum Condition {
     EndOfDataDetected,
     /// VOLUME OVERFLOW, 00h/02h: END-OF-PARTITION/MEDIUM DETECTED.
     EndOfMediumDetected,
+}
+
+impl Condition {
+    ghost use Rattle.scsi_sense.specs.Text.{condition_name};
+
+    /// The condition in the standard's words (SPC-4, "Additional sense code and additional sense
+    /// code qualifier").
+    pub fn text(self) -> &'static str
+        ensures { result.now ≡ condition_name self }
+    {
+        match self {
+            Condition::NoAdditionalSenseInformation => "NO ADDITIONAL SENSE INFORMATION",
+            Condition::FilemarkDetected => "FILEMARK DETECTED",
+            Condition::BeginningOfMediumDetected => "BEGINNING-OF-PARTITION/MEDIUM DETECTED",
+            Condition::InitializingCommandRequired =>
+                "LOGICAL UNIT NOT READY, INITIALIZING COMMAND REQUIRED",
+            Condition::MediumNotPresent => "MEDIUM NOT PRESENT",
+            Condition::InternalTargetFailure => "INTERNAL TARGET FAILURE",
+            Condition::ParameterListLengthError => "PARAMETER LIST LENGTH ERROR",
+            Condition::InvalidCommandOperationCode => "INVALID COMMAND OPERATION CODE",
+            Condition::InvalidElementAddress => "INVALID ELEMENT ADDRESS",
+            Condition::InvalidFieldInCdb => "INVALID FIELD IN CDB",
+            Condition::LogicalUnitNotSupported => "LOGICAL UNIT NOT SUPPORTED",
+            Condition::InvalidFieldInParameterList => "INVALID FIELD IN PARAMETER LIST",
+            Condition::InvalidReleaseOfPersistentReservation =>
+                "INVALID RELEASE OF PERSISTENT RESERVATION",
+            Condition::SavingParametersNotSupported => "SAVING PARAMETERS NOT SUPPORTED",
+            Condition::MediumDestinationElementFull => "MEDIUM DESTINATION ELEMENT FULL",
+            Condition::MediumSourceElementEmpty => "MEDIUM SOURCE ELEMENT EMPTY",
+            Condition::MediumRemovalPrevented => "MEDIUM REMOVAL PREVENTED",
+            Condition::InsufficientRegistrationResources => "INSUFFICIENT REGISTRATION RESOURCES",
+            Condition::NotReadyToReadyChange =>
+                "NOT READY TO READY CHANGE, MEDIUM MAY HAVE CHANGED",
+            Condition::PowerOnOrResetOccurred => "POWER ON, RESET, OR BUS DEVICE RESET OCCURRED",
+            Condition::BusDeviceResetFunctionOccurred => "BUS DEVICE RESET FUNCTION OCCURRED",
+            Condition::NexusLossOccurred => "I_T NEXUS LOSS OCCURRED",
+            Condition::ModeParametersChanged => "MODE PARAMETERS CHANGED",
+            Condition::ReservationsPreempted => "RESERVATIONS PREEMPTED",
+            Condition::ReservationsReleased => "RESERVATIONS RELEASED",
+            Condition::RegistrationsPreempted => "REGISTRATIONS PREEMPTED",
+            Condition::WriteProtected => "WRITE PROTECTED",
+            Condition::EndOfDataDetected => "END-OF-DATA DETECTED",
+            Condition::EndOfMediumDetected => "END-OF-PARTITION/MEDIUM DETECTED",
+        }
+    }
+}
+
+impl fmt::Display for Condition {
+    ghost use Rattle.scsi_sense.specs.Text.{condition_name};
+
+    ghost output = { λ condition. Some (condition_name condition) };
+
+    fn fmt<W: fmt::Write>(&self, f: &mut fmt::Formatter<W>) -> fmt::Result {
+        f.write_str(self.text())
+    }
 }

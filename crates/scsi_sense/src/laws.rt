@@ -1,12 +1,30 @@
-ghost use Rattle.std.specs.Prelude.{◌≡◌, Ok, Err, [], ◌∷◌, ◌++◌, replicate, true, false};
-ghost use Rattle.scsi_sense.specs.Conditions.{sense_for};
+ghost use Rattle.std.specs.Prelude.{◌≡◌, Ok, Err, None, Some, [], ◌∷◌, ◌++◌, replicate, true, false, codes};
+ghost use Rattle.scsi_sense.specs.Conditions.{sense_for, reports, IsConditionOf, OneConditionAtMost, ConditionsReadBack};
 ghost use Rattle.scsi_sense.specs.FixedSense.{ReadsBack, fixed_sense, reading};
-ghost use Rattle.scsi_sense.specs.declared.condition.Condition.TheVariants.{NoAdditionalSenseInformation, PowerOnOrResetOccurred, RegistrationsPreempted, InvalidReleaseOfPersistentReservation, FilemarkDetected, EndOfDataDetected};
+ghost use Rattle.scsi_sense.specs.SenseKeys.{IsKeyOf, OneKeyAtMost};
+ghost use Rattle.scsi_sense.specs.Text.{condition_name, key_name, status_name};
+ghost use Rattle.scsi_sense.specs.declared.condition.Condition.TheVariants.{NoAdditionalSenseInformation, PowerOnOrResetOccurred, RegistrationsPreempted, InvalidReleaseOfPersistentReservation, FilemarkDetected, EndOfDataDetected, NotReadyToReadyChange, InitializingCommandRequired, NexusLossOccurred, BeginningOfMediumDetected, EndOfMediumDetected};
 ghost use Rattle.scsi_sense.specs.declared.fault.SenseFault.TheVariants.{Short, NotFixed};
+ghost use Rattle.scsi_sense.specs.declared.sense_key.SenseKey.TheVariants.{UnitAttention, VolumeOverflow};
+ghost use Rattle.scsi_sense.specs.declared.status.Status.TheVariants.{CheckCondition, ReservationConflict};
 
 /// Law: what was written is read again, where the format can carry it.
 pub fn sense_reads_back()
     ensures { ReadsBack }
+{}
+
+/// Law: `Sense::condition` has one answer for each sense data, and it is `Some(condition)` for
+/// `Sense::of(condition)`.
+#[tactic(auto, using(crate::proofs::UniqueCodes::one_condition, crate::proofs::UniqueCodes::conditions_read_back))]
+pub fn condition_reads_back()
+    ensures one_at_most { OneConditionAtMost }
+    ensures its_own { ConditionsReadBack }
+{}
+
+/// Law: `SenseKey::of` has one answer for each code.
+#[tactic(auto, using(crate::proofs::UniqueCodes::one_key))]
+pub fn key_is_unique()
+    ensures { OneKeyAtMost }
 {}
 
 /// Worked rows: sense data that a host gets, byte by byte, and bytes that are none.
@@ -36,4 +54,26 @@ pub fn worked_rows()
         ≡ Ok (record (sense_for EndOfDataDetected) { valid = true; information = 1000 }) }
     ensures short_before_format { reading (0x72 ∷ replicate 16 0) ≡ Err Short }
     ensures descriptor_format { reading (0x72 ∷ replicate 17 0) ≡ Err NotFixed }
+{}
+
+/// Worked rows: the words for statuses, keys and conditions, and the condition of sense data.
+pub fn worked_words()
+    ensures conflict { status_name ReservationConflict ≡ codes "RESERVATION CONFLICT" }
+    ensures check { status_name CheckCondition ≡ codes "CHECK CONDITION" }
+    ensures attention { key_name UnitAttention ≡ codes "UNIT ATTENTION" }
+    ensures overflow_key { IsKeyOf 0xD (Some VolumeOverflow) }
+    ensures medium_error { IsKeyOf 0x3 None }
+    ensures changed { condition_name NotReadyToReadyChange ≡ codes "NOT READY TO READY CHANGE, MEDIUM MAY HAVE CHANGED" }
+    ensures reset { condition_name PowerOnOrResetOccurred ≡ codes "POWER ON, RESET, OR BUS DEVICE RESET OCCURRED" }
+    ensures loss { condition_name NexusLossOccurred ≡ codes "I_T NEXUS LOSS OCCURRED" }
+    ensures loaded { condition_name InitializingCommandRequired ≡ codes "LOGICAL UNIT NOT READY, INITIALIZING COMMAND REQUIRED" }
+    // additional sense code 00h, under two keys and under one that no condition with it has
+    ensures at_a_filemark { IsConditionOf (record (sense_for FilemarkDetected) {
+      valid = true;
+      filemark = true;
+      information = 1000;
+    }) (Some FilemarkDetected) }
+    ensures at_the_end { IsConditionOf (reports 0xD 0x00 0x02) (Some EndOfMediumDetected) }
+    ensures at_the_beginning { IsConditionOf (reports 0x0 0x00 0x04) (Some BeginningOfMediumDetected) }
+    ensures under_another_key { IsConditionOf (reports 0x6 0x00 0x04) None }
 {}

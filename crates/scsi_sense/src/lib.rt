@@ -6,12 +6,14 @@ mod fault;
 mod laws;
 mod layout;
 mod sense;
+mod sense_key;
 mod status;
 #[cfg(test)]
 mod tests;
 
 pub use condition::Condition;
 pub use fault::SenseFault;
-pub use laws::{sense_reads_back, worked_rows};
+pub use laws::{condition_reads_back, key_is_unique, sense_reads_back, worked_rows, worked_words};
 pub use sense::Sense;
+pub use sense_key::SenseKey;
 pub use status::Status;

@@ -27,7 +27,7 @@ pub struct Sense {
 
 impl Sense {
     ghost use Rattle.scsi_sense.specs.FixedSense.{fixed_sense, reading};
-    ghost use Rattle.scsi_sense.specs.Conditions.{reports, sense_for};
+    ghost use Rattle.scsi_sense.specs.Conditions.{reports, sense_for, IsConditionOf};
     ghost use Rattle.scsi_sense.specs.declared.condition.Condition.TheVariants.{NoAdditionalSenseInformation};
 
     /// The sense data of a condition, with VALID, FILEMARK, EOM and ILI off and INFORMATION 0.
@@ -76,6 +76,45 @@ impl Sense {
         ensures { result ≡ sense_for NoAdditionalSenseInformation }
     {
         Sense::of(Condition::NoAdditionalSenseInformation)
+    }
+
+    /// The condition that has the sense key, the additional sense code and its qualifier of the
+    /// sense data, if one has. The other fields play no part.
+    pub fn condition(&self) -> Option<Condition>
+        ensures { IsConditionOf self.now result }
+    {
+        match (self.key, self.asc, self.ascq) {
+            (NO_SENSE, 0x00, 0x00) => Some(Condition::NoAdditionalSenseInformation),
+            (NO_SENSE, 0x00, 0x01) => Some(Condition::FilemarkDetected),
+            (NO_SENSE, 0x00, 0x04) => Some(Condition::BeginningOfMediumDetected),
+            (NOT_READY, 0x04, 0x02) => Some(Condition::InitializingCommandRequired),
+            (NOT_READY, 0x3A, 0x00) => Some(Condition::MediumNotPresent),
+            (HARDWARE_ERROR, 0x44, 0x00) => Some(Condition::InternalTargetFailure),
+            (ILLEGAL_REQUEST, 0x1A, 0x00) => Some(Condition::ParameterListLengthError),
+            (ILLEGAL_REQUEST, 0x20, 0x00) => Some(Condition::InvalidCommandOperationCode),
+            (ILLEGAL_REQUEST, 0x21, 0x01) => Some(Condition::InvalidElementAddress),
+            (ILLEGAL_REQUEST, 0x24, 0x00) => Some(Condition::InvalidFieldInCdb),
+            (ILLEGAL_REQUEST, 0x25, 0x00) => Some(Condition::LogicalUnitNotSupported),
+            (ILLEGAL_REQUEST, 0x26, 0x00) => Some(Condition::InvalidFieldInParameterList),
+            (ILLEGAL_REQUEST, 0x26, 0x04) => Some(Condition::InvalidReleaseOfPersistentReservation),
+            (ILLEGAL_REQUEST, 0x39, 0x00) => Some(Condition::SavingParametersNotSupported),
+            (ILLEGAL_REQUEST, 0x3B, 0x0D) => Some(Condition::MediumDestinationElementFull),
+            (ILLEGAL_REQUEST, 0x3B, 0x0E) => Some(Condition::MediumSourceElementEmpty),
+            (ILLEGAL_REQUEST, 0x53, 0x02) => Some(Condition::MediumRemovalPrevented),
+            (ILLEGAL_REQUEST, 0x55, 0x04) => Some(Condition::InsufficientRegistrationResources),
+            (UNIT_ATTENTION, 0x28, 0x00) => Some(Condition::NotReadyToReadyChange),
+            (UNIT_ATTENTION, 0x29, 0x00) => Some(Condition::PowerOnOrResetOccurred),
+            (UNIT_ATTENTION, 0x29, 0x03) => Some(Condition::BusDeviceResetFunctionOccurred),
+            (UNIT_ATTENTION, 0x29, 0x07) => Some(Condition::NexusLossOccurred),
+            (UNIT_ATTENTION, 0x2A, 0x01) => Some(Condition::ModeParametersChanged),
+            (UNIT_ATTENTION, 0x2A, 0x03) => Some(Condition::ReservationsPreempted),
+            (UNIT_ATTENTION, 0x2A, 0x04) => Some(Condition::ReservationsReleased),
+            (UNIT_ATTENTION, 0x2A, 0x05) => Some(Condition::RegistrationsPreempted),
+            (DATA_PROTECT, 0x27, 0x00) => Some(Condition::WriteProtected),
+            (BLANK_CHECK, 0x00, 0x05) => Some(Condition::EndOfDataDetected),
+            (VOLUME_OVERFLOW, 0x00, 0x02) => Some(Condition::EndOfMediumDetected),
+            _ => None,
+        }
     }
 
     /// The 18 bytes. Of the key only the low four bits are written, and INFORMATION only with
