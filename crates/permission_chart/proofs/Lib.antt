@@ -1,0 +1,4 @@
+pub mod Aligned
+pub mod ClassNames
+pub mod NameColumn
+pub mod Pieces
