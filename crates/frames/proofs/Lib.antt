@@ -1,3 +1,6 @@
 pub mod Streams
 pub mod Buffers
 pub mod Taking
+pub mod WrittenFrames
+pub mod WrittenReplies
+pub mod ReplyPieces

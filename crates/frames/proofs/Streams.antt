@@ -84,7 +84,7 @@ login_stays fields more known =
           rw (here, there, big_from-append 8 fields more eight, drop-append-le 8 fields more eight, big_from-append 2 (drop 8 fields) more two) refl)
     ]
 
-cut_stays : (at count : ℕ) (fields more : List ℕ) → at + count ≤ length fields → take count (drop at (fields ++ more)) ≡ take count (drop at fields)
+pub cut_stays : (at count : ℕ) (fields more : List ℕ) → at + count ≤ length fields → take count (drop at (fields ++ more)) ≡ take count (drop at fields)
 cut_stays at count fields more within =
     let front : at ≤ length fields = omega arith in
     let rest : count ≤ length (drop at fields) = omega (arith, length-drop at fields) in
@@ -183,7 +183,7 @@ sized_front_stays : (l : Bool) (size : ℕ) (body more : List ℕ) → (sized_fr
 unfolding measured
 sized_front_stays l size body more known = measured_stays _ _ _ _ (body_stays l size body more) known
 
-front_is : (l : Bool) (b : List ℕ) → 4 ≤ length b → front_in l b ≡ sized_front l (big_number 4 b) (drop 4 b)
+pub front_is : (l : Bool) (b : List ℕ) → 4 ≤ length b → front_in l b ≡ sized_front l (big_number 4 b) (drop 4 b)
 unfolding front_in
 front_is l b four = let here : ltb (length b) 4 ≡ false = le-ltb _ _ four in rw here refl
 

@@ -1,5 +1,7 @@
 pub mod Frames
 pub mod Replies
+pub mod Sending
+pub mod ReplyFronts
 pub mod Views
 pub mod Stream
 pub mod Reading

@@ -30,3 +30,13 @@ one_session_frames = Login a ∷ Command 0 (replicate 6 0) [] ∷ Logout ∷ []
 
 abbrev pub cut_session : List ℕ
 cut_session = login_by 1 ++ 0 ∷ 0 ∷ 0 ∷ []
+
+-- the reply to the first command behind a power on: CHECK CONDITION with POWER ON, RESET, OR BUS DEVICE RESET OCCURRED
+abbrev pub first_contact : List ℕ
+first_contact =
+    0 ∷ 0 ∷ 0 ∷ 0x1D ∷ 0x82 ∷ 2 ∷ 0x12 ∷ 0x70 ∷ 0 ∷ 6 ∷ 0 ∷ 0 ∷ 0 ∷ 0 ∷ 0x0A ∷ 0 ∷ 0 ∷ 0 ∷ 0 ∷ 0x29 ∷ 0 ∷ 0 ∷ 0 ∷ 0 ∷ 0
+    ∷ 0 ∷ 0 ∷ 0 ∷ 0 ∷ 0 ∷ 0 ∷ 0 ∷ 1 ∷ []
+
+-- the reply to a READ of two bytes: GOOD, record 258, and the bytes
+abbrev pub two_bytes_read : List ℕ
+two_bytes_read = 0 ∷ 0 ∷ 0 ∷ 0x0D ∷ 0x82 ∷ 0 ∷ 0 ∷ 0 ∷ 0 ∷ 0 ∷ 0 ∷ 0 ∷ 0 ∷ 1 ∷ 2 ∷ 0x61 ∷ 0x62 ∷ []

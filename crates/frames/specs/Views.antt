@@ -6,7 +6,10 @@ use Rattle.frames.specs.declared.frame.Front.TheVariants as found
 use Rattle.frames.specs.declared.frame.Front as declared
 use Rattle.frames.specs.declared.reply_frame.ReplyFrame.{ReplyFrame}
 use Rattle.frames.specs.declared.reply_frame.ReplyFrame.TheVariants as reply
+use Rattle.frames.specs.declared.reply_frame.ReplyFront.TheVariants as reply_found
+use Rattle.frames.specs.declared.reply_frame.ReplyFront as declared_reply
 use Rattle.frames.specs.Replies.{Told, LoginReply, CommandReply, ResetReply, LogoutReply}
+use Rattle.frames.specs.ReplyFronts as replies
 use Rattle.frames.specs.Frames.{Sent, Login, Command, Reset, Logout, Front, Partial, Whole, Faulty}
 
 abbrev pub sent : Frame → Sent
@@ -30,3 +33,13 @@ told (reply.Login answer) = LoginReply answer
 told (reply.Command status sense number bytes) = CommandReply status sense number bytes.now
 told (reply.Reset status) = ResetReply status
 told reply.Logout = LogoutReply
+
+abbrev pub reply_front : declared_reply.ReplyFront → replies.ReplyFront
+reply_front reply_found.Partial = replies.Partial
+reply_front (reply_found.Whole reply count) = replies.Whole (told reply) count
+reply_front (reply_found.Faulty fault) = replies.Faulty fault
+
+-- a reply is some of the bytes
+abbrev pub IsReplyWithin : ℕ → declared_reply.ReplyFront → Type 0
+IsReplyWithin len (reply_found.Whole reply count) = (0 < count) × (count ≤ len)
+IsReplyWithin len _ = Unit {0}

@@ -1,4 +1,9 @@
+ghost use Rattle.std.specs.Prelude.{◌↔◌, IsTrue};
+ghost use Rattle.frames.specs.Sending.{IsSendable};
+ghost use Rattle.frames.specs.Views.{sent};
+
 use crate::fault::FrameFault;
+use crate::layout::*;
 use scsi_nexus::Nexus;
 
 /// What a client sends, where it lies among the bytes of the stream.
@@ -20,6 +25,25 @@ pub enum Frame<'a> {
     },
     /// The end of the session.
     Logout,
+}
+
+impl Frame<'_> {
+    /// Whether a client may send it: a target port of 1 to 4; a CDB of 1 to 16 bytes, with data that a body of
+    /// 131,072 bytes has room for.
+    pub fn is_sendable(&self) -> bool
+        ensures { IsTrue result ↔ IsSendable (sent self.now) }
+    {
+        match self {
+            Frame::Login { nexus } => nexus.port >= 1 && nexus.port <= PORTS,
+            Frame::Command { cdb, bytes, .. } => {
+                !cdb.is_empty()
+                    && cdb.len() <= LONGEST_CDB
+                    && bytes.len() <= LONGEST_BODY - 1 - COMMAND_FIELDS - cdb.len()
+            }
+            Frame::Reset { .. } => true,
+            Frame::Logout => true,
+        }
+    }
 }
 
 /// What a stream begins with.

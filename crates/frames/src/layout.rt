@@ -48,3 +48,16 @@ pub const LONGEST_DATA: usize = 65_536;
 
 /// How many bytes fixed format sense data has (SPC-4, "Fixed format sense data").
 pub(crate) const SENSE_LENGTH: u8 = 18;
+
+/// How many bytes a LOGIN's reply and a RESET's have behind their kind: an answer or a status.
+pub(crate) const CODE_FIELD: usize = 1;
+
+/// How many bytes of a COMMAND's reply come before its sense data: kind, status, and the length of the sense data.
+pub(crate) const BEFORE_SENSE: usize = 3;
+
+/// How many bytes the number of a record has.
+pub(crate) const NUMBER_FIELD: usize = 8;
+
+/// The most bytes of a reply's body: kind, status, the length of the sense data, 18 bytes of sense data, the
+/// record's number, and 65,536 bytes of data.
+pub const LONGEST_REPLY: usize = 65_565;

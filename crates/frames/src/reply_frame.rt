@@ -3,6 +3,7 @@ ghost use Rattle.frames.specs.Replies.{IsShort, reply_bytes, sense_bytes, login_
 ghost use Rattle.frames.specs.Views.{told};
 
 use crate::layout::*;
+use crate::reply_fault::ReplyFault;
 use scsi_sense::{Sense, Status};
 use std::alloc::AllocError;
 
@@ -27,6 +28,16 @@ pub enum ReplyFrame<'a> {
     },
     Reset(Status),
     Logout,
+}
+
+/// What a stream of replies begins with.
+#[derive(Clone, Copy, Debug)]
+pub enum ReplyFront<'a> {
+    /// Less than a reply.
+    Partial,
+    /// A reply, and how many bytes it takes.
+    Whole(ReplyFrame<'a>, usize),
+    Faulty(ReplyFault),
 }
 
 fn code_of(answer: LoginAnswer) -> u8

@@ -1,0 +1,24 @@
+ghost use Rattle.std.specs.Prelude.{◌≡◌, ℕ, true, List, [], ◌∷◌, ◌++◌, length, drop, replicate};
+ghost use Rattle.frames.specs.Frames.{Sent, Login, Command, Reset, Logout, Whole, front_in};
+ghost use Rattle.frames.specs.Rows.{a, login_by, test_unit_ready, write, logout};
+ghost use Rattle.frames.specs.Sending.{IsSendable, HasWidth, is_behind_login, frame_bytes};
+ghost use Rattle.frames.specs.Stream.{Stop, Reads};
+
+/// Worked rows: frames as a client writes them, byte by byte.
+pub fn sent_rows()
+    ensures login { frame_bytes (Login a) ≡ login_by 1 }
+    ensures command { frame_bytes (Command 0 (replicate 6 0) []) ≡ test_unit_ready }
+    ensures write { frame_bytes (Command 1 (0x0A ∷ 0 ∷ 0 ∷ 0 ∷ 4 ∷ 0 ∷ []) (1 ∷ 2 ∷ 3 ∷ 4 ∷ [])) ≡ write }
+    ensures reset { frame_bytes (Reset 7) ≡ 0 ∷ 0 ∷ 0 ∷ 2 ∷ 3 ∷ 7 ∷ [] }
+    ensures logout { frame_bytes Logout ≡ logout }
+{}
+
+/// Law: a stream that begins with what a client writes for a frame has that very frame at its front, and then the
+/// rest. So the server reads each frame of a client, in their order.
+pub fn sent_is_read()
+    ensures front { (f : Sent) (rest : List ℕ) → IsSendable f → HasWidth f
+        → front_in (is_behind_login f) (frame_bytes f ++ rest) ≡ Whole f (length (frame_bytes f)) }
+    ensures rest { (f : Sent) (rest : List ℕ) → drop (length (frame_bytes f)) (frame_bytes f ++ rest) ≡ rest }
+    ensures stream { (f : Sent) (rest : List ℕ) (others : List Sent) (stop : Stop) → IsSendable f → HasWidth f
+        → Reads true rest others stop → Reads (is_behind_login f) (frame_bytes f ++ rest) (f ∷ others) stop }
+{}
