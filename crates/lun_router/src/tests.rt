@@ -2,7 +2,6 @@
 
 mod asking;
 mod days;
-mod device;
 mod gates;
 mod rows;
 mod scenes;

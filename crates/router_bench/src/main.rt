@@ -2,7 +2,6 @@
 #![tactic(auto)]
 
 mod days;
-mod device;
 mod figures;
 mod single;
 mod targets;

@@ -1,10 +1,9 @@
 //! The measured target: four empty drives, and a volume for each in the storage elements.
 
-use crate::device::Device;
 use changer_server::Changer;
 use element_map::Elements;
-use logical_unit::LogicalUnit;
-use std::alloc::{AllocError, Global};
+use library_device::{Device, unit_at};
+use std::alloc::Global;
 use std::io;
 use tape_medium::{Tape, Volume, VolumeTag};
 use tape_server::TapeDrive;
@@ -19,14 +18,6 @@ const FIRST_STORAGE: u16 = 0x0400;
 /// How many bytes of blocks a volume takes: 64 MiB.
 const CAPACITY: u32 = 67_108_864;
 
-/// A unit at power on over a device.
-fn unit_at(alloc: Global, lun: u8, device: Device) -> Result<LogicalUnit<Device>, AllocError> {
-    match LogicalUnit::new(alloc, lun, DRIVES + 1, Box::new(alloc, device)?) {
-        Ok(unit) => Ok(unit),
-        Err((refused, _)) => Err(refused),
-    }
-}
-
 pub(crate) fn four_drives(alloc: Global) -> io::Result<TargetCore<Device>> {
     let mut elements = Elements::new(alloc, u16::from(DRIVES), u16::from(DRIVES), 0)?;
     for place in 0..DRIVES {
@@ -38,9 +29,11 @@ pub(crate) fn four_drives(alloc: Global) -> io::Result<TargetCore<Device>> {
         let _ = elements.put(FIRST_STORAGE + u16::from(place), volume);
     }
     let mut units = Vec::new(alloc);
-    units.push(unit_at(alloc, 0, Device::Changer(Changer::new(elements)))?)?;
+    let changer = Device::Changer(Changer::new(elements));
+    units.push(unit_at(alloc, 0, DRIVES + 1, changer)?)?;
     for place in 0..DRIVES {
-        units.push(unit_at(alloc, place + 1, Device::Tape(TapeDrive::new()))?)?;
+        let drive = Device::Tape(TapeDrive::new());
+        units.push(unit_at(alloc, place + 1, DRIVES + 1, drive)?)?;
     }
     match TargetCore::new(units) {
         Ok(core) => Ok(core),

@@ -1,4 +1,3 @@
-pub mod Devices
 pub mod Faults
 pub mod Hosted
 pub mod Posts

@@ -4,9 +4,9 @@ ghost use Rattle.std.specs.Option.{option_map};
 ghost use Rattle.logical_unit.specs.UnitView.{units_of};
 ghost use Rattle.serving.specs.Hosted.{IsClosed, if_there};
 
-use crate::device::Device;
 use crate::host_fault::HostFault;
 use kept_unit::Site;
+use library_device::Device;
 use logical_unit::LogicalUnit;
 use lun_router::{Histories, Library, Pass, Seat};
 use replay_output::{Audit, audit_text};

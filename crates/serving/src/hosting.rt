@@ -3,11 +3,11 @@ ghost use Rattle.lun_router.specs.Opening.{IsSince};
 ghost use Rattle.serving.specs.Hosted.{IsHosted};
 
 use crate::closing::close_and_write;
-use crate::device::Device;
 use crate::host_fault::{HostFault, earlier};
 use crate::post::Post;
 use crate::worker::{Reception, Worker};
 use kept_unit::Site;
+use library_device::Device;
 use lun_router::{Blanks, Library, Pass, Seat};
 use replay_output::Audit;
 use session::Directory;

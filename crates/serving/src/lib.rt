@@ -2,13 +2,11 @@
 #![tactic(auto)]
 
 mod closing;
-mod device;
 mod host_fault;
 mod hosting;
 mod post;
 mod worker;
 
-pub use device::Device;
 pub use host_fault::{FaultySession, HostFault, earlier};
 pub use hosting::host;
 pub use post::Post;

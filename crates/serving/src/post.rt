@@ -1,5 +1,5 @@
-use crate::device::Device;
 use kept_unit::{Done, Site};
+use library_device::Device;
 use lun_router::{Library, Pass, Seat};
 use scsi_nexus::Nexus;
 use session::{Directory, SessionFault, Station};

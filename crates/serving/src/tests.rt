@@ -1,7 +1,7 @@
-use crate::{Device, FaultySession, HostFault, earlier, host};
+use crate::{FaultySession, HostFault, earlier, host};
 use changer_server::Changer;
 use element_map::Elements;
-use logical_unit::LogicalUnit;
+use library_device::{Device, unit_at};
 use lun_router::CloseFault;
 use replay_output::Audit;
 use scsi_nexus::Nexus;
@@ -81,16 +81,10 @@ enum Step {
 /// A changer with one empty storage element, and an empty drive.
 fn target(alloc: Global) -> Result<TargetCore<Device>, Fail> {
     let changer = Device::Changer(Changer::new(Elements::new(alloc, 1, 1, 0)?));
-    let devices = [changer, Device::Tape(TapeDrive::new())];
+    let drive = Device::Tape(TapeDrive::new());
     let mut units = Vec::new(alloc);
-    let mut lun = 0;
-    for device in devices {
-        let Ok(unit) = LogicalUnit::new(alloc, lun, 2, Box::new(alloc, device)?) else {
-            return Err("no unit".into());
-        };
-        units.push(unit)?;
-        lun = 1;
-    }
+    units.push(unit_at(alloc, 0, 2, changer)?)?;
+    units.push(unit_at(alloc, 1, 2, drive)?)?;
     let Ok(core) = TargetCore::new(units) else {
         return Err("no target".into());
     };

@@ -6,9 +6,7 @@ ghost use Rattle.vtl.specs.Options.{AreInRange};
 
 use crate::library_options::LibraryOptions;
 use crate::stock::stocked;
-use device_server::DeviceServer;
-use logical_unit::LogicalUnit;
-use serving::Device;
+use library_device::{Device, unit_at};
 use std::alloc::{AllocError, Global};
 use tape_server::TapeDrive;
 use target_core::TargetCore;
@@ -32,20 +30,5 @@ pub fn library(alloc: Global, options: &LibraryOptions) -> Result<TargetCore<Dev
         Ok(core) => Ok(core),
         // Its units are in the order of a target.
         Err(_) => unreachable!(),
-    }
-}
-
-/// A unit at power on over a device, among so many.
-pub(crate) fn unit_at<D: DeviceServer>(
-    alloc: Global,
-    lun: u8,
-    units: u8,
-    device: D,
-) -> Result<LogicalUnit<D>, AllocError>
-    ensures { IfOk result (λ unit. unit ≡ record { unit = made (D.shown device) lun units 0; room = 0 }) }
-{
-    match LogicalUnit::new(alloc, lun, units, Box::new(alloc, device)?) {
-        Ok(unit) => Ok(unit),
-        Err((refused, _)) => Err(refused),
     }
 }

@@ -2,7 +2,6 @@
 ghost use Rattle.std.specs.Prelude.{◌≡◌, ◌<◌};
 ghost use Rattle.lun_router.specs.Opening.{IsSince};
 
-use super::device::Device;
 use super::gates::Flags;
 use super::targets::two_drives;
 use super::{rows, scenes};
@@ -11,6 +10,7 @@ use crate::library::Library;
 use crate::opening::Blanks;
 use crate::seat::Seat;
 use kept_unit::Site;
+use library_device::Device;
 use std::alloc::Global;
 use std::marker::Brand;
 use std::process::Abort;

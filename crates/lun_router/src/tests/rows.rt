@@ -1,11 +1,11 @@
 //! Scenes of two hosts in one thread, with the bytes that they must be answered.
 
 use super::asking::{A, B, TEST_UNIT_READY, assert_good, assert_sense};
-use super::device::Device;
 use crate::gate::Gate;
 use crate::library::Library;
 use crate::seat::Seat;
 use kept_unit::Site;
+use library_device::Device;
 use scsi_nexus::Nexus;
 use scsi_sense::Status;
 use std::alloc::Global;

@@ -1,13 +1,13 @@
 //! Scenes of two threads, each with a seat of its own.
 
 use super::asking::{A, B, TEST_UNIT_READY, assert_good, assert_sense, nexus_at};
-use super::device::Device;
 use super::gates::Flags;
 use crate::closing::CloseFault;
 use crate::gate::Gate;
 use crate::library::Library;
 use crate::seat::Seat;
 use kept_unit::Site;
+use library_device::Device;
 use logical_unit::LogicalUnit;
 use scsi_nexus::Nexus;
 use std::alloc::{AllocError, Global};

@@ -1,10 +1,9 @@
 //! The target of the tests: two empty drives, and two volumes in the first storage elements.
 
-use super::device::Device;
 use changer_server::Changer;
 use element_map::Elements;
-use logical_unit::LogicalUnit;
-use std::alloc::{AllocError, Global};
+use library_device::{Device, unit_at};
+use std::alloc::Global;
 use std::test::Fail;
 use tape_medium::{Tape, Volume, VolumeTag};
 use tape_server::TapeDrive;
@@ -25,14 +24,6 @@ fn volume(alloc: Global, letter: u8) -> Volume {
     }
 }
 
-/// A unit at power on over a device.
-fn unit_at(alloc: Global, lun: u8, device: Device) -> Result<LogicalUnit<Device>, AllocError> {
-    match LogicalUnit::new(alloc, lun, UNITS, Box::new(alloc, device)?) {
-        Ok(unit) => Ok(unit),
-        Err((refused, _)) => Err(refused),
-    }
-}
-
 pub(super) fn two_drives(alloc: Global) -> Result<TargetCore<Device>, Fail> {
     let mut elements = Elements::new(alloc, 2, 4, 0)?;
     for (address, letter) in [(0x0400, b'a'), (0x0401, b'b')] {
@@ -42,9 +33,10 @@ pub(super) fn two_drives(alloc: Global) -> Result<TargetCore<Device>, Fail> {
     }
     let mut units = Vec::new(alloc);
     let changer = Device::Changer(Changer::new(elements));
-    units.push(unit_at(alloc, 0, changer)?)?;
+    units.push(unit_at(alloc, 0, UNITS, changer)?)?;
     for lun in 1..UNITS {
-        units.push(unit_at(alloc, lun, Device::Tape(TapeDrive::new()))?)?;
+        let drive = Device::Tape(TapeDrive::new());
+        units.push(unit_at(alloc, lun, UNITS, drive)?)?;
     }
     match TargetCore::new(units) {
         Ok(core) => Ok(core),

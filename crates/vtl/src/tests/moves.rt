@@ -3,10 +3,10 @@
 use super::targets::{changer, changer_marked, empty_drive, loaded_drive};
 use crate::library::library;
 use crate::library_options::LibraryOptions;
+use library_device::Device;
 use logical_unit::{LogicalUnit, named};
 use replay::replay;
 use replay_output::Audit;
-use serving::Device;
 use std::alloc::Global;
 use std::fmt::Write;
 use std::process::Abort;

@@ -1,9 +1,10 @@
 //! Who prevents the removal of media, and when that ends.
 
 use super::{A, B, empty_changer};
-use crate::library::{library, unit_at};
+use crate::library::library;
 use crate::library_options::LibraryOptions;
 use changer_server::Changer;
+use library_device::unit_at;
 use logical_unit::LogicalUnit;
 use replay::replay;
 use replay_output::Audit;

@@ -1,12 +1,11 @@
 //! Targets and drives for the tests, and a volume for them.
 
 use super::empty_changer;
-use crate::library::unit_at;
 use changer_server::Changer;
 use device_server::DeviceServer;
 use element_map::Elements;
+use library_device::{Device, unit_at};
 use logical_unit::LogicalUnit;
-use serving::Device;
 use std::alloc::{AllocError, Global};
 use std::test::Fail;
 use tape_medium::{Tape, Volume, VolumeTag};

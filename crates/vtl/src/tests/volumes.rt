@@ -2,10 +2,10 @@
 
 use super::targets::{changer, empty_drive, loaded_drive, volume};
 use super::{A, B};
+use library_device::Device;
 use logical_unit::{LogicalUnit, MediumFault};
 use scsi_nexus::Nexus;
 use scsi_sense::{Sense, Status};
-use serving::Device;
 use std::alloc::Global;
 use std::test::Fail;
 use tape_medium::VolumeTag;

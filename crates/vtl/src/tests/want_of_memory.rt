@@ -4,11 +4,10 @@
 use super::audit::assert_audited;
 use super::targets::target;
 use super::{A, empty_changer};
-use crate::library::unit_at;
 use device_server::{BadPlace, DeviceServer, Outcome, PutFault, TakeFault};
+use library_device::{Device, unit_at};
 use scsi_cdb::{Kind, Request};
 use scsi_sense::Status;
-use serving::Device;
 use std::alloc::{AllocError, Global};
 use std::test::Fail;
 use tape_medium::{Volume, VolumeTag};
@@ -25,7 +24,7 @@ struct WantingDevice {
 }
 
 impl DeviceServer for WantingDevice {
-    ghost use Rattle.serving.specs.Devices.{shown_as};
+    ghost use Rattle.library_device.specs.Devices.{shown_as};
 
     ghost shown = { λ d. shown_as d.device };
 

@@ -15,7 +15,7 @@ pub enum Device {
 }
 
 impl DeviceServer for Device {
-    ghost use Rattle.serving.specs.Devices.{shown_as};
+    ghost use Rattle.library_device.specs.Devices.{shown_as};
 
     ghost shown = { shown_as };
 

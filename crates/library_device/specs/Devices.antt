@@ -1,7 +1,7 @@
 -- What contracts see of the devices of the library.
 use Rattle.device_server.specs.View.{DeviceView, Drive, Changer}
-use Rattle.serving.specs.declared.device.Device.{Device}
-use Rattle.serving.specs.declared.device.Device.TheVariants as device
+use Rattle.library_device.specs.declared.device.Device.{Device}
+use Rattle.library_device.specs.declared.device.Device.TheVariants as device
 
 abbrev pub shown_as : Device → DeviceView
 shown_as (device.Changer elements) = Changer elements
