@@ -28,7 +28,9 @@ use Rattle.device_server.specs.declared.outcome.Outcome.{Outcome}
 use Rattle.device_server.specs.Outcomes.{done, refused}
 use Rattle.device_server.specs.Drive.{DriveView, run, after_run, behind_run, reads, reads_fixed, unless_nothing, is_fixed_transfer, space_code, on_tape, in_volume, in_bay, drive_step}
 use Rattle.device_server.specs.View.{DeviceView, Drive, Changer, kind_of, field_fault, stepped, performed}
-use Rattle.logical_unit.specs.Contents.{SameVolume, SameContents, MayNotChange, OutsiderChangesNothing}
+use Rattle.device_server.specs.Volumes.{SameVolume, SameAt}
+use Rattle.device_server.proofs.TapeLemmas.{same_volume}
+use Rattle.logical_unit.specs.Contents.{SameContents, MayNotChange, OutsiderChangesNothing}
 use Rattle.logical_unit.proofs.EndsOf.{by_ends}
 use Rattle.logical_unit.proofs.Quiet.{barred, changer_quiet}
 use Rattle.unit_commands.specs.declared.command.Command.{Command}
@@ -113,15 +115,20 @@ module _ (ty : ResType) (ro : Role) (closed : row_allows Changing ty ro ≡ fals
   abbrev SameDrive : DriveView → DriveView → Type 0
   SameDrive d e = SameContents (Drive d) (Drive e)
 
-  volume_self : (o : Option Volume) → SameVolume o o
+  volume_self : (o : Option Volume) → SameAt SameVolume o o
   volume_self None = tt
-  volume_self (Some v) = (refl, refl, refl, refl)
+  volume_self (Some v) = same_volume v
 
   drive_self : (d : DriveView) → SameDrive d d
   drive_self d = (refl, refl, volume_self d.bay)
 
   in_volume_same : (d : DriveView) (v : Volume) (x : TapeView × Outcome) → d.bay ≡ Some v → SameTape v.tape x.0 → SameDrive d (in_volume d v x).0
-  in_volume_same d v x e h = (refl, refl, subst (λ (o : Option Volume). SameVolume o (Some (record v { tape = x.0 }))) (sym e) (refl, refl, h.objects, h.capacity))
+  in_volume_same d v x e h = (
+    refl,
+    refl,
+    subst (λ (o : Option Volume). SameAt SameVolume o (Some (record v { tape = x.0 }))) (sym e)
+        (record { cartridge = record { tag = refl; protected = refl; capacity = sym h.capacity }; objects = sym h.objects }),
+  )
 
   either_drive : (d : DriveView) (b : Bool) (x y : DriveView × Outcome) → SameDrive d x.0 → SameDrive d y.0 → SameDrive d (cond b x y).0
   either_drive d true x y p q = p

@@ -1,23 +1,17 @@
 -- What is in a unit, and who may not change it.
-use Rattle.std.specs.Prelude.{◌≡◌, ℕ, false, List, Option, Some, None}
+use Rattle.std.specs.Prelude.{◌≡◌, ℕ, false, List}
 use Rattle.scsi_nexus.specs.declared.nexus.Nexus.{Nexus}
 use Rattle.permit_tables.specs.Permission.{Changing, row_allows}
-use Rattle.tape_medium.specs.declared.volume.Volume.{Volume}
 use Rattle.pr_core.specs.State.{State, res_type, role}
 use Rattle.device_server.specs.View.{DeviceView, Drive, Changer}
+use Rattle.device_server.specs.Volumes.{SameVolume, SameAt}
 use Rattle.unit_answers.specs.declared.reply.Reply.{Reply}
 use Rattle.logical_unit.specs.Step.{Executes}
 use Rattle.logical_unit.specs.UnitView.{UnitView}
 
--- a volume at another position
-abbrev pub SameVolume : Option Volume → Option Volume → Type 0
-SameVolume None None = Unit {0}
-SameVolume (Some v) (Some w) = (v.tag ≡ w.tag) × (v.protected ≡ w.protected) × (v.tape.objects ≡ w.tape.objects) × (v.tape.capacity ≡ w.tape.capacity)
-SameVolume o p = ⊥
-
--- a drive with the same volume, loaded and set as before, or a changer with the same elements
+-- a drive with the same volume, loaded and set as before, where its tape may stand elsewhere, or a changer with the same elements
 abbrev pub SameContents : DeviceView → DeviceView → Type 0
-SameContents (Drive d) (Drive e) = (d.loaded ≡ e.loaded) × (d.block_length ≡ e.block_length) × SameVolume d.bay e.bay
+SameContents (Drive d) (Drive e) = (d.loaded ≡ e.loaded) × (d.block_length ≡ e.block_length) × SameAt SameVolume d.bay e.bay
 SameContents (Changer d) (Changer e) = d ≡ e
 SameContents d e = ⊥
 

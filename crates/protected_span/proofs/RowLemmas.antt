@@ -64,8 +64,8 @@ may_not = record { we = refl; ea = refl; wero = refl; earo = refl; wear = refl; 
 
 pub contents : (tag : VolumeTag) → Contents tag
 contents tag = record {
-  moved = (refl, refl, (refl, refl, refl, refl));
-  written = λ e. let same = e.2.2 in cc;
+  moved = (refl, refl, record { cartridge = record { tag = refl; protected = refl; capacity = refl }; objects = refl });
+  written = λ e. let same = e.2.objects in cc;
   gone = λ e. e.2;
   unloaded = λ e. let same = e.0 in cc;
   set = λ e. let same = e.1 in cc;
