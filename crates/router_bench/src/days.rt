@@ -2,11 +2,11 @@
 ghost use Rattle.std.specs.Prelude.{◌≡◌, ◌<◌};
 ghost use Rattle.lun_router.specs.Opening.{IsSince};
 
-use crate::device::Device;
 use crate::figures::tell;
 use crate::targets::four_drives;
 use crate::work::{BLOCKS, REWIND, TEST_UNIT_READY, Task, loading, nexus_at};
 use kept_unit::Site;
+use library_device::Device;
 use lun_router::{Blanks, Library, Pass, Seat};
 use std::alloc::Global;
 use std::marker::Brand;
@@ -42,13 +42,14 @@ fn ask<L0: Site, L1: Site, L2: Site, L3: Site, L4: Site, R: Wait>(
     }
 }
 
-/// Loads each drive, and reads off what each nexus is told first at each unit.
+/// Loads each drive, reads off what each nexus is told first at each unit, and writes each tape once, so that it takes its memory
+/// before anything is measured.
 fn prepare<L0: Site, L1: Site, L2: Site, L3: Site, L4: Site, R: Wait>(
     rt: &R,
     alloc: Global,
     library: &Library<L0, L1, L2, L3, L4, Device, Pass>,
     seat: &mut Seat<L0, L1, L2, L3, L4>,
-) {
+) -> io::Result<()> {
     for lun in 0..=SEATS as u8 {
         for place in 0..SEATS {
             let nexus = nexus_at(place);
@@ -65,6 +66,22 @@ fn prepare<L0: Site, L1: Site, L2: Site, L3: Site, L4: Site, R: Wait>(
             let _done = library.submit(rt, alloc, seat, nexus, lun, &TEST_UNIT_READY, &[]);
         }
     }
+    let data = Task::Write.data(alloc)?;
+    let cdb = Task::Write.cdb();
+    for lun in 1..=SEATS as u8 {
+        ask(
+            rt,
+            alloc,
+            library,
+            seat,
+            0,
+            lun,
+            &cdb,
+            data.as_slice(),
+            BLOCKS,
+        );
+    }
+    Ok(())
 }
 
 /// Measures one task from so many threads, each at its own drive or all at the first.
@@ -155,7 +172,7 @@ fn play<
     is_told: bool,
 ) -> io::Result<()> {
     if let Some(seat) = seats.first_mut() {
-        prepare(rt, alloc, &library, seat);
+        prepare(rt, alloc, &library, seat)?;
     }
     for is_shared in [false, true] {
         for task in [Task::Ready, Task::Write, Task::Read] {

@@ -1,9 +1,9 @@
 //! The same commands in one thread, through a target without locks.
 
-use crate::device::Device;
 use crate::figures::tell;
 use crate::targets::four_drives;
 use crate::work::{BLOCKS, REWIND, TEST_UNIT_READY, Task, loading, nexus_at};
+use library_device::Device;
 use std::alloc::{AllocError, Global};
 use std::io;
 use std::rt::Clock;
@@ -45,6 +45,9 @@ pub(crate) fn measure(
     let _ = core.step(alloc, &event(alloc, 0, &loading(0), Vec::new(alloc))?);
     let _ = core.step(alloc, &event(alloc, 1, &TEST_UNIT_READY, Vec::new(alloc))?);
     let rewind = event(alloc, 1, &REWIND, Vec::new(alloc))?;
+    let write = event(alloc, 1, &Task::Write.cdb(), Task::Write.data(alloc)?)?;
+    // The tape takes its memory before anything is measured.
+    ask(alloc, &mut core, &write, &rewind, BLOCKS);
     for task in [Task::Ready, Task::Write, Task::Read] {
         let command = event(alloc, 1, &task.cdb(), task.data(alloc)?)?;
         let count = task.count(scale);
