@@ -1,0 +1,216 @@
+/* Round trips at `vtl serve` and, beside them, of a plain server that reads as many bytes and answers as many.
+ *
+ * round_trips VTL_SOCKET PLAIN_SOCKET: four drives with a volume each are asked at VTL_SOCKET; the plain server is started here.
+ */
+#include <pthread.h>
+#include <signal.h>
+#include <stdint.h>
+#include <stdio.h>
+#include <stdlib.h>
+#include <string.h>
+#include <sys/socket.h>
+#include <sys/un.h>
+#include <sys/wait.h>
+#include <time.h>
+#include <unistd.h>
+
+enum { BLOCK = 65536, HEAD = 15, CONNECTIONS = 4, ROUND = 200 };
+
+static void fail(const char *what)
+{
+    perror(what);
+    exit(1);
+}
+
+static void send_all(int socket, const uint8_t *bytes, size_t count)
+{
+    while (count > 0) {
+        ssize_t sent = write(socket, bytes, count);
+        if (sent <= 0) fail("write");
+        bytes += sent;
+        count -= (size_t)sent;
+    }
+}
+
+/* 0 at the end of the stream. */
+static int receive_all(int socket, uint8_t *bytes, size_t count)
+{
+    while (count > 0) {
+        ssize_t got = read(socket, bytes, count);
+        if (got < 0) fail("read");
+        if (got == 0) return 0;
+        bytes += got;
+        count -= (size_t)got;
+    }
+    return 1;
+}
+
+static struct sockaddr_un address_of(const char *path)
+{
+    struct sockaddr_un address = {.sun_family = AF_UNIX};
+    strncpy(address.sun_path, path, sizeof address.sun_path - 1);
+    return address;
+}
+
+static int connect_to(const char *path)
+{
+    struct sockaddr_un address = address_of(path);
+    int socket_of = socket(AF_UNIX, SOCK_STREAM, 0);
+    if (connect(socket_of, (struct sockaddr *)&address, sizeof address) != 0) fail(path);
+    return socket_of;
+}
+
+/* THE PLAIN SERVER: how many bytes a request and a reply have comes first, each in four bytes. */
+
+static void *answer_plainly(void *given)
+{
+    int socket_of = *(int *)given;
+    uint32_t sizes[2];
+    uint8_t *bytes = calloc(1, BLOCK + HEAD);
+    free(given);
+    while (receive_all(socket_of, (uint8_t *)sizes, sizeof sizes)) {
+        for (int turn = 0; turn < ROUND; turn++) {
+            if (!receive_all(socket_of, bytes, sizes[0])) break;
+            send_all(socket_of, bytes, sizes[1]);
+        }
+    }
+    close(socket_of);
+    free(bytes);
+    return NULL;
+}
+
+static void serve_plainly(int listener)
+{
+    for (;;) {
+        int *connection = malloc(sizeof *connection);
+        pthread_t thread;
+        *connection = accept(listener, NULL, NULL);
+        if (*connection < 0) fail("accept");
+        pthread_create(&thread, NULL, answer_plainly, connection);
+        pthread_detach(thread);
+    }
+}
+
+/* THE HOSTS */
+
+enum kind { READY, WRITE, READ };
+
+struct host {
+    int socket;
+    int place;
+    enum kind kind;
+    int rounds;
+    int is_plain;
+};
+
+static size_t frame(uint8_t *out, int lun, const uint8_t *cdb, int cdb_length, size_t data)
+{
+    uint32_t body = (uint32_t)(3 + (size_t)cdb_length + data);
+    out[0] = (uint8_t)(body >> 24), out[1] = (uint8_t)(body >> 16), out[2] = (uint8_t)(body >> 8), out[3] = (uint8_t)body;
+    out[4] = 2, out[5] = (uint8_t)lun, out[6] = (uint8_t)cdb_length;
+    memcpy(out + 7, cdb, (size_t)cdb_length);
+    return 7 + (size_t)cdb_length + data;
+}
+
+/* One command, and its status. */
+static int ask(int socket_of, uint8_t *out, size_t length, uint8_t *in)
+{
+    send_all(socket_of, out, length);
+    if (!receive_all(socket_of, in, 4)) fail("reply");
+    uint32_t body = (uint32_t)in[0] << 24 | (uint32_t)in[1] << 16 | (uint32_t)in[2] << 8 | in[3];
+    if (!receive_all(socket_of, in, body)) fail("reply");
+    return in[1];
+}
+
+static const uint8_t CDBS[3][6] = {{0}, {0x0a, 0, 1, 0, 0, 0}, {0x08, 0, 1, 0, 0, 0}};
+
+static void *play(void *given)
+{
+    struct host *host = given;
+    uint8_t *out = calloc(1, BLOCK + 64), *in = calloc(1, BLOCK + 64), rewind_to[16];
+    size_t data = host->kind == WRITE ? BLOCK : 0;
+    size_t length = frame(out, host->place + 1, CDBS[host->kind], 6, data);
+    size_t rewinding = frame(rewind_to, host->place + 1, (const uint8_t[6]){1}, 6, 0);
+    uint32_t sizes[2] = {(uint32_t)length, (uint32_t)(HEAD + (host->kind == READ ? BLOCK : 0))};
+    for (int round = 0; round < host->rounds; round++) {
+        if (host->is_plain)
+            send_all(host->socket, (uint8_t *)sizes, sizeof sizes);
+        else if (ask(host->socket, rewind_to, rewinding, in) != 0)
+            fail("REWIND");
+        for (int turn = 0; turn < ROUND; turn++) {
+            if (host->is_plain) {
+                send_all(host->socket, out, length);
+                if (!receive_all(host->socket, in, sizes[1])) fail("plain reply");
+            } else if (ask(host->socket, out, length, in) != 0) {
+                fail("command");
+            }
+        }
+    }
+    free(out);
+    free(in);
+    return NULL;
+}
+
+/* Logs in, puts a volume into the host's drive, and hears what is to be told. */
+static void prepare(int socket_of, int place)
+{
+    uint8_t out[64], in[256];
+    uint8_t login[15] = {0, 0, 0, 11, 1, 0x50, 0, 0, 0, 0, 0, 0, (uint8_t)(10 + place), 0, 1};
+    uint8_t move[12] = {0xa5, 0, 0, 0, 4, (uint8_t)place, 1, (uint8_t)place};
+    send_all(socket_of, login, sizeof login);
+    if (!receive_all(socket_of, in, 6) || in[5] != 0) fail("LOGIN");
+    for (int turn = 0; turn < 2; turn++) ask(socket_of, out, frame(out, 0, move, 12, 0), in);
+    for (int turn = 0; turn < 3; turn++) ask(socket_of, out, frame(out, place + 1, CDBS[READY], 6, 0), in);
+    if (in[1] != 0) fail("drive");
+}
+
+static double measure(int *sockets, int count, enum kind kind, int rounds, int is_plain)
+{
+    struct host hosts[CONNECTIONS];
+    pthread_t threads[CONNECTIONS];
+    struct timespec start, end;
+    clock_gettime(CLOCK_MONOTONIC, &start);
+    for (int place = 0; place < count; place++) {
+        hosts[place] = (struct host){sockets[place], place, kind, rounds, is_plain};
+        pthread_create(&threads[place], NULL, play, &hosts[place]);
+    }
+    for (int place = 0; place < count; place++) pthread_join(threads[place], NULL);
+    clock_gettime(CLOCK_MONOTONIC, &end);
+    double seconds = (double)(end.tv_sec - start.tv_sec) + 1e-9 * (double)(end.tv_nsec - start.tv_nsec);
+    return (double)count * rounds * ROUND / seconds;
+}
+
+int main(int argc, char **argv)
+{
+    static const char *names[3] = {"TEST UNIT READY", "WRITE(6), 64 KiB", "READ(6), 64 KiB"};
+    static const int rounds[3] = {200, 20, 20};
+    int ours[CONNECTIONS], plain[CONNECTIONS];
+    if (argc != 3) return 2;
+    struct sockaddr_un address = address_of(argv[2]);
+    int listener = socket(AF_UNIX, SOCK_STREAM, 0);
+    if (bind(listener, (struct sockaddr *)&address, sizeof address) != 0 || listen(listener, 8) != 0) fail(argv[2]);
+    pid_t child = fork();
+    if (child == 0) serve_plainly(listener);
+    for (int place = 0; place < CONNECTIONS; place++) {
+        ours[place] = connect_to(argv[1]);
+        prepare(ours[place], place);
+        plain[place] = connect_to(argv[2]);
+    }
+    printf("%-18s %11s %10s %10s %6s\n", "command", "connections", "ours/s", "plain/s", "ratio");
+    for (int kind = READY; kind <= READ; kind++) {
+        for (int count = 1; count <= CONNECTIONS; count *= 4) {
+            double theirs = measure(plain, count, (enum kind)kind, rounds[kind], 1);
+            double mine = measure(ours, count, (enum kind)kind, rounds[kind], 0);
+            printf("%-18s %11d %10.0f %10.0f %5.0f%%\n", names[kind], count, mine, theirs, 100 * mine / theirs);
+        }
+    }
+    for (int place = 0; place < CONNECTIONS; place++) {
+        uint8_t in[16];
+        send_all(ours[place], (const uint8_t[5]){0, 0, 0, 1, 4}, 5);
+        receive_all(ours[place], in, 5);
+        close(ours[place]);
+    }
+    kill(child, 15);
+    wait(NULL);
+    return 0;
+}
