@@ -11,7 +11,7 @@ use Rattle.vtl.specs.declared.command_line.CommandLineFault.TheVariants as line
 use Rattle.vtl.specs.declared.library_options.OptionFault.{OptionFault}
 use Rattle.vtl.specs.declared.library_options.OptionFault.TheVariants.{MoreVolumes}
 use Rattle.vtl.specs.declared.program_fault.ProgramFault.{ProgramFault}
-use Rattle.vtl.specs.declared.program_fault.ProgramFault.TheVariants.{CommandLine, Options, Replay, Serve}
+use Rattle.vtl.specs.declared.program_fault.ProgramFault.TheVariants.{CommandLine, Options, Replay, Serve, Cells}
 use Rattle.vtl.specs.declared.serve_fault.ServeFault.{ServeFault}
 use Rattle.vtl.specs.declared.serve_fault.ServeFault.TheVariants as serve
 
@@ -24,6 +24,7 @@ refusal_status _ = 2
 abbrev pub command_line_status : CommandLineFault → ℕ
 command_line_status (line.Refused error) = refusal_status (kind_of error)
 command_line_status line.NotText = 2
+command_line_status (line.NoClass name) = 2
 command_line_status line.NoMemory = 3
 
 abbrev pub option_status : OptionFault → ℕ
@@ -39,11 +40,13 @@ program_status (CommandLine fault) = command_line_status fault
 program_status (Options fault) = option_status fault
 program_status (Replay fault) = exit_status fault
 program_status (Serve fault) = serve_status fault
+program_status Cells = 4
 
 -- of a command line that isn't the program's, `clap` chooses the words
 abbrev pub command_line_text : CommandLineFault → Option (List ℕ)
 command_line_text (line.Refused error) = None
 command_line_text line.NotText = Some (codes "vtl: arguments that are not text")
+command_line_text (line.NoClass name) = Some (codes "vtl: no class of commands is named " ++ string_bytes name)
 command_line_text line.NoMemory = Some (codes "vtl: want of memory")
 
 abbrev pub option_fault_text : OptionFault → List ℕ
@@ -60,6 +63,7 @@ program_text (CommandLine fault) = command_line_text fault
 program_text (Options fault) = Some (option_fault_text fault)
 program_text (Replay fault) = Some (fault_text fault)
 program_text (Serve fault) = Some (serve_text fault)
+program_text Cells = Some (codes "vtl: device fault\nvtl: the permission table could not be written")
 
 -- how the program ends: nothing is written where the task was done, and else the text and a line feed
 abbrev pub ending_status : Result (Unit {0}) ProgramFault → ℕ

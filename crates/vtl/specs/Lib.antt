@@ -1,3 +1,4 @@
+pub mod Cells
 pub mod Devices
 pub mod Options
 pub mod Faults

@@ -2,7 +2,7 @@
 use Rattle.std.specs.Prelude.{◌≤◌}
 use Rattle.vtl.specs.declared.library_options.LibraryOptions.{LibraryOptions}
 use Rattle.vtl.specs.declared.command_line.Task.{Task}
-use Rattle.vtl.specs.declared.command_line.Task.TheVariants.{Replay, Serve}
+use Rattle.vtl.specs.declared.command_line.Task.TheVariants.{Replay, Serve, Cells}
 use Rattle.vtl.specs.declared.serve.Place.{Place}
 
 pub record AreInRange (options : LibraryOptions) : Type 0 where
@@ -21,3 +21,4 @@ pub record IsPlace (place : Place) : Type 0 where
 abbrev pub HasOptionsInRange : Task → Type 0
 HasOptionsInRange (Replay options audit) = AreInRange options
 HasOptionsInRange (Serve options place audit) = AreInRange options × IsPlace place
+HasOptionsInRange (Cells class) = Unit {0}

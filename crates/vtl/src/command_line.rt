@@ -5,7 +5,9 @@ use crate::library_options::LibraryOptions;
 use crate::serve::Place;
 use clap::error::ErrorKind;
 use clap::{Arg, ArgAction, ArgMatches, Command, value_parser};
+use permission_chart::class_named;
 use replay_output::Audit;
+use scsi_cdb::Class;
 use std::alloc::{AllocError, Global};
 use std::fmt;
 use thiserror::Error;
@@ -18,6 +20,8 @@ pub enum Task {
     Replay(LibraryOptions, Audit),
     /// Serve a library at a socket, and print what is wanted of the records at the end.
     Serve(LibraryOptions, Place, Audit),
+    /// Print the permission table, or the line of one class of commands.
+    Cells(Option<Class>),
 }
 
 /// Why a command line names no task.
@@ -26,6 +30,8 @@ pub enum CommandLineFault {
     /// It isn't the program's, or it asks for help or the version.
     Refused(clap::Error),
     NotText,
+    /// No class of commands has this name.
+    NoClass(String),
     NoMemory,
 }
 
@@ -38,6 +44,9 @@ impl fmt::Display for CommandLineFault {
         match self {
             CommandLineFault::Refused(error) => write!(f, "{error}"),
             CommandLineFault::NotText => f.write_str("vtl: arguments that are not text"),
+            CommandLineFault::NoClass(name) => {
+                write!(f, "vtl: no class of commands is named {name}")
+            }
             CommandLineFault::NoMemory => f.write_str("vtl: want of memory"),
         }
     }
@@ -58,31 +67,76 @@ impl From<clap::Error> for CommandLineFault {
     }
 }
 
+/// What the help of each command ends with.
+const REPLAY_EXAMPLE: &str =
+    "Example, of a library with two drives, with its records behind the replies:
+  vtl replay --drives 2 --audit < examples/four_commands.script";
+
+const SERVE_EXAMPLE: &str = "Example, of a library for two hosts:
+  vtl serve --socket /run/vtl/socket --sessions 2";
+
+const CELLS_EXAMPLE: &str = "Example, of who may write under which type of reservation:
+  vtl cells 'WRITE(6)'";
+
+const EXAMPLES: &str = "Examples:
+  vtl replay < examples/four_commands.script
+  vtl cells 'WRITE(6)'
+  vtl serve --socket /run/vtl/socket --sessions 2";
+
 /// The task that the words of a command line name, the first of them the program's own name.
 pub fn task_of(alloc: Global, words: &[String]) -> Result<Task, CommandLineFault>
     ensures { IfOk result HasOptionsInRange }
 {
-    let replay = Command::new(alloc, "replay").about(
-        "Runs the script of standard input and prints a line for each reply",
-    );
-    let serve = Command::new(alloc, "serve").about(
-        "Serves the library behind a Unix socket, and prints a line for each record at the end",
-    );
+    let replay = Command::new(alloc, "replay")
+        .about("Runs the script of standard input and prints a line for each reply")
+        .after_help(REPLAY_EXAMPLE);
+    let serve = Command::new(alloc, "serve")
+        .about(
+            "Serves the library behind a Unix socket, and prints a line for each record at the end",
+        )
+        .after_help(SERVE_EXAMPLE);
     let command = Command::new(alloc, "vtl")
         .about("A tape library as a SCSI target")
         .version("0.1.0")
+        .after_help(EXAMPLES)
         .subcommand_required(true)
         .subcommand(with_audit(alloc, with_library(alloc, replay)?)?)?
-        .subcommand(with_place(alloc, with_library(alloc, serve)?)?)?;
+        .subcommand(with_place(alloc, with_library(alloc, serve)?)?)?
+        .subcommand(cells_command(alloc)?)?;
     let matches = command.try_get_matches_from(words)?;
     if let Some(serve) = matches.subcommand_matches("serve") {
         let place = place_of(alloc, serve)?;
         return Ok(Task::Serve(library_of(serve), place, records_of(serve)));
     }
+    if let Some(cells) = matches.subcommand_matches("cells") {
+        return Ok(Task::Cells(class_of(alloc, cells)?));
+    }
     match matches.subcommand_matches("replay") {
         Some(replay) => Ok(Task::Replay(library_of(replay), audit_of(replay))),
         // `clap` asks for a subcommand, and there is no other.
         None => Ok(Task::Replay(LibraryOptions::USUAL, Audit::Off)),
+    }
+}
+
+/// The command that prints the permission table.
+fn cells_command<'a>(alloc: Global) -> Result<Command<'a>, AllocError> {
+    let class = Arg::new(alloc, "class").value_name("CLASS").help(
+        "The one class of commands to print, by its name in the table",
+    );
+    Command::new(alloc, "cells")
+        .about("Prints which commands the permission table of persistent reservations allows")
+        .after_help(CELLS_EXAMPLE)
+        .arg(class)
+}
+
+/// The class of commands that is asked for by its name, if one is.
+fn class_of(alloc: Global, command: &ArgMatches) -> Result<Option<Class>, CommandLineFault> {
+    let Some(name) = command.get_str("class") else {
+        return Ok(None);
+    };
+    match class_named(name) {
+        Some(class) => Ok(Some(class)),
+        None => Err(CommandLineFault::NoClass(String::from_str(alloc, name)?)),
     }
 }
 

@@ -2,6 +2,7 @@
 //! behind a Unix socket.
 #![tactic(auto)]
 
+mod cells;
 mod command_line;
 mod laws;
 mod library;

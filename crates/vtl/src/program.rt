@@ -3,6 +3,7 @@ ghost use Rattle.std.specs.Io.KnownBytes.{Appends};
 ghost use Rattle.vtl.specs.Faults.{ending_line, ending_status};
 ghost use Rattle.vtl.specs.Options.{AreInRange, HasOptionsInRange};
 
+use crate::cells::write_cells;
 use crate::command_line::{CommandLineFault, Task, task_of};
 use crate::library::library;
 use crate::library_options::{LibraryOptions, fits};
@@ -75,6 +76,9 @@ fn perform<R: AllocGlobal + Env + Files + Input + Net + Print + Sync + Threads +
         Task::Serve(options, place, audit) => {
             fits(options.volumes, options.slots)?;
             Ok(serve(rt, options, place, audit)?)
+        }
+        Task::Cells(class) => {
+            write_cells(&mut io::writer(rt), class).map_err(|_| ProgramFault::Cells)
         }
     }
 }

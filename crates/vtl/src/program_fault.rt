@@ -14,6 +14,8 @@ pub enum ProgramFault {
     Options(#[from] OptionFault),
     Replay(#[from] ReplayFault),
     Serve(#[from] ServeFault),
+    /// The permission table couldn't be written, or not all of it.
+    Cells,
 }
 
 impl ProgramFault {
@@ -31,10 +33,12 @@ impl ProgramFault {
                 _ => 2,
             },
             ProgramFault::CommandLine(CommandLineFault::NotText) => 2,
+            ProgramFault::CommandLine(CommandLineFault::NoClass(_)) => 2,
             ProgramFault::CommandLine(CommandLineFault::NoMemory) => 3,
             ProgramFault::Options(OptionFault::MoreVolumes) => 2,
             ProgramFault::Replay(fault) => fault.status(),
             ProgramFault::Serve(fault) => fault.status(),
+            ProgramFault::Cells => 4,
         }
     }
 }
@@ -50,6 +54,9 @@ impl fmt::Display for ProgramFault {
             ProgramFault::Options(fault) => write!(f, "{fault}"),
             ProgramFault::Replay(fault) => write!(f, "{fault}"),
             ProgramFault::Serve(fault) => write!(f, "{fault}"),
+            ProgramFault::Cells => {
+                f.write_str("vtl: device fault\nvtl: the permission table could not be written")
+            }
         }
     }
 }

@@ -1,8 +1,10 @@
 //! Words of command lines, and the tasks that they name.
 
+use crate::cells::write_cells;
 use crate::command_line::{Task, task_of};
 use crate::program_fault::ProgramFault;
 use replay_output::Audit;
+use scsi_cdb::Class;
 use std::test::Fail;
 
 #[test]
@@ -44,6 +46,24 @@ fn reads_command_lines(rt: HostRuntime) -> Result<(), Fail> {
         ("vtl replay --help", 0, "Usage: vtl replay"),
         ("vtl replay --help", 0, "--audit"),
         ("vtl replay --help", 0, "--spans"),
+        (
+            "vtl --help",
+            0,
+            "  vtl replay < examples/four_commands.script",
+        ),
+        ("vtl replay --help", 0, "  vtl replay --drives 2 --audit < "),
+        (
+            "vtl serve --help",
+            0,
+            "  vtl serve --socket /run/vtl/socket --sessions 2",
+        ),
+        ("vtl cells --help", 0, "  vtl cells 'WRITE(6)'"),
+        (
+            "vtl cells WRITE",
+            2,
+            "vtl: no class of commands is named WRITE",
+        ),
+        ("vtl cells READ(6) WRITE(6)", 2, "unexpected argument"),
         ("vtl --version", 0, "vtl 0.1.0"),
     ];
     for (line, status, text) in rows {
@@ -116,5 +136,44 @@ fn reads_where_to_serve(rt: HostRuntime) -> Result<(), Fail> {
     assert_eq!(rt; place.socket.as_str(), "/run/vtl");
     assert_eq!(rt; place.sessions, 64);
     assert_eq!(rt; audit, Audit::Spans);
+    Ok(())
+}
+
+#[test]
+fn reads_which_cells_to_print(rt: HostRuntime) -> Result<(), Fail> {
+    let rows = [
+        ("vtl cells", None),
+        ("vtl cells WRITE(6)", Some(Class::Write)),
+        ("vtl cells pr-in", Some(Class::PersistentReserveIn)),
+    ];
+    for (line, wanted) in rows {
+        let mut words = Vec::new(rt.alloc());
+        for word in line.split(' ') {
+            words.push(String::from_str(rt.alloc(), word)?)?;
+        }
+        let Ok(Task::Cells(class)) = task_of(rt.alloc(), &words) else {
+            return Err("another task".into());
+        };
+        assert_eq!(rt; class, wanted, "{line}");
+    }
+    Ok(())
+}
+
+#[test]
+fn prints_cells(rt: HostRuntime) -> Result<(), Fail> {
+    let mut written = Vec::new(rt.alloc());
+    write_cells(&mut written, Some(Class::Read))?;
+    let wanted = "\
+A allowed, C conflict         NONE     WE     EA   WERO   EARO   WEAR   EAAR
+HOLDER REGISTERED OTHER        R O  H R O  H R O  H R O  H R O  H   O  H   O
+READ(6)                        A A  A A A  A C C  A A A  A A C  A   A  A   C
+";
+    assert_eq!(rt; written.as_slice(), wanted.as_bytes());
+    let mut all = Vec::new(rt.alloc());
+    write_cells(&mut all, None)?;
+    assert_eq!(rt;
+        all.as_slice().iter().filter(|byte| **byte == b'\n').count(),
+        33
+    );
     Ok(())
 }
