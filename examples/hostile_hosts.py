@@ -1,0 +1,136 @@
+#!/usr/bin/env python3
+"""Hosts that misbehave at `vtl serve`, beside one that doesn't: status 0 where the server and that one host come through.
+
+One is killed in the middle of a frame, one never logs in, one sends 10 MB of noise, and one sends frames one byte at a time; then
+sixty-four hosts ask a hundred times each, at once.
+"""
+import os
+import random
+import signal
+import socket
+import struct
+import subprocess
+import tempfile
+import threading
+import time
+
+TOP = os.path.dirname(os.path.dirname(os.path.abspath(__file__)))
+VTL = os.path.join(TOP, "crates/vtl/out/vtl")
+READY = bytes([2, 0, 6]) + bytes(6)
+
+
+def framed(body):
+    return struct.pack(">I", len(body)) + body
+
+
+def login(host):
+    return framed(b"\x01" + struct.pack(">QH", 0x5000000000000000 + host, 1))
+
+
+def connect(path):
+    connection = socket.socket(socket.AF_UNIX, socket.SOCK_STREAM)
+    connection.connect(path)
+    return connection
+
+
+def receive(connection):
+    head = exactly(connection, 4)
+    return exactly(connection, struct.unpack(">I", head)[0])
+
+
+def exactly(connection, count):
+    read = b""
+    while len(read) < count:
+        piece = connection.recv(count - len(read))
+        if not piece:
+            raise ConnectionError("the server closed")
+        read += piece
+    return read
+
+
+def well_behaved(path, host, times, pieces=None):
+    """Logs in, asks so often, logs out; the statuses of its replies."""
+    with connect(path) as connection:
+        connection.sendall(login(host))
+        assert receive(connection) == b"\x81\x00"
+        statuses = []
+        for _ in range(times):
+            for piece in [framed(READY)] if pieces is None else [bytes([b]) for b in framed(READY)]:
+                connection.sendall(piece)
+            statuses.append(receive(connection)[1])
+        connection.sendall(framed(b"\x04"))
+        assert receive(connection) == b"\x84"
+        return statuses
+
+
+def killed_within_a_frame(path):
+    child = os.fork()
+    if child == 0:
+        connection = connect(path)
+        connection.sendall(login(0xDEAD))
+        receive(connection)
+        connection.sendall(framed(READY)[:7])
+        time.sleep(60)
+    time.sleep(0.5)
+    os.kill(child, signal.SIGKILL)
+    os.waitpid(child, 0)
+
+
+def silent(path):
+    with connect(path):
+        time.sleep(1)
+
+
+def noisy(path):
+    noise = random.Random(1).randbytes(10_000_000)
+    with connect(path) as connection:
+        try:
+            connection.sendall(login(0xBAD) + noise)
+        except (BrokenPipeError, ConnectionResetError):
+            pass
+
+
+def serve(sessions, hosts):
+    """A server for so many sessions, and what each host does at it; the server's status, records and faults."""
+    with tempfile.TemporaryDirectory() as folder:
+        path = os.path.join(folder, "vtl")
+        with open(os.path.join(folder, "records"), "w+b") as records:
+            server = subprocess.Popen([VTL, "serve", "--socket", path, "--sessions", str(sessions)], stdout=records, stderr=subprocess.PIPE)
+            while not os.path.exists(path):
+                assert server.poll() is None, "the server ended"
+                time.sleep(0.01)
+            threads = [threading.Thread(target=host, args=(path,)) for host in hosts]
+            for thread in threads:
+                thread.start()
+            for thread in threads:
+                thread.join()
+            _, faults = server.communicate(timeout=60)
+            records.seek(0)
+            return server.returncode, records.read().decode().splitlines(), faults.decode().splitlines()
+
+
+def main():
+    told = {}
+    hosts = [
+        killed_within_a_frame,
+        silent,
+        noisy,
+        lambda path: told.update(slow=well_behaved(path, 0xA, 20, pieces=1)),
+        lambda path: told.update(good=well_behaved(path, 0xB, 1000)),
+    ]
+    status, records, faults = serve(len(hosts), hosts)
+    print(f"misbehaving hosts: status {status}, {len(records)} records, {faults}")
+    assert told["slow"] == [2] + 19 * [0] and told["good"] == [2] + 999 * [0]
+    assert status == 4 and len(faults) == 2 and "bad frame" in faults[1] or "too long" in faults[1]
+    many = {}
+    hosts = [lambda path, host=host: many.update({host: well_behaved(path, host, 100)}) for host in range(64)]
+    status, records, faults = serve(64, hosts)
+    print(f"sixty-four at once: status {status}, {len(records)} records, {faults}")
+    assert status == 0 and not faults
+    assert all(many[host] == [2] + 99 * [0] for host in range(64))
+    numbers = [int(line.split()[0]) for line in records]
+    # LUN 0 has the records of all: each host's commands, and its loss at the end. The drive has none.
+    assert numbers == list(range(1, len(numbers) + 1)) and len(numbers) == 64 * 101
+
+
+main()
