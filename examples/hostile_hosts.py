@@ -121,7 +121,8 @@ def main():
     status, records, faults = serve(len(hosts), hosts)
     print(f"misbehaving hosts: status {status}, {len(records)} records, {faults}")
     assert told["slow"] == [2] + 19 * [0] and told["good"] == [2] + 999 * [0]
-    assert status == 4 and len(faults) == 2 and "bad frame" in faults[1] or "too long" in faults[1]
+    assert status == 4 and len(faults) == 2
+    assert "bad frame" in faults[1] or "frame too long" in faults[1]
     many = {}
     hosts = [lambda path, host=host: many.update({host: well_behaved(path, host, 100)}) for host in range(64)]
     status, records, faults = serve(64, hosts)
