@@ -5,6 +5,7 @@ use Rattle.hex.specs.Hex.{encode_lower}
 use Rattle.scsi_sense.specs.FixedSense.{fixed_sense}
 use Rattle.scsi_sense.specs.Status.{status_code}
 use Rattle.scsi_sense.specs.declared.sense.Sense.{Sense}
+use Rattle.scsi_sense.specs.declared.status.Status.{Status}
 use Rattle.unit_answers.specs.declared.reply.Reply.{Reply}
 
 -- bytes in hexadecimal, or a dash where there are none
@@ -16,9 +17,12 @@ sense_text None = 45 ∷ []
 sense_text (Some sense) = encode_lower (fixed_sense sense)
 
 -- STATUS SENSE DATA
-unfoldable pub reply_line : Reply → List ℕ
-reply_line r =
-    encode_lower (status_code r.status ∷ []) ++ (32 ∷ sense_text r.sense) ++ (32 ∷ hex_or_dash r.payload) ++ 10 ∷ []
+unfoldable pub answer_line : Status → Option Sense → (payload : List ℕ) → List ℕ
+answer_line status sense payload =
+    encode_lower (status_code status ∷ []) ++ (32 ∷ sense_text sense) ++ (32 ∷ hex_or_dash payload) ++ 10 ∷ []
+
+abbrev pub reply_line : Reply → List ℕ
+reply_line r = answer_line r.status r.sense r.payload
 
 -- a line for each reply
 abbrev pub text_of : List Reply → List ℕ

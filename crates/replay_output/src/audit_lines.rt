@@ -38,6 +38,15 @@ pub fn audit_text<D: DeviceServer>(
     Ok(text)
 }
 
+/// A line for each of some records, in their order.
+pub fn records_text(alloc: Global, entries: &[Record]) -> Result<String, AllocError>
+    ensures { IfOk result (λ text. string_bytes text ≡ lines_of_records entries.now) }
+{
+    let mut text = String::new(alloc);
+    write_records(alloc, &mut text, entries)?;
+    Ok(text)
+}
+
 /// Adds the lines of each unit's records.
 fn write_units<D: DeviceServer>(
     alloc: Global,

@@ -8,6 +8,6 @@ mod reply_line;
 #[cfg(test)]
 mod tests;
 
-pub use audit_lines::{Audit, audit_text};
+pub use audit_lines::{Audit, audit_text, records_text};
 pub use laws::worked_rows;
-pub use reply_line::write_reply;
+pub use reply_line::{write_answer, write_reply};

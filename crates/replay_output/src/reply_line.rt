@@ -1,22 +1,35 @@
 ghost use Rattle.std.specs.Prelude.{◌≡◌, ◌++◌, OnOk};
-ghost use Rattle.replay_output.specs.Replies.{reply_line, sense_text, hex_or_dash};
+ghost use Rattle.replay_output.specs.Replies.{answer_line, reply_line, sense_text, hex_or_dash};
 
 use crate::hex_text::{digits_of, write_hex};
 use logical_unit::Reply;
-use scsi_sense::Sense;
+use scsi_sense::{Sense, Status};
 use std::alloc::AllocError;
 
-/// Adds the line `STATUS SENSE DATA` of a reply: the status in two hexadecimal digits, the sense and the data
-/// in hexadecimal with lower case letters, and a dash where there is none (profile).
-#[tactic(auto, unfolding(crate::specs::Replies::reply_line))]
+/// Adds the line of a reply. After an error some of it may have been added.
 pub fn write_reply(text: &mut Vec<u8>, reply: &Reply) -> Result<(), AllocError>
     ensures { OnOk result (text.new.items ≡ text.old.items ++ reply_line reply.now) }
 {
-    text.extend_from_slice(&digits_of(reply.status.code()))?;
+    write_answer(text, reply.status, &reply.sense, reply.payload.bytes())
+}
+
+/// Adds the line `STATUS SENSE DATA` of an answer: the status in two hexadecimal digits, the sense and the data
+/// in hexadecimal with lower case letters, and a dash where there is none (profile). After an error some of it may have
+/// been added.
+#[tactic(auto, unfolding(crate::specs::Replies::answer_line))]
+pub fn write_answer(
+    text: &mut Vec<u8>,
+    status: Status,
+    sense: &Option<Sense>,
+    payload: &[u8],
+) -> Result<(), AllocError>
+    ensures { OnOk result (text.new.items ≡ text.old.items ++ answer_line status sense.now payload.now) }
+{
+    text.extend_from_slice(&digits_of(status.code()))?;
     text.push(b' ')?;
-    write_sense(text, &reply.sense)?;
+    write_sense(text, sense)?;
     text.push(b' ')?;
-    write_data(text, reply.payload.bytes())?;
+    write_data(text, payload)?;
     text.push(b'\n')?;
     Ok(())
 }
