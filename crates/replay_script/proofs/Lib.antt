@@ -2,4 +2,5 @@ pub mod Places
 pub mod Pairs
 pub mod Cuts
 pub mod Lines
+pub mod Limits
 pub mod RowLemmas

@@ -5,8 +5,9 @@ use Rattle.hex.specs.Hex.{decode_pairs}
 use Rattle.replay_script.specs.Text.{pieces}
 use Rattle.replay_script.specs.Words.{nexus_in, unit_in, hex_in}
 use Rattle.replay_script.specs.Lines.{line_in}
+use Rattle.replay_script.specs.Requests.{request_line_in}
 use Rattle.replay_script.specs.Script.{events_in}
-use Rattle.replay_script.specs.Rows.{LinesRead, LineFaults, ScriptsRead}
+use Rattle.replay_script.specs.Rows.{LinesRead, LineFaults, ScriptsRead, RequestsRead}
 
 pub lines_read : LinesRead
 unfolding line_in pieces nexus_in unit_in hex_in decode_pairs
@@ -59,4 +60,30 @@ scripts_read = record {
   first_fault = refl;
   told = refl;
   told_of_memory = refl;
+}
+
+pub requests_read : RequestsRead
+unfolding request_line_in pieces unit_in hex_in decode_pairs
+requests_read = record {
+  empty = refl;
+  comment = refl;
+  command = refl;
+  with_data = refl;
+  reset = refl;
+  too_long = λ line h. rw h refl;
+  one_word = refl;
+  four_words = refl;
+  bare_reset = refl;
+  reset_of_three_words = refl;
+  loss = refl;
+  nexus = refl;
+  unit_first = refl;
+  unit_of_a_reset = refl;
+  two_spaces = refl;
+  odd_digits = refl;
+  cdb_of_17_bytes = refl;
+  empty_data = refl;
+  script = refl;
+  third_line = refl;
+  first_fault = refl;
 }

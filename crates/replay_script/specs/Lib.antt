@@ -1,6 +1,7 @@
 pub mod Text
 pub mod Words
 pub mod Lines
+pub mod Requests
 pub mod Script
 pub mod Faults
 pub mod Rows

@@ -72,11 +72,14 @@ loss_in (nexus_word ∷ lun_word ∷ []) = do
 loss_in _ = Err WordCount
 
 -- behind the word reset: LUN
+abbrev pub sole_unit_in : List (List ℕ) → Result ℕ LineFault
+sole_unit_in (lun_word ∷ []) = unit_in lun_word
+sole_unit_in _ = Err WordCount
+
 abbrev pub reset_in : List (List ℕ) → Result Said LineFault
-reset_in (lun_word ∷ []) = do
-  lun ← unit_in lun_word
+reset_in words = do
+  lun ← sole_unit_in words
   Ok (Reset lun)
-reset_in _ = Err WordCount
 
 -- the first word, exactly loss or reset, fixes the form of the line
 abbrev pub event_in : List (List ℕ) → Result Said LineFault
@@ -86,13 +89,17 @@ event_in (first ∷ words) =
     else if bytes_eq first (codes "reset") then reset_in words
     else command_in (words_in (first ∷ words))
 
-abbrev pub some_said : Result Said LineFault → Result (Option Said) LineFault
+abbrev pub some_said : {A : Type 0} → Result A LineFault → Result (Option A) LineFault
 some_said read = read >>= λ e. Ok (Some e)
 
--- what a line says: nothing, where it is empty or begins with #
-unfoldable pub line_in : List ℕ → Result (Option Said) LineFault
-line_in line =
+-- what a line says by its words: nothing, where it is empty or begins with #
+abbrev pub line_by : {A : Type 0} → (List (List ℕ) → Result A LineFault) → List ℕ → Result (Option A) LineFault
+line_by words_say line =
     if nat_lt 270000 (length line) then Err TooLong
     else if length line == 0 then Ok None
     else if slice_index line 0 == 35 then Ok None
-    else some_said (event_in (pieces 32 line))
+    else some_said (words_say (pieces 32 line))
+
+-- what a line of a replay's script says
+unfoldable pub line_in : List ℕ → Result (Option Said) LineFault
+line_in line = line_by event_in line

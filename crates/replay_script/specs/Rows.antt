@@ -1,4 +1,4 @@
--- Worked rows: what lines and scripts say, and their faults.
+-- Worked rows: what lines and scripts of a replay and of a host say, and their faults.
 use Rattle.std.specs.Prelude.{◌≡◌, ℕ, List, [], ◌∷◌, ◌++◌, length, replicate, Some, None, Result, Ok, Err, Option, codes}
 use Rattle.scsi_nexus.specs.declared.nexus.Nexus.{Nexus}
 use Rattle.replay_script.specs.declared.line_fault.LineFault.{LineFault}
@@ -6,7 +6,9 @@ use Rattle.replay_script.specs.declared.line_fault.LineFault.TheVariants.{TooLon
 use Rattle.replay_script.specs.declared.script_fault.ScriptFault.TheVariants.{Line, NoMemory}
 use Rattle.replay_script.specs.Faults.{script_fault_text}
 use Rattle.replay_script.specs.Lines.{Said, Command, Loss, Reset, line_in}
-use Rattle.replay_script.specs.Script.{script_in}
+use Rattle.replay_script.specs.Requests as host
+use Rattle.replay_script.specs.Requests.{Asked, request_line_in}
+use Rattle.replay_script.specs.Script.{script_in, requests_in}
 
 abbrev pub a : ℕ → Nexus
 a port = record { sas = 0x500000000000000A; port = port }
@@ -71,3 +73,33 @@ pub record ScriptsRead : Type 0 where
   pub first_fault : script_in (codes "reset 0" ++ 10 ∷ codes "reset" ++ 10 ∷ codes "reset 256") ≡ Err (2, WordCount)
   pub told : script_fault_text (Line 42 BadNexus) ≡ codes "line 42: bad nexus"
   pub told_of_memory : script_fault_text NoMemory ≡ codes "want of memory"
+
+abbrev pub asks : Asked → Result (Option Asked) LineFault
+asks request = Ok (Some request)
+
+-- a host's lines are those of a replay without the nexus, and without the line of a loss
+pub record RequestsRead : Type 0 where
+  pub empty : request_line_in [] ≡ Ok None
+  pub comment : request_line_in (codes "# reset 0") ≡ Ok None
+  pub command : request_line_in (codes "0 000000000000") ≡ asks (host.Command 0 (replicate 6 0) [])
+  pub with_data : request_line_in (codes "255 0a000000020F 00fF") ≡ asks (host.Command 255 (0x0A ∷ 0 ∷ 0 ∷ 0 ∷ 2 ∷ 0x0F ∷ []) (0x00 ∷ 0xFF ∷ []))
+  pub reset : request_line_in (codes "reset 9") ≡ asks (host.Reset 9)
+  pub too_long : (line : List ℕ) → length line ≡ 270001 → request_line_in line ≡ Err TooLong
+  pub one_word : request_line_in (codes "0") ≡ Err WordCount
+  -- before the forms of the words are looked at
+  pub four_words : request_line_in (codes "x 00 00 00") ≡ Err WordCount
+  pub bare_reset : request_line_in (codes "reset") ≡ Err WordCount
+  pub reset_of_three_words : request_line_in (codes "reset 0 0") ≡ Err WordCount
+  pub loss : request_line_in (codes "loss 0") ≡ Err BadUnit
+  pub nexus : request_line_in (codes "500000000000000a.1 0 00") ≡ Err BadUnit
+  -- the unit before the bytes
+  pub unit_first : request_line_in (codes "256 x") ≡ Err BadUnit
+  pub unit_of_a_reset : request_line_in (codes "reset 256") ≡ Err BadUnit
+  pub two_spaces : request_line_in (codes "0  00") ≡ Err BadHex
+  pub odd_digits : request_line_in (codes "0 000") ≡ Err BadHex
+  pub cdb_of_17_bytes : request_line_in (codes "0 000102030405060708090a0b0c0d0e0f10") ≡ Err BadHex
+  pub empty_data : request_line_in (codes "0 00 ") ≡ Err BadHex
+  -- the last line feed may be left out, and lines without a request are counted
+  pub script : requests_in (codes "reset 0" ++ 10 ∷ codes "reset 1") ≡ Ok (host.Reset 0 ∷ host.Reset 1 ∷ [])
+  pub third_line : requests_in (codes "# a comment" ++ 10 ∷ 10 ∷ codes "reset 256") ≡ Err (3, BadUnit)
+  pub first_fault : requests_in (codes "reset 0" ++ 10 ∷ codes "reset" ++ 10 ∷ codes "reset 256") ≡ Err (2, WordCount)

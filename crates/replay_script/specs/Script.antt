@@ -1,51 +1,68 @@
--- A script: the events of its lines, or its first line with a fault.
+-- A script: the events or requests of its lines, or its first line with a fault.
 use Rattle.std.specs.Prelude.{ℕ, ◌+◌, ◌≡◌, List, [], ◌∷◌, ◌++◌, map, Option, Some, None, Result, Ok, Err}
 use Rattle.std.specs.Global.{Vec}
 use Rattle.replay_script.specs.declared.line_fault.LineFault.{LineFault}
 use Rattle.replay_script.specs.declared.script_fault.ScriptFault.{ScriptFault}
 use Rattle.replay_script.specs.declared.script_fault.ScriptFault.TheVariants.{Line, NoMemory}
 use Rattle.target_core.specs.declared.event.Event.{Event}
+use Rattle.replay_script.specs.declared.request.Request.{Request}
 use Rattle.replay_script.specs.Lines.{Said, said, line_in}
+use Rattle.replay_script.specs.Requests.{Asked, asked, request_line_in}
 use Rattle.replay_script.specs.Text.{pieces}
 
 abbrev pub saids : List Event → List Said
 saids events = map said events
 
--- events, and then what the lines behind them say
-abbrev pub with_front : List Said → Result (List Said) (ℕ × LineFault) → Result (List Said) (ℕ × LineFault)
-with_front front (Ok events) = Ok (front ++ events)
+abbrev pub askeds : List Request → List Asked
+askeds requests = map asked requests
+
+-- what some lines say, and then what the lines behind them say
+abbrev pub with_front : {A : Type 0} → List A → Result (List A) (ℕ × LineFault) → Result (List A) (ℕ × LineFault)
+with_front front (Ok others) = Ok (front ++ others)
 with_front front (Err e) = Err e
 
-abbrev pub by_line : ℕ → Result (Option Said) LineFault → Result (List Said) (ℕ × LineFault) → Result (List Said) (ℕ × LineFault)
+abbrev pub by_line : {A : Type 0} → ℕ → Result (Option A) LineFault → Result (List A) (ℕ × LineFault) → Result (List A) (ℕ × LineFault)
 by_line n (Err fault) others = Err (n, fault)
 by_line n (Ok None) others = others
-by_line n (Ok (Some event)) others = with_front (event ∷ []) others
+by_line n (Ok (Some said)) others = with_front (said ∷ []) others
 
--- the events of lines, the first of them line n, or the number of the first line with a fault and that fault
+-- what lines say one by one, the first of them line n, or the number of the first line with a fault and that fault
+abbrev pub lines_in : {A : Type 0} → (List ℕ → Result (Option A) LineFault) → ℕ → List (List ℕ) → Result (List A) (ℕ × LineFault)
+lines_in line_says n [] = Ok []
+lines_in line_says n (line ∷ lines) = by_line n (line_says line) (lines_in line_says (n + 1) lines)
+
+-- the events of lines
 unfoldable pub events_in : ℕ → List (List ℕ) → Result (List Said) (ℕ × LineFault)
-events_in n [] = Ok []
-events_in n (line ∷ lines) = by_line n (line_in line) (events_in (n + 1) lines)
+events_in n lines = lines_in line_in n lines
 
 -- a line ends at a line feed, which the last one may lack
 abbrev pub script_in : List ℕ → Result (List Said) (ℕ × LineFault)
 script_in text = events_in 1 (pieces 10 text)
 
--- a line's event, where it has one, was added
-abbrev pub TakesLine : List Said → List Said → Result (Option Said) LineFault → Type 0
+-- a host's script
+abbrev pub requests_in : List ℕ → Result (List Asked) (ℕ × LineFault)
+requests_in text = lines_in request_line_in 1 (pieces 10 text)
+
+-- what a line says, where it says something, was added
+abbrev pub TakesLine : {A : Type 0} → List A → List A → Result (Option A) LineFault → Type 0
 TakesLine old new (Ok None) = new ≡ old
-TakesLine old new (Ok (Some event)) = new ≡ old ++ event ∷ []
+TakesLine old new (Ok (Some said)) = new ≡ old ++ said ∷ []
 TakesLine old new (Err fault) = ⊥
 
 -- line n has the fault, unless memory ran out
-abbrev pub FailsAt : ℕ → ScriptFault → Result (Option Said) LineFault → Type 0
+abbrev pub FailsAt : {A : Type 0} → ℕ → ScriptFault → Result (Option A) LineFault → Type 0
 FailsAt n (Line number what) read = (number ≡ n) × (read ≡ Err what)
 FailsAt n NoMemory read = Unit {0}
 
 -- what a function answered is what was read, unless memory ran out
-abbrev pub ScriptFails : ScriptFault → Result (List Said) (ℕ × LineFault) → Type 0
+abbrev pub ScriptFails : {A : Type 0} → ScriptFault → Result (List A) (ℕ × LineFault) → Type 0
 ScriptFails (Line number what) read = read ≡ Err (number, what)
 ScriptFails NoMemory read = Unit {0}
 
 abbrev pub GivesScript : Result (Vec Event) ScriptFault → Result (List Said) (ℕ × LineFault) → Type 0
 GivesScript (Ok events) read = read ≡ Ok (saids events.items)
 GivesScript (Err fault) read = ScriptFails fault read
+
+abbrev pub GivesRequests : Result (Vec Request) ScriptFault → Result (List Asked) (ℕ × LineFault) → Type 0
+GivesRequests (Ok requests) read = read ≡ Ok (askeds requests.items)
+GivesRequests (Err fault) read = ScriptFails fault read

@@ -3,7 +3,7 @@ ghost use denote.Ref.{Bor};
 ghost use Rattle.std.specs.Option.{option_map};
 ghost use Rattle.replay_script.specs.Words.{Gives, hex_in};
 ghost use Rattle.replay_script.specs.Text.{pieces_after};
-ghost use Rattle.replay_script.specs.Lines.{said, said_by, words_seen, words_in, bytes_in, command_in, loss_in, reset_in, line_in};
+ghost use Rattle.replay_script.specs.Lines.{said, said_by, words_seen, words_in, bytes_in, command_in, loss_in, reset_in, sole_unit_in, line_in};
 
 use crate::cutting::{cut, is_end};
 use crate::line_fault::LineFault;
@@ -12,10 +12,10 @@ use std::alloc::Global;
 use target_core::Event;
 
 /// The longest line, without its line feed.
-const LINE_LIMIT: usize = 270_000;
+pub const LINE_LIMIT: usize = 270_000;
 
 /// The longest CDB.
-const CDB_LIMIT: usize = 16;
+pub const CDB_LIMIT: usize = 16;
 
 /// The most data that a command may bring.
 const DATA_LIMIT: usize = 131_053;
@@ -40,11 +40,11 @@ impl From<LineFault> for LineError {
 
 /// The words of a command's line.
 #[derive(Clone, Copy)]
-struct Words<'a> {
-    nexus: &'a [u8],
-    lun: &'a [u8],
-    cdb: &'a [u8],
-    data: Option<&'a [u8]>,
+pub struct Words<'a> {
+    pub nexus: &'a [u8],
+    pub lun: &'a [u8],
+    pub cdb: &'a [u8],
+    pub data: Option<&'a [u8]>,
 }
 
 /// The event of a line: nothing for an empty one and for a comment.
@@ -92,6 +92,14 @@ fn loss_of(words: Option<&[u8]>) -> Result<Event, LineError>
 fn reset_of(words: Option<&[u8]>) -> Result<Event, LineError>
     ensures { Gives said result (reset_in (pieces_after 32 words.entry)) }
 {
+    let lun = sole_unit_of(words)?;
+    Ok(Event::Reset { lun })
+}
+
+/// The unit of a line `reset LUN`, from the words behind the first.
+pub fn sole_unit_of(words: Option<&[u8]>) -> Result<u8, LineError>
+    ensures { Gives (λ lun. lun) result (sole_unit_in (pieces_after 32 words.entry)) }
+{
     let Some(rest) = words else {
         return Err(LineError::Fault(LineFault::WordCount));
     };
@@ -100,7 +108,7 @@ fn reset_of(words: Option<&[u8]>) -> Result<Event, LineError>
         return Err(LineError::Fault(LineFault::WordCount));
     }
     let lun = unit_of(lun)?;
-    Ok(Event::Reset { lun })
+    Ok(lun)
 }
 
 /// The command of a line `SAS.PORT LUN CDB [DATA]`, from its first word and those behind it.
@@ -123,7 +131,7 @@ fn command_of(alloc: Global, first: &[u8], others: Option<&[u8]>) -> Result<Even
 }
 
 /// The three or four words of a line, the first of them its nexus.
-fn words_of<'a>(nexus: &'a [u8], others: Option<&'a [u8]>) -> Option<Words<'a>>
+pub fn words_of<'a>(nexus: &'a [u8], others: Option<&'a [u8]>) -> Option<Words<'a>>
     ensures { option_map words_seen result ≡ words_in (nexus.now ∷ pieces_after 32 others.entry) }
 {
     let (lun, rest) = cut(others?, b' ');
@@ -149,7 +157,7 @@ fn words_of<'a>(nexus: &'a [u8], others: Option<&'a [u8]>) -> Option<Words<'a>>
 }
 
 /// The bytes of the fourth word, none where there is no such word.
-fn data_of(alloc: Global, word: Option<&[u8]>) -> Result<Vec<u8>, LineError>
+pub fn data_of(alloc: Global, word: Option<&[u8]>) -> Result<Vec<u8>, LineError>
     ensures { Gives (λ bytes. bytes.items) result
         (bytes_in (option_map (λ (b : Bor (List ℕ)). b.now) word.entry)) }
 {

@@ -1,4 +1,4 @@
-use crate::{LineFault, ScriptFault, events_of};
+use crate::{LineFault, Request, ScriptFault, events_of, requests_of};
 use scsi_nexus::Nexus;
 use std::test::Fail;
 use target_core::Event;
@@ -185,5 +185,60 @@ fn takes_long_data(rt: HostRuntime) -> Result<(), Fail> {
     let expected =
         b"\0\x11\x22\x33\x44\x55\x66\x77\x88\x99\xaa\xbb\xcc\xdd\xee\xff\x01\x23\x45\x67\x89\xab\xcd\xef";
     assert_eq!(rt; bytes.as_slice(), expected.as_slice());
+    Ok(())
+}
+
+#[test]
+fn takes_the_requests_of_a_host(rt: HostRuntime) -> Result<(), Fail> {
+    let text = "# a comment\n\n1 0a0000000200 00fF\nreset 255\n0 000000000000";
+    let requests = requests_of(rt.alloc(), text.as_bytes())?;
+    assert_eq!(rt; requests.len(), 3);
+    let Request::Command { lun, cdb, bytes } = &requests[0] else {
+        return Err("no command".into());
+    };
+    assert_eq!(rt; *lun, 1);
+    assert_eq!(rt; cdb.as_slice(), b"\x0a\0\0\0\x02\0".as_slice());
+    assert_eq!(rt; bytes.as_slice(), b"\0\xff".as_slice());
+    assert!(rt; matches!(&requests[1], Request::Reset { lun: 255 }));
+    let Request::Command { bytes, .. } = &requests[2] else {
+        return Err("no command".into());
+    };
+    assert!(rt; bytes.is_empty());
+    Ok(())
+}
+
+#[test]
+fn refuses_the_first_fault_of_a_host(rt: HostRuntime) -> Result<(), Fail> {
+    let rows = [
+        ("one word", "0", LineFault::WordCount),
+        ("four words", "256 x 00 00", LineFault::WordCount),
+        ("a reset of no unit", "reset 256", LineFault::BadUnit),
+        ("three words of a reset", "reset 0 0", LineFault::WordCount),
+        ("a loss", "loss 0", LineFault::BadUnit),
+        (
+            "a nexus",
+            "500000000000000a.1 0 000000000000",
+            LineFault::BadUnit,
+        ),
+        ("a leading zero", "01 000000000000", LineFault::BadUnit),
+        ("an odd digit", "0 00000000000", LineFault::BadHex),
+        ("empty data", "0 000000000000 ", LineFault::BadHex),
+        ("a carriage return", "0 000000000000\r", LineFault::BadHex),
+    ];
+    for (name, line, what) in rows {
+        let mut text = String::new(rt.alloc());
+        text.push_str("reset 0\n\n")?;
+        text.push_str(line)?;
+        let fault = requests_of(rt.alloc(), text.as_bytes()).err();
+        assert_eq!(rt;
+            fault,
+            Some(ScriptFault::Line { number: 3, what }),
+            "{name}"
+        );
+    }
+    let longer = vec![in rt.alloc(); b'#'; 270_001]?;
+    let fault = requests_of(rt.alloc(), &longer).err();
+    let what = LineFault::TooLong;
+    assert_eq!(rt; fault, Some(ScriptFault::Line { number: 1, what }));
     Ok(())
 }

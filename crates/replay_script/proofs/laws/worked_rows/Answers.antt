@@ -1,4 +1,4 @@
-use Rattle.replay_script.proofs.RowLemmas.{lines_read, line_faults, scripts_read}
+use Rattle.replay_script.proofs.RowLemmas.{lines_read, line_faults, scripts_read, requests_read}
 use Rattle.replay_script.proofs.laws.worked_rows.Goals as goal
 
 pub returns-clause-lines : goal.returns-clause-lines
@@ -9,3 +9,6 @@ returns-clause-faults c = line_faults
 
 pub returns-clause-scripts : goal.returns-clause-scripts
 returns-clause-scripts c = scripts_read
+
+pub returns-clause-requests : goal.returns-clause-requests
+returns-clause-requests c = requests_read

@@ -1,13 +1,14 @@
 use Rattle.std.proofs.Common.{◌≡◌, ◌+◌, ◌≤◌, suc, length}
 use Rattle.std.specs.Prelude.{MatchOption}
 use Rattle.std.specs.Option.{option_map_or}
+use Rattle.replay_script.specs.Lines.{line_in}
 use Rattle.replay_script.specs.Text.{pieces_after}
-use Rattle.replay_script.specs.Script.{saids, with_front, events_in, script_in}
+use Rattle.replay_script.specs.Script.{saids, with_front, lines_in, script_in}
 use Rattle.replay_script.proofs.script.events_of.Given as goal
 
 abbrev pub invariant-lines : goal.invariant-lines
 invariant-lines l = record {
-  known : with_front (saids l.events.items) (events_in (l.number + 1) (pieces_after 10 l.rest)) ≡ script_in l.text;
+  known : with_front (saids l.events.items) (lines_in line_in (l.number + 1) (pieces_after 10 l.rest)) ≡ script_in l.text;
   counted : MatchOption l.rest (Unit {0}) (λ rest. l.number + length rest.now ≤ length l.text);
 }
 

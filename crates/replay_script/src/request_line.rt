@@ -1,0 +1,46 @@
+ghost use Rattle.std.specs.Prelude.{◌≡◌};
+ghost use Rattle.replay_script.specs.Lines.{words_in};
+ghost use Rattle.replay_script.specs.Requests.{asked, asked_by, asked_in, request_line_in};
+ghost use Rattle.replay_script.specs.Text.{pieces};
+ghost use Rattle.replay_script.specs.Words.{Gives};
+ghost use Rattle.std.specs.Prelude.{◌∷◌, []};
+
+use crate::cutting::cut;
+use crate::line::{CDB_LIMIT, LINE_LIMIT, LineError, data_of, sole_unit_of, words_of};
+use crate::line_fault::LineFault;
+use crate::request::Request;
+use crate::words::{bytes_of, unit_of};
+use std::alloc::Global;
+
+/// The request of a line of a host's script: nothing for an empty one and for a comment.
+#[tactic(auto, unfolding(crate::specs::Requests::request_line_in))]
+pub fn request_of(alloc: Global, line: &[u8]) -> Result<Option<Request>, LineError>
+    ensures { Gives asked_by result (request_line_in line.now) }
+{
+    if line.len() > LINE_LIMIT {
+        return Err(LineError::Fault(LineFault::TooLong));
+    }
+    if line.is_empty() || line[0] == b'#' {
+        return Ok(None);
+    }
+    let (first, rest) = cut(line, b' ');
+    if first == b"reset".as_slice() {
+        let lun = sole_unit_of(rest)?;
+        return Ok(Some(Request::Reset { lun }));
+    }
+    Ok(Some(command_of(alloc, line)?))
+}
+
+/// The command of a line `LUN CDB [DATA]`.
+fn command_of(alloc: Global, line: &[u8]) -> Result<Request, LineError>
+    ensures { Gives asked result (asked_in (words_in ([] ∷ pieces 32 line.now))) }
+{
+    // The words of a replay's line, with nothing for its nexus.
+    let Some(words) = words_of(b"", Some(line)) else {
+        return Err(LineError::Fault(LineFault::WordCount));
+    };
+    let lun = unit_of(words.lun)?;
+    let cdb = bytes_of(alloc, words.cdb, CDB_LIMIT)?;
+    let bytes = data_of(alloc, words.data)?;
+    Ok(Request::Command { lun, cdb, bytes })
+}
