@@ -1,5 +1,5 @@
 -- The worked rows.
-use Rattle.std.proofs.Common.{◌+◌, ◌*◌, ◌≤◌, [], ◌∷◌, ◌++◌, Some, length, inr, refl, arith, lit<, lit≤}
+use Rattle.std.proofs.Common.{[], ◌∷◌, ◌++◌, Some, inr, refl, lit<, lit≤}
 use Rattle.std.specs.Fmt.{digits}
 use Rattle.std.specs.Prelude.{codes}
 use Rattle.hex.specs.Hex.{encode_with}
@@ -8,13 +8,13 @@ use Rattle.audit_log.specs.Lines.{line_of}
 use Rattle.device_server.specs.View.{Changer}
 use Rattle.logical_unit.specs.Step.{made, resets, done}
 use Rattle.target_core.specs.declared.event.Event.TheVariants as event
-use Rattle.replay_output.specs.Replies.{reply_line}
+use Rattle.replay_output.specs.Replies.{answer_line}
 use Rattle.replay_script.specs.Text.{pieces}
 use Rattle.replay_script.specs.Words.{unit_in}
 use Rattle.replay_script.specs.Lines.{line_in}
 use Rattle.replay_script.specs.Script.{events_in}
 use Rattle.replay.specs.Replay.{HasRun}
-use Rattle.replay.specs.Rows.{FaultsTold, FaultsInOrder, InputsRead, target, reset, line, ReplaysRun}
+use Rattle.replay.specs.Rows.{FaultsTold, FaultsInOrder, target, reset, line, ReplaysRun}
 
 pub faults_told : FaultsTold
 unfolding digits
@@ -41,17 +41,6 @@ faults_in_order = record {
   write_is_output = λ h. h;
 }
 
-pub inputs_read : InputsRead
-inputs_read = record {
-  empty = record { consumed = refl; ended = refl; bounded = lit≤ tt };
-  one_word = record { consumed = refl; ended = refl; bounded = lit≤ tt };
-  no_read = λ left left' input h. let b : length input + 65536 ≤ 65536 * 0 = h.bounded in absurd (omega (arith, b));
-  one_read = λ left left' byte h. let b : 1 + 65536 ≤ 65536 * 1 = h.bounded in absurd (omega (arith, b));
-  longer = λ left left' input long h. let b : length input + 65536 ≤ 65536 * 2 = h.bounded in absurd (omega (arith, b, long));
-  byte_left = λ h. absurd cc;
-  byte_dropped = λ h. absurd cc;
-}
-
 ran : HasRun 2 (Some (line (codes "reset 0"))) (Some []) (target []) (target (reset ∷ []))
 unfolding events_in line_in pieces unit_in
 ran = record {
@@ -64,5 +53,5 @@ ran = record {
 }
 
 pub replays_run : ReplaysRun
-unfolding ran events_in line_in pieces unit_in digits reply_line line_of encode_with
+unfolding ran events_in line_in pieces unit_in digits answer_line line_of encode_with
 replays_run = record { replies = record { ran = ran; lines = refl }; records = record { ran = ran; lines = refl }; refused = record { input = line (codes "reset 0") ++ codes "reset x"; whole = record { consumed = refl; ended = refl; bounded = lit≤ tt }; script = refl } }

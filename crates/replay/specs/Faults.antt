@@ -4,6 +4,8 @@ use Rattle.std.specs.Fmt.{decimal}
 use Rattle.replay_script.specs.Faults.{line_fault_text}
 use Rattle.replay_script.specs.declared.script_fault.ScriptFault.{ScriptFault}
 use Rattle.replay_script.specs.declared.script_fault.ScriptFault.TheVariants as script
+use Rattle.script_input.specs.declared.input_fault.InputFault.{InputFault}
+use Rattle.script_input.specs.declared.input_fault.InputFault.TheVariants as input
 use Rattle.replay.specs.declared.replay_fault.ReplayFault.{ReplayFault}
 use Rattle.replay.specs.declared.replay_fault.ReplayFault.TheVariants.{Line, NoMemory, Read, Write}
 
@@ -12,15 +14,20 @@ abbrev pub of_script : ScriptFault → ReplayFault
 of_script (script.Line number what) = Line number what
 of_script script.NoMemory = NoMemory
 
+-- so a fault of its input
+abbrev pub of_input : InputFault → ReplayFault
+of_input input.Read = Read
+of_input input.NoMemory = NoMemory
+
 abbrev pub exit_status : ReplayFault → ℕ
 exit_status (Line number what) = 2
 exit_status NoMemory = 3
 exit_status Read = 4
 exit_status Write = 4
 
--- the line that a program writes of each
+-- what a program writes of each
 abbrev pub fault_text : ReplayFault → List ℕ
 fault_text (Line number what) = codes "vtl: line " ++ decimal number ++ codes ": " ++ line_fault_text what
 fault_text NoMemory = codes "vtl: want of memory"
-fault_text Read = codes "vtl: device fault"
-fault_text Write = codes "vtl: device fault"
+fault_text Read = codes "vtl: device fault\nvtl: the script could not be read"
+fault_text Write = codes "vtl: device fault\nvtl: the replies could not be written"

@@ -1,4 +1,3 @@
 pub mod Faults
-pub mod Input
 pub mod Replay
 pub mod Rows

@@ -10,7 +10,7 @@ use Rattle.replay_script.specs.declared.line_fault.LineFault.{LineFault}
 use Rattle.replay.specs.declared.replay_fault.ReplayFault.{ReplayFault}
 use Rattle.replay.specs.declared.replay_fault.ReplayFault.TheVariants.{Line, NoMemory, Read, Write}
 use Rattle.replay_output.specs.AuditLines.{audit_text}
-use Rattle.replay.specs.Input.{IsReadWhole}
+use Rattle.script_input.specs.Input.{IsReadWhole}
 use Rattle.replay_output.specs.Replies.{text_of}
 use Rattle.replay_script.specs.Script.{saids, script_in}
 

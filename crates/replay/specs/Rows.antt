@@ -1,4 +1,4 @@
--- Worked rows: what is read, what a replay of one reset writes, and what each fault says.
+-- Worked rows: what a replay of one reset writes, and what each fault says.
 use Rattle.std.specs.Prelude.{◌≡◌, ℕ, false, List, [], ◌∷◌, ◌++◌, length, Some, None, Option, codes}
 use Rattle.scsi_sense.specs.declared.status.Status.TheVariants.{Good}
 use Rattle.tape_medium.specs.Elements.{empty_elements}
@@ -14,7 +14,6 @@ use Rattle.replay_output.specs.declared.audit_lines.Audit.TheVariants.{Off, Line
 use Rattle.replay_script.specs.declared.line_fault.LineFault.TheVariants.{BadNexus, BadUnit, BadHex}
 use Rattle.replay.specs.declared.replay_fault.ReplayFault.TheVariants.{Line, NoMemory, Read, Write}
 use Rattle.replay.specs.Faults.{exit_status, fault_text}
-use Rattle.replay.specs.Input.{IsReadWhole}
 use Rattle.replay.specs.Replay.{IsBeforeRun, IsBeforeOutput, Refuses, Replays}
 
 pub record FaultsTold : Type 0 where
@@ -24,8 +23,8 @@ pub record FaultsTold : Type 0 where
   pub write_status : exit_status Write ≡ 4
   pub line : fault_text (Line 42 BadNexus) ≡ codes "vtl: line 42: bad nexus"
   pub memory : fault_text NoMemory ≡ codes "vtl: want of memory"
-  pub read : fault_text Read ≡ codes "vtl: device fault"
-  pub write : fault_text Write ≡ codes "vtl: device fault"
+  pub read : fault_text Read ≡ codes "vtl: device fault\nvtl: the script could not be read"
+  pub write : fault_text Write ≡ codes "vtl: device fault\nvtl: the replies could not be written"
 
 -- a faulty line and a fault of reading come before anything has run; only a fault of writing may come behind a written byte
 pub record FaultsInOrder : Type 0 where
@@ -37,18 +36,6 @@ pub record FaultsInOrder : Type 0 where
   pub memory_before_output : IsBeforeOutput NoMemory
   pub read_before_output : IsBeforeOutput Read
   pub write_is_output : ¬ IsBeforeOutput Write
-
--- the last of the reads finds the end
-pub record InputsRead : Type 0 where
-  pub empty : IsReadWhole 1 (Some []) (Some []) []
-  pub one_word : IsReadWhole 2 (Some (codes "reset")) (Some []) (codes "reset")
-  pub no_read : (left left' : Option (List ℕ)) (input : List ℕ) → ¬ IsReadWhole 0 left left' input
-  -- a single read finds no end behind a byte
-  pub one_read : (left left' : Option (List ℕ)) (byte : ℕ) → ¬ IsReadWhole 1 left left' (byte ∷ [])
-  -- 65,537 bytes take two reads, and a third
-  pub longer : (left left' : Option (List ℕ)) (input : List ℕ) → length input ≡ 65537 → ¬ IsReadWhole 2 left left' input
-  pub byte_left : ¬ IsReadWhole 9 (Some (1 ∷ 2 ∷ [])) (Some (2 ∷ [])) (1 ∷ [])
-  pub byte_dropped : ¬ IsReadWhole 9 (Some (1 ∷ 2 ∷ [])) (Some []) (1 ∷ [])
 
 -- a target with one drive, whose changer has these records
 abbrev pub target : List Record → List UnitView

@@ -1,7 +1,6 @@
 //! A replay: a script is read, run by a target, and written as its replies and records.
 #![tactic(auto)]
 
-mod input;
 mod laws;
 mod replay_fault;
 mod replaying;

@@ -1,6 +1,7 @@
 ghost use Rattle.std.specs.Prelude.{◌≡◌};
 
 use replay_script::{LineFault, ScriptFault};
+use script_input::InputFault;
 use std::alloc::{AllocError, AllocFailed};
 use std::fmt;
 use thiserror::Error;
@@ -27,7 +28,12 @@ impl fmt::Display for ReplayFault {
         match self {
             ReplayFault::Line { number, what } => write!(f, "vtl: line {number}: {what}"),
             ReplayFault::NoMemory => f.write_str("vtl: want of memory"),
-            ReplayFault::Read | ReplayFault::Write => f.write_str("vtl: device fault"),
+            ReplayFault::Read => {
+                f.write_str("vtl: device fault\nvtl: the script could not be read")
+            }
+            ReplayFault::Write => {
+                f.write_str("vtl: device fault\nvtl: the replies could not be written")
+            }
         }
     }
 }
@@ -58,6 +64,20 @@ impl From<ScriptFault> for ReplayFault {
         match fault {
             ScriptFault::Line { number, what } => ReplayFault::Line { number, what },
             ScriptFault::NoMemory => ReplayFault::NoMemory,
+        }
+    }
+}
+
+impl From<InputFault> for ReplayFault {
+    ghost use Rattle.std.specs.Prelude.{◌≡◌};
+    ghost use Rattle.replay.specs.Faults.{of_input};
+
+    ghost from_gives = { λ fault replay_fault. replay_fault ≡ of_input fault };
+
+    fn from(fault: InputFault) -> ReplayFault {
+        match fault {
+            InputFault::Read => ReplayFault::Read,
+            InputFault::NoMemory => ReplayFault::NoMemory,
         }
     }
 }

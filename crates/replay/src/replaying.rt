@@ -6,11 +6,11 @@ ghost use Rattle.target_core.specs.Run.{Runs};
 ghost use Rattle.unit_answers.specs.declared.reply.Reply.{Reply};
 ghost use Rattle.replay_script.specs.declared.line_fault.LineFault.{LineFault};
 
-use crate::input::read_all;
 use crate::replay_fault::ReplayFault;
 use device_server::DeviceServer;
 use replay_output::{Audit, audit_text, write_reply};
 use replay_script::events_of;
+use script_input::read_all;
 use std::alloc::{AllocError, Global};
 use std::io;
 use std::io::{Read, Write};

@@ -1,19 +1,18 @@
-ghost use Rattle.std.specs.Prelude.{◌≡◌, IfOk, IfErr, vec_len};
-ghost use Rattle.replay.specs.Input.{IsReadWhole, IsOfInput};
+ghost use Rattle.std.specs.Prelude.{◌≡◌, IfOk, vec_len};
+ghost use Rattle.script_input.specs.Input.{IsReadWhole};
 
-use crate::replay_fault::ReplayFault;
+use crate::input_fault::InputFault;
 use std::alloc::{AllocError, Global};
 use std::io::Read;
 
 /// The most bytes of one read.
 const READ_SIZE: usize = 65_536;
 
-/// All that a reader has, in at most `turns` reads: the last of them finds its end. A read that
+/// All that a reader has, in at most `turns` reads of at most 65,536 bytes: the last of them finds its end. A read that
 /// fails, for whatever reason, is `Read`, and so is one more read than `turns`.
-pub fn read_all<R: Read>(alloc: Global, reader: &mut R, turns: u64) -> Result<Vec<u8>, ReplayFault>
+pub fn read_all<R: Read>(alloc: Global, reader: &mut R, turns: u64) -> Result<Vec<u8>, InputFault>
     ensures ok { IfOk result (λ input.
         IsReadWhole turns (R.remaining reader.old) (R.remaining reader.new) input.items) }
-    ensures err { IfErr result IsOfInput }
 {
     let mut input = Vec::new(alloc);
     let mut buffer = zeros(alloc, READ_SIZE)?;
@@ -21,10 +20,10 @@ pub fn read_all<R: Read>(alloc: Global, reader: &mut R, turns: u64) -> Result<Ve
         match reader.read(buffer.as_mut_slice()) {
             Ok(0) => return Ok(input),
             Ok(count) => input.extend_from_slice(&buffer[..count])?,
-            Err(_) => return Err(ReplayFault::Read),
+            Err(_) => return Err(InputFault::Read),
         }
     }
-    Err(ReplayFault::Read)
+    Err(InputFault::Read)
 }
 
 fn zeros(alloc: Global, count: usize) -> Result<Vec<u8>, AllocError>
