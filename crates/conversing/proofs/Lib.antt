@@ -1,0 +1,3 @@
+pub mod Talked
+pub mod Sessions
+pub mod RowLemmas

@@ -1,0 +1,81 @@
+-- The worked rows, by computing.
+use Rattle.std.proofs.Common.{[], ◌∷◌, ◌++◌, replicate, Some, refl}
+use Rattle.std.specs.Fmt.{digits}
+use Rattle.hex.specs.Hex.{encode_with, decode_pairs}
+use Rattle.scsi_sense.specs.Conditions.{sense_for}
+use Rattle.scsi_sense.specs.declared.condition.Condition.TheVariants.{PowerOnOrResetOccurred}
+use Rattle.scsi_sense.specs.declared.status.Status.TheVariants.{CheckCondition}
+use Rattle.frames.specs.declared.reply_frame.LoginAnswer.TheVariants.{Accepted}
+use Rattle.frames.specs.Replies.{LoginReply, CommandReply, LogoutReply}
+use Rattle.frames.specs.ReplyFronts.{reply_body_front, reply_front_in}
+use Rattle.frames.specs.Rows.{first_contact}
+use Rattle.replay_output.specs.Replies.{answer_line}
+use Rattle.replay_script.specs.Requests as host
+use Rattle.replay_script.specs.Requests.{request_line_in}
+use Rattle.replay_script.specs.Text.{pieces}
+use Rattle.replay_script.specs.Words.{unit_in, hex_in}
+use Rattle.conversing.specs.Rows.{FaultsTold, RepliesTold, SessionTold, replies}
+
+pub faults_told : FaultsTold
+unfolding digits encode_with
+faults_told = record {
+  line_status = refl;
+  memory_status = refl;
+  refused_status = refl;
+  reply_status = refl;
+  read_status = refl;
+  write_status = refl;
+  line = refl;
+  memory = refl;
+  refused = refl;
+  short = refl;
+  reply = refl;
+  read = refl;
+  write = refl;
+  line_before = λ h. h;
+  memory_at_any_time = λ h. h;
+}
+
+pub replies_told : RepliesTold
+unfolding answer_line encode_with
+replies_told = record {
+  sense = refl;
+  payload = refl;
+  conflict = refl;
+  reset = refl;
+  login = refl;
+  logout = refl;
+  accepted = refl;
+  already_connected = λ h. absurd cc;
+  reset_for_a_command = λ h. h;
+  command_for_a_reset = λ h. h;
+  one_missing = λ h. h.1;
+  one_more = λ h. h.1;
+  other_order = λ h. h.0;
+}
+
+pub session_told : SessionTold
+unfolding request_line_in pieces unit_in hex_in decode_pairs reply_front_in reply_body_front answer_line encode_with
+session_told = record {
+  sent = refl;
+  whole = record {
+    requests = host.Command 0 (replicate 6 0) [] ∷ [];
+    rest = [];
+    script = refl;
+    talked = record {
+      read = replies;
+      replies = LoginReply Accepted ∷ CommandReply CheckCondition (Some (sense_for PowerOnOrResetOccurred)) 1 [] ∷ LogoutReply ∷ [];
+      consumed = refl;
+      told = (
+        0 ∷ 0 ∷ 0 ∷ 2 ∷ 0x81 ∷ 0 ∷ [],
+        first_contact ++ 0 ∷ 0 ∷ 0 ∷ 1 ∷ 0x84 ∷ [],
+        refl,
+        refl,
+        (first_contact, 0 ∷ 0 ∷ 0 ∷ 1 ∷ 0x84 ∷ [], refl, refl, (0 ∷ 0 ∷ 0 ∷ 1 ∷ 0x84 ∷ [], [], refl, refl, refl)),
+      );
+      answered = (refl, (tt, (tt, tt)));
+      sent = refl;
+      lines = refl;
+    };
+  };
+}

@@ -1,0 +1,87 @@
+-- A host's session so far, frame by frame.
+use Rattle.std.proofs.Common.{◌≡◌, ℕ, List, [], ◌∷◌, ◌++◌, length, take, drop, take-append-drop, length-take-le, ◌≤◌, refl, sym, ap, subst, ◌∙◌, append_assoc, append-nil, Option}
+use Rattle.std.specs.Io.KnownBytes.{Consumes, Appends}
+use Rattle.std.proofs.KnownBytes.{Consumes-nil, Consumes-trans, Appends-nil, Appends-trans}
+use Rattle.std.proofs.lemmas.List.Concat.{flat_map-append}
+use Rattle.frames.specs.Frames.{Sent}
+use Rattle.frames.specs.Replies.{Told}
+use Rattle.frames.specs.ReplyFronts.{Partial, Whole, reply_front_in}
+use Rattle.frames.specs.Sending.{frame_bytes}
+use Rattle.frames.proofs.ReplyPieces.{reply_stays}
+use Rattle.conversing.specs.Talking.{IsReplyTo, AreRepliesTo, Tells, told_line, lines_of, stream_of, Talks}
+use Rattle.conversing.specs.Waiting.{Answers, Exchanges}
+
+-- nothing yet
+pub talks_none : (left written shown : Option (List ℕ)) → Talks [] left left written written shown shown []
+talks_none left written shown = record {
+  read = [];
+  replies = [];
+  consumed = Consumes-nil left;
+  told = refl;
+  answered = tt;
+  sent = Appends-nil written;
+  lines = Appends-nil shown;
+}
+
+whole_is_more : (r : Told) (count : ℕ) → Whole r count ≡ Partial → ⊥
+whole_is_more r count e = absurd cc
+
+-- one more reply, some of whose bytes were read before
+tells_on : (bytes : List ℕ) (replies : List Told) (rest more piece rest' : List ℕ) (r : Told) → Tells bytes replies rest → rest ++ more ≡ piece ++ rest'
+    → reply_front_in (rest ++ more) ≡ Whole r (length piece) → Tells (bytes ++ more) (replies ++ r ∷ []) rest'
+tells_on bytes [] rest more piece rest' r so split front = (
+  piece,
+  rest',
+  ap (λ (b : List ℕ). b ++ more) (sym so) ∙ split,
+  ap (λ (b : List ℕ). reply_front_in (b ++ more)) (sym so) ∙ front,
+  refl,
+)
+tells_on bytes (q ∷ replies) rest more piece rest' r so split front = (
+  so.0,
+  so.1 ++ more,
+  ap (λ (b : List ℕ). b ++ more) so.2 ∙ append_assoc so.0 so.1 more,
+  reply_stays bytes more (λ e. whole_is_more q (length so.0) (sym so.3 ∙ e)) ∙ so.3,
+  tells_on so.1 replies rest more piece rest' r so.4 split front,
+)
+
+replies_on : (frames : List Sent) (replies : List Told) (f : Sent) (r : Told) → AreRepliesTo frames replies → IsReplyTo f r → AreRepliesTo (frames ++ f ∷ []) (replies ++ r ∷ [])
+replies_on [] [] f r so one = (one, tt)
+replies_on [] (q ∷ replies) f r so one = absurd so
+replies_on (g ∷ frames) [] f r so one = absurd so
+replies_on (g ∷ frames) (q ∷ replies) f r so one = (so.0, replies_on frames replies f r so.1 one)
+
+stream_on : (frames : List Sent) (f : Sent) → stream_of frames ++ frame_bytes f ≡ stream_of (frames ++ f ∷ [])
+stream_on frames f = sym (flat_map-append frame_bytes frames (f ∷ []) ∙ ap (λ (t : List ℕ). stream_of frames ++ t) (append-nil (frame_bytes f)))
+
+lines_on : (replies : List Told) (r : Told) → lines_of replies ++ told_line r ≡ lines_of (replies ++ r ∷ [])
+lines_on replies r = sym (flat_map-append told_line replies (r ∷ []) ∙ ap (λ (t : List ℕ). lines_of replies ++ t) (append-nil (told_line r)))
+
+-- one frame more
+pub talks_on : (frames : List Sent) (f : Sent) (left left1 left2 written written1 written2 shown shown1 shown2 : Option (List ℕ)) (rest rest' : List ℕ)
+    → Talks frames left left1 written written1 shown shown1 rest → Exchanges f rest rest' left1 left2 written1 written2 shown1 shown2
+    → Talks (frames ++ f ∷ []) left left2 written written2 shown shown2 rest'
+talks_on frames f left left1 left2 written written1 written2 shown shown1 shown2 rest rest' so one = record {
+  read = so.read ++ one.read;
+  replies = so.replies ++ one.reply ∷ [];
+  consumed = Consumes-trans _ _ _ _ _ so.consumed one.consumed;
+  told = tells_on so.read so.replies rest one.read one.piece rest' one.reply so.told one.split one.front;
+  answered = replies_on frames so.replies f one.reply so.answered one.answered;
+  sent = subst (λ (b : List ℕ). Appends written written2 b) (stream_on frames f) (Appends-trans _ _ _ _ _ so.sent one.sent);
+  lines = subst (λ (b : List ℕ). Appends shown shown2 b) (lines_on so.replies one.reply) (Appends-trans _ _ _ _ _ so.lines one.line);
+}
+
+-- one frame and its reply, from what was read, taken and written for it
+pub exchanged : (frame : Sent) (pending read inbox rest line0 line : List ℕ) (count : ℕ) (left left' written written' shown shown' : Option (List ℕ)) → inbox ≡ pending ++ read
+    → Consumes left left' read → Answers frame (reply_front_in inbox) count line0 line → count ≤ length inbox → rest ≡ drop count inbox → line0 ≡ []
+    → Appends written written' (frame_bytes frame) → Appends shown shown' line → Exchanges frame pending rest left left' written written' shown shown'
+exchanged frame pending read inbox rest line0 line count left left' written written' shown shown' came took answer within cut none wrote put = record {
+  read = read;
+  reply = answer.0;
+  piece = take count inbox;
+  consumed = took;
+  split = sym came ∙ sym (take-append-drop count inbox) ∙ ap (λ (l : List ℕ). take count inbox ++ l) (sym cut);
+  front = ap reply_front_in (sym came) ∙ answer.1 ∙ ap (λ (n : ℕ). Whole answer.0 n) (sym (length-take-le count inbox within));
+  answered = answer.2;
+  sent = wrote;
+  line = subst (λ (l : List ℕ). Appends shown shown' l) (answer.3 ∙ ap (λ (l : List ℕ). l ++ told_line answer.0) none) put;
+}

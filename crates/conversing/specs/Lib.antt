@@ -1,0 +1,4 @@
+pub mod Faults
+pub mod Talking
+pub mod Waiting
+pub mod Rows

@@ -1,0 +1,75 @@
+-- A host's session: what is sent, what is read, and the lines of the replies.
+use Rattle.std.specs.Prelude.{◌≡◌, ℕ, List, [], ◌∷◌, ◌++◌, map, length, Option, None, Ok}
+use Rattle.std.specs.List.{flat_map}
+use Rattle.std.specs.Io.KnownBytes.{Consumes, Appends}
+use Rattle.scsi_nexus.specs.declared.nexus.Nexus.{Nexus}
+use Rattle.frames.specs.declared.reply_frame.LoginAnswer.TheVariants.{Accepted}
+use Rattle.frames.specs.Frames.{Sent, Login, Command, Reset, Logout}
+use Rattle.frames.specs.Replies.{Told, LoginReply, CommandReply, ResetReply, LogoutReply}
+use Rattle.frames.specs.ReplyFronts.{Whole, reply_front_in}
+use Rattle.frames.specs.Sending.{frame_bytes}
+use Rattle.replay_output.specs.Replies.{answer_line}
+use Rattle.replay_script.specs.Requests.{Asked}
+use Rattle.replay_script.specs.Requests as host
+use Rattle.replay_script.specs.Script.{requests_in}
+
+-- the frame of a request
+abbrev pub frame_of : Asked → Sent
+frame_of (host.Command lun cdb bytes) = Command lun cdb bytes
+frame_of (host.Reset lun) = Reset lun
+
+-- the frames of a session: LOGIN, those of the requests in their order, LOGOUT
+abbrev pub frames_of : Nexus → List Asked → List Sent
+frames_of nexus requests = Login nexus ∷ map frame_of requests ++ Logout ∷ []
+
+-- as they are sent
+abbrev pub stream_of : List Sent → List ℕ
+stream_of frames = flat_map frame_bytes frames
+
+-- a reply is of the kind of the frame, and a LOGIN was accepted
+abbrev pub IsReplyTo : Sent → Told → Type 0
+IsReplyTo (Login nexus) (LoginReply answer) = answer ≡ Accepted
+IsReplyTo (Command lun cdb bytes) (CommandReply status sense number payload) = Unit {0}
+IsReplyTo (Reset lun) (ResetReply status) = Unit {0}
+IsReplyTo Logout LogoutReply = Unit {0}
+IsReplyTo _ _ = ⊥
+
+-- one reply to each frame, in their order
+abbrev pub AreRepliesTo : List Sent → List Told → Type 0
+AreRepliesTo [] [] = Unit {0}
+AreRepliesTo (frame ∷ frames) (reply ∷ replies) = IsReplyTo frame reply × AreRepliesTo frames replies
+AreRepliesTo _ _ = ⊥
+
+-- bytes begin with these replies, one behind another, and this is the rest
+abbrev pub Tells : List ℕ → List Told → (rest : List ℕ) → Type 0
+Tells bytes [] rest = rest ≡ bytes
+Tells bytes (reply ∷ replies) rest =
+    (piece others : List ℕ) × (bytes ≡ piece ++ others) × (reply_front_in bytes ≡ Whole reply (length piece)) × Tells others replies rest
+
+-- the line of a reply, as a replay writes it; those to LOGIN and LOGOUT have none
+abbrev pub told_line : Told → List ℕ
+told_line (LoginReply answer) = []
+told_line (CommandReply status sense number payload) = answer_line status sense payload
+told_line (ResetReply status) = answer_line status None []
+told_line LogoutReply = []
+
+abbrev pub lines_of : List Told → List ℕ
+lines_of replies = flat_map told_line replies
+
+-- these frames were sent, a reply to each of them was read, in their order, and the lines of the replies were written;
+-- the rest is what was read behind them
+pub record Talks (frames : List Sent) (left left' written written' shown shown' : Option (List ℕ)) (rest : List ℕ) : Type 0 where
+  pub read : List ℕ
+  pub replies : List Told
+  pub consumed : Consumes left left' read
+  pub told : Tells read replies rest
+  pub answered : AreRepliesTo frames replies
+  pub sent : Appends written written' (stream_of frames)
+  pub lines : Appends shown shown' (lines_of replies)
+
+-- a session whole
+pub record Converses (nexus : Nexus) (text : List ℕ) (left left' written written' shown shown' : Option (List ℕ)) : Type 0 where
+  pub requests : List Asked
+  pub rest : List ℕ
+  pub script : requests_in text ≡ Ok requests
+  pub talked : Talks (frames_of nexus requests) left left' written written' shown shown' rest

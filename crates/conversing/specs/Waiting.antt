@@ -1,0 +1,116 @@
+-- One frame and its reply, and where a session breaks.
+use Rattle.std.specs.Prelude.{◌≡◌, ℕ, List, ◌∷◌, ◌++◌, ◌⊎◌, length, Option, Ok}
+use Rattle.std.specs.Io.KnownBytes.{Consumes, Appends, Keeps, IsAtEnd}
+use Rattle.scsi_nexus.specs.declared.nexus.Nexus.{Nexus}
+use Rattle.frames.specs.declared.reply_frame.LoginAnswer.TheVariants.{AlreadyConnected}
+use Rattle.frames.specs.Frames.{Sent, Login, Command, Reset, Logout}
+use Rattle.frames.specs.Reading.{Added}
+use Rattle.frames.specs.Replies.{Told, LoginReply, CommandReply, ResetReply, LogoutReply}
+use Rattle.frames.specs.ReplyFronts.{ReplyFront, Partial, Whole, Faulty, reply_front_in}
+use Rattle.frames.specs.Sending.{frame_bytes}
+use Rattle.replay_script.specs.Requests.{Asked}
+use Rattle.replay_script.specs.Script.{requests_in}
+use Rattle.conversing.specs.declared.client_fault.ClientFault.{ClientFault}
+use Rattle.conversing.specs.declared.client_fault.ClientFault.TheVariants.{Line, Refused, BadReply, Read, Write, NoMemory}
+use Rattle.conversing.specs.Talking.{IsReplyTo, told_line, frames_of, Talks}
+
+-- a frame was sent, its reply was read, and the reply's line was written
+pub record Exchanges (frame : Sent) (pending pending' : List ℕ) (left left' written written' shown shown' : Option (List ℕ)) : Type 0 where
+  pub read : List ℕ
+  pub reply : Told
+  pub piece : List ℕ
+  pub consumed : Consumes left left' read
+  pub split : pending ++ read ≡ piece ++ pending'
+  pub front : reply_front_in (pending ++ read) ≡ Whole reply (length piece)
+  pub answered : IsReplyTo frame reply
+  pub sent : Appends written written' (frame_bytes frame)
+  pub line : Appends shown shown' (told_line reply)
+
+-- less than a reply came: the reader is at its end, or a read failed, or was one too many
+abbrev pub EndsBeforeReply : ClientFault → (pending : List ℕ) → (left : Option (List ℕ)) → Type 0
+EndsBeforeReply BadReply pending left = (reply_front_in pending ≡ Partial) × IsAtEnd left
+EndsBeforeReply Read pending left = reply_front_in pending ≡ Partial
+EndsBeforeReply _ pending left = ⊥
+
+-- a reply of another kind than the frame's
+abbrev pub IsOfOtherKind : Sent → Told → Type 0
+IsOfOtherKind (Login nexus) (LoginReply answer) = ⊥
+IsOfOtherKind (Command lun cdb bytes) (CommandReply status sense number payload) = ⊥
+IsOfOtherKind (Reset lun) (ResetReply status) = ⊥
+IsOfOtherKind Logout LogoutReply = ⊥
+IsOfOtherKind _ _ = Unit {0}
+
+-- no reply to the frame, but a fault, or a reply of another kind
+abbrev pub IsNoReplyTo : Sent → ReplyFront → Type 0
+IsNoReplyTo frame Partial = ⊥
+IsNoReplyTo frame (Whole reply count) = IsOfOtherKind frame reply
+IsNoReplyTo frame (Faulty fault) = Unit {0}
+
+-- a LOGIN whose nexus has a session already
+abbrev pub IsRefusal : Nexus → Sent → ReplyFront → Type 0
+IsRefusal nexus frame front = (frame ≡ Login nexus) × (count : ℕ) × (front ≡ Whole (LoginReply AlreadyConnected) count)
+
+-- why what a stream begins with was not taken as the reply to a frame
+abbrev pub IsWhy : ClientFault → Sent → ReplyFront → Type 0
+IsWhy (Refused nexus) frame front = IsRefusal nexus frame front
+IsWhy BadReply frame front = IsNoReplyTo frame front
+IsWhy NoMemory frame front = Unit {0}
+IsWhy _ frame front = ⊥
+
+-- what a stream begins with is a reply of so many bytes to a frame, and its line was added
+abbrev pub Answers : Sent → ReplyFront → (count : ℕ) → (line line' : List ℕ) → Type 0
+Answers frame front count line line' =
+    (reply : Told) × (front ≡ Whole reply count) × IsReplyTo frame reply × (line' ≡ line ++ told_line reply)
+
+-- the faults of sending
+abbrev pub IsOfSending : ClientFault → Type 0
+IsOfSending Write = Unit {0}
+IsOfSending NoMemory = Unit {0}
+IsOfSending _ = ⊥
+
+-- a frame was sent, and no reply to it came; no line was written
+pub record Waits (frame : Sent) (pending pending' : List ℕ) (left left' written written' shown shown' : Option (List ℕ)) : Type 0 where
+  pub sent : Appends written written' (frame_bytes frame)
+  pub read : Added pending pending' left left'
+  pub lines : Keeps shown shown'
+
+-- a frame whose reply was refused, or no reply, or not read to its end; of how much was written where a write failed or
+-- memory was refused nothing is said
+abbrev pub Stops : ClientFault → (frame : Sent) → (pending : List ℕ) → (left left' written written' shown shown' : Option (List ℕ)) → Type 0
+Stops (Line number what) frame pending left left' written written' shown shown' = ⊥
+Stops (Refused nexus) frame pending left left' written written' shown shown' =
+    (pending' : List ℕ) × Waits frame pending pending' left left' written written' shown shown' × IsRefusal nexus frame (reply_front_in pending')
+Stops BadReply frame pending left left' written written' shown shown' =
+    (pending' : List ℕ) × Waits frame pending pending' left left' written written' shown shown'
+    × (IsNoReplyTo frame (reply_front_in pending') ⊎ ((reply_front_in pending' ≡ Partial) × IsAtEnd left'))
+Stops Read frame pending left left' written written' shown shown' =
+    (pending' : List ℕ) × Waits frame pending pending' left left' written written' shown shown' × (reply_front_in pending' ≡ Partial)
+Stops Write frame pending left left' written written' shown shown' = Unit {0}
+Stops NoMemory frame pending left left' written written' shown shown' = Unit {0}
+
+-- the frames before one were answered, and that one was not
+pub record Breaks (nexus : Nexus) (requests : List Asked) (fault : ClientFault) (left left' written written' shown shown' : Option (List ℕ)) : Type 0 where
+  pub done : List Sent
+  pub next : Sent
+  pub others : List Sent
+  pub rest : List ℕ
+  pub left1 : Option (List ℕ)
+  pub written1 : Option (List ℕ)
+  pub shown1 : Option (List ℕ)
+  pub frames : frames_of nexus requests ≡ done ++ next ∷ others
+  pub talked : Talks done left left1 written written1 shown shown1 rest
+  pub stopped : Stops fault next rest left1 left' written1 written' shown1 shown'
+
+-- a session of a script without a fault
+pub record BreaksWithin (nexus : Nexus) (text : List ℕ) (fault : ClientFault) (left left' written written' shown shown' : Option (List ℕ)) : Type 0 where
+  pub requests : List Asked
+  pub script : requests_in text ≡ Ok requests
+  pub broke : Breaks nexus requests fault left left' written written' shown shown'
+
+-- the faults of a session that was begun
+abbrev pub IsOfSession : ClientFault → Type 0
+IsOfSession (Refused nexus) = Unit {0}
+IsOfSession BadReply = Unit {0}
+IsOfSession Read = Unit {0}
+IsOfSession Write = Unit {0}
+IsOfSession _ = ⊥
