@@ -1,0 +1,12 @@
+pub mod Words
+pub mod Pieces
+pub mod Senses
+pub mod Units
+pub mod Drives
+pub mod Reservations
+pub mod ElementWords
+pub mod PieceWords
+pub mod Contents
+pub mod Explanation
+pub mod Rows
+pub mod DataRows

@@ -1,0 +1,83 @@
+//! The data of READ POSITION and MODE SENSE in words (SSC-4, "READ POSITION command"; SPC-4, "Mode parameter list
+//! formats").
+ghost use Rattle.std.specs.Prelude.{◌≡◌, ◌++◌, OnOk};
+ghost use Rattle.explanations.specs.Drives.{beginning_text, block_descriptor_text, medium_text, mode_text, object_text, position_text, protection_text};
+
+use crate::fields::{bit_at, byte_at, u24_at, u32_at};
+use crate::layout::*;
+use crate::words::{write_coded, write_cut, write_number, write_words};
+use std::alloc::AllocError;
+
+/// Adds what READ POSITION data say: BOP, and the number of the first logical object.
+pub fn write_position(line: &mut Vec<u8>, bytes: &[u8]) -> Result<(), AllocError>
+    ensures { OnOk result (line.new.items ≡ line.old.items ++ position_text bytes.now) }
+{
+    write_beginning(line, bytes)?;
+    write_object(line, bytes)?;
+    write_cut(line, bytes, POSITION_LENGTH)
+}
+
+#[tactic(auto, unfolding(crate::specs::Drives::beginning_text))]
+fn write_beginning(line: &mut Vec<u8>, bytes: &[u8]) -> Result<(), AllocError>
+    ensures { OnOk result (line.new.items ≡ line.old.items ++ beginning_text bytes.now) }
+{
+    if bit_at(bytes, POSITION_FLAGS, BOP_BIT) {
+        write_words(line, ", beginning of partition")?;
+    }
+    Ok(())
+}
+
+#[tactic(auto, unfolding(crate::specs::Drives::object_text))]
+fn write_object(line: &mut Vec<u8>, bytes: &[u8]) -> Result<(), AllocError>
+    ensures { OnOk result (line.new.items ≡ line.old.items ++ object_text bytes.now) }
+{
+    if LOGICAL_OBJECT_NUMBER + LOGICAL_OBJECT_NUMBER_LENGTH <= bytes.len() {
+        let object = u32_at(bytes, LOGICAL_OBJECT_NUMBER);
+        write_number(line, ", logical object ", u64::from(object))?;
+    }
+    Ok(())
+}
+
+/// Adds what MODE SENSE(6) data say: the medium type, WP, and what the block descriptor says.
+pub fn write_mode(line: &mut Vec<u8>, bytes: &[u8]) -> Result<(), AllocError>
+    ensures { OnOk result (line.new.items ≡ line.old.items ++ mode_text bytes.now) }
+{
+    write_medium(line, bytes)?;
+    write_protection(line, bytes)?;
+    write_block_descriptor(line, bytes)?;
+    write_cut(line, bytes, 1 + u64::from(byte_at(bytes, MODE_DATA_LENGTH)))
+}
+
+#[tactic(auto, unfolding(crate::specs::Drives::medium_text))]
+fn write_medium(line: &mut Vec<u8>, bytes: &[u8]) -> Result<(), AllocError>
+    ensures { OnOk result (line.new.items ≡ line.old.items ++ medium_text bytes.now) }
+{
+    if MEDIUM_TYPE < bytes.len() {
+        write_coded(line, ", medium type ", bytes[MEDIUM_TYPE])?;
+    }
+    Ok(())
+}
+
+#[tactic(auto, unfolding(crate::specs::Drives::protection_text))]
+fn write_protection(line: &mut Vec<u8>, bytes: &[u8]) -> Result<(), AllocError>
+    ensures { OnOk result (line.new.items ≡ line.old.items ++ protection_text bytes.now) }
+{
+    if bit_at(bytes, DEVICE_SPECIFIC_PARAMETER, WP_BIT) {
+        write_words(line, ", write protected")?;
+    }
+    Ok(())
+}
+
+/// Adds the density code and the block length, where there is a block descriptor and it is whole.
+#[tactic(auto, unfolding(crate::specs::Drives::block_descriptor_text))]
+fn write_block_descriptor(line: &mut Vec<u8>, bytes: &[u8]) -> Result<(), AllocError>
+    ensures { OnOk result (line.new.items ≡ line.old.items ++ block_descriptor_text bytes.now) }
+{
+    let descriptor_length = byte_at(bytes, BLOCK_DESCRIPTOR_LENGTH);
+    if BLOCK_DESCRIPTOR <= descriptor_length && BLOCK_DESCRIPTOR_END <= bytes.len() {
+        write_coded(line, ", density ", bytes[DENSITY_CODE])?;
+        let block_length = u24_at(bytes, BLOCK_LENGTH);
+        write_number(line, ", block length ", u64::from(block_length))?;
+    }
+    Ok(())
+}
