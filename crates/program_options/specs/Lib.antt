@@ -1,0 +1,4 @@
+pub mod Faults
+pub mod Hosts
+pub mod Options
+pub mod Rows
