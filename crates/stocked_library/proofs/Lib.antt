@@ -1,0 +1,2 @@
+pub mod LibraryLemmas
+pub mod StockLemmas

@@ -1,0 +1,3 @@
+pub mod Stock
+pub mod Devices
+pub mod Rows

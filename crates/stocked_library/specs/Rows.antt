@@ -1,0 +1,40 @@
+-- Worked rows: the units of the library.
+use Rattle.std.specs.Prelude.{◌≡◌, false, [], ◌∷◌, ◌++◌, Some, None, codes}
+use Rattle.device_server.specs.Drive.{empty_drive}
+use Rattle.device_server.specs.View.{Drive, Changer}
+use Rattle.tape_medium.specs.declared.volume.Volume.{Volume}
+use Rattle.tape_medium.specs.declared.volume.VolumeTag.{VolumeTag}
+use Rattle.logical_unit.specs.Step.{made}
+use Rattle.program_options.specs.declared.library_options.LibraryOptions.{LibraryOptions}
+use Rattle.stocked_library.specs.Devices.{library_of}
+use Rattle.stocked_library.specs.Stock.{stocked, tag_of}
+
+-- the usual library, and one of three drives: each unit is told how many there are
+abbrev pub usual : LibraryOptions
+usual = record { drives = 1; slots = 8; portals = 0; volumes = 1 }
+
+abbrev pub larger : LibraryOptions
+larger = record { drives = 3; slots = 2; portals = 1; volumes = 2 }
+
+abbrev pub first_tag : VolumeTag
+first_tag = record { 0 = codes "VOL00001                        " }
+
+abbrev pub second_tag : VolumeTag
+second_tag = record { 0 = codes "VOL00002                        " }
+
+abbrev pub empty_volume : VolumeTag → Volume
+empty_volume tag = record { tag = tag; protected = false; tape = record { objects = []; position = 0; capacity = 16777216 } }
+
+pub record UnitsOfTheLibrary : Type 0 where
+  pub usual_changer : stocked usual
+      ≡ record { data_transfer = None ∷ []; import_export = []; storage = Some (empty_volume first_tag) ∷ None ∷ None ∷ None ∷ None ∷ None ∷ None ∷ None ∷ [] }
+  pub larger_changer : stocked larger
+      ≡ record { data_transfer = None ∷ None ∷ None ∷ []; import_export = None ∷ []; storage = Some (empty_volume first_tag) ∷ Some (empty_volume second_tag) ∷ [] }
+  pub one_drive : library_of usual ≡ made (Changer (stocked usual)) 0 2 0 ∷ made (Drive empty_drive) 1 2 0 ∷ []
+  pub three_drives : library_of larger
+      ≡ made (Changer (stocked larger)) 0 4 0
+      ∷ made (Drive empty_drive) 1 4 0
+      ∷ made (Drive empty_drive) 2 4 0
+      ∷ made (Drive empty_drive) 3 4 0
+      ∷ []
+  pub last_tag : tag_of 1024 ≡ record { 0 = codes "VOL01024                        " }
