@@ -1,4 +1,5 @@
 pub mod Classes
 pub mod Names
 pub mod Chart
+pub mod Cells
 pub mod Rows

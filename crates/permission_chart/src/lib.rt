@@ -2,6 +2,7 @@
 //! reservation and roles across.
 #![tactic(auto)]
 
+mod cells;
 mod chart;
 mod classes;
 mod laws;
@@ -9,6 +10,7 @@ mod row;
 #[cfg(test)]
 mod tests;
 
+pub use cells::write_cells;
 pub use chart::Chart;
 pub use classes::class_named;
 pub use laws::{class_name_reads_back, each_class_has_a_line, lines_are_aligned, worked_rows};

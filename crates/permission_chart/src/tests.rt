@@ -1,4 +1,4 @@
-use crate::{Chart, class_named};
+use crate::{Chart, class_named, write_cells};
 use scsi_cdb::Class;
 use std::test::Fail;
 
@@ -77,4 +77,23 @@ fn finds_a_class_by_its_name(rt: HostRuntime) {
     for (name, expected) in rows {
         assert_eq!(rt; class_named(name), expected, "{name}");
     }
+}
+
+#[test]
+fn prints_cells(rt: HostRuntime) -> Result<(), Fail> {
+    let mut written = Vec::new(rt.alloc());
+    write_cells(&mut written, Some(Class::Read))?;
+    let wanted = "\
+A allowed, C conflict         NONE     WE     EA   WERO   EARO   WEAR   EAAR
+HOLDER REGISTERED OTHER        R O  H R O  H R O  H R O  H R O  H   O  H   O
+READ(6)                        A A  A A A  A C C  A A A  A A C  A   A  A   C
+";
+    assert_eq!(rt; written.as_slice(), wanted.as_bytes());
+    let mut all = Vec::new(rt.alloc());
+    write_cells(&mut all, None)?;
+    assert_eq!(rt;
+        all.as_slice().iter().filter(|byte| **byte == b'\n').count(),
+        33
+    );
+    Ok(())
 }

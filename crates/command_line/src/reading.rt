@@ -1,0 +1,131 @@
+ghost use Rattle.std.specs.Prelude.{IfOk};
+ghost use Rattle.command_line.specs.Tasks.{IsContact, IsDoable, IsPlace, MakesLibrary};
+
+use crate::command_line_fault::CommandLineFault;
+use crate::commands::program;
+use crate::task::{Contact, Place, Task, Term};
+use clap::ArgMatches;
+use permission_chart::class_named;
+use program_options::{LibraryOptions, OptionFault, fits, nexus_of};
+use replay_output::Audit;
+use scsi_cdb::Class;
+use std::alloc::{AllocError, Global};
+
+/// How many workers serve sessions until standard input ends, where nothing else is asked for.
+const USUAL_WORKERS: u8 = 8;
+
+/// The task that the words of a command line name, the first of them the program's own name.
+pub fn task_of(alloc: Global, words: &[String]) -> Result<Task, CommandLineFault>
+    ensures { IfOk result IsDoable }
+{
+    let command = program(alloc)?;
+    let matches = command.try_get_matches_from(words)?;
+    if let Some(serve) = matches.subcommand_matches("serve") {
+        let library = library_of(serve)?;
+        return Ok(Task::Serve(library, place_of(alloc, serve)?, records_of(serve)));
+    }
+    if let Some(client) = matches.subcommand_matches("client") {
+        return Ok(Task::Client(contact_of(alloc, client)?));
+    }
+    if let Some(cells) = matches.subcommand_matches("cells") {
+        return Ok(Task::Cells(class_of(alloc, cells)?));
+    }
+    match matches.subcommand_matches("replay") {
+        Some(replay) => Ok(Task::Replay(library_of(replay)?, audit_of(replay))),
+        // `clap` asks for a subcommand, and there is no other.
+        None => Ok(Task::Replay(LibraryOptions::USUAL, Audit::Off)),
+    }
+}
+
+/// What the library of a command is made of.
+fn library_of(command: &ArgMatches) -> Result<LibraryOptions, OptionFault>
+    ensures { IfOk result MakesLibrary }
+{
+    let usual = LibraryOptions::USUAL;
+    // `clap` sees to it that no value is absent or out of its range: what stands behind each `get_one`
+    // says that to the prover alone.
+    let options = LibraryOptions {
+        drives: command
+            .get_one::<u8>("drives")
+            .unwrap_or(usual.drives)
+            .clamp(1, 4),
+        slots: command
+            .get_one::<u16>("slots")
+            .unwrap_or(usual.slots)
+            .clamp(1, 1024),
+        portals: command
+            .get_one::<u8>("portals")
+            .unwrap_or(usual.portals)
+            .min(16),
+        volumes: command
+            .get_one::<u16>("volumes")
+            .unwrap_or(usual.volumes)
+            .min(1024),
+    };
+    fits(options.volumes, options.slots)?;
+    Ok(options)
+}
+
+/// What a command wants of the records.
+fn audit_of(command: &ArgMatches) -> Audit {
+    if command.get_flag("spans") {
+        Audit::Spans
+    } else if command.get_flag("audit") {
+        Audit::Lines
+    } else {
+        Audit::Off
+    }
+}
+
+/// What is printed of the records of a library that was served.
+fn records_of(command: &ArgMatches) -> Audit {
+    if command.get_flag("spans") {
+        Audit::Spans
+    } else {
+        Audit::Lines
+    }
+}
+
+/// Where the library of a command is served, and for how long.
+fn place_of(alloc: Global, command: &ArgMatches) -> Result<Place, AllocError>
+    ensures { IfOk result IsPlace }
+{
+    // `clap` sees to it that no value is out of its range, nor the path absent: what stands behind each getter but that of
+    // the workers says that to the prover alone.
+    let socket = String::from_str(alloc, command.get_str("socket").unwrap_or(""))?;
+    let term = match command.get_one::<u8>("sessions") {
+        Some(sessions) => Term::Sessions(sessions.clamp(1, 64)),
+        None => {
+            let workers = command.get_one::<u8>("workers").unwrap_or(USUAL_WORKERS);
+            Term::InputEnds(workers.clamp(1, 64))
+        }
+    };
+    let drain = command.get_flag("drain");
+    Ok(Place {
+        socket,
+        term,
+        drain,
+    })
+}
+
+/// Where the library of a client's command is met, and as which host.
+fn contact_of(alloc: Global, command: &ArgMatches) -> Result<Contact, CommandLineFault>
+    ensures { IfOk result IsContact }
+{
+    // As above, of all three.
+    let port = command.get_one::<u16>("port").unwrap_or(1).clamp(1, 4);
+    let nexus = nexus_of(command.get_str("sas").unwrap_or(""), port)?;
+    let socket = String::from_str(alloc, command.get_str("socket").unwrap_or(""))?;
+    Ok(Contact { socket, nexus })
+}
+
+/// The class of commands that is asked for by its name, if one is.
+fn class_of(alloc: Global, command: &ArgMatches) -> Result<Option<Class>, CommandLineFault> {
+    let Some(name) = command.get_str("class") else {
+        return Ok(None);
+    };
+    match class_named(name) {
+        Some(class) => Ok(Some(class)),
+        None => Err(CommandLineFault::NoClass(String::from_str(alloc, name)?)),
+    }
+}

@@ -1,0 +1,45 @@
+use program_options::LibraryOptions;
+use replay_output::Audit;
+use scsi_cdb::Class;
+use scsi_nexus::Nexus;
+
+/// What the program is asked to do.
+#[derive(Debug, Drop, PartialEq, Eq)]
+pub enum Task {
+    /// Run the script of standard input at a library, and print its replies and what is wanted of the
+    /// records.
+    Replay(LibraryOptions, Audit),
+    /// Serve a library at a socket, and print what is wanted of the records.
+    Serve(LibraryOptions, Place, Audit),
+    /// Send the script of standard input to a served library, and print its replies.
+    Client(Contact),
+    /// Print the permission table, or the line of one class of commands.
+    Cells(Option<Class>),
+}
+
+/// Where a library is served, for how long, and when its records are printed.
+#[derive(Debug, Drop, PartialEq, Eq)]
+pub struct Place {
+    /// The path of the socket's file.
+    pub socket: String,
+    pub term: Term,
+    /// Whether a line for each record so far is printed after each session, and the records kept no longer.
+    pub drain: bool,
+}
+
+/// How long a library is served, and by how many workers.
+#[derive(Clone, Copy, Debug, PartialEq, Eq)]
+pub enum Term {
+    /// For so many sessions, each by a worker of its own.
+    Sessions(u8),
+    /// Until standard input ends, by so many workers.
+    InputEnds(u8),
+}
+
+/// Where a library is met, and as which host.
+#[derive(Debug, Drop, PartialEq, Eq)]
+pub struct Contact {
+    /// The path of the socket's file.
+    pub socket: String,
+    pub nexus: Nexus,
+}
