@@ -1,14 +1,17 @@
 -- What a host has served, and what it wrote at its end.
-use Rattle.std.specs.Prelude.{ℕ, List, [], ◌∷◌, ◌++◌, Option, Some, None, IfSome}
+use Rattle.std.specs.Prelude.{◌≡◌, ℕ, List, [], ◌∷◌, ◌++◌, Option, Some, None, IfSome}
 use Rattle.std.specs.Io.KnownBytes.{Appends}
 use Rattle.kept_unit.specs.Agreeing.{Agrees}
 use Rattle.logical_unit.specs.UnitView.{UnitView}
 use Rattle.lun_router.specs.Opening.{IsSince}
 use Rattle.lun_router.specs.Seats.{SeatValue}
 use Rattle.replay_output.specs.declared.audit_lines.Audit.{Audit}
+use Rattle.replay_output.specs.declared.audit_lines.Audit.TheVariants.{Lines}
 use Rattle.replay_output.specs.AuditLines.{audit_text}
 use Rattle.session.specs.declared.fault.End.{End}
 use Rattle.session.specs.Serving.{Serves}
+use Rattle.serving.specs.declared.hosting.Records.{Records}
+use Rattle.serving.specs.declared.hosting.Records.TheVariants.{AtTheEnd, AfterEachSession}
 use Rattle.serving.specs.Posts.{PostValue, DoesToPost}
 
 -- a session that had no fault
@@ -49,3 +52,19 @@ pub record IsHosted (core : List UnitView) (audit : Audit) (written written' : O
   pub four : ℕ
   pub since : IsSince core zero one two three four
   pub closed : IsClosed audit zero one two three four written written'
+
+-- what is written of the records that are left at the end
+abbrev pub of_the_rest : Records → Audit
+of_the_rest (AtTheEnd audit) = audit
+of_the_rest AfterEachSession = Lines
+
+-- whether what is written at the end is all that is written
+abbrev pub IsAllAtTheEnd : Records → Type 0
+IsAllAtTheEnd (AtTheEnd audit) = Unit {0}
+IsAllAtTheEnd AfterEachSession = ⊥
+
+-- a host that wrote its lines at the end, behind those that it wrote after its sessions, if it was to write some then
+pub record Hosts (core : List UnitView) (records : Records) (written written' : Option (List ℕ)) : Type 0 where
+  pub before : Option (List ℕ)
+  pub none_before : IsAllAtTheEnd records → before ≡ written
+  pub rest : IsHosted core (of_the_rest records) before written'

@@ -63,7 +63,8 @@ fn units_in(
     Ok(units)
 }
 
-fn write_out<W: Write>(writer: &mut W, bytes: &[u8]) -> Result<(), HostFault>
+/// Writes bytes, and what the writer may still hold back of them.
+pub(crate) fn write_out<W: Write>(writer: &mut W, bytes: &[u8]) -> Result<(), HostFault>
     ensures { OnOk result (Appends (W.contents writer.old) (W.contents writer.new) bytes.now) }
 {
     match writer.write_all(bytes) {

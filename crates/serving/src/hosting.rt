@@ -1,18 +1,18 @@
 ghost use Rattle.std.specs.Prelude.{◌≡◌, ◌<◌, OnOk};
 ghost use Rattle.lun_router.specs.Opening.{IsSince};
-ghost use Rattle.serving.specs.Hosted.{IsHosted};
+ghost use Rattle.serving.specs.Hosted.{Hosts, of_the_rest};
 
 use crate::closing::close_and_write;
 use crate::host_fault::{HostFault, earlier};
 use crate::post::Post;
-use crate::worker::{Reception, Worker};
+use crate::worker::{Attendance, Reception, Worker};
 use kept_unit::Site;
 use library_device::Device;
 use lun_router::{Blanks, Library, Pass, Seat};
 use replay_output::Audit;
 use session::Directory;
 use std::alloc::Global;
-use std::io::Write;
+use std::io::{Sink, Write};
 use std::marker::Brand;
 use std::os::unix::net::UnixListener;
 use std::sync::ledger::Blank;
@@ -21,24 +21,46 @@ use std::thread;
 use std::thread::Threads;
 use target_core::TargetCore;
 
-/// Serves a target to so many connections of a listener, each by a worker of its own and as the nexus that its LOGIN
-/// names. After the last has ended the library is closed, and the lines that are wanted of the records are written, LUN 0
-/// first, also where a session had a fault.
+/// What is written of the records of a library that is served.
+#[derive(Clone, Copy, Debug, PartialEq, Eq)]
+pub enum Records {
+    /// What is wanted of them at the end.
+    AtTheEnd(Audit),
+    /// After each session a line for each record so far, LUN 0 first, which the units then no longer keep; and at the end a
+    /// line for each that is left.
+    AfterEachSession,
+}
+
+impl Records {
+    /// What is written of those that are left at the end.
+    fn of_the_rest(self) -> Audit
+        ensures { result ≡ of_the_rest self }
+    {
+        match self {
+            Records::AtTheEnd(audit) => audit,
+            Records::AfterEachSession => Audit::Lines,
+        }
+    }
+}
+
+/// Serves a target to connections of a listener, each by a worker and as the nexus that its LOGIN names. After the last
+/// has ended the library is closed, and what is wanted of the records is written, LUN 0 first, also where a session had a
+/// fault.
 ///
 /// Of the faults that happened the first in the order of `HostFault` is told.
-pub fn host<R: Threads + Wait + Sync, W: Write>(
+pub fn host<R: Threads + Wait + Sync, W: Write + Send>(
     rt: &R,
     alloc: Global,
     core: TargetCore<Device>,
     listener: &UnixListener,
-    sessions: u8,
-    audit: Audit,
+    attendance: Attendance<'_>,
+    records: Records,
     writer: &mut W,
 ) -> Result<(), HostFault>
-    requires some { 0 < sessions }
-    ensures { OnOk result (IsHosted core audit (W.contents writer.old) (W.contents writer.new)) }
+    requires some { 0 < attendance.workers }
+    ensures { OnOk result (Hosts core records (W.contents writer.old) (W.contents writer.new)) }
 {
-    let parts = u64::from(sessions);
+    let parts = u64::from(attendance.workers);
     let blanks = Blanks {
         zero: Blank::new(parts),
         one: Blank::new(parts),
@@ -48,17 +70,17 @@ pub fn host<R: Threads + Wait + Sync, W: Write>(
     };
     let reception = Reception {
         listener,
+        attendance,
         accepted: Mutex::new(0),
-        sessions: parts,
     };
     host_by::<Brand, Brand, Brand, Brand, Brand, R, W>(
         rt,
         alloc,
         core,
-        usize::from(sessions),
+        usize::from(attendance.workers),
         blanks,
         &reception,
-        audit,
+        records,
         writer,
     )
 }
@@ -71,7 +93,7 @@ fn host_by<
     L3: Site + Send + Sync,
     L4: Site + Send + Sync,
     R: Threads + Wait + Sync,
-    W: Write,
+    W: Write + Send,
 >(
     rt: &R,
     alloc: Global,
@@ -79,7 +101,7 @@ fn host_by<
     workers: usize,
     blanks: Blanks,
     reception: &Reception<'_>,
-    audit: Audit,
+    records: Records,
     writer: &mut W,
 ) -> Result<(), HostFault>
     requires some { 0 < workers }
@@ -89,7 +111,7 @@ fn host_by<
     requires three { (blanks.three.name ≡ L3.name) × (blanks.three.parts ≡ L3.parts) × (L3.parts ≡ workers) }
     requires four { (blanks.four.name ≡ L4.name) × (blanks.four.parts ≡ L4.parts) × (L4.parts ≡ workers) }
     requires since { IsSince core L0.since L1.since L2.since L3.since L4.since }
-    ensures { OnOk result (IsHosted core audit (W.contents writer.old) (W.contents writer.new)) }
+    ensures { OnOk result (Hosts core records (W.contents writer.old) (W.contents writer.new)) }
 {
     let opened = Library::<L0, L1, L2, L3, L4, Device, Pass>::new(
         alloc, core, workers, blanks, Pass,
@@ -98,14 +120,42 @@ fn host_by<
         Ok(opened) => opened,
         Err((refused, _)) => return Err(refused.into()),
     };
-    let (seats, served) = serve_all(rt, alloc, &library, seats, reception)?;
-    match close_and_write(alloc, library, seats, audit, writer) {
+    let (seats, served) = match records {
+        Records::AtTheEnd(_) => {
+            serve_all::<L0, L1, L2, L3, L4, R, Sink>(rt, alloc, &library, seats, reception, None)?
+        }
+        Records::AfterEachSession => {
+            serve_and_write(rt, alloc, &library, seats, reception, writer)?
+        }
+    };
+    match close_and_write(alloc, library, seats, records.of_the_rest(), writer) {
         Ok(()) => match served {
             None => Ok(()),
             Some(fault) => Err(fault),
         },
         Err(fault) => Err(earlier(served, Some(fault)).unwrap_or(fault)),
     }
+}
+
+/// Serves sessions, and writes the lines of the records so far after each.
+fn serve_and_write<
+    L0: Site + Send + Sync,
+    L1: Site + Send + Sync,
+    L2: Site + Send + Sync,
+    L3: Site + Send + Sync,
+    L4: Site + Send + Sync,
+    R: Threads + Wait + Sync,
+    W: Write + Send,
+>(
+    rt: &R,
+    alloc: Global,
+    library: &Library<L0, L1, L2, L3, L4, Device, Pass>,
+    seats: Vec<Seat<L0, L1, L2, L3, L4>>,
+    reception: &Reception<'_>,
+    writer: &mut W,
+) -> Result<(Vec<Seat<L0, L1, L2, L3, L4>>, Option<HostFault>), HostFault> {
+    let output = Mutex::new(writer);
+    serve_all(rt, alloc, library, seats, reception, Some(&output))
 }
 
 /// Serves sessions with a worker at each seat, and hands the seats back with the fault that is told, if there was one.
@@ -116,12 +166,14 @@ fn serve_all<
     L3: Site + Send + Sync,
     L4: Site + Send + Sync,
     R: Threads + Wait + Sync,
+    W: Write + Send,
 >(
     rt: &R,
     alloc: Global,
     library: &Library<L0, L1, L2, L3, L4, Device, Pass>,
     seats: Vec<Seat<L0, L1, L2, L3, L4>>,
     reception: &Reception<'_>,
+    output: Option<&Mutex<W>>,
 ) -> Result<(Vec<Seat<L0, L1, L2, L3, L4>>, Option<HostFault>), HostFault> {
     let count = seats.len();
     let directory = Mutex::new(Directory::new(alloc));
@@ -143,7 +195,7 @@ fn serve_all<
         rt,
         workers.as_mut_slice(),
         count.max(1),
-        &|_place, worker| worker.work(alloc, reception),
+        &|_place, worker| worker.work(alloc, reception, output),
     );
     let mut told = None;
     for worker in workers {

@@ -2,14 +2,16 @@
 #![tactic(auto)]
 
 mod closing;
+mod draining;
 mod host_fault;
 mod hosting;
 mod post;
 mod worker;
 
 pub use host_fault::{FaultySession, HostFault, earlier};
-pub use hosting::host;
+pub use hosting::{Records, host};
 pub use post::Post;
+pub use worker::Attendance;
 
 #[cfg(test)]
 mod tests;
