@@ -1,56 +1,34 @@
--- The exit status of each fault of the program, and the line that it writes on standard error (profile).
-use Rattle.std.specs.Prelude.{ℕ, List, [], ◌∷◌, ◌++◌, Option, Some, None, Result, Ok, Err, codes, string_bytes}
+-- The exit status of each fault of the program, and what it writes on standard error (profile).
+use Rattle.std.specs.Prelude.{ℕ, List, [], ◌∷◌, ◌++◌, Option, Some, Result, Ok, Err, codes, string_bytes}
 use Rattle.std.specs.Option.{option_map}
-use Rattle.clap.specs.Values.{kind_of}
-use Rattle.clap.specs.declared.error.kind.ErrorKind.{ErrorKind}
-use Rattle.clap.specs.declared.error.kind.ErrorKind.TheVariants.{DisplayHelp, DisplayVersion}
-use Rattle.replay.specs.Faults.{exit_status, fault_text}
+use Rattle.command_line.specs.Faults.{command_line_status, command_line_text}
+use Rattle.conversing.specs.Faults as session
+use Rattle.replay.specs.Faults as replay
+use Rattle.script_input.specs.Faults as input
 use Rattle.serving.specs.Faults as host
-use Rattle.vtl.specs.declared.command_line.CommandLineFault.{CommandLineFault}
-use Rattle.vtl.specs.declared.command_line.CommandLineFault.TheVariants as line
-use Rattle.vtl.specs.declared.library_options.OptionFault.{OptionFault}
-use Rattle.vtl.specs.declared.library_options.OptionFault.TheVariants.{MoreVolumes}
+use Rattle.vtl.specs.declared.client_fault.ClientFault.{ClientFault}
+use Rattle.vtl.specs.declared.client_fault.ClientFault.TheVariants as client
 use Rattle.vtl.specs.declared.program_fault.ProgramFault.{ProgramFault}
-use Rattle.vtl.specs.declared.program_fault.ProgramFault.TheVariants.{CommandLine, Options, Replay, Serve, Cells}
+use Rattle.vtl.specs.declared.program_fault.ProgramFault.TheVariants.{CommandLine, Replay, Serve, Client, Cells}
 use Rattle.vtl.specs.declared.serve_fault.ServeFault.{ServeFault}
 use Rattle.vtl.specs.declared.serve_fault.ServeFault.TheVariants as serve
-
--- help and the version are what was asked for
-abbrev pub refusal_status : ErrorKind → ℕ
-refusal_status DisplayHelp = 0
-refusal_status DisplayVersion = 0
-refusal_status _ = 2
-
-abbrev pub command_line_status : CommandLineFault → ℕ
-command_line_status (line.Refused error) = refusal_status (kind_of error)
-command_line_status line.NotText = 2
-command_line_status (line.NoClass name) = 2
-command_line_status line.NoMemory = 3
-
-abbrev pub option_status : OptionFault → ℕ
-option_status MoreVolumes = 2
 
 abbrev pub serve_status : ServeFault → ℕ
 serve_status (serve.IsThere path) = 4
 serve_status (serve.CannotListen path) = 4
 serve_status (serve.Host fault) = host.exit_status fault
 
+abbrev pub client_status : ClientFault → ℕ
+client_status (client.Input fault) = input.exit_status fault
+client_status (client.CannotConnect path) = 4
+client_status (client.Session fault) = session.exit_status fault
+
 abbrev pub program_status : ProgramFault → ℕ
 program_status (CommandLine fault) = command_line_status fault
-program_status (Options fault) = option_status fault
-program_status (Replay fault) = exit_status fault
+program_status (Replay fault) = replay.exit_status fault
 program_status (Serve fault) = serve_status fault
+program_status (Client fault) = client_status fault
 program_status Cells = 4
-
--- of a command line that isn't the program's, `clap` chooses the words
-abbrev pub command_line_text : CommandLineFault → Option (List ℕ)
-command_line_text (line.Refused error) = None
-command_line_text line.NotText = Some (codes "vtl: arguments that are not text")
-command_line_text (line.NoClass name) = Some (codes "vtl: no class of commands is named " ++ string_bytes name)
-command_line_text line.NoMemory = Some (codes "vtl: want of memory")
-
-abbrev pub option_fault_text : OptionFault → List ℕ
-option_fault_text MoreVolumes = codes "vtl: more volumes than slots"
 
 -- the second line names the path
 abbrev pub serve_text : ServeFault → List ℕ
@@ -58,11 +36,16 @@ serve_text (serve.IsThere path) = codes "vtl: device fault\nvtl: cannot listen o
 serve_text (serve.CannotListen path) = codes "vtl: device fault\nvtl: cannot listen on " ++ string_bytes path
 serve_text (serve.Host fault) = host.fault_text fault
 
+abbrev pub client_text : ClientFault → List ℕ
+client_text (client.Input fault) = input.fault_text fault
+client_text (client.CannotConnect path) = codes "vtl: device fault\nvtl: cannot connect to " ++ string_bytes path
+client_text (client.Session fault) = session.fault_text fault
+
 abbrev pub program_text : ProgramFault → Option (List ℕ)
 program_text (CommandLine fault) = command_line_text fault
-program_text (Options fault) = Some (option_fault_text fault)
-program_text (Replay fault) = Some (fault_text fault)
+program_text (Replay fault) = Some (replay.fault_text fault)
 program_text (Serve fault) = Some (serve_text fault)
+program_text (Client fault) = Some (client_text fault)
 program_text Cells = Some (codes "vtl: device fault\nvtl: the permission table could not be written")
 
 -- how the program ends: nothing is written where the task was done, and else the text and a line feed

@@ -1,10 +1,9 @@
 //! Worked rows that the definitions compute to.
 
-ghost use Rattle.vtl.specs.Rows.{StatusesOfTheProgram, LinesOfTheProgram, UnitsOfTheLibrary};
+ghost use Rattle.vtl.specs.Rows.{StatusesOfTheProgram, LinesOfTheProgram};
 
-/// How the program ends, and the units of its library.
+/// How the program ends.
 pub fn worked_rows()
     ensures statuses { StatusesOfTheProgram }
     ensures lines { LinesOfTheProgram }
-    ensures units { UnitsOfTheLibrary }
 {}

@@ -1,17 +1,14 @@
-//! The program `vtl`: runs a script of commands through a tape library and prints its replies, or serves the library
-//! behind a Unix socket.
+//! The program `vtl`: runs a script of commands through a tape library and prints its replies, serves the library
+//! behind a Unix socket, or is a host of one that is served.
 #![tactic(auto)]
 
-mod cells;
-mod command_line;
+mod client;
+mod client_fault;
 mod laws;
-mod library;
-mod library_options;
 mod program;
 mod program_fault;
 mod serve;
 mod serve_fault;
-mod stock;
 #[cfg(test)]
 mod tests;
 

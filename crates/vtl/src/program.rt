@@ -1,14 +1,14 @@
-ghost use Rattle.std.specs.Prelude.{◌≡◌, ◌≤◌, OnOk, IfOk, IfSome};
+ghost use Rattle.std.specs.Prelude.{◌≡◌, OnOk, IfOk, IfSome};
 ghost use Rattle.std.specs.Io.KnownBytes.{Appends};
+ghost use Rattle.command_line.specs.Tasks.{IsDoable, MakesLibrary};
 ghost use Rattle.vtl.specs.Faults.{ending_line, ending_status};
-ghost use Rattle.vtl.specs.Options.{AreInRange, HasOptionsInRange};
 
-use crate::cells::write_cells;
-use crate::command_line::{CommandLineFault, Task, task_of};
-use crate::library::library;
-use crate::library_options::{LibraryOptions, fits};
+use crate::client::client;
 use crate::program_fault::ProgramFault;
 use crate::serve::serve;
+use command_line::{CommandLineFault, Task, task_of};
+use permission_chart::write_cells;
+use program_options::LibraryOptions;
 use replay::{ReplayFault, replay};
 use replay_output::Audit;
 use std::fs::Files;
@@ -18,6 +18,7 @@ use std::rt::Env;
 use std::sync::Wait;
 use std::thread::Threads;
 use std::{env, io};
+use stocked_library::library;
 
 /// The most reads of standard input.
 const TURNS: u64 = 0xFFFF_FFFF;
@@ -69,14 +70,9 @@ fn perform<R: AllocGlobal + Env + Files + Input + Net + Print + Sync + Threads +
     rt: &R,
 ) -> Result<(), ProgramFault> {
     match task_of_arguments(rt)? {
-        Task::Replay(options, audit) => {
-            fits(options.volumes, options.slots)?;
-            Ok(replay_standard_input(rt, options, audit)?)
-        }
-        Task::Serve(options, place, audit) => {
-            fits(options.volumes, options.slots)?;
-            Ok(serve(rt, options, place, audit)?)
-        }
+        Task::Replay(options, audit) => { Ok(replay_standard_input(rt, options, audit)?) }
+        Task::Serve(options, place, audit) => { Ok(serve(rt, options, place, audit)?) }
+        Task::Client(contact) => Ok(client(rt, contact)?),
         Task::Cells(class) => {
             write_cells(&mut io::writer(rt), class).map_err(|_| ProgramFault::Cells)
         }
@@ -84,7 +80,7 @@ fn perform<R: AllocGlobal + Env + Files + Input + Net + Print + Sync + Threads +
 }
 
 fn task_of_arguments<R: AllocGlobal + Env>(rt: &R) -> Result<Task, CommandLineFault>
-    ensures { IfOk result HasOptionsInRange }
+    ensures { IfOk result IsDoable }
 {
     match env::args(rt) {
         Ok(arguments) => {
@@ -103,8 +99,7 @@ fn replay_standard_input<R: AllocGlobal + Input + Print>(
     options: LibraryOptions,
     audit: Audit,
 ) -> Result<(), ReplayFault>
-    requires range { AreInRange options }
-    requires fits { options.volumes ≤ options.slots }
+    requires { MakesLibrary options }
 {
     let mut core = library(rt.alloc(), &options)?;
     let mut reader = rt.reader();

@@ -1,7 +1,6 @@
-use crate::command_line::CommandLineFault;
-use crate::library_options::OptionFault;
+use crate::client_fault::ClientFault;
 use crate::serve_fault::ServeFault;
-use clap::error::ErrorKind;
+use command_line::CommandLineFault;
 use replay::ReplayFault;
 use std::alloc::AllocError;
 use std::fmt;
@@ -11,9 +10,9 @@ use thiserror::Error;
 #[derive(Debug, Drop, Error)]
 pub enum ProgramFault {
     CommandLine(#[from] CommandLineFault),
-    Options(#[from] OptionFault),
     Replay(#[from] ReplayFault),
     Serve(#[from] ServeFault),
+    Client(#[from] ClientFault),
     /// The permission table couldn't be written, or not all of it.
     Cells,
 }
@@ -23,21 +22,15 @@ impl ProgramFault {
     ghost use Rattle.vtl.specs.Faults.{program_status};
 
     /// The exit status: 2 where arguments or the script are refused, 3 for want of memory, 4 for a fault
-    /// of input or output, and 0 after help and the version (profile).
+    /// of input or output or of the other end of a session, and 0 after help and the version (profile).
     pub fn status(&self) -> u8
         ensures { result ≡ program_status self.now }
     {
         match self {
-            ProgramFault::CommandLine(CommandLineFault::Refused(error)) => match error.kind() {
-                ErrorKind::DisplayHelp | ErrorKind::DisplayVersion => 0,
-                _ => 2,
-            },
-            ProgramFault::CommandLine(CommandLineFault::NotText) => 2,
-            ProgramFault::CommandLine(CommandLineFault::NoClass(_)) => 2,
-            ProgramFault::CommandLine(CommandLineFault::NoMemory) => 3,
-            ProgramFault::Options(OptionFault::MoreVolumes) => 2,
+            ProgramFault::CommandLine(fault) => fault.status(),
             ProgramFault::Replay(fault) => fault.status(),
             ProgramFault::Serve(fault) => fault.status(),
+            ProgramFault::Client(fault) => fault.status(),
             ProgramFault::Cells => 4,
         }
     }
@@ -51,9 +44,9 @@ impl fmt::Display for ProgramFault {
     fn fmt<W: fmt::Write>(&self, f: &mut fmt::Formatter<W>) -> fmt::Result {
         match self {
             ProgramFault::CommandLine(fault) => write!(f, "{fault}"),
-            ProgramFault::Options(fault) => write!(f, "{fault}"),
             ProgramFault::Replay(fault) => write!(f, "{fault}"),
             ProgramFault::Serve(fault) => write!(f, "{fault}"),
+            ProgramFault::Client(fault) => write!(f, "{fault}"),
             ProgramFault::Cells => {
                 f.write_str("vtl: device fault\nvtl: the permission table could not be written")
             }

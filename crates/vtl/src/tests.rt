@@ -5,11 +5,11 @@ use std::alloc::{AllocError, Global};
 
 mod audit;
 mod changer;
-mod command_lines;
 mod drives;
 mod every_unit;
 mod faults;
 mod full_volumes;
+mod hosts;
 mod moves;
 mod prevention;
 mod rows;

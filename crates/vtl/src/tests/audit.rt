@@ -1,10 +1,9 @@
 //! What a replay writes of the units' records, and records that are handed out.
 
 use super::{A, empty_changer};
-use crate::library::library;
-use crate::library_options::LibraryOptions;
 use device_server::DeviceServer;
 use logical_unit::{Busy, LogicalUnit};
+use program_options::LibraryOptions;
 use replay::replay;
 use replay_output::Audit;
 use scsi_sense::Status;
@@ -12,6 +11,7 @@ use std::alloc::Global;
 use std::fmt::Write;
 use std::process::Abort;
 use std::test::Fail;
+use stocked_library::library;
 use target_core::TargetCore;
 
 /// Replays a script with the lines of the records, and compares the whole output.

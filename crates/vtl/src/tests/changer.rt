@@ -1,11 +1,11 @@
 //! Worked rows: commands to a changer with its elements, and the replies to them.
 
 use super::rows::{POWER_ON, push_lines};
-use crate::library::library;
-use crate::library_options::LibraryOptions;
+use program_options::LibraryOptions;
 use replay::replay;
 use replay_output::Audit;
 use std::test::Fail;
+use stocked_library::library;
 
 /// One drive, two storage elements, and a volume in the first of them.
 const SMALL: LibraryOptions = LibraryOptions {

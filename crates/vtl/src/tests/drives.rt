@@ -3,11 +3,10 @@
 use super::A;
 use super::rows::{POWER_ON, assert_output, push_lines};
 use super::targets::{changer_marked, loaded_drive, target};
-use crate::library::library;
-use crate::library_options::LibraryOptions;
 use audit_log::line;
 use library_device::Device;
 use logical_unit::LogicalUnit;
+use program_options::LibraryOptions;
 use replay::replay;
 use replay_output::Audit;
 use scsi_sense::{Sense, Status};
@@ -15,6 +14,7 @@ use std::alloc::Global;
 use std::fmt::Write;
 use std::process::Abort;
 use std::test::Fail;
+use stocked_library::library;
 use tape_medium::VolumeTag;
 use target_core::Event;
 

@@ -1,8 +1,8 @@
 //! Readers and writers that fail, and what is told of each fault.
 
-use crate::library::library;
-use crate::library_options::LibraryOptions;
-use crate::serve::{Place, serve};
+use crate::serve::serve;
+use command_line::{Place, Term};
+use program_options::LibraryOptions;
 use replay::{ReplayFault, replay};
 use replay_output::Audit;
 use replay_script::LineFault;
@@ -10,6 +10,7 @@ use std::io::{Read, Write};
 use std::os::unix::net::UnixListener;
 use std::test::Fail;
 use std::{env, fs, io, process};
+use stocked_library::library;
 
 /// A reader of a comment, a byte at each read. It counts its reads, and fails at one of them.
 #[derive(Drop)]
@@ -126,8 +127,16 @@ fn shows_faults(rt: HostRuntime) -> Result<(), Fail> {
             2,
         ),
         (ReplayFault::NoMemory, "vtl: want of memory", 3),
-        (ReplayFault::Read, "vtl: device fault", 4),
-        (ReplayFault::Write, "vtl: device fault", 4),
+        (
+            ReplayFault::Read,
+            "vtl: device fault\nvtl: the script could not be read",
+            4,
+        ),
+        (
+            ReplayFault::Write,
+            "vtl: device fault\nvtl: the replies could not be written",
+            4,
+        ),
     ];
     for (fault, text, status) in rows {
         let shown = fault.to_string(rt.alloc())?;
@@ -146,7 +155,8 @@ fn leaves_a_file_that_is_there(rt: HostRuntime) -> Result<(), Fail> {
     let _there = UnixListener::bind(&rt, socket)?;
     let place = Place {
         socket: String::from_str(rt.alloc(), socket)?,
-        sessions: 1,
+        term: Term::Sessions(1),
+        drain: false,
     };
     let served = serve(&rt, LibraryOptions::USUAL, place, Audit::Lines);
     fs::remove_file(&rt, socket)?;
@@ -166,7 +176,8 @@ fn leaves_a_file_that_is_there(rt: HostRuntime) -> Result<(), Fail> {
 fn tells_a_place_without_a_folder(rt: HostRuntime) -> Result<(), Fail> {
     let place = Place {
         socket: String::from_str(rt.alloc(), "/nowhere/at/all")?,
-        sessions: 1,
+        term: Term::Sessions(1),
+        drain: false,
     };
     let Err(fault) = serve(&rt, LibraryOptions::USUAL, place, Audit::Lines) else {
         return Err("served".into());

@@ -1,11 +1,11 @@
 //! A volume of the program that takes no more.
 
-use crate::library::library;
-use crate::library_options::LibraryOptions;
+use program_options::LibraryOptions;
 use replay::replay;
 use replay_output::Audit;
 use std::fmt::Write;
 use std::test::Fail;
+use stocked_library::library;
 
 /// The volume goes into the drive, and A makes contact there.
 const READY: &str = "500000000000000a.1 0 000000000000\n\

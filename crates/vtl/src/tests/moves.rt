@@ -1,16 +1,16 @@
 //! Worked rows: moves between the changer's elements and the drives, and what the drives' hosts see of them.
 
 use super::targets::{changer, changer_marked, empty_drive, loaded_drive};
-use crate::library::library;
-use crate::library_options::LibraryOptions;
 use library_device::Device;
 use logical_unit::{LogicalUnit, named};
+use program_options::LibraryOptions;
 use replay::replay;
 use replay_output::Audit;
 use std::alloc::Global;
 use std::fmt::Write;
 use std::process::Abort;
 use std::test::Fail;
+use stocked_library::library;
 use tape_medium::VolumeTag;
 use target_core::{CoreFault, TargetCore};
 

@@ -1,11 +1,10 @@
 //! Who prevents the removal of media, and when that ends.
 
 use super::{A, B, empty_changer};
-use crate::library::library;
-use crate::library_options::LibraryOptions;
 use changer_server::Changer;
 use library_device::unit_at;
 use logical_unit::LogicalUnit;
+use program_options::LibraryOptions;
 use replay::replay;
 use replay_output::Audit;
 use scsi_nexus::Nexus;
@@ -13,6 +12,7 @@ use scsi_sense::Status;
 use std::alloc::{AllocError, Global};
 use std::process::Abort;
 use std::test::Fail;
+use stocked_library::library;
 
 const ALLOW: &[u8] = &[0x1e, 0, 0, 0, 0, 0];
 

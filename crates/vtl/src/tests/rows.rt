@@ -1,13 +1,13 @@
 //! Worked rows: commands to logical unit 0 and the replies to them.
 
-use crate::library::library;
-use crate::library_options::LibraryOptions;
+use program_options::LibraryOptions;
 use replay::replay;
 use replay_output::Audit;
 use std::alloc::Global;
 use std::fmt::Write;
 use std::process::Abort;
 use std::test::Fail;
+use stocked_library::library;
 
 /// The first command of each nexus, which reports its power on.
 const CONTACTS: &str = "a 000000000000\nb 000000000000\nc 000000000000\n";

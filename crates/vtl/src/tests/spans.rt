@@ -3,14 +3,14 @@
 
 ghost use Rattle.std.specs.Prelude.{◌<◌};
 
-use crate::library::library;
-use crate::library_options::LibraryOptions;
+use program_options::LibraryOptions;
 use replay::replay;
 use replay_output::Audit;
 use std::alloc::Global;
 use std::fmt::Write;
 use std::process::Abort;
 use std::test::Fail;
+use stocked_library::library;
 
 const OPTIONS: LibraryOptions = LibraryOptions {
     drives: 1,
