@@ -1,76 +1,91 @@
 //! Scenes of two hosts in one thread, with the bytes that they must be answered.
 
-use super::asking::{A, B, TEST_UNIT_READY, assert_good, assert_sense};
+use super::asking::{A, Answer, Ask, B, DONE, Data, NO_MEDIUM, POWER_ON, Row, ask_all, close};
 use crate::gate::Gate;
 use crate::library::Library;
 use crate::seat::Seat;
 use kept_unit::Site;
 use library_device::Device;
-use scsi_nexus::Nexus;
-use scsi_sense::Status;
 use std::alloc::Global;
 use std::process::Abort;
 use std::sync::Wait;
 use std::test::Fail;
 
-/// REWIND, READ POSITION, and MOVE MEDIUM from the first storage element to drive 1.
-const REWIND: [u8; 6] = [0x01, 0, 0, 0, 0, 0];
+/// A volume came into the drive.
+const MEDIUM_CHANGED: Answer = Answer::Check(0x28, 0x00);
 
-const READ_POSITION: [u8; 10] = [0x34, 0, 0, 0, 0, 0, 0, 0, 0, 0];
+const LOST: Answer = Answer::Check(0x29, 0x07);
 
-const LOAD_DRIVE_1: [u8; 12] = [0xA5, 0, 0, 0, 0x04, 0x00, 0x01, 0x00, 0, 0, 0, 0];
+const WAS_RESET: Answer = Answer::Check(0x29, 0x03);
 
-/// READ(6) and WRITE(6) of one block of four bytes.
-const READ: [u8; 6] = [0x08, 0, 0, 0, 4, 0];
+/// Another host holds the drive.
+const CONFLICT: Answer = Answer::Conflict;
 
-const WRITE: [u8; 6] = [0x0A, 0, 0, 0, 4, 0];
+const NO_UNIT: Answer = Answer::Check(0x25, 0x00);
 
-/// READ KEYS, cut at 12 bytes.
-const READ_KEYS: [u8; 10] = [0x5E, 0, 0, 0, 0, 0, 0, 0, 12, 0];
+const END_OF_DATA: Answer = Answer::Check(0x00, 0x05);
 
-/// PERSISTENT RESERVE OUT, by service action and type.
-fn reserve_out(action: u8, scope_and_type: u8) -> [u8; 10] {
-    [0x5F, action, scope_and_type, 0, 0, 0, 0, 0, 0x18, 0]
-}
+const BLOCK: Answer = Answer::Good(Data::BlockOfA);
 
-/// Its parameter list, by the last bytes of the reservation key and of the service action reservation key.
-fn parameters(key: u8, action_key: u8) -> [u8; 24] {
+const BEHIND_ONE: Answer = Answer::Good(Data::BehindOne);
+
+const TWO_KEYS: Answer = Answer::Good(Data::TwoKeys);
+
+const NO_INQUIRY: Answer = Answer::Good(Data::NoInquiry);
+
+/// The two nexuses at drive 1, at the first seat and at the second.
+const CONTACTS: [[Row; 2]; 2] = [
     [
-        0, 0, 0, 0, 0, 0, 0, key, 0, 0, 0, 0, 0, 0, 0, action_key, 0, 0, 0, 0, 0, 0, 0, 0,
-    ]
-}
+        ("A's first command", A, 1, Ask::Ready, POWER_ON, None),
+        ("B's first command", B, 1, Ask::Ready, POWER_ON, None),
+    ],
+    [
+        ("A at the second seat", A, 1, Ask::Ready, NO_MEDIUM, None),
+        ("B at the second seat", B, 1, Ask::Ready, NO_MEDIUM, None),
+    ],
+];
 
-/// A command is answered GOOD with these bytes.
-fn good<L0: Site, L1: Site, L2: Site, L3: Site, L4: Site, G: Gate, R: Abort + Wait>(
-    rt: &R,
-    alloc: Global,
-    library: &Library<L0, L1, L2, L3, L4, Device, G>,
-    seat: &mut Seat<L0, L1, L2, L3, L4>,
-    to: (Nexus, u8),
-    cdb: &[u8],
-    bytes: &[u8],
-    payload: &[u8],
-) {
-    let (nexus, lun) = to;
-    let done = library.submit(rt, alloc, seat, nexus, lun, cdb, bytes);
-    assert_good(rt, &done, payload);
-}
+const LOSS_AND_RESET: [Row; 9] = [
+    ("nothing is lost yet", A, 1, Ask::Ready, NO_MEDIUM, None),
+    ("A is lost at drive 1", A, 1, Ask::Loss, DONE, Some(1)),
+    ("A is told of its loss", A, 1, Ask::Ready, LOST, None),
+    ("a loss where A never was", A, 2, Ask::Loss, DONE, Some(0)),
+    ("a reset of drive 1", A, 1, Ask::Reset, DONE, None),
+    ("A is told of the reset", A, 1, Ask::Ready, WAS_RESET, None),
+    ("B is told of the reset", B, 1, Ask::Ready, WAS_RESET, None),
+    ("a loss at no unit", A, 9, Ask::Loss, NO_UNIT, None),
+    ("a reset of no unit", A, 3, Ask::Reset, NO_UNIT, None),
+];
 
-/// A command without data is answered with this sense.
-fn sense<L0: Site, L1: Site, L2: Site, L3: Site, L4: Site, G: Gate, R: Abort + Wait>(
-    rt: &R,
-    alloc: Global,
-    library: &Library<L0, L1, L2, L3, L4, Device, G>,
-    seat: &mut Seat<L0, L1, L2, L3, L4>,
-    to: (Nexus, u8),
-    cdb: &[u8],
-    asc: u8,
-    ascq: u8,
-) {
-    let (nexus, lun) = to;
-    let done = library.submit(rt, alloc, seat, nexus, lun, cdb, &[]);
-    assert_sense(rt, &done, asc, ascq);
-}
+const SHARING: [Row; 20] = [
+    ("A at the changer", A, 0, Ask::Ready, POWER_ON, None),
+    ("A at the drive", A, 1, Ask::Ready, POWER_ON, None),
+    ("B at the drive", B, 1, Ask::Ready, POWER_ON, None),
+    ("a volume comes in", A, 0, Ask::ToDrive1, DONE, None),
+    ("A is told of it", A, 1, Ask::Ready, MEDIUM_CHANGED, None),
+    ("B is told of it", B, 1, Ask::Ready, MEDIUM_CHANGED, None),
+    ("A writes", A, 1, Ask::WriteOfA, DONE, None),
+    ("A rewinds", A, 1, Ask::Rewind, DONE, None),
+    ("A registers", A, 1, Ask::Register1, DONE, None),
+    ("B registers", B, 1, Ask::Register2, DONE, None),
+    ("B is shown both keys", B, 1, Ask::ReadKeys, TWO_KEYS, None),
+    ("A reserves", A, 1, Ask::Reserve, DONE, None),
+    ("B reads", B, 1, Ask::Read, BLOCK, None),
+    ("B must not write", B, 1, Ask::WriteOfB, CONFLICT, Some(1)),
+    (
+        "where B has read",
+        A,
+        1,
+        Ask::ReadPosition,
+        BEHIND_ONE,
+        None,
+    ),
+    ("B has written nothing", A, 1, Ask::Read, END_OF_DATA, None),
+    ("A rewinds again", A, 1, Ask::Rewind, DONE, None),
+    ("A's block is as it was", A, 1, Ask::Read, BLOCK, None),
+    ("no unit is ready", A, 9, Ask::Ready, NO_UNIT, None),
+    ("no unit is here", A, 9, Ask::Inquiry, NO_INQUIRY, Some(0)),
+];
 
 /// A loss is told to the nexus, a reset to both, and neither reaches a unit that isn't there.
 pub(super) fn lose_and_reset<
@@ -87,67 +102,12 @@ pub(super) fn lose_and_reset<
     library: Library<L0, L1, L2, L3, L4, Device, G>,
     mut seats: Vec<Seat<L0, L1, L2, L3, L4>>,
 ) -> Result<(), Fail> {
-    for seat in &mut seats {
-        for nexus in [A, B] {
-            let _done = library.submit(rt, alloc, seat, nexus, 1, &TEST_UNIT_READY, &[]);
-        }
-        sense(
-            rt,
-            alloc,
-            &library,
-            seat,
-            (A, 1),
-            &TEST_UNIT_READY,
-            0x3A,
-            0x00,
-        );
-        let done = library.lose(rt, alloc, seat, A, 1);
-        assert_good(rt, &done, &[]);
-        assert_eq!(rt; done.receipt().numbers.len(), 1);
-        sense(
-            rt,
-            alloc,
-            &library,
-            seat,
-            (A, 1),
-            &TEST_UNIT_READY,
-            0x29,
-            0x07,
-        );
-        let done = library.lose(rt, alloc, seat, A, 2);
-        assert_good(rt, &done, &[]);
-        assert_eq!(rt; done.receipt().numbers.len(), 0);
-        let done = library.reset(rt, alloc, seat, 1);
-        assert_good(rt, &done, &[]);
-        sense(
-            rt,
-            alloc,
-            &library,
-            seat,
-            (A, 1),
-            &TEST_UNIT_READY,
-            0x29,
-            0x03,
-        );
-        sense(
-            rt,
-            alloc,
-            &library,
-            seat,
-            (B, 1),
-            &TEST_UNIT_READY,
-            0x29,
-            0x03,
-        );
-        let done = library.lose(rt, alloc, seat, A, 9);
-        assert_sense(rt, &done, 0x25, 0x00);
-        let done = library.reset(rt, alloc, seat, 3);
-        assert_sense(rt, &done, 0x25, 0x00);
+    for (seat, contacts) in seats.iter_mut().zip(&CONTACTS) {
+        ask_all(rt, alloc, &library, seat, contacts.as_slice());
+        ask_all(rt, alloc, &library, seat, &LOSS_AND_RESET);
     }
-    match library.close(alloc, seats) {
-        Ok(_) => Ok(()),
-        Err(_) => Err("the library is not closed".into()),
-    }
+    close(alloc, library, seats)?;
+    Ok(())
 }
 
 /// Two hosts of one drive: what one wrote stays as it is while the other's WRITE is denied by the reservation.
@@ -168,135 +128,8 @@ pub(super) fn share_a_drive<
     let Some(seat) = seats.first_mut() else {
         return Err("no seat".into());
     };
-    let library_of = &library;
-    for (nexus, lun) in [(A, 0), (A, 1), (B, 1)] {
-        sense(
-            rt,
-            alloc,
-            library_of,
-            seat,
-            (nexus, lun),
-            &TEST_UNIT_READY,
-            0x29,
-            0x00,
-        );
-    }
-    good(rt, alloc, library_of, seat, (A, 0), &LOAD_DRIVE_1, &[], &[]);
-    sense(
-        rt,
-        alloc,
-        library_of,
-        seat,
-        (A, 1),
-        &TEST_UNIT_READY,
-        0x28,
-        0x00,
-    );
-    sense(
-        rt,
-        alloc,
-        library_of,
-        seat,
-        (B, 1),
-        &TEST_UNIT_READY,
-        0x28,
-        0x00,
-    );
-    good(
-        rt,
-        alloc,
-        library_of,
-        seat,
-        (A, 1),
-        &WRITE,
-        &[1, 2, 3, 4],
-        &[],
-    );
-    good(rt, alloc, library_of, seat, (A, 1), &REWIND, &[], &[]);
-    good(
-        rt,
-        alloc,
-        library_of,
-        seat,
-        (A, 1),
-        &reserve_out(0, 0),
-        &parameters(0, 1),
-        &[],
-    );
-    good(
-        rt,
-        alloc,
-        library_of,
-        seat,
-        (B, 1),
-        &reserve_out(0, 0),
-        &parameters(0, 2),
-        &[],
-    );
-    let keys = [0, 0, 0, 2, 0, 0, 0, 16, 0, 0, 0, 0];
-    good(rt, alloc, library_of, seat, (B, 1), &READ_KEYS, &[], &keys);
-    good(
-        rt,
-        alloc,
-        library_of,
-        seat,
-        (A, 1),
-        &reserve_out(1, 1),
-        &parameters(1, 0),
-        &[],
-    );
-    good(
-        rt,
-        alloc,
-        library_of,
-        seat,
-        (B, 1),
-        &READ,
-        &[],
-        &[1, 2, 3, 4],
-    );
-    let done = library_of.submit(rt, alloc, seat, B, 1, &WRITE, &[9, 9, 9, 9]);
-    assert_eq!(rt; done.receipt().reply.status, Status::ReservationConflict);
-    assert_eq!(rt; done.receipt().numbers.len(), 1);
-    let position = [0, 0, 0, 0, 0, 0, 0, 1, 0, 0, 0, 1, 0, 0, 0, 0, 0, 0, 0, 0];
-    good(
-        rt,
-        alloc,
-        library_of,
-        seat,
-        (A, 1),
-        &READ_POSITION,
-        &[],
-        &position,
-    );
-    sense(rt, alloc, library_of, seat, (A, 1), &READ, 0x00, 0x05);
-    good(rt, alloc, library_of, seat, (A, 1), &REWIND, &[], &[]);
-    good(
-        rt,
-        alloc,
-        library_of,
-        seat,
-        (A, 1),
-        &READ,
-        &[],
-        &[1, 2, 3, 4],
-    );
-    sense(
-        rt,
-        alloc,
-        library_of,
-        seat,
-        (A, 9),
-        &TEST_UNIT_READY,
-        0x25,
-        0x00,
-    );
-    let inquiry = library_of.submit(rt, alloc, seat, A, 9, &[0x12, 0, 0, 0, 4, 0], &[]);
-    assert_good(rt, &inquiry, &[0x7F, 0, 6, 2]);
-    assert_eq!(rt; inquiry.receipt().numbers.len(), 0);
-    match library.close(alloc, seats) {
-        Ok(histories) => assert_eq!(rt; histories.changer.records().len(), 2),
-        Err(_) => return Err("the library is not closed".into()),
-    }
+    ask_all(rt, alloc, &library, seat, &SHARING);
+    let histories = close(alloc, library, seats)?;
+    assert_eq!(rt; histories.changer.records().len(), 2);
     Ok(())
 }

@@ -1,6 +1,6 @@
 //! Scenes of two threads, each with a seat of its own.
 
-use super::asking::{A, B, TEST_UNIT_READY, assert_good, assert_sense, nexus_at};
+use super::asking::{A, Ask, B, DONE, NO_MEDIUM, POWER_ON, Row, ask_all, ask_one, close, nexus_at};
 use super::gates::Flags;
 use crate::closing::CloseFault;
 use crate::gate::Gate;
@@ -19,7 +19,18 @@ use std::thread;
 use std::thread::Threads;
 use std::time::Clock;
 
-/// One hundred TEST UNIT READY, to drive 1 and drive 2 by turns, with a drain of both after the fiftieth if there is
+/// What each of two threads does with its seat.
+#[derive(Clone, Copy)]
+enum Part<'a> {
+    /// It asks both drives, and drains them halfway if there is somewhere to note the numbers.
+    Asks(Option<&'a Drained>),
+    /// It waits for its turn.
+    Waits(&'a Flags),
+    /// It moves a volume.
+    Moves,
+}
+
+/// One hundred TEST UNIT Ask::Ready, to drive 1 and drive 2 by turns, with a drain of both after the fiftieth if there is
 /// somewhere to note the numbers that it hands out.
 fn ask_100_times<L0: Site, L1: Site, L2: Site, L3: Site, L4: Site, G: Gate, R: Abort + Wait>(
     rt: &R,
@@ -31,12 +42,13 @@ fn ask_100_times<L0: Site, L1: Site, L2: Site, L3: Site, L4: Site, G: Gate, R: A
 ) {
     for turn in 0..100u8 {
         let lun = 1 + turn % 2;
-        let done = library.submit(rt, alloc, seat, nexus, lun, &TEST_UNIT_READY, &[]);
-        if turn < 2 {
-            assert_sense(rt, &done, 0x29, 0x00);
+        let (shows, answer) = if turn < 2 {
+            ("the first command at a drive", POWER_ON)
         } else {
-            assert_sense(rt, &done, 0x3A, 0x00);
-        }
+            ("a later command at a drive", NO_MEDIUM)
+        };
+        let row = (shows, nexus, lun, Ask::Ready, answer, None);
+        ask_one(rt, alloc, library, seat, &row);
         if turn == 49
             && let Some(drained) = drained
         {
@@ -78,6 +90,110 @@ fn count_of(unit: &Option<LogicalUnit<Device>>) -> usize {
     }
 }
 
+/// One command of each thread: that of the first to drive 1, whose gate waits for the answer of the second at drive 2,
+/// which is asked once the first is at its gate.
+fn ask_in_turn<L0: Site, L1: Site, L2: Site, L3: Site, L4: Site, G: Gate, R: Abort + Clock + Wait>(
+    rt: &R,
+    alloc: Global,
+    library: &Library<L0, L1, L2, L3, L4, Device, G>,
+    seat: &mut Seat<L0, L1, L2, L3, L4>,
+    place: usize,
+    flags: &Flags,
+) {
+    if place == 0 {
+        ask_one(rt, alloc, library, seat, &HELD);
+    } else {
+        flags.wait_until_entered(rt);
+        ask_one(rt, alloc, library, seat, &NOT_HELD);
+        flags.answered.store(true, Ordering::SeqCst);
+    }
+}
+
+const HELD: Row = (
+    "the first waits at its gate",
+    A,
+    1,
+    Ask::Ready,
+    POWER_ON,
+    None,
+);
+
+const NOT_HELD: Row = ("the second doesn't", B, 2, Ask::Ready, POWER_ON, None);
+
+const FIRST_MOVES: [Row; 2] = [
+    ("into drive 1", A, 0, Ask::ToDrive1, DONE, Some(2)),
+    ("out of drive 1", A, 0, Ask::FromDrive1, DONE, Some(2)),
+];
+
+const SECOND_MOVES: [Row; 2] = [
+    ("into drive 2", B, 0, Ask::ToDrive2, DONE, Some(2)),
+    ("out of drive 2", B, 0, Ask::FromDrive2, DONE, Some(2)),
+];
+
+/// Moves a volume into a drive and back, fifty times: thread 0 that of 0400h by drive 1, thread 1 that of 0401h by
+/// drive 2.
+fn move_back_and_forth<L0: Site, L1: Site, L2: Site, L3: Site, L4: Site, G: Gate, R: Abort + Wait>(
+    rt: &R,
+    alloc: Global,
+    library: &Library<L0, L1, L2, L3, L4, Device, G>,
+    seat: &mut Seat<L0, L1, L2, L3, L4>,
+    place: usize,
+) {
+    let nexus = nexus_at(place);
+    let contact = ("at the changer", nexus, 0, Ask::Ready, POWER_ON, None);
+    ask_one(rt, alloc, library, seat, &contact);
+    let moves = if place == 0 {
+        FIRST_MOVES
+    } else {
+        SECOND_MOVES
+    };
+    for _turn in 0..50u8 {
+        ask_all(rt, alloc, library, seat, &moves);
+    }
+}
+
+/// What a thread does with the seat at a place.
+fn play_part<L0: Site, L1: Site, L2: Site, L3: Site, L4: Site, G: Gate, R: Abort + Clock + Wait>(
+    rt: &R,
+    alloc: Global,
+    library: &Library<L0, L1, L2, L3, L4, Device, G>,
+    seat: &mut Seat<L0, L1, L2, L3, L4>,
+    place: usize,
+    part: Part<'_>,
+) {
+    match part {
+        Part::Asks(drained) => {
+            ask_100_times(rt, alloc, library, seat, nexus_at(place), drained);
+        }
+        Part::Waits(flags) => ask_in_turn(rt, alloc, library, seat, place, flags),
+        Part::Moves => move_back_and_forth(rt, alloc, library, seat, place),
+    }
+}
+
+/// Two threads play their part, each with a seat.
+fn play_in_threads<
+    L0: Site + Send + Sync,
+    L1: Site + Send + Sync,
+    L2: Site + Send + Sync,
+    L3: Site + Send + Sync,
+    L4: Site + Send + Sync,
+    G: Gate,
+    R: Abort + Clock + Threads + Wait + Sync,
+>(
+    rt: &R,
+    alloc: Global,
+    library: &Library<L0, L1, L2, L3, L4, Device, G>,
+    seats: &mut [Seat<L0, L1, L2, L3, L4>],
+    part: Part<'_>,
+) {
+    thread::for_each_mut(
+        rt,
+        seats,
+        2,
+        &|place, seat| play_part(rt, alloc, library, seat, place, part),
+    );
+}
+
 /// Both threads ask both drives. The trails have a record for each command, and agree.
 pub(super) fn ready_at_two_drives<
     L0: Site + Send + Sync,
@@ -86,24 +202,16 @@ pub(super) fn ready_at_two_drives<
     L3: Site + Send + Sync,
     L4: Site + Send + Sync,
     G: Gate,
-    R: Abort + Threads + Wait + Sync,
+    R: Abort + Clock + Threads + Wait + Sync,
 >(
     rt: &R,
     alloc: Global,
     library: Library<L0, L1, L2, L3, L4, Device, G>,
     mut seats: Vec<Seat<L0, L1, L2, L3, L4>>,
 ) -> Result<(), Fail> {
-    let shared = &library;
-    thread::for_each_mut(
-        rt,
-        seats.as_mut_slice(),
-        2,
-        &|place, seat| ask_100_times(rt, alloc, shared, seat, nexus_at(place), None),
-    );
+    play_in_threads(rt, alloc, &library, seats.as_mut_slice(), Part::Asks(None));
     assert_eq!(rt; library.units(), 3);
-    let Ok(histories) = library.close(alloc, seats) else {
-        return Err("the library is not closed".into());
-    };
+    let histories = close(alloc, library, seats)?;
     assert_eq!(rt; histories.changer.records().len(), 0);
     assert_eq!(rt; histories.first.records().len(), 100);
     assert_eq!(rt; count_of(&histories.second), 100);
@@ -137,7 +245,7 @@ pub(super) fn drain_between<
     L3: Site + Send + Sync,
     L4: Site + Send + Sync,
     G: Gate,
-    R: Abort + Threads + Wait + Sync,
+    R: Abort + Clock + Threads + Wait + Sync,
 >(
     rt: &R,
     alloc: Global,
@@ -148,18 +256,10 @@ pub(super) fn drain_between<
         first: Mutex::new(Vec::new(alloc)),
         second: Mutex::new(Vec::new(alloc)),
     };
-    let shared = &library;
-    let noting = &drained;
-    thread::for_each_mut(
-        rt,
-        seats.as_mut_slice(),
-        2,
-        &|place, seat| ask_100_times(rt, alloc, shared, seat, nexus_at(place), Some(noting)),
-    );
+    let part = Part::Asks(Some(&drained));
+    play_in_threads(rt, alloc, &library, seats.as_mut_slice(), part);
     assert!(rt; library.drain(rt, alloc, 9).is_none());
-    let Ok(histories) = library.close(alloc, seats) else {
-        return Err("the library is not closed".into());
-    };
+    let histories = close(alloc, library, seats)?;
     let Drained { first, second } = drained;
     assert_all_numbers(rt, first.into_inner(), &histories.first)?;
     match &histories.second {
@@ -167,27 +267,6 @@ pub(super) fn drain_between<
         None => return Err("no second drive".into()),
     }
     Ok(())
-}
-
-/// One command of each thread: that of the first to drive 1, whose gate waits for the answer of the second at drive 2,
-/// which is asked once the first is at its gate.
-fn ask_in_turn<L0: Site, L1: Site, L2: Site, L3: Site, L4: Site, G: Gate, R: Abort + Clock + Wait>(
-    rt: &R,
-    alloc: Global,
-    library: &Library<L0, L1, L2, L3, L4, Device, G>,
-    seat: &mut Seat<L0, L1, L2, L3, L4>,
-    place: usize,
-    flags: &Flags,
-) {
-    if place == 0 {
-        let done = library.submit(rt, alloc, seat, A, 1, &TEST_UNIT_READY, &[]);
-        assert_sense(rt, &done, 0x29, 0x00);
-    } else {
-        flags.wait_until_entered(rt);
-        let done = library.submit(rt, alloc, seat, B, 2, &TEST_UNIT_READY, &[]);
-        assert_sense(rt, &done, 0x29, 0x00);
-        flags.answered.store(true, Ordering::SeqCst);
-    }
 }
 
 pub(super) fn hold_one_unit<
@@ -205,18 +284,22 @@ pub(super) fn hold_one_unit<
     mut seats: Vec<Seat<L0, L1, L2, L3, L4>>,
     flags: &Flags,
 ) -> Result<(), Fail> {
-    let shared = &library;
-    thread::for_each_mut(
+    play_in_threads(
         rt,
+        alloc,
+        &library,
         seats.as_mut_slice(),
-        2,
-        &|place, seat| ask_in_turn(rt, alloc, shared, seat, place, flags),
+        Part::Waits(flags),
     );
-    match library.close(alloc, seats) {
-        Ok(_) => Ok(()),
-        Err(_) => Err("the library is not closed".into()),
-    }
+    close(alloc, library, seats)?;
+    Ok(())
 }
+
+/// One command at each seat.
+const AT_EACH_SEAT: [Row; 2] = [
+    ("at the first seat", A, 0, Ask::Ready, POWER_ON, Some(1)),
+    ("at the second seat", A, 0, Ask::Ready, DONE, Some(1)),
+];
 
 /// A command at each seat; then the library is closed with one seat, which is refused, and with both.
 pub(super) fn close_with_a_seat_missing<
@@ -233,9 +316,8 @@ pub(super) fn close_with_a_seat_missing<
     library: Library<L0, L1, L2, L3, L4, Device, G>,
     mut seats: Vec<Seat<L0, L1, L2, L3, L4>>,
 ) -> Result<(), Fail> {
-    for seat in &mut seats {
-        let done = library.submit(rt, alloc, seat, A, 0, &TEST_UNIT_READY, &[]);
-        assert_eq!(rt; done.receipt().numbers.len(), 1);
+    for (seat, row) in seats.iter_mut().zip(&AT_EACH_SEAT) {
+        ask_one(rt, alloc, &library, seat, row);
     }
     let Some(last) = seats.pop() else {
         return Err("no seat".into());
@@ -247,36 +329,9 @@ pub(super) fn close_with_a_seat_missing<
     assert_eq!(rt; seats.len(), 1);
     assert_eq!(rt; last.entries().len(), 1);
     seats.push(last)?;
-    match library.close(alloc, seats) {
-        Ok(histories) => assert_eq!(rt; histories.changer.records().len(), 2),
-        Err(_) => return Err("the library is not closed".into()),
-    }
+    let histories = close(alloc, library, seats)?;
+    assert_eq!(rt; histories.changer.records().len(), 2);
     Ok(())
-}
-
-/// Moves a volume into a drive and back, fifty times: thread 0 that of 0400h by drive 1, thread 1 that of 0401h by
-/// drive 2.
-fn move_back_and_forth<L0: Site, L1: Site, L2: Site, L3: Site, L4: Site, G: Gate, R: Abort + Wait>(
-    rt: &R,
-    alloc: Global,
-    library: &Library<L0, L1, L2, L3, L4, Device, G>,
-    seat: &mut Seat<L0, L1, L2, L3, L4>,
-    place: usize,
-) {
-    let nexus = nexus_at(place);
-    let element = if place == 0 { 0x00 } else { 0x01 };
-    let done = library.submit(rt, alloc, seat, nexus, 0, &TEST_UNIT_READY, &[]);
-    assert_sense(rt, &done, 0x29, 0x00);
-    let there = [0xA5, 0, 0, 0, 0x04, element, 0x01, element, 0, 0, 0, 0];
-    let back = [0xA5, 0, 0, 0, 0x01, element, 0x04, element, 0, 0, 0, 0];
-    for _turn in 0..50u8 {
-        let done = library.submit(rt, alloc, seat, nexus, 0, &there, &[]);
-        assert_good(rt, &done, &[]);
-        assert_eq!(rt; done.receipt().numbers.len(), 2);
-        let done = library.submit(rt, alloc, seat, nexus, 0, &back, &[]);
-        assert_good(rt, &done, &[]);
-        assert_eq!(rt; done.receipt().numbers.len(), 2);
-    }
 }
 
 /// Both threads move a volume. The changer has a record of each command, each drive one of each move.
@@ -287,23 +342,15 @@ pub(super) fn move_volumes<
     L3: Site + Send + Sync,
     L4: Site + Send + Sync,
     G: Gate,
-    R: Abort + Threads + Wait + Sync,
+    R: Abort + Clock + Threads + Wait + Sync,
 >(
     rt: &R,
     alloc: Global,
     library: Library<L0, L1, L2, L3, L4, Device, G>,
     mut seats: Vec<Seat<L0, L1, L2, L3, L4>>,
 ) -> Result<(), Fail> {
-    let shared = &library;
-    thread::for_each_mut(
-        rt,
-        seats.as_mut_slice(),
-        2,
-        &|place, seat| move_back_and_forth(rt, alloc, shared, seat, place),
-    );
-    let Ok(histories) = library.close(alloc, seats) else {
-        return Err("the library is not closed".into());
-    };
+    play_in_threads(rt, alloc, &library, seats.as_mut_slice(), Part::Moves);
+    let histories = close(alloc, library, seats)?;
     assert_eq!(rt; histories.changer.records().len(), 202);
     assert_eq!(rt; histories.first.records().len(), 100);
     assert_eq!(rt; count_of(&histories.second), 100);
