@@ -23,8 +23,45 @@ pub(crate) const C: Nexus = Nexus {
     port: 1,
 };
 
+/// A PERSISTENT RESERVE OUT command, by what differs among those of the rows: keys, and scope with type.
+#[derive(Clone, Copy)]
+pub(crate) enum Sent {
+    Register(u64, u64),
+    /// With ALL_TG_PT.
+    RegisterAtAllPorts(u64, u64),
+    /// With SPEC_I_PT, by the whole list.
+    RegisterListed(&'static [u8]),
+    Reserve(u64, u8),
+    Release(u64, u8),
+    Preempt(u64, u64, u8),
+    /// REGISTER AND MOVE by key 1 to a SAS address at port 1 with key 9.
+    Move(u64),
+    /// The same with UNREG.
+    MoveAndUnregister(u64),
+}
+
+/// What a command comes to.
+#[derive(Clone, Copy)]
+pub(crate) enum Answer {
+    /// It is carried out, and nobody is told.
+    Done,
+    /// It is carried out, and these are told.
+    Told(&'static [(Nexus, Kind)]),
+    /// The same, and these are no longer registered, beside its sender.
+    Removed(&'static [(Nexus, Kind)], &'static [Nexus]),
+    /// It is allowed and refused.
+    Refused(PrFault),
+    /// It breaks a rule on keys.
+    Breaks(KeyRule),
+}
+
+pub(crate) const DONE: Answer = Answer::Done;
+
+/// What it shows, the sender, the command, and what it comes to.
+pub(crate) type Row = (&'static str, Nexus, Sent, Answer);
+
 /// A command with the list of 24 bytes.
-pub(crate) fn command(
+fn command(
     rt: &impl Abort,
     act: OutServiceAction,
     reservation_key: u64,
@@ -40,8 +77,28 @@ pub(crate) fn command(
     }
 }
 
+/// The list of a REGISTER with ALL_TG_PT.
+fn at_all_ports(rt: &impl Abort, reservation_key: u64, service_action_key: u64) -> OutParams {
+    let mut list = [0; 24];
+    list[..8].copy_from_slice(&reservation_key.to_be_bytes());
+    list[8..16].copy_from_slice(&service_action_key.to_be_bytes());
+    list[20] = 0x04;
+    match read_out(OutServiceAction::Register, 0, 24, &list) {
+        Ok(params) => params,
+        Err(fault) => panic!(rt; "{fault:?}"),
+    }
+}
+
+/// A list of 52 bytes.
+fn listing(rt: &impl Abort, list: &[u8]) -> OutParams {
+    match read_out(OutServiceAction::Register, 0, 52, list) {
+        Ok(params) => params,
+        Err(fault) => panic!(rt; "{fault:?}"),
+    }
+}
+
 /// REGISTER AND MOVE by key 1 to a SAS address at port 1 with key 9.
-pub(crate) fn moving(rt: &impl Abort, flags: u8, sas: u64) -> OutParams {
+fn moving(rt: &impl Abort, flags: u8, sas: u64) -> OutParams {
     let mut list = [
         0, 0, 0, 0, 0, 0, 0, 1, 0, 0, 0, 0, 0, 0, 0, 9, 0, flags, 0, 1, 0, 0, 0, 0x18, 6, 0, 0, 0,
         0, 0, 0, 0, 0, 0, 0, 0, 0, 0, 0, 0, 0, 0, 0, 0, 0, 0, 0, 0,
@@ -53,11 +110,31 @@ pub(crate) fn moving(rt: &impl Abort, flags: u8, sas: u64) -> OutParams {
     }
 }
 
+/// What a command asks.
+fn params_of(rt: &impl Abort, sent: Sent) -> OutParams {
+    match sent {
+        Sent::Register(rk, sark) => command(rt, OutServiceAction::Register, rk, sark, 0),
+        Sent::RegisterAtAllPorts(rk, sark) => at_all_ports(rt, rk, sark),
+        Sent::RegisterListed(list) => listing(rt, list),
+        Sent::Reserve(rk, scope_type) => {
+            command(rt, OutServiceAction::Reserve, rk, 0, scope_type)
+        }
+        Sent::Release(rk, scope_type) => {
+            command(rt, OutServiceAction::Release, rk, 0, scope_type)
+        }
+        Sent::Preempt(rk, sark, scope_type) => {
+            command(rt, OutServiceAction::Preempt, rk, sark, scope_type)
+        }
+        Sent::Move(sas) => moving(rt, 0, sas),
+        Sent::MoveAndUnregister(sas) => moving(rt, 2, sas),
+    }
+}
+
 /// What a command told A, B and C at each port, ascending, and whom else it unregistered.
 #[derive(Drop)]
-pub(crate) struct Raised {
-    pub(crate) attentions: ArrayVec<(Nexus, Kind), 12>,
-    pub(crate) removed: NexusList,
+struct Raised {
+    attentions: ArrayVec<(Nexus, Kind), 12>,
+    removed: NexusList,
 }
 
 /// A, B and C at each port.
@@ -94,9 +171,10 @@ fn waiting(rt: &impl Abort, queues: &Queues) -> ArrayVec<(Nexus, Kind), 12> {
 }
 
 /// Sends a command that has to be carried out.
-pub(crate) fn sent(
+fn carried_out(
     rt: &impl Abort,
     state: &mut PrState,
+    shows: &str,
     sender: Nexus,
     params: &OutParams,
 ) -> Raised {
@@ -109,67 +187,75 @@ pub(crate) fn sent(
                     attentions: waiting(rt, &queues),
                     removed,
                 },
-                Err(fault) => panic!(rt; "{fault:?}"),
+                Err(fault) => panic!(rt; "{shows}: {fault:?}"),
             }
         }
-        verdict => panic!(rt; "{verdict:?}"),
+        verdict => panic!(rt; "{shows}: {verdict:?}"),
     }
 }
 
 /// Sends a command that has to be allowed and refused.
-pub(crate) fn refused(
+fn refused(
     rt: &impl Abort,
     state: &mut PrState,
+    shows: &str,
     sender: Nexus,
     params: &OutParams,
 ) -> PrFault {
     let mut queues = silent_queues(rt);
     match state.judge(sender, params) {
         Verdict::Allowed => match state.apply(sender, params, &mut queues) {
-            Ok(()) => panic!(rt; "it was carried out"),
+            Ok(()) => panic!(rt; "{shows}: it was carried out"),
             Err(fault) => {
-                assert!(rt; waiting(rt, &queues).is_empty());
+                assert!(rt; waiting(rt, &queues).is_empty(), "{shows}");
                 fault
             }
         },
-        verdict => panic!(rt; "{verdict:?}"),
+        verdict => panic!(rt; "{shows}: {verdict:?}"),
     }
 }
 
-/// Registers an unregistered nexus with a key.
-pub(crate) fn register(rt: &impl Abort, state: &mut PrState, nexus: Nexus, key: u64) {
-    let params = command(rt, OutServiceAction::Register, 0, key, 0);
-    let raised = sent(rt, state, nexus, &params);
-    assert!(rt; raised.attentions.is_empty());
+/// Sends the command of a row, and compares what it comes to.
+fn send(rt: &impl Abort, state: &mut PrState, row: &Row) {
+    let (shows, sender, sent, answer) = *row;
+    let params = params_of(rt, sent);
+    match answer {
+        Answer::Done => {
+            let raised = carried_out(rt, state, shows, sender, &params);
+            assert!(rt; raised.attentions.is_empty(), "{shows}");
+        }
+        Answer::Told(told) => {
+            let raised = carried_out(rt, state, shows, sender, &params);
+            assert_eq!(rt; raised.attentions.as_slice(), told, "{shows}");
+        }
+        Answer::Removed(told, removed) => {
+            let raised = carried_out(rt, state, shows, sender, &params);
+            assert_eq!(rt; raised.attentions.as_slice(), told, "{shows}");
+            assert_eq!(rt; raised.removed.items(), removed, "{shows}");
+        }
+        Answer::Refused(fault) => {
+            let found = refused(rt, state, shows, sender, &params);
+            assert_eq!(rt; found, fault, "{shows}");
+        }
+        Answer::Breaks(rule) => {
+            let verdict = state.judge(sender, &params);
+            assert_eq!(rt; verdict, Verdict::Rule(rule), "{shows}");
+        }
+    }
 }
 
-/// Reserves for a registered nexus with a key.
-pub(crate) fn reserve(
-    rt: &impl Abort,
-    state: &mut PrState,
-    nexus: Nexus,
-    key: u64,
-    scope_type: u8,
-) {
-    let params = command(rt, OutServiceAction::Reserve, key, 0, scope_type);
-    let raised = sent(rt, state, nexus, &params);
-    assert!(rt; raised.attentions.is_empty());
+/// Sends the commands of some rows, one after another.
+pub(crate) fn send_all(rt: &impl Abort, state: &mut PrState, rows: &[Row]) {
+    for row in rows {
+        send(rt, state, row);
+    }
 }
 
-fn unregister(rt: &impl Abort, state: &mut PrState, nexus: Nexus, key: u64) -> Raised {
-    let params = command(rt, OutServiceAction::Register, key, 0, 0);
-    sent(rt, state, nexus, &params)
-}
-
-fn preempt(
-    rt: &impl Abort,
-    state: &mut PrState,
-    nexus: Nexus,
-    keys: (u64, u64),
-    scope_type: u8,
-) -> Raised {
-    let params = command(rt, OutServiceAction::Preempt, keys.0, keys.1, scope_type);
-    sent(rt, state, nexus, &params)
+/// The state after some rows.
+pub(crate) fn after(rt: &impl Abort, rows: &[Row]) -> PrState {
+    let mut state = PrState::new();
+    send_all(rt, &mut state, rows);
+    state
 }
 
 pub(crate) fn keys_of(
@@ -199,77 +285,103 @@ fn reservation_of(
     Ok(())
 }
 
+fn full_status_of(
+    rt: &(impl Abort + AllocGlobal),
+    state: &PrState,
+    expected: &[u8],
+) -> Result<(), Fail> {
+    let generation = state.generation();
+    let pairs = state.registrations();
+    let held = state.reservation();
+    let data = write_full_status(rt.alloc(), generation, pairs, held, u16::MAX)?;
+    assert_eq!(rt; data.as_slice(), expected);
+    Ok(())
+}
+
+/// The reservation, and the generation.
+pub(crate) fn assert_held(
+    rt: &impl Abort,
+    state: &PrState,
+    reservation: Option<(ResType, Nexus)>,
+    generation: u32,
+) {
+    assert_eq!(rt; state.reservation(), reservation);
+    assert_eq!(rt; state.generation(), generation);
+}
+
+const SHARED_KEY: [Row; 4] = [
+    ("A registers", A, Sent::Register(0, 7), DONE),
+    ("B registers", B, Sent::Register(0, 7), DONE),
+    ("A reserves", A, Sent::Reserve(7, 0x03), DONE),
+    ("B preempts", B, Sent::Preempt(7, 7, 0x05), A_IS_REMOVED),
+];
+
+const A_IS_REMOVED: Answer = Answer::Removed(&[(A, Kind::RegistrationsPreempted)], &[A]);
+
 #[test]
 fn preempt_shared_key(rt: HostRuntime) -> Result<(), Fail> {
-    let mut state = PrState::new();
-    register(&rt, &mut state, A, 7);
-    register(&rt, &mut state, B, 7);
-    reserve(&rt, &mut state, A, 7, 0x03);
-    let raised = preempt(&rt, &mut state, B, (7, 7), 0x05);
-    assert_eq!(rt;
-        raised.attentions.as_slice(),
-        [(A, Kind::RegistrationsPreempted)].as_slice()
-    );
-    assert_eq!(rt; raised.removed.items(), [A].as_slice());
+    let state = after(&rt, &SHARED_KEY);
     let expected = [
         0, 0, 0, 3, 0, 0, 0, 0x10, 0, 0, 0, 0, 0, 0, 0, 7, 0, 0, 0, 0, 0, 5, 0, 0,
     ];
     reservation_of(&rt, &state, &expected)
 }
 
+const MAKER_LEAVES: [Row; 4] = [
+    ("A registers", A, Sent::Register(0, 1), DONE),
+    ("B registers", B, Sent::Register(0, 2), DONE),
+    ("A reserves", A, Sent::Reserve(1, 0x07), DONE),
+    ("A unregisters", A, Sent::Register(1, 0), DONE),
+];
+
+const LAST_LEAVES: [Row; 1] = [("B unregisters", B, Sent::Register(2, 0), DONE)];
+
 #[test]
 fn all_registrants_outlive_maker(rt: HostRuntime) -> Result<(), Fail> {
-    let mut state = PrState::new();
-    register(&rt, &mut state, A, 1);
-    register(&rt, &mut state, B, 2);
-    reserve(&rt, &mut state, A, 1, 0x07);
-    let _ = unregister(&rt, &mut state, A, 1);
+    let mut state = after(&rt, &MAKER_LEAVES);
     let expected = [
         0, 0, 0, 3, 0, 0, 0, 0x10, 0, 0, 0, 0, 0, 0, 0, 0, 0, 0, 0, 0, 0, 7, 0, 0,
     ];
     reservation_of(&rt, &state, &expected)?;
-    assert_eq!(rt; state.role(B), Role::Holder);
-    assert_eq!(rt; state.role(A), Role::Other);
-    let _ = unregister(&rt, &mut state, B, 2);
+    assert_eq!(rt; (state.role(B), state.role(A)), (Role::Holder, Role::Other));
+    send_all(&rt, &mut state, &LAST_LEAVES);
     reservation_of(&rt, &state, &[0, 0, 0, 4, 0, 0, 0, 0])
 }
 
+const ALL_REGISTRANTS: [Row; 5] = [
+    ("A registers", A, Sent::Register(0, 1), DONE),
+    ("B registers", B, Sent::Register(0, 2), DONE),
+    ("C registers", C, Sent::Register(0, 3), DONE),
+    ("A reserves", A, Sent::Reserve(1, 0x08), DONE),
+    ("A preempts", A, Sent::Preempt(1, 0, 0x01), B_AND_C_TOLD),
+];
+
+const B_AND_C_TOLD: Answer = Answer::Told(&[
+    (B, Kind::RegistrationsPreempted),
+    (C, Kind::RegistrationsPreempted),
+]);
+
 #[test]
 fn preempt_zero_takes_all_registrants(rt: HostRuntime) -> Result<(), Fail> {
-    let mut state = PrState::new();
-    register(&rt, &mut state, A, 1);
-    register(&rt, &mut state, B, 2);
-    register(&rt, &mut state, C, 3);
-    reserve(&rt, &mut state, A, 1, 0x08);
-    let raised = preempt(&rt, &mut state, A, (1, 0), 0x01);
-    let told = [
-        (B, Kind::RegistrationsPreempted),
-        (C, Kind::RegistrationsPreempted),
-    ];
-    assert_eq!(rt; raised.attentions.as_slice(), told.as_slice());
-    let pairs = state.registrations();
-    let data = write_full_status(
-        rt.alloc(),
-        state.generation(),
-        pairs,
-        state.reservation(),
-        u16::MAX,
-    )?;
+    let state = after(&rt, &ALL_REGISTRANTS);
     let expected = [
         0, 0, 0, 4, 0, 0, 0, 0x30, 0, 0, 0, 0, 0, 0, 0, 1, 0, 0, 0, 0, 1, 1, 0, 0, 0, 0, 0, 1, 0,
         0, 0, 0x18, 6, 0, 0, 0, 0x50, 0, 0, 0, 0, 0, 0, 0x0a, 0, 0, 0, 0, 0, 0, 0, 0, 0, 0, 0, 0,
     ];
-    assert_eq!(rt; data.as_slice(), expected.as_slice());
-    Ok(())
+    full_status_of(&rt, &state, &expected)
 }
+
+const ZERO_REFUSED: [Row; 3] = [
+    ("A registers", A, Sent::Register(0, 1), DONE),
+    ("A reserves", A, Sent::Reserve(1, 0x01), DONE),
+    ("no key to preempt", A, Sent::Preempt(1, 0, 0x01), IN_LIST),
+];
+
+const IN_LIST: Answer = Answer::Refused(PrFault::InvalidParam);
 
 #[test]
 fn preempt_zero_refused(rt: HostRuntime) -> Result<(), Fail> {
-    let mut state = PrState::new();
-    register(&rt, &mut state, A, 1);
-    reserve(&rt, &mut state, A, 1, 0x01);
-    let params = command(&rt, OutServiceAction::Preempt, 1, 0, 0x01);
-    assert_eq!(rt; refused(&rt, &mut state, A, &params), PrFault::InvalidParam);
+    let state = after(&rt, &ZERO_REFUSED);
     keys_of(
         &rt,
         &state,
@@ -277,17 +389,18 @@ fn preempt_zero_refused(rt: HostRuntime) -> Result<(), Fail> {
     )
 }
 
+const SAME_TYPE: [Row; 4] = [
+    ("A registers", A, Sent::Register(0, 1), DONE),
+    ("B registers", B, Sent::Register(0, 2), DONE),
+    ("A reserves", A, Sent::Reserve(1, 0x07), DONE),
+    ("A preempts", A, Sent::Preempt(1, 0, 0x07), B_PREEMPTED),
+];
+
+const B_PREEMPTED: Answer = Answer::Told(&[(B, Kind::RegistrationsPreempted)]);
+
 #[test]
 fn preempt_zero_same_type(rt: HostRuntime) -> Result<(), Fail> {
-    let mut state = PrState::new();
-    register(&rt, &mut state, A, 1);
-    register(&rt, &mut state, B, 2);
-    reserve(&rt, &mut state, A, 1, 0x07);
-    let raised = preempt(&rt, &mut state, A, (1, 0), 0x07);
-    assert_eq!(rt;
-        raised.attentions.as_slice(),
-        [(B, Kind::RegistrationsPreempted)].as_slice()
-    );
+    let state = after(&rt, &SAME_TYPE);
     keys_of(
         &rt,
         &state,
@@ -295,62 +408,71 @@ fn preempt_zero_same_type(rt: HostRuntime) -> Result<(), Fail> {
     )
 }
 
+const NOT_TAKING: [Row; 5] = [
+    ("A registers", A, Sent::Register(0, 1), DONE),
+    ("B registers", B, Sent::Register(0, 2), DONE),
+    ("C registers", C, Sent::Register(0, 2), DONE),
+    ("A reserves", A, Sent::Reserve(1, 0x05), DONE),
+    ("B preempts", B, Sent::Preempt(2, 2, 0x06), C_PREEMPTED),
+];
+
+const C_PREEMPTED: Answer = Answer::Told(&[(C, Kind::RegistrationsPreempted)]);
+
 #[test]
 fn preempt_not_taking(rt: HostRuntime) {
-    let mut state = PrState::new();
-    register(&rt, &mut state, A, 1);
-    register(&rt, &mut state, B, 2);
-    register(&rt, &mut state, C, 2);
-    reserve(&rt, &mut state, A, 1, 0x05);
-    let raised = preempt(&rt, &mut state, B, (2, 2), 0x06);
-    assert_eq!(rt;
-        raised.attentions.as_slice(),
-        [(C, Kind::RegistrationsPreempted)].as_slice()
-    );
+    let state = after(&rt, &NOT_TAKING);
     assert_eq!(rt; state.registrants().items(), [A].as_slice());
-    assert_eq!(rt; state.reservation(), Some((ResType::Wero, A)));
-    assert_eq!(rt; state.generation(), 4);
+    assert_held(&rt, &state, Some((ResType::Wero, A)), 4);
 }
+
+const BY_TYPE: [Row; 5] = [
+    ("A registers", A, Sent::Register(0, 1), DONE),
+    ("B registers", B, Sent::Register(0, 2), DONE),
+    ("A reserves", A, Sent::Reserve(1, 0x05), DONE),
+    ("another type", A, Sent::Release(1, 0x01), NOT_RELEASED),
+    ("A releases", A, Sent::Release(1, 0x05), B_IS_TOLD),
+];
+
+const NOT_RELEASED: Answer = Answer::Refused(PrFault::InvalidRelease);
+
+pub(crate) const B_IS_TOLD: Answer = Answer::Told(&[(B, Kind::ReservationsReleased)]);
 
 #[test]
 fn release_by_type(rt: HostRuntime) {
-    let mut state = PrState::new();
-    register(&rt, &mut state, A, 1);
-    register(&rt, &mut state, B, 2);
-    reserve(&rt, &mut state, A, 1, 0x05);
-    let params = command(&rt, OutServiceAction::Release, 1, 0, 0x01);
-    assert_eq!(rt;
-        refused(&rt, &mut state, A, &params),
-        PrFault::InvalidRelease
-    );
-    let params = command(&rt, OutServiceAction::Release, 1, 0, 0x05);
-    let raised = sent(&rt, &mut state, A, &params);
-    assert_eq!(rt;
-        raised.attentions.as_slice(),
-        [(B, Kind::ReservationsReleased)].as_slice()
-    );
-    assert_eq!(rt; state.reservation(), None);
-    assert_eq!(rt; state.generation(), 2);
+    let state = after(&rt, &BY_TYPE);
+    assert_held(&rt, &state, None, 2);
 }
+
+const NO_TYPE: [Row; 2] = [
+    ("A registers", A, Sent::Register(0, 1), DONE),
+    ("a type that there isn't", A, Sent::Reserve(1, 0x02), IN_CDB),
+];
+
+const IN_CDB: Answer = Answer::Refused(PrFault::InvalidField);
+
+const AGAIN: [Row; 2] = [
+    ("A reserves", A, Sent::Reserve(1, 0x01), DONE),
+    ("again, by that type", A, Sent::Reserve(1, 0x02), BREAKS_K4),
+];
+
+const BREAKS_K4: Answer = Answer::Breaks(KeyRule::K4);
 
 #[test]
 fn reserve_again(rt: HostRuntime) {
-    let mut state = PrState::new();
-    register(&rt, &mut state, A, 1);
-    let params = command(&rt, OutServiceAction::Reserve, 1, 0, 0x02);
-    assert_eq!(rt; refused(&rt, &mut state, A, &params), PrFault::InvalidField);
+    let mut state = after(&rt, &NO_TYPE);
     assert_eq!(rt; state.reservation(), None);
-    reserve(&rt, &mut state, A, 1, 0x01);
-    assert_eq!(rt; state.judge(A, &params), Verdict::Rule(KeyRule::K4));
+    send_all(&rt, &mut state, &AGAIN);
 }
+
+const MOVED: [Row; 3] = [
+    ("A registers", A, Sent::Register(0, 1), DONE),
+    ("A reserves", A, Sent::Reserve(1, 0x01), DONE),
+    ("it goes to B", A, Sent::MoveAndUnregister(B.sas), DONE),
+];
 
 #[test]
 fn register_and_move(rt: HostRuntime) -> Result<(), Fail> {
-    let mut state = PrState::new();
-    register(&rt, &mut state, A, 1);
-    reserve(&rt, &mut state, A, 1, 0x01);
-    let raised = sent(&rt, &mut state, A, &moving(&rt, 2, B.sas));
-    assert!(rt; raised.attentions.is_empty());
+    let state = after(&rt, &MOVED);
     assert_eq!(rt; state.reservation(), Some((ResType::We, B)));
     keys_of(
         &rt,
@@ -359,32 +481,38 @@ fn register_and_move(rt: HostRuntime) -> Result<(), Fail> {
     )
 }
 
+const NOT_MOVED: [Row; 4] = [
+    ("A registers", A, Sent::Register(0, 1), DONE),
+    ("nothing to move", A, Sent::MoveAndUnregister(B.sas), IN_CDB),
+    ("A reserves", A, Sent::Reserve(1, 0x01), DONE),
+    ("to itself", A, Sent::MoveAndUnregister(A.sas), IN_LIST),
+];
+
+const NOT_MOVED_OF_ALL: [Row; 3] = [
+    ("A registers", A, Sent::Register(0, 1), DONE),
+    ("A reserves", A, Sent::Reserve(1, 0x07), DONE),
+    ("all hold it", A, Sent::MoveAndUnregister(B.sas), BREAKS_K6),
+];
+
+const BREAKS_K6: Answer = Answer::Breaks(KeyRule::K6);
+
 #[test]
 fn register_and_move_refused(rt: HostRuntime) {
-    let mut state = PrState::new();
-    register(&rt, &mut state, A, 1);
-    let to_b = moving(&rt, 2, B.sas);
-    assert_eq!(rt; refused(&rt, &mut state, A, &to_b), PrFault::InvalidField);
-    reserve(&rt, &mut state, A, 1, 0x01);
-    assert_eq!(rt;
-        refused(&rt, &mut state, A, &moving(&rt, 2, A.sas)),
-        PrFault::InvalidParam
-    );
-    let mut all = PrState::new();
-    register(&rt, &mut all, A, 1);
-    reserve(&rt, &mut all, A, 1, 0x07);
-    assert_eq!(rt; all.judge(A, &to_b), Verdict::Rule(KeyRule::K6));
-    assert_eq!(rt; state.generation(), 1);
-    assert_eq!(rt; state.reservation(), Some((ResType::We, A)));
+    let state = after(&rt, &NOT_MOVED);
+    let _all = after(&rt, &NOT_MOVED_OF_ALL);
+    assert_held(&rt, &state, Some((ResType::We, A)), 1);
 }
+
+const MOVED_TO_REGISTERED: [Row; 4] = [
+    ("A registers", A, Sent::Register(0, 1), DONE),
+    ("A reserves", A, Sent::Reserve(1, 0x01), DONE),
+    ("B registers", B, Sent::Register(0, 2), DONE),
+    ("it goes to B", A, Sent::Move(B.sas), DONE),
+];
 
 #[test]
 fn register_and_move_unregisters(rt: HostRuntime) -> Result<(), Fail> {
-    let mut state = PrState::new();
-    register(&rt, &mut state, A, 1);
-    reserve(&rt, &mut state, A, 1, 0x01);
-    register(&rt, &mut state, B, 2);
-    let _ = sent(&rt, &mut state, A, &moving(&rt, 0, B.sas));
+    let state = after(&rt, &MOVED_TO_REGISTERED);
     assert_eq!(rt; state.reservation(), Some((ResType::We, B)));
     let expected = [
         0, 0, 0, 3, 0, 0, 0, 0x10, 0, 0, 0, 0, 0, 0, 0, 1, 0, 0, 0, 0, 0, 0, 0, 9,

@@ -1,26 +1,16 @@
 //! REGISTER commands that name several nexuses, and the table full.
 
-use crate::tests::rows::{A, B, C, command, keys_of, moving, refused, register, reserve, sent};
+use crate::tests::rows::{
+    A, Answer, B, B_IS_TOLD, C, DONE, Row, Sent, after, assert_held, keys_of, send_all,
+};
 use crate::*;
 use permit_tables::ResType;
-use pr_params::{ListLengthFault, OutParams, read_out, write_keys};
+use pr_params::{ListLengthFault, read_out, write_keys};
 use scsi_cdb::OutServiceAction;
 use scsi_nexus::Nexus;
 use std::process::Abort;
 use std::test::Fail;
 use unit_attention::Kind;
-
-/// The list of a REGISTER with ALL_TG_PT.
-fn at_all_ports(rt: &impl Abort, reservation_key: u64, service_action_key: u64) -> OutParams {
-    let mut list = [0; 24];
-    list[..8].copy_from_slice(&reservation_key.to_be_bytes());
-    list[8..16].copy_from_slice(&service_action_key.to_be_bytes());
-    list[20] = 0x04;
-    match read_out(OutServiceAction::Register, 0, 24, &list) {
-        Ok(params) => params,
-        Err(fault) => panic!(rt; "{fault:?}"),
-    }
-}
 
 /// A list with SPEC_I_PT that names C's SAS address.
 const LISTING_C: [u8; 52] = [
@@ -28,23 +18,25 @@ const LISTING_C: [u8; 52] = [
     0, 0x50, 0, 0, 0, 0, 0, 0, 0x0c, 0, 0, 0, 0, 0, 0, 0, 0, 0, 0, 0, 0,
 ];
 
-fn listing(rt: &impl Abort, list: &[u8]) -> OutParams {
-    match read_out(OutServiceAction::Register, 0, 52, list) {
-        Ok(params) => params,
-        Err(fault) => panic!(rt; "{fault:?}"),
-    }
-}
+/// The same by key 7.
+const LISTING_C_BY_7: [u8; 52] = [
+    0, 0, 0, 0, 0, 0, 0, 7, 0, 0, 0, 0, 0, 0, 0, 7, 0, 0, 0, 0, 8, 0, 0, 0, 0, 0, 0, 0x18, 6, 0, 0,
+    0, 0x50, 0, 0, 0, 0, 0, 0, 0x0c, 0, 0, 0, 0, 0, 0, 0, 0, 0, 0, 0, 0,
+];
 
-/// Registers a nexus's SAS address at every port.
-fn register_all_ports(rt: &impl Abort, state: &mut PrState, nexus: Nexus, key: u64) {
-    let raised = sent(rt, state, nexus, &at_all_ports(rt, 0, key));
-    assert!(rt; raised.attentions.is_empty());
-}
+/// The same that names B's SAS address.
+const LISTING_B: [u8; 52] = [
+    0, 0, 0, 0, 0, 0, 0, 0, 0, 0, 0, 0, 0, 0, 0, 7, 0, 0, 0, 0, 8, 0, 0, 0, 0, 0, 0, 0x18, 6, 0, 0,
+    0, 0x50, 0, 0, 0, 0, 0, 0, 0x0b, 0, 0, 0, 0, 0, 0, 0, 0, 0, 0, 0, 0,
+];
+
+const NO_ROOM: Answer = Answer::Refused(PrFault::NoRegistrationRoom);
+
+const ALL_PORTS: [Row; 1] = [("A at every port", A, Sent::RegisterAtAllPorts(0, 1), DONE)];
 
 #[test]
 fn register_all_ports_row(rt: HostRuntime) -> Result<(), Fail> {
-    let mut state = PrState::new();
-    register_all_ports(&rt, &mut state, A, 1);
+    let state = after(&rt, &ALL_PORTS);
     let expected = [
         0, 0, 0, 1, 0, 0, 0, 0x20, 0, 0, 0, 0, 0, 0, 0, 1, 0, 0, 0, 0, 0, 0, 0, 1, 0, 0, 0, 0, 0,
         0, 0, 1, 0, 0, 0, 0, 0, 0, 0, 1,
@@ -52,20 +44,22 @@ fn register_all_ports_row(rt: HostRuntime) -> Result<(), Fail> {
     keys_of(&rt, &state, &expected)
 }
 
+const THREE_PORTS: [Row; 3] = [
+    ("A at every port", A, Sent::RegisterAtAllPorts(0, 1), DONE),
+    ("A at port 1 unregisters", A, Sent::Register(1, 0), DONE),
+    (
+        "the others have key 1",
+        A,
+        Sent::RegisterAtAllPorts(0, 5),
+        BREAKS_K2,
+    ),
+];
+
+const BREAKS_K2: Answer = Answer::Breaks(KeyRule::K2);
+
 #[test]
 fn all_ports_unregister(rt: HostRuntime) -> Result<(), Fail> {
-    let mut state = PrState::new();
-    register_all_ports(&rt, &mut state, A, 1);
-    let _ = sent(
-        &rt,
-        &mut state,
-        A,
-        &command(&rt, OutServiceAction::Register, 1, 0, 0),
-    );
-    assert_eq!(rt;
-        state.judge(A, &at_all_ports(&rt, 0, 5)),
-        Verdict::Rule(KeyRule::K2)
-    );
+    let state = after(&rt, &THREE_PORTS);
     let expected = [
         0, 0, 0, 2, 0, 0, 0, 0x18, 0, 0, 0, 0, 0, 0, 0, 1, 0, 0, 0, 0, 0, 0, 0, 1, 0, 0, 0, 0, 0,
         0, 0, 1,
@@ -73,11 +67,11 @@ fn all_ports_unregister(rt: HostRuntime) -> Result<(), Fail> {
     keys_of(&rt, &state, &expected)
 }
 
+const LISTED: [Row; 1] = [("B with C", B, Sent::RegisterListed(&LISTING_C), DONE)];
+
 #[test]
 fn register_listed(rt: HostRuntime) -> Result<(), Fail> {
-    let mut state = PrState::new();
-    let raised = sent(&rt, &mut state, B, &listing(&rt, &LISTING_C));
-    assert!(rt; raised.attentions.is_empty());
+    let state = after(&rt, &LISTED);
     assert_eq!(rt; state.registrants().items(), [B, C].as_slice());
     let expected = [
         0, 0, 0, 1, 0, 0, 0, 0x10, 0, 0, 0, 0, 0, 0, 0, 7, 0, 0, 0, 0, 0, 0, 0, 7,
@@ -85,71 +79,79 @@ fn register_listed(rt: HostRuntime) -> Result<(), Fail> {
     keys_of(&rt, &state, &expected)
 }
 
+const LISTED_AGAIN: [Row; 2] = [
+    ("B with C", B, Sent::RegisterListed(&LISTING_C), DONE),
+    (
+        "B is registered",
+        B,
+        Sent::RegisterListed(&LISTING_C_BY_7),
+        IN_LIST,
+    ),
+];
+
+const IN_LIST: Answer = Answer::Refused(PrFault::InvalidParam);
+
 #[test]
 fn listed_from_registered(rt: HostRuntime) {
-    let mut state = PrState::new();
-    let _ = sent(&rt, &mut state, B, &listing(&rt, &LISTING_C));
-    let mut list = LISTING_C;
-    list[7] = 7;
-    assert_eq!(rt;
-        refused(&rt, &mut state, B, &listing(&rt, &list)),
-        PrFault::InvalidParam
-    );
+    let state = after(&rt, &LISTED_AGAIN);
     assert_eq!(rt; state.generation(), 1);
-    assert_eq!(rt;
-        read_out(OutServiceAction::Register, 0, 51, &list[..51]).err(),
-        Some(ListLengthFault)
-    );
+    let short = read_out(OutServiceAction::Register, 0, 51, &LISTING_C_BY_7[..51]);
+    assert_eq!(rt; short.err(), Some(ListLengthFault));
 }
+
+/// A's SAS address at the other ports.
+const OTHER_PORTS: [Nexus; 3] = [
+    Nexus {
+        sas: A.sas,
+        port: 2,
+    },
+    Nexus {
+        sas: A.sas,
+        port: 3,
+    },
+    Nexus {
+        sas: A.sas,
+        port: 4,
+    },
+];
+
+const ALL_PORTS_LEAVE: [Row; 4] = [
+    ("A at every port", A, Sent::RegisterAtAllPorts(0, 1), DONE),
+    ("A reserves", A, Sent::Reserve(1, 0x05), DONE),
+    ("B registers", B, Sent::Register(0, 2), DONE),
+    (
+        "all of A's unregister",
+        A,
+        Sent::RegisterAtAllPorts(1, 0),
+        OTHERS_LEAVE,
+    ),
+];
+
+const OTHERS_LEAVE: Answer = Answer::Removed(&[(B, Kind::ReservationsReleased)], &OTHER_PORTS);
 
 #[test]
 fn all_ports_release(rt: HostRuntime) {
-    let mut state = PrState::new();
-    register_all_ports(&rt, &mut state, A, 1);
-    reserve(&rt, &mut state, A, 1, 0x05);
-    register(&rt, &mut state, B, 2);
-    let raised = sent(&rt, &mut state, A, &at_all_ports(&rt, 1, 0));
-    assert_eq!(rt;
-        raised.attentions.as_slice(),
-        [(B, Kind::ReservationsReleased)].as_slice()
-    );
-    let others = [
-        Nexus {
-            sas: A.sas,
-            port: 2,
-        },
-        Nexus {
-            sas: A.sas,
-            port: 3,
-        },
-        Nexus {
-            sas: A.sas,
-            port: 4,
-        },
-    ];
-    assert_eq!(rt; raised.removed.items(), others.as_slice());
-    assert_eq!(rt; state.reservation(), None);
-    assert_eq!(rt; state.generation(), 3);
+    let state = after(&rt, &ALL_PORTS_LEAVE);
+    assert_held(&rt, &state, None, 3);
 }
 
 /// A, and 63 other SAS addresses, at every port with key 1.
 fn full_table(rt: &impl Abort) -> PrState {
-    let mut state = PrState::new();
-    register_all_ports(rt, &mut state, A, 1);
+    let mut state = after(rt, &ALL_PORTS);
     for sas in 1..64 {
-        register_all_ports(rt, &mut state, Nexus { sas, port: 1 }, 1);
+        let sender = Nexus { sas, port: 1 };
+        let sent = Sent::RegisterAtAllPorts(0, 1);
+        send_all(rt, &mut state, &[("at every port", sender, sent, DONE)]);
     }
     state
 }
 
+const ONE_MORE: [Row; 1] = [("B registers", B, Sent::Register(0, 1), NO_ROOM)];
+
 #[test]
 fn registrations_full(rt: HostRuntime) -> Result<(), Fail> {
     let mut state = full_table(&rt);
-    let params = command(&rt, OutServiceAction::Register, 0, 1, 0);
-    assert_eq!(rt;
-        refused(&rt, &mut state, B, &params),
-        PrFault::NoRegistrationRoom
-    );
+    send_all(&rt, &mut state, &ONE_MORE);
     let data = write_keys(
         rt.alloc(),
         state.generation(),
@@ -160,36 +162,32 @@ fn registrations_full(rt: HostRuntime) -> Result<(), Fail> {
     Ok(())
 }
 
+const ROOM_FOR_ONE: [Row; 2] = [
+    ("A at port 1 unregisters", A, Sent::Register(1, 0), DONE),
+    ("B with C", B, Sent::RegisterListed(&LISTING_C), NO_ROOM),
+];
+
+const ITSELF: [Row; 1] = [("B with B", B, Sent::RegisterListed(&LISTING_B), DONE)];
+
 #[test]
 fn all_or_none_of_the_targets_are_registered(rt: HostRuntime) {
     let mut state = full_table(&rt);
-    let _ = sent(
-        &rt,
-        &mut state,
-        A,
-        &command(&rt, OutServiceAction::Register, 1, 0, 0),
-    );
-    assert_eq!(rt;
-        refused(&rt, &mut state, B, &listing(&rt, &LISTING_C)),
-        PrFault::NoRegistrationRoom
-    );
+    send_all(&rt, &mut state, &ROOM_FOR_ONE);
     assert_eq!(rt; state.registrants().items().len(), 255);
-    let mut itself = LISTING_C;
-    itself[39] = 0x0b;
-    let _ = sent(&rt, &mut state, B, &listing(&rt, &itself));
+    send_all(&rt, &mut state, &ITSELF);
     assert_eq!(rt; state.registrants().items().len(), 256);
 }
+
+const MOVE_AT_A_FULL_TABLE: [Row; 3] = [
+    ("A reserves", A, Sent::Reserve(1, 0x01), DONE),
+    ("A stays", A, Sent::Move(B.sas), NO_ROOM),
+    ("A makes room", A, Sent::MoveAndUnregister(B.sas), DONE),
+];
 
 #[test]
 fn register_and_move_at_a_full_table(rt: HostRuntime) {
     let mut state = full_table(&rt);
-    reserve(&rt, &mut state, A, 1, 0x01);
-    let keeping = moving(&rt, 0, B.sas);
-    assert_eq!(rt;
-        refused(&rt, &mut state, A, &keeping),
-        PrFault::NoRegistrationRoom
-    );
-    let _ = sent(&rt, &mut state, A, &moving(&rt, 2, B.sas));
+    send_all(&rt, &mut state, &MOVE_AT_A_FULL_TABLE);
     assert_eq!(rt; state.registrants().items().len(), 256);
     assert_eq!(rt; state.reservation(), Some((ResType::We, B)));
     assert_eq!(rt; state.key_of(A), 0);
