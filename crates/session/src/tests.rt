@@ -119,6 +119,51 @@ impl Write for Failing {
     }
 }
 
+/// Serves a stream at a station: how it ends, and how often the nexus was lost.
+fn served<R: Read, W: Write>(
+    alloc: Global,
+    is_connected: bool,
+    reader: &mut R,
+    writer: &mut W,
+    turns: u64,
+) -> (Result<End, SessionFault>, u64) {
+    let mut station = Empty {
+        losses: 0,
+        is_connected,
+    };
+    let ended = serve(alloc, &mut station, reader, writer, turns);
+    (ended, station.losses)
+}
+
+/// The same of a stream that comes byte by byte, and what it is answered.
+fn trickled(
+    alloc: Global,
+    bytes: &[u8],
+    fails_at: u64,
+) -> (Result<End, SessionFault>, u64, Vec<u8>) {
+    let mut reader = Trickle {
+        bytes,
+        reads: 0,
+        fails_at,
+    };
+    let mut output = Vec::new(alloc);
+    let (ended, losses) = served(alloc, false, &mut reader, &mut output, 99);
+    (ended, losses, output)
+}
+
+/// The same of a stream that comes at once.
+fn poured(
+    alloc: Global,
+    is_connected: bool,
+    bytes: &[u8],
+    turns: u64,
+) -> (Result<End, SessionFault>, u64, Vec<u8>) {
+    let mut reader = bytes;
+    let mut output = Vec::new(alloc);
+    let (ended, losses) = served(alloc, is_connected, &mut reader, &mut output, turns);
+    (ended, losses, output)
+}
+
 /// Serves a stream that comes at once, and one that comes byte by byte: how each ends, what it is answered, and whether
 /// the nexus was lost.
 fn assert_session(
@@ -128,157 +173,128 @@ fn assert_session(
     end: Result<End, SessionFault>,
     replies: &[u8],
     losses: u64,
-) -> Result<(), Fail> {
-    let mut station = Empty {
-        losses: 0,
-        is_connected: false,
-    };
-    let mut reader = input;
-    let mut output = Vec::new(alloc);
-    let ended = serve(alloc, &mut station, &mut reader, &mut output, 9);
-    assert_eq!(rt; ended, end);
-    assert_eq!(rt; output.as_slice(), replies);
-    assert_eq!(rt; station.losses, losses);
-    let mut station = Empty {
-        losses: 0,
-        is_connected: false,
-    };
-    let mut reader = Trickle {
-        bytes: input,
-        reads: 0,
-        fails_at: 0,
-    };
-    let mut output = Vec::new(alloc);
-    let ended = serve(alloc, &mut station, &mut reader, &mut output, 99);
-    assert_eq!(rt; ended, end);
-    assert_eq!(rt; output.as_slice(), replies);
-    assert_eq!(rt; station.losses, losses);
-    Ok(())
+) {
+    let (ended, lost, output) = poured(alloc, false, input, 9);
+    assert_eq!(rt; (ended, lost), (end, losses), "{input:?}");
+    assert_eq!(rt; output.as_slice(), replies, "{input:?}");
+    let (ended, lost, output) = trickled(alloc, input, 0);
+    assert_eq!(rt; (ended, lost), (end, losses), "{input:?}, byte by byte");
+    assert_eq!(rt; output.as_slice(), replies, "{input:?}, byte by byte");
 }
 
 #[test]
-fn one_session(rt: HostRuntime) -> Result<(), Fail> {
-    assert_session(&rt, rt.alloc(), ONE_SESSION, Ok(End::Logout), REPLIES, 2)
+fn one_session(rt: HostRuntime) {
+    assert_session(&rt, rt.alloc(), ONE_SESSION, Ok(End::Logout), REPLIES, 2);
 }
 
 #[test]
-fn reset_of_a_unit(rt: HostRuntime) -> Result<(), Fail> {
+fn reset_of_a_unit(rt: HostRuntime) {
     let input = b"\0\0\0\x0b\x01\x50\0\0\0\0\0\0\x0a\0\x01\0\0\0\x02\x03\0";
     let replies = b"\0\0\0\x02\x81\0\0\0\0\x02\x83\x02";
-    assert_session(&rt, rt.alloc(), input, Ok(End::Closed), replies, 2)
+    assert_session(&rt, rt.alloc(), input, Ok(End::Closed), replies, 2);
+}
+
+/// How a prefix of a session ends, what it is answered, and whether the nexus is lost.
+fn end_of_prefix(length: usize) -> (End, &'static [u8], u64) {
+    let end = if length == 0 || length == 15 || length == 28 {
+        End::Closed
+    } else {
+        End::Cut
+    };
+    if length < 15 {
+        (end, b"", 0)
+    } else if length < 28 {
+        (end, ACCEPTED, 2)
+    } else {
+        (end, &REPLIES[..39], 2)
+    }
 }
 
 /// Each proper prefix of a session ends within a frame or between two.
 #[test]
-fn every_prefix_of_a_session(rt: HostRuntime) -> Result<(), Fail> {
+fn every_prefix_of_a_session(rt: HostRuntime) {
     for length in 0..ONE_SESSION.len() {
+        let (end, replies, losses) = end_of_prefix(length);
         let prefix = &ONE_SESSION[..length];
-        let end = if length == 0 || length == 15 || length == 28 {
-            End::Closed
-        } else {
-            End::Cut
-        };
-        let replies = if length < 15 {
-            b"".as_slice()
-        } else if length < 28 {
-            ACCEPTED
-        } else {
-            &REPLIES[..39]
-        };
-        let losses = if length < 15 { 0 } else { 2 };
-        assert_session(&rt, rt.alloc(), prefix, Ok(end), replies, losses)?;
+        assert_session(&rt, rt.alloc(), prefix, Ok(end), replies, losses);
     }
-    Ok(())
 }
 
+const BAD_FRAME: Result<End, SessionFault> = Err(SessionFault::BadFrame);
+
+const TOO_LONG: Result<End, SessionFault> = Err(SessionFault::TooLong);
+
+/// A LOGIN by target port 0.
+const PORT_0: &[u8] = b"\0\0\0\x0b\x01\x50\0\0\0\0\0\0\x0a\0\0";
+
+const SECOND_LOGIN: &[u8] = b"\0\0\0\x0b\x01\x50\0\0\0\0\0\0\x0a\0\x01\0\0\0\x0b\x01";
+
+const LONG_CDB: &[u8] = b"\0\0\0\x0b\x01\x50\0\0\0\0\0\0\x0a\0\x01\0\0\0\x13\x02\0\x11";
+
+/// A stream, how it ends, what it is answered, and whether the nexus is lost.
+type Faulty = (&'static [u8], Result<End, SessionFault>, &'static [u8], u64);
+
+const FAULTY: [Faulty; 6] = [
+    (b"\0\0\0\0", BAD_FRAME, b"", 0),
+    (b"\0\x02\0\x01", TOO_LONG, b"", 0),
+    (b"\0\0\0\x05\x09", BAD_FRAME, b"", 0),
+    (PORT_0, BAD_FRAME, b"", 0),
+    (SECOND_LOGIN, BAD_FRAME, ACCEPTED, 2),
+    (LONG_CDB, BAD_FRAME, ACCEPTED, 2),
+];
+
 #[test]
-fn faulty_streams(rt: HostRuntime) -> Result<(), Fail> {
-    let alloc = rt.alloc();
-    let bad = Err(SessionFault::BadFrame);
-    assert_session(&rt, alloc, b"\0\0\0\0", bad, b"", 0)?;
-    assert_session(
-        &rt,
-        alloc,
-        b"\0\x02\0\x01",
-        Err(SessionFault::TooLong),
-        b"",
-        0,
-    )?;
-    assert_session(&rt, alloc, b"\0\0\0\x05\x09", bad, b"", 0)?;
-    let port_0 = b"\0\0\0\x0b\x01\x50\0\0\0\0\0\0\x0a\0\0";
-    assert_session(&rt, alloc, port_0, bad, b"", 0)?;
-    let second_login = b"\0\0\0\x0b\x01\x50\0\0\0\0\0\0\x0a\0\x01\0\0\0\x0b\x01";
-    assert_session(&rt, alloc, second_login, bad, ACCEPTED, 2)?;
-    let long_cdb = b"\0\0\0\x0b\x01\x50\0\0\0\0\0\0\x0a\0\x01\0\0\0\x13\x02\0\x11";
-    assert_session(&rt, alloc, long_cdb, bad, ACCEPTED, 2)
+fn faulty_streams(rt: HostRuntime) {
+    for row in &FAULTY {
+        let (input, end, replies, losses) = *row;
+        assert_session(&rt, rt.alloc(), input, end, replies, losses);
+    }
 }
 
 /// A read that fails at each place, and one read too few, end a session as its input's fault.
 #[test]
-fn reads_fail(rt: HostRuntime) -> Result<(), Fail> {
+fn reads_fail(rt: HostRuntime) {
     for fails_at in 1..34 {
-        let mut station = Empty {
-            losses: 0,
-            is_connected: false,
-        };
-        let mut reader = Trickle {
-            bytes: ONE_SESSION,
-            reads: 0,
-            fails_at,
-        };
-        let mut output = Vec::new(rt.alloc());
-        let ended = serve(rt.alloc(), &mut station, &mut reader, &mut output, 99);
-        assert_eq!(rt; ended, Err(SessionFault::Read));
-        let losses = if fails_at < 16 { 0 } else { 2 };
-        assert_eq!(rt; station.losses, losses);
+        let (ended, losses, _) = trickled(rt.alloc(), ONE_SESSION, fails_at);
+        let expected = if fails_at < 16 { 0 } else { 2 };
+        assert_eq!(rt;
+            (ended, losses),
+            (Err(SessionFault::Read), expected),
+            "at {fails_at}"
+        );
     }
-    let mut station = Empty {
-        losses: 0,
-        is_connected: false,
+    let (ended, losses, _) = poured(rt.alloc(), false, LOGIN, 1);
+    assert_eq!(rt; (ended, losses), (Err(SessionFault::Read), 2));
+}
+
+/// How a session ends whose writes fail from one on, and how often the nexus was lost.
+fn cut_off(alloc: Global, fails_at: u64) -> (Result<End, SessionFault>, u64) {
+    let mut reader = Trickle {
+        bytes: ONE_SESSION,
+        reads: 0,
+        fails_at: 0,
     };
-    let mut reader = LOGIN;
-    let mut output = Vec::new(rt.alloc());
-    let ended = serve(rt.alloc(), &mut station, &mut reader, &mut output, 1);
-    assert_eq!(rt; ended, Err(SessionFault::Read));
-    assert_eq!(rt; station.losses, 2);
-    Ok(())
+    let mut writer = Failing {
+        writes: 0,
+        fails_at,
+    };
+    served(alloc, false, &mut reader, &mut writer, 99)
 }
 
 /// A write that fails ends a session, and the nexus is lost all the same.
 #[test]
 fn writes_fail(rt: HostRuntime) {
     for fails_at in 1..4 {
-        let mut station = Empty {
-            losses: 0,
-            is_connected: false,
-        };
-        let mut reader = Trickle {
-            bytes: ONE_SESSION,
-            reads: 0,
-            fails_at: 0,
-        };
-        let mut writer = Failing {
-            writes: 0,
-            fails_at,
-        };
-        let ended = serve(rt.alloc(), &mut station, &mut reader, &mut writer, 99);
-        assert_eq!(rt; ended, Err(SessionFault::Write));
-        assert_eq!(rt; station.losses, 2);
+        let found = cut_off(rt.alloc(), fails_at);
+        assert_eq!(rt; found, (Err(SessionFault::Write), 2), "at {fails_at}");
     }
 }
 
 #[test]
 fn second_session_of_a_nexus(rt: HostRuntime) {
-    let mut station = Empty {
-        losses: 0,
-        is_connected: true,
-    };
-    let mut reader = ONE_SESSION;
-    let mut output = Vec::new(rt.alloc());
-    let ended = serve(rt.alloc(), &mut station, &mut reader, &mut output, 9);
-    assert_eq!(rt; ended, Err(SessionFault::AlreadyConnected));
+    let (ended, losses, output) = poured(rt.alloc(), true, ONE_SESSION, 9);
+    assert_eq!(rt; (ended, losses), (Err(SessionFault::AlreadyConnected), 0));
     assert_eq!(rt; output.as_slice(), b"\0\0\0\x02\x81\x01".as_slice());
-    assert_eq!(rt; station.losses, 0);
 }
 
 #[test]
