@@ -14,11 +14,13 @@ use unit_state::Kept;
 
 /// A unit without its device: what it keeps now, the records, and what was kept before the first of
 /// them. What it keeps is always what the records make of that.
+// The trail, which each command writes, lies first: at the end it would share a cache line with what stands behind the unit in
+// memory, which another thread may be writing.
 #[derive(Drop)]
 pub(crate) struct UnitState {
+    trail: Trail,
     kept: Kept,
     base: Kept,
-    trail: Trail,
 }
 
 impl Model for UnitState {
