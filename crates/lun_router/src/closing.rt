@@ -5,12 +5,12 @@ ghost use Rattle.lun_router.specs.Opening.{HasUnits};
 
 use crate::gate::Gate;
 use crate::library::Library;
+use crate::locked::Locked;
 use crate::seat::Seat;
 use device_server::DeviceServer;
 use kept_unit::{Entry, Kept, Site};
 use logical_unit::LogicalUnit;
 use std::alloc::{AllocError, Global};
-use std::sync::Mutex;
 use thiserror::Error;
 
 /// Why a library isn't closed.
@@ -49,7 +49,7 @@ struct Opened<L0: Site, L1: Site, L2: Site, L3: Site, L4: Site, D: DeviceServer>
 
 /// What lay under a lock, if there is one.
 fn taken_out<const LUN: u8, L: Site, D: DeviceServer>(
-    lock: Option<Mutex<Kept<LUN, L, D>>>,
+    lock: Option<Locked<LUN, L, D>>,
 ) -> Option<Kept<LUN, L, D>>
     ensures { is_some result ≡ is_some lock }
 {
@@ -62,11 +62,11 @@ fn taken_out<const LUN: u8, L: Site, D: DeviceServer>(
 /// Puts a unit under a lock again, if there is one.
 fn put_back<const LUN: u8, L: Site, D: DeviceServer>(
     kept: Option<Kept<LUN, L, D>>,
-) -> Option<Mutex<Kept<LUN, L, D>>>
+) -> Option<Locked<LUN, L, D>>
     ensures { is_some result ≡ is_some kept }
 {
     match kept {
-        Some(kept) => Some(Mutex::new(kept)),
+        Some(kept) => Some(Locked::new(kept)),
         None => None,
     }
 }
@@ -267,8 +267,8 @@ fn locked_again<L0: Site, L1: Site, L2: Site, L3: Site, L4: Site, D: DeviceServe
     Library {
         seats,
         count,
-        changer: Mutex::new(changer),
-        first: Mutex::new(first),
+        changer: Locked::new(changer),
+        first: Locked::new(first),
         second: put_back(second),
         third: put_back(third),
         fourth: put_back(fourth),

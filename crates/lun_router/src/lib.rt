@@ -5,6 +5,7 @@ mod apart;
 mod closing;
 mod gate;
 mod library;
+mod locked;
 mod locks;
 mod moves;
 mod opening;

@@ -1,8 +1,8 @@
 use crate::gate::Gate;
+use crate::locked::Locked;
 use device_server::DeviceServer;
-use kept_unit::{Kept, Site};
+use kept_unit::Site;
 use std::marker::Model;
-use std::sync::Mutex;
 
 /// The units of a library, each under a lock of its own: a changer as logical unit 0 and one to four drives. Contracts see
 /// how many seats were made, and how many units there are.
@@ -10,11 +10,11 @@ use std::sync::Mutex;
 pub struct Library<L0: Site, L1: Site, L2: Site, L3: Site, L4: Site, D: DeviceServer, G: Gate> {
     pub(crate) seats: usize,
     pub(crate) count: u8,
-    pub(crate) changer: Mutex<Kept<0, L0, D>>,
-    pub(crate) first: Mutex<Kept<1, L1, D>>,
-    pub(crate) second: Option<Mutex<Kept<2, L2, D>>>,
-    pub(crate) third: Option<Mutex<Kept<3, L3, D>>>,
-    pub(crate) fourth: Option<Mutex<Kept<4, L4, D>>>,
+    pub(crate) changer: Locked<0, L0, D>,
+    pub(crate) first: Locked<1, L1, D>,
+    pub(crate) second: Option<Locked<2, L2, D>>,
+    pub(crate) third: Option<Locked<3, L3, D>>,
+    pub(crate) fourth: Option<Locked<4, L4, D>>,
     pub(crate) gate: G,
 }
 

@@ -15,20 +15,21 @@ ghost use Rattle.kept_unit.specs.Keeping.{kind_at};
 ghost use Rattle.lun_router.specs.Answering.{IsSomeTrail};
 
 use crate::gate::Gate;
+use crate::locked::Locked;
 use audit_log::Record;
 use device_server::DeviceServer;
 use kept_unit::{Done, Kept, Site, move_kept_one, move_kept_two};
 use scsi_nexus::Nexus;
 use std::alloc::Global;
+use std::sync::Wait;
 use std::sync::ledger::Share;
-use std::sync::{Mutex, Wait};
 
 /// A command at the unit under this lock.
 pub(crate) fn step_at<'a, const LUN: u8, L: Site, D: DeviceServer, G: Gate, R: Wait>(
     rt: &R,
     alloc: Global,
     gate: &G,
-    lock: &Mutex<Kept<LUN, L, D>>,
+    lock: &Locked<LUN, L, D>,
     part: &mut Share<L>,
     nexus: Nexus,
     cdb: &'a [u8],
@@ -42,7 +43,7 @@ pub(crate) fn step_at<'a, const LUN: u8, L: Site, D: DeviceServer, G: Gate, R: W
     ensures part { part.new.amount ≡ part.old.amount + count_at LUN result.numbers }
     ensures parts { part.new.parts ≡ 1 }
 {
-    let mut kept = lock.lock(rt);
+    let mut kept = lock.lock().lock(rt);
     gate.inside(LUN, nexus);
     kept.step(alloc, part, nexus, cdb, bytes)
 }
@@ -52,7 +53,7 @@ pub(crate) fn step_if_there<'a, const LUN: u8, L: Site, D: DeviceServer, G: Gate
     rt: &R,
     alloc: Global,
     gate: &G,
-    lock: &Option<Mutex<Kept<LUN, L, D>>>,
+    lock: &Option<Locked<LUN, L, D>>,
     part: &mut Share<L>,
     nexus: Nexus,
     cdb: &'a [u8],
@@ -77,7 +78,7 @@ pub(crate) fn step_if_there<'a, const LUN: u8, L: Site, D: DeviceServer, G: Gate
 pub(crate) fn lose_at<const LUN: u8, L: Site, D: DeviceServer, R: Wait>(
     rt: &R,
     alloc: Global,
-    lock: &Mutex<Kept<LUN, L, D>>,
+    lock: &Locked<LUN, L, D>,
     part: &mut Share<L>,
     nexus: Nexus,
 ) -> Done<'static>
@@ -89,7 +90,7 @@ pub(crate) fn lose_at<const LUN: u8, L: Site, D: DeviceServer, R: Wait>(
     ensures part { part.new.amount ≡ part.old.amount + count_at LUN result.numbers }
     ensures parts { part.new.parts ≡ 1 }
 {
-    let mut kept = lock.lock(rt);
+    let mut kept = lock.lock().lock(rt);
     kept.lose(alloc, part, nexus)
 }
 
@@ -97,7 +98,7 @@ pub(crate) fn lose_at<const LUN: u8, L: Site, D: DeviceServer, R: Wait>(
 pub(crate) fn lose_if_there<const LUN: u8, L: Site, D: DeviceServer, R: Wait>(
     rt: &R,
     alloc: Global,
-    lock: &Option<Mutex<Kept<LUN, L, D>>>,
+    lock: &Option<Locked<LUN, L, D>>,
     part: &mut Share<L>,
     nexus: Nexus,
 ) -> Done<'static>
@@ -120,7 +121,7 @@ pub(crate) fn lose_if_there<const LUN: u8, L: Site, D: DeviceServer, R: Wait>(
 pub(crate) fn reset_at<const LUN: u8, L: Site, D: DeviceServer, R: Wait>(
     rt: &R,
     alloc: Global,
-    lock: &Mutex<Kept<LUN, L, D>>,
+    lock: &Locked<LUN, L, D>,
     part: &mut Share<L>,
 ) -> Done<'static>
     requires { part.old.parts ≡ 1 }
@@ -131,7 +132,7 @@ pub(crate) fn reset_at<const LUN: u8, L: Site, D: DeviceServer, R: Wait>(
     ensures part { part.new.amount ≡ part.old.amount + count_at LUN result.numbers }
     ensures parts { part.new.parts ≡ 1 }
 {
-    let mut kept = lock.lock(rt);
+    let mut kept = lock.lock().lock(rt);
     kept.reset(alloc, part)
 }
 
@@ -139,7 +140,7 @@ pub(crate) fn reset_at<const LUN: u8, L: Site, D: DeviceServer, R: Wait>(
 pub(crate) fn reset_if_there<const LUN: u8, L: Site, D: DeviceServer, R: Wait>(
     rt: &R,
     alloc: Global,
-    lock: &Option<Mutex<Kept<LUN, L, D>>>,
+    lock: &Option<Locked<LUN, L, D>>,
     part: &mut Share<L>,
 ) -> Done<'static>
     requires { part.old.parts ≡ 1 }
@@ -161,18 +162,18 @@ pub(crate) fn reset_if_there<const LUN: u8, L: Site, D: DeviceServer, R: Wait>(
 pub(crate) fn drain_at<const LUN: u8, L: Site, D: DeviceServer, R: Wait>(
     rt: &R,
     alloc: Global,
-    lock: &Mutex<Kept<LUN, L, D>>,
+    lock: &Locked<LUN, L, D>,
 ) -> Vec<Record>
     ensures { IsSomeTrail result.items }
 {
-    lock.lock(rt).drain(alloc)
+    lock.lock().lock(rt).drain(alloc)
 }
 
 /// The same where the unit may be absent.
 pub(crate) fn drain_if_there<const LUN: u8, L: Site, D: DeviceServer, R: Wait>(
     rt: &R,
     alloc: Global,
-    lock: &Option<Mutex<Kept<LUN, L, D>>>,
+    lock: &Option<Locked<LUN, L, D>>,
 ) -> Option<Vec<Record>>
     ensures there { IsSome result ↔ IsSome lock.now }
     ensures trail { IfSome result (λ entries. IsSomeTrail entries.items) }
@@ -188,7 +189,7 @@ pub(crate) fn move_with_one<'a, const LUN: u8, C: Site, L: Site, D: DeviceServer
     rt: &R,
     alloc: Global,
     changer: &mut Kept<0, C, D>,
-    lock: Option<&Mutex<Kept<LUN, L, D>>>,
+    lock: Option<&Locked<LUN, L, D>>,
     part: &mut Share<C>,
     drive_part: &mut Share<L>,
     nexus: Nexus,
@@ -209,7 +210,7 @@ pub(crate) fn move_with_one<'a, const LUN: u8, C: Site, L: Site, D: DeviceServer
 {
     match lock {
         Some(lock) => {
-            let mut drive = lock.lock(rt);
+            let mut drive = lock.lock().lock(rt);
             move_kept_one(
                 alloc,
                 changer,
@@ -239,8 +240,8 @@ pub(crate) fn move_with_two<
     rt: &R,
     alloc: Global,
     changer: &mut Kept<0, C, D>,
-    low: Option<&Mutex<Kept<LOW, L, D>>>,
-    high: Option<&Mutex<Kept<HIGH, H, D>>>,
+    low: Option<&Locked<LOW, L, D>>,
+    high: Option<&Locked<HIGH, H, D>>,
     part: &mut Share<C>,
     low_part: &mut Share<L>,
     high_part: &mut Share<H>,
@@ -265,8 +266,8 @@ pub(crate) fn move_with_two<
     let (Some(low), Some(high)) = (low, high) else {
         return changer.step(alloc, part, nexus, cdb, bytes);
     };
-    let mut low = low.lock(rt);
-    let mut high = high.lock(rt);
+    let mut low = low.lock().lock(rt);
+    let mut high = high.lock().lock(rt);
     move_kept_two(
         alloc, changer, &mut *low, &mut *high, part, low_part, high_part, nexus, cdb, bytes,
     )

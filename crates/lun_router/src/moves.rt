@@ -228,7 +228,7 @@ impl<L0: Site, L1: Site, L2: Site, L3: Site, L4: Site, D: DeviceServer, G: Gate>
         ensures unnumbered { result.numbers ≡ [] → result.reply ≡ busy }
         ensures rise { Rise parts.old result.numbers parts.new }
     {
-        let mut changer = self.changer.lock(rt);
+        let mut changer = self.changer.lock().lock(rt);
         self.gate.inside(0, nexus);
         let names = named(changer.drives(), cdb);
         match names.as_slice() {

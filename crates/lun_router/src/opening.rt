@@ -6,12 +6,12 @@ ghost use Rattle.lun_router.specs.Opening.{IsAt, IsSince};
 use crate::apart::{Apart, take_apart};
 use crate::gate::Gate;
 use crate::library::Library;
+use crate::locked::Locked;
 use crate::seat::{Parts, Seat};
 use device_server::DeviceServer;
 use kept_unit::{Kept, Site};
 use logical_unit::LogicalUnit;
 use std::alloc::{AllocError, Global};
-use std::sync::Mutex;
 use std::sync::ledger::{Blank, Share};
 use target_core::TargetCore;
 
@@ -29,7 +29,7 @@ pub struct Blanks {
 fn keep<const LUN: u8, L: Site, D: DeviceServer>(
     unit: LogicalUnit<D>,
     blank: Blank,
-) -> (Mutex<Kept<LUN, L, D>>, Share<L>)
+) -> (Locked<LUN, L, D>, Share<L>)
     requires blank { (blank.name ≡ L.name) × (blank.parts ≡ L.parts) }
     requires unit { IsAt LUN unit.unit }
     requires since { last_number unit.unit ≡ L.since }
@@ -37,14 +37,14 @@ fn keep<const LUN: u8, L: Site, D: DeviceServer>(
     ensures amount { result.1.amount ≡ 0 }
 {
     let (book, share) = blank.open::<L>();
-    (Mutex::new(Kept::new(unit, book)), share)
+    (Locked::new(Kept::new(unit, book)), share)
 }
 
 /// The same where the unit may be absent. Its book then goes, and the shares stay at nothing.
 fn keep_if_there<const LUN: u8, L: Site, D: DeviceServer>(
     unit: Option<LogicalUnit<D>>,
     blank: Blank,
-) -> (Option<Mutex<Kept<LUN, L, D>>>, Share<L>)
+) -> (Option<Locked<LUN, L, D>>, Share<L>)
     requires blank { (blank.name ≡ L.name) × (blank.parts ≡ L.parts) }
     requires unit { ForSome unit (λ u. IsAt LUN u.unit) }
     requires since { ForSome unit (λ u. last_number u.unit ≡ L.since) }
@@ -100,7 +100,7 @@ fn cut<L0: Site, L1: Site, L2: Site, L3: Site, L4: Site>(
         four: four.split_off(1, 0),
     };
     let entries = Vec::new(alloc);
-    Seat { parts, entries }
+    Seat::new(parts, entries)
 }
 
 impl<L0: Site, L1: Site, L2: Site, L3: Site, L4: Site, D: DeviceServer, G: Gate> Library<

@@ -162,7 +162,7 @@ impl<L0: Site, L1: Site, L2: Site, L3: Site, L4: Site, D: DeviceServer, G: Gate>
         ensures unnumbered { LeavesNoneFor self.now.units lun result.numbers result.reply }
         ensures notes { Notes seat.old result seat.new }
     {
-        let Seat { parts, entries } = seat;
+        let Seat { parts, entries, .. } = seat;
         if entries.reserve(1).is_err() {
             return Done::busy(alloc, Some(nexus), lun, Asked::Command { cdb, bytes });
         }
@@ -186,7 +186,7 @@ impl<L0: Site, L1: Site, L2: Site, L3: Site, L4: Site, D: DeviceServer, G: Gate>
         ensures unnumbered { LosesNoneFor self.now.units lun result.numbers result.reply }
         ensures notes { Notes seat.old result seat.new }
     {
-        let Seat { parts, entries } = seat;
+        let Seat { parts, entries, .. } = seat;
         if entries.reserve(1).is_err() {
             return Done::busy(alloc, Some(nexus), lun, Asked::Loss);
         }
@@ -209,7 +209,7 @@ impl<L0: Site, L1: Site, L2: Site, L3: Site, L4: Site, D: DeviceServer, G: Gate>
         ensures unnumbered { LeavesNoneFor self.now.units lun result.numbers result.reply }
         ensures notes { Notes seat.old result seat.new }
     {
-        let Seat { parts, entries } = seat;
+        let Seat { parts, entries, .. } = seat;
         if entries.reserve(1).is_err() {
             return Done::busy(alloc, None, lun, Asked::Reset);
         }

@@ -1,3 +1,4 @@
+use crate::locked::Gap;
 use kept_unit::{Entry, Site};
 use std::marker::Model;
 use std::sync::ledger::Share;
@@ -24,11 +25,15 @@ impl<L0: Site, L1: Site, L2: Site, L3: Site, L4: Site> Model for Parts<L0, L1, L
 }
 
 /// What one session holds of a library: a part of each ledger, and what it was told. Each part counts the numbers of its
-/// unit that the entries have.
+/// unit that the entries have. Seats lie side by side and each is written by a thread of its own, so a cache line of nothing
+/// lies on each side.
+#[repr(C)]
 #[derive(Drop)]
 pub struct Seat<L0: Site, L1: Site, L2: Site, L3: Site, L4: Site> {
+    _before: Gap,
     pub(crate) parts: Parts<L0, L1, L2, L3, L4>,
     pub(crate) entries: Vec<Entry>,
+    _behind: Gap,
 }
 
 impl<L0: Site, L1: Site, L2: Site, L3: Site, L4: Site> Model for Seat<L0, L1, L2, L3, L4> {
@@ -43,6 +48,23 @@ impl<L0: Site, L1: Site, L2: Site, L3: Site, L4: Site> Model for Seat<L0, L1, L2
 
 impl<L0: Site, L1: Site, L2: Site, L3: Site, L4: Site> Seat<L0, L1, L2, L3, L4> {
     ghost use Rattle.std.specs.Prelude.{◌≡◌};
+    ghost use Rattle.lun_router.specs.Seats.{IsCounted};
+
+    pub(crate) fn new(
+        parts: Parts<L0, L1, L2, L3, L4>,
+        entries: Vec<Entry>,
+    ) -> Seat<L0, L1, L2, L3, L4>
+        requires { IsCounted entries.items parts }
+        ensures entries { result.entries ≡ entries.items }
+        ensures amounts { result.amounts ≡ parts }
+    {
+        Seat {
+            _before: [0; 8],
+            parts,
+            entries,
+            _behind: [0; 8],
+        }
+    }
 
     /// An entry for each call that was made with the seat, in order; a BUSY for want of the seat's own room has none.
     pub fn entries(&self) -> &[Entry]
