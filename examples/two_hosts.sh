@@ -1,6 +1,6 @@
 #!/bin/sh
 # Two hosts at one library behind a socket: A moves a volume into the drive, reserves it and writes a block; B's WRITE meets the
-# conflict. Behind their replies come the records of the library.
+# conflict, and its replies are said in words. Behind their replies come the records of the library.
 top=$(cd "$(dirname "$0")/.." && pwd) || exit 1
 work=$(mktemp -d) || exit 1
 "$top/vtl" serve --socket "$work/vtl" --sessions 2 >"$work/records" &
@@ -9,7 +9,7 @@ until [ -S "$work/vtl" ]; do sleep 0.1; kill -0 $server || exit 1; done
 echo "A:"
 "$top/vtl" client --socket "$work/vtl" --sas 500000000000000a --port 1 <"$top/examples/host_a.script"
 echo "B:"
-"$top/vtl" client --socket "$work/vtl" --sas 500000000000000b --port 1 <"$top/examples/host_b.script"
+"$top/vtl" client --socket "$work/vtl" --sas 500000000000000b --port 1 --explain <"$top/examples/host_b.script"
 wait $server
 status=$?
 echo "records:"

@@ -30,7 +30,7 @@ pub record IsContact (contact : Contact) : Type 0 where
   pub last_port : contact.nexus.port ≤ 4
 
 abbrev pub IsDoable : Task → Type 0
-IsDoable (Replay library audit) = MakesLibrary library
+IsDoable (Replay library explanations audit) = MakesLibrary library
 IsDoable (Serve library place audit) = MakesLibrary library × IsPlace place
-IsDoable (Client contact) = IsContact contact
+IsDoable (Client contact explanations) = IsContact contact
 IsDoable (Cells class) = Unit {0}

@@ -5,16 +5,18 @@ use std::alloc::{AllocError, Global};
 
 /// What the help of each command ends with.
 const REPLAY_EXAMPLE: &str =
-    "Example, of a library with two drives, with its records behind the replies:
-  vtl replay --drives 2 --audit < examples/four_commands.script";
+    "Examples, of a library with two drives, with its records behind the replies, and of replies in words:
+  vtl replay --drives 2 --audit < examples/four_commands.script
+  vtl replay --explain < examples/four_commands.script";
 
 const SERVE_EXAMPLE: &str =
     "Examples, of a library for two hosts, and of one that is served until its standard input ends:
   vtl serve --socket /run/vtl/socket --sessions 2
   vtl serve --socket /run/vtl/socket --workers 16 --drain";
 
-const CLIENT_EXAMPLE: &str = "Example, of a host that asks logical unit 0 whether it is ready:
-  echo '0 000000000000' | vtl client --socket /run/vtl/socket --sas 500000000000000a --port 1";
+const CLIENT_EXAMPLE: &str =
+    "Example, of a host that asks logical unit 0 whether it is ready, and reads the reply in words:
+  echo '0 000000000000' | vtl client --socket /run/vtl/socket --sas 500000000000000a --port 1 --explain";
 
 const CELLS_EXAMPLE: &str = "Example, of who may write under which type of reservation:
   vtl cells 'WRITE(6)'";
@@ -42,7 +44,8 @@ fn replay_command<'a>(alloc: Global) -> Result<Command<'a>, AllocError> {
     let replay = Command::new(alloc, "replay")
         .about("Runs the script of standard input and prints a line for each reply")
         .after_help(REPLAY_EXAMPLE);
-    with_audit(alloc, with_library(alloc, replay)?)
+    let replay = with_library(alloc, replay)?;
+    with_audit(alloc, with_explanations(alloc, replay)?)
 }
 
 fn serve_command<'a>(alloc: Global) -> Result<Command<'a>, AllocError> {
@@ -69,14 +72,15 @@ fn client_command<'a>(alloc: Global) -> Result<Command<'a>, AllocError> {
         .value_parser(value_parser!(u16).range(1..=4))
         .required(true)
         .help("The target port by which the host comes");
-    Command::new(alloc, "client")
+    let client = Command::new(alloc, "client")
         .about(
             "Sends the script of standard input to a served library as one host, and prints a line for each reply",
         )
         .after_help(CLIENT_EXAMPLE)
         .arg(socket)?
         .arg(sas)?
-        .arg(port)
+        .arg(port)?;
+    with_explanations(alloc, client)
 }
 
 /// The command that prints the permission table.
@@ -117,6 +121,15 @@ fn with_library<'a>(alloc: Global, command: Command<'a>) -> Result<Command<'a>, 
         .default_value("1")
         .help("How many volumes lie in the first storage elements");
     command.arg(drives)?.arg(slots)?.arg(portals)?.arg(volumes)
+}
+
+/// The option that asks for replies in words.
+fn with_explanations<'a>(alloc: Global, command: Command<'a>) -> Result<Command<'a>, AllocError> {
+    let explain = Arg::new(alloc, "explain")
+        .long("explain")
+        .action(ArgAction::SetTrue)
+        .help("Prints behind each reply a line that begins with # and says it in words");
+    command.arg(explain)
 }
 
 /// The options that ask for the records, of which one may be given.

@@ -7,7 +7,7 @@ use crate::task::{Contact, Place, Task, Term};
 use clap::ArgMatches;
 use permission_chart::class_named;
 use program_options::{LibraryOptions, OptionFault, fits, nexus_of};
-use replay_output::Audit;
+use replay_output::{Audit, Explanations};
 use scsi_cdb::Class;
 use std::alloc::{AllocError, Global};
 
@@ -25,15 +25,18 @@ pub fn task_of(alloc: Global, words: &[String]) -> Result<Task, CommandLineFault
         return Ok(Task::Serve(library, place_of(alloc, serve)?, records_of(serve)));
     }
     if let Some(client) = matches.subcommand_matches("client") {
-        return Ok(Task::Client(contact_of(alloc, client)?));
+        return Ok(Task::Client(contact_of(alloc, client)?, explanations_of(client)));
     }
     if let Some(cells) = matches.subcommand_matches("cells") {
         return Ok(Task::Cells(class_of(alloc, cells)?));
     }
     match matches.subcommand_matches("replay") {
-        Some(replay) => Ok(Task::Replay(library_of(replay)?, audit_of(replay))),
+        Some(replay) => {
+            let library = library_of(replay)?;
+            Ok(Task::Replay(library, explanations_of(replay), audit_of(replay)))
+        }
         // `clap` asks for a subcommand, and there is no other.
-        None => Ok(Task::Replay(LibraryOptions::USUAL, Audit::Off)),
+        None => Ok(Task::Replay(LibraryOptions::USUAL, Explanations::Off, Audit::Off)),
     }
 }
 
@@ -64,6 +67,15 @@ fn library_of(command: &ArgMatches) -> Result<LibraryOptions, OptionFault>
     };
     fits(options.volumes, options.slots)?;
     Ok(options)
+}
+
+/// Whether a command wants replies in words, too.
+fn explanations_of(command: &ArgMatches) -> Explanations {
+    if command.get_flag("explain") {
+        Explanations::On
+    } else {
+        Explanations::Off
+    }
 }
 
 /// What a command wants of the records.

@@ -1,18 +1,18 @@
 use program_options::LibraryOptions;
-use replay_output::Audit;
+use replay_output::{Audit, Explanations};
 use scsi_cdb::Class;
 use scsi_nexus::Nexus;
 
 /// What the program is asked to do.
 #[derive(Debug, Drop, PartialEq, Eq)]
 pub enum Task {
-    /// Run the script of standard input at a library, and print its replies and what is wanted of the
-    /// records.
-    Replay(LibraryOptions, Audit),
+    /// Run the script of standard input at a library, and print its replies, in words too where that is wanted, and
+    /// what is wanted of the records.
+    Replay(LibraryOptions, Explanations, Audit),
     /// Serve a library at a socket, and print what is wanted of the records.
     Serve(LibraryOptions, Place, Audit),
-    /// Send the script of standard input to a served library, and print its replies.
-    Client(Contact),
+    /// Send the script of standard input to a served library, and print its replies, in words too where that is wanted.
+    Client(Contact, Explanations),
     /// Print the permission table, or the line of one class of commands.
     Cells(Option<Class>),
 }

@@ -1,7 +1,7 @@
 //! Words of command lines, and the tasks that they name.
 
 use crate::{Task, Term, task_of};
-use replay_output::Audit;
+use replay_output::{Audit, Explanations};
 use scsi_cdb::Class;
 use std::test::Fail;
 
@@ -58,6 +58,18 @@ fn reads_command_lines(rt: HostRuntime) -> Result<(), Fail> {
         ("vtl replay --help", 0, "Usage: vtl replay"),
         ("vtl replay --help", 0, "--audit"),
         ("vtl replay --help", 0, "--spans"),
+        ("vtl replay --help", 0, "--explain"),
+        ("vtl client --help", 0, "--explain"),
+        (
+            "vtl replay --explain --explain",
+            2,
+            "cannot be used multiple times",
+        ),
+        (
+            "vtl serve --socket s --explain",
+            2,
+            "unexpected argument '--explain'",
+        ),
         (
             "vtl --help",
             0,
@@ -135,36 +147,55 @@ fn reads_command_lines(rt: HostRuntime) -> Result<(), Fail> {
 #[test]
 fn reads_options(rt: HostRuntime) -> Result<(), Fail> {
     let rows = [
-        ("vtl replay", (1, 8, 0, 1), Audit::Off),
-        ("vtl replay --audit", (1, 8, 0, 1), Audit::Lines),
-        ("vtl replay --spans", (1, 8, 0, 1), Audit::Spans),
+        ("vtl replay", (1, 8, 0, 1), Explanations::Off, Audit::Off),
+        (
+            "vtl replay --explain",
+            (1, 8, 0, 1),
+            Explanations::On,
+            Audit::Off,
+        ),
+        (
+            "vtl replay --audit",
+            (1, 8, 0, 1),
+            Explanations::Off,
+            Audit::Lines,
+        ),
+        (
+            "vtl replay --spans --explain",
+            (1, 8, 0, 1),
+            Explanations::On,
+            Audit::Spans,
+        ),
         (
             "vtl replay --drives 4 --slots 1024 --portals 16 --volumes 1024",
             (4, 1024, 16, 1024),
+            Explanations::Off,
             Audit::Off,
         ),
         (
             "vtl replay --volumes=0 --audit --slots=1 --drives=2",
             (2, 1, 0, 0),
+            Explanations::Off,
             Audit::Lines,
         ),
     ];
-    for (line, (drives, slots, portals, volumes), audit) in rows {
-        let mut words = Vec::new(rt.alloc());
-        for word in line.split(' ') {
-            words.push(String::from_str(rt.alloc(), word)?)?;
+    for (line, (drives, slots, portals, volumes), words, audit) in rows {
+        let mut parts = Vec::new(rt.alloc());
+        for part in line.split(' ') {
+            parts.push(String::from_str(rt.alloc(), part)?)?;
         }
-        let task = match task_of(rt.alloc(), &words) {
+        let task = match task_of(rt.alloc(), &parts) {
             Ok(task) => task,
             Err(_) => return Err("no task".into()),
         };
-        let Task::Replay(options, wanted) = task else {
+        let Task::Replay(options, explanations, wanted) = task else {
             return Err("another task".into());
         };
         assert_eq!(rt; options.drives, drives, "{line}");
         assert_eq!(rt; options.slots, slots, "{line}");
         assert_eq!(rt; options.portals, portals, "{line}");
         assert_eq!(rt; options.volumes, volumes, "{line}");
+        assert_eq!(rt; explanations, words, "{line}");
         assert_eq!(rt; wanted, audit, "{line}");
     }
     Ok(())
@@ -211,19 +242,31 @@ fn reads_where_and_how_long_to_serve(rt: HostRuntime) -> Result<(), Fail> {
 
 #[test]
 fn reads_which_host_a_client_is(rt: HostRuntime) -> Result<(), Fail> {
-    let line = "vtl client --port 4 --sas 500000000000000B --socket /run/vtl";
-    let mut words = Vec::new(rt.alloc());
-    for word in line.split(' ') {
-        words.push(String::from_str(rt.alloc(), word)?)?;
+    let rows = [
+        (
+            "vtl client --port 4 --sas 500000000000000B --socket /run/vtl",
+            Explanations::Off,
+        ),
+        (
+            "vtl client --explain --port 4 --sas 500000000000000B --socket /run/vtl",
+            Explanations::On,
+        ),
+    ];
+    for (line, wanted) in rows {
+        let mut words = Vec::new(rt.alloc());
+        for word in line.split(' ') {
+            words.push(String::from_str(rt.alloc(), word)?)?;
+        }
+        let Ok(Task::Client(contact, explanations)) = task_of(rt.alloc(), &words) else {
+            return Err("another task".into());
+        };
+        assert_eq!(rt; contact.socket.as_str(), "/run/vtl", "{line}");
+        assert_eq!(rt;
+            (contact.nexus.sas, contact.nexus.port),
+            (0x5000_0000_0000_000B, 4)
+        );
+        assert_eq!(rt; explanations, wanted, "{line}");
     }
-    let Ok(Task::Client(contact)) = task_of(rt.alloc(), &words) else {
-        return Err("another task".into());
-    };
-    assert_eq!(rt; contact.socket.as_str(), "/run/vtl");
-    assert_eq!(rt;
-        (contact.nexus.sas, contact.nexus.port),
-        (0x5000_0000_0000_000B, 4)
-    );
     Ok(())
 }
 

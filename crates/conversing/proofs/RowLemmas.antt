@@ -9,6 +9,11 @@ use Rattle.frames.specs.declared.reply_frame.LoginAnswer.TheVariants.{Accepted}
 use Rattle.frames.specs.Replies.{LoginReply, CommandReply, LogoutReply}
 use Rattle.frames.specs.ReplyFronts.{reply_body_front, reply_front_in}
 use Rattle.frames.specs.Rows.{first_contact}
+use Rattle.scsi_cdb.specs.Commands.{command_of}
+use Rattle.explanations.specs.Contents.{request_of}
+use Rattle.explanations.specs.Explanation.{explanation}
+use Rattle.explanations.specs.Reservations.{generation_text, listed, registration_text}
+use Rattle.explanations.specs.Words.{cut, count_text, number_text}
 use Rattle.replay_output.specs.Replies.{answer_line}
 use Rattle.replay_script.specs.Requests as host
 use Rattle.replay_script.specs.Requests.{request_line_in}
@@ -37,7 +42,7 @@ faults_told = record {
 }
 
 pub replies_told : RepliesTold
-unfolding answer_line encode_with
+unfolding answer_line explanation request_of command_of generation_text listed registration_text cut encode_with digits count_text number_text
 replies_told = record {
   sense = refl;
   payload = refl;
@@ -45,6 +50,10 @@ replies_told = record {
   reset = refl;
   login = refl;
   logout = refl;
+  reset_said = refl;
+  keys_said = refl;
+  login_said = refl;
+  session = refl;
   accepted = refl;
   already_connected = λ h. absurd cc;
   reset_for_a_command = λ h. h;

@@ -8,12 +8,13 @@ use Rattle.frames.specs.Replies.{Told}
 use Rattle.frames.specs.ReplyFronts.{Partial, Whole, reply_front_in}
 use Rattle.frames.specs.Sending.{frame_bytes}
 use Rattle.frames.proofs.ReplyPieces.{reply_stays}
-use Rattle.conversing.specs.Talking.{IsReplyTo, AreRepliesTo, Tells, told_line, lines_of, stream_of, Talks}
+use Rattle.replay_output.specs.declared.explained.Explanations.{Explanations}
+use Rattle.conversing.specs.Talking.{IsReplyTo, AreRepliesTo, Tells, told_text, session_text, stream_of, Talks}
 use Rattle.conversing.specs.Waiting.{Answers, Exchanges}
 
 -- nothing yet
-pub talks_none : (left written shown : Option (List ℕ)) → Talks [] left left written written shown shown []
-talks_none left written shown = record {
+pub talks_none : (x : Explanations) (left written shown : Option (List ℕ)) → Talks x [] left left written written shown shown []
+talks_none x left written shown = record {
   read = [];
   replies = [];
   consumed = Consumes-nil left;
@@ -53,28 +54,33 @@ replies_on (g ∷ frames) (q ∷ replies) f r so one = (so.0, replies_on frames 
 stream_on : (frames : List Sent) (f : Sent) → stream_of frames ++ frame_bytes f ≡ stream_of (frames ++ f ∷ [])
 stream_on frames f = sym (flat_map-append frame_bytes frames (f ∷ []) ∙ ap (λ (t : List ℕ). stream_of frames ++ t) (append-nil (frame_bytes f)))
 
-lines_on : (replies : List Told) (r : Told) → lines_of replies ++ told_line r ≡ lines_of (replies ++ r ∷ [])
-lines_on replies r = sym (flat_map-append told_line replies (r ∷ []) ∙ ap (λ (t : List ℕ). lines_of replies ++ t) (append-nil (told_line r)))
+text_on : (x : Explanations) (frames : List Sent) (replies : List Told) (f : Sent) (r : Told) → AreRepliesTo frames replies
+    → session_text x frames replies ++ told_text x f r ≡ session_text x (frames ++ f ∷ []) (replies ++ r ∷ [])
+text_on x [] [] f r so = sym (append-nil (told_text x f r))
+text_on x [] (q ∷ replies) f r so = absurd so
+text_on x (g ∷ frames) [] f r so = absurd so
+text_on x (g ∷ frames) (q ∷ replies) f r so =
+    append_assoc (told_text x g q) (session_text x frames replies) (told_text x f r) ∙ ap (λ (t : List ℕ). told_text x g q ++ t) (text_on x frames replies f r so.1)
 
 -- one frame more
-pub talks_on : (frames : List Sent) (f : Sent) (left left1 left2 written written1 written2 shown shown1 shown2 : Option (List ℕ)) (rest rest' : List ℕ)
-    → Talks frames left left1 written written1 shown shown1 rest → Exchanges f rest rest' left1 left2 written1 written2 shown1 shown2
-    → Talks (frames ++ f ∷ []) left left2 written written2 shown shown2 rest'
-talks_on frames f left left1 left2 written written1 written2 shown shown1 shown2 rest rest' so one = record {
+pub talks_on : (x : Explanations) (frames : List Sent) (f : Sent) (left left1 left2 written written1 written2 shown shown1 shown2 : Option (List ℕ)) (rest rest' : List ℕ)
+    → Talks x frames left left1 written written1 shown shown1 rest → Exchanges x f rest rest' left1 left2 written1 written2 shown1 shown2
+    → Talks x (frames ++ f ∷ []) left left2 written written2 shown shown2 rest'
+talks_on x frames f left left1 left2 written written1 written2 shown shown1 shown2 rest rest' so one = record {
   read = so.read ++ one.read;
   replies = so.replies ++ one.reply ∷ [];
   consumed = Consumes-trans _ _ _ _ _ so.consumed one.consumed;
   told = tells_on so.read so.replies rest one.read one.piece rest' one.reply so.told one.split one.front;
   answered = replies_on frames so.replies f one.reply so.answered one.answered;
   sent = subst (λ (b : List ℕ). Appends written written2 b) (stream_on frames f) (Appends-trans _ _ _ _ _ so.sent one.sent);
-  lines = subst (λ (b : List ℕ). Appends shown shown2 b) (lines_on so.replies one.reply) (Appends-trans _ _ _ _ _ so.lines one.line);
+  lines = subst (λ (b : List ℕ). Appends shown shown2 b) (text_on x frames so.replies f one.reply so.answered) (Appends-trans _ _ _ _ _ so.lines one.line);
 }
 
 -- one frame and its reply, from what was read, taken and written for it
-pub exchanged : (frame : Sent) (pending read inbox rest line0 line : List ℕ) (count : ℕ) (left left' written written' shown shown' : Option (List ℕ)) → inbox ≡ pending ++ read
-    → Consumes left left' read → Answers frame (reply_front_in inbox) count line0 line → count ≤ length inbox → rest ≡ drop count inbox → line0 ≡ []
-    → Appends written written' (frame_bytes frame) → Appends shown shown' line → Exchanges frame pending rest left left' written written' shown shown'
-exchanged frame pending read inbox rest line0 line count left left' written written' shown shown' came took answer within cut none wrote put = record {
+pub exchanged : (x : Explanations) (frame : Sent) (pending read inbox rest line0 line : List ℕ) (count : ℕ) (left left' written written' shown shown' : Option (List ℕ)) → inbox ≡ pending ++ read
+    → Consumes left left' read → Answers x frame (reply_front_in inbox) count line0 line → count ≤ length inbox → rest ≡ drop count inbox → line0 ≡ []
+    → Appends written written' (frame_bytes frame) → Appends shown shown' line → Exchanges x frame pending rest left left' written written' shown shown'
+exchanged x frame pending read inbox rest line0 line count left left' written written' shown shown' came took answer within cut none wrote put = record {
   read = read;
   reply = answer.0;
   piece = take count inbox;
@@ -83,5 +89,5 @@ exchanged frame pending read inbox rest line0 line count left left' written writ
   front = ap reply_front_in (sym came) ∙ answer.1 ∙ ap (λ (n : ℕ). Whole answer.0 n) (sym (length-take-le count inbox within));
   answered = answer.2;
   sent = wrote;
-  line = subst (λ (l : List ℕ). Appends shown shown' l) (answer.3 ∙ ap (λ (l : List ℕ). l ++ told_line answer.0) none) put;
+  line = subst (λ (l : List ℕ). Appends shown shown' l) (answer.3 ∙ ap (λ (l : List ℕ). l ++ told_text x frame answer.0) none) put;
 }

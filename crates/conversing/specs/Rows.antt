@@ -4,14 +4,15 @@ use Rattle.scsi_sense.specs.Conditions.{sense_for}
 use Rattle.scsi_sense.specs.declared.condition.Condition.TheVariants.{PowerOnOrResetOccurred}
 use Rattle.scsi_sense.specs.declared.status.Status.TheVariants.{Good, CheckCondition, Busy, ReservationConflict}
 use Rattle.frames.specs.declared.reply_frame.LoginAnswer.TheVariants.{Accepted, AlreadyConnected}
-use Rattle.frames.specs.Frames.{Login, Command, Reset, Logout}
+use Rattle.frames.specs.Frames.{Sent, Login, Command, Reset, Logout}
 use Rattle.frames.specs.Replies.{LoginReply, CommandReply, ResetReply, LogoutReply}
 use Rattle.frames.specs.Rows.{a, login_by, test_unit_ready, logout, first_contact}
+use Rattle.replay_output.specs.declared.explained.Explanations.TheVariants as words
 use Rattle.replay_script.specs.declared.line_fault.LineFault.TheVariants.{BadUnit}
 use Rattle.replay_script.specs.Requests as host
 use Rattle.conversing.specs.declared.client_fault.ClientFault.TheVariants.{Line, Refused, BadReply, Read, Write, NoMemory}
 use Rattle.conversing.specs.Faults.{exit_status, fault_text}
-use Rattle.conversing.specs.Talking.{AreRepliesTo, Converses, IsReplyTo, frames_of, stream_of, told_line}
+use Rattle.conversing.specs.Talking.{AreRepliesTo, Converses, IsReplyTo, frames_of, session_text, stream_of, told_text}
 use Rattle.conversing.specs.Waiting.{IsOfSession}
 
 pub record FaultsTold : Type 0 where
@@ -37,14 +38,29 @@ pub record FaultsTold : Type 0 where
 abbrev pub line : List ℕ → List ℕ
 line text = text ++ 10 ∷ []
 
+-- TEST UNIT READY, and the CDB of READ KEYS
+abbrev pub test : Sent
+test = Command 1 (replicate 6 0) []
+
+abbrev pub read_keys : List ℕ
+read_keys = 0x5E ∷ replicate 6 0 ++ 0 ∷ 0xFF ∷ 0 ∷ []
+
 pub record RepliesTold : Type 0 where
-  pub sense : told_line (CommandReply CheckCondition (Some (sense_for PowerOnOrResetOccurred)) 1 []) ≡ line (codes "02 700006000000000a00000000290000000000 -")
-  pub payload : told_line (CommandReply Good None 258 (0x61 ∷ 0x62 ∷ [])) ≡ line (codes "00 - 6162")
-  pub conflict : told_line (CommandReply ReservationConflict None 3 []) ≡ line (codes "18 - -")
+  pub sense : told_text words.Off test (CommandReply CheckCondition (Some (sense_for PowerOnOrResetOccurred)) 1 []) ≡ line (codes "02 700006000000000a00000000290000000000 -")
+  pub payload : told_text words.Off test (CommandReply Good None 258 (0x61 ∷ 0x62 ∷ [])) ≡ line (codes "00 - 6162")
+  pub conflict : told_text words.Off test (CommandReply ReservationConflict None 3 []) ≡ line (codes "18 - -")
   -- a status alone
-  pub reset : told_line (ResetReply Busy) ≡ line (codes "08 - -")
-  pub login : told_line (LoginReply Accepted) ≡ []
-  pub logout : told_line LogoutReply ≡ []
+  pub reset : told_text words.Off (Reset 1) (ResetReply Busy) ≡ line (codes "08 - -")
+  pub login : told_text words.Off (Login a) (LoginReply Accepted) ≡ []
+  pub logout : told_text words.Off Logout LogoutReply ≡ []
+  -- and with words
+  pub reset_said : told_text words.On (Reset 1) (ResetReply Busy) ≡ line (codes "08 - -") ++ line (codes "# BUSY")
+  pub keys_said : told_text words.On (Command 1 read_keys []) (CommandReply Good None 258 (0 ∷ 0 ∷ 0 ∷ 1 ∷ 0 ∷ 0 ∷ 0 ∷ 0 ∷ []))
+      ≡ line (codes "00 - 0000000100000000") ++ line (codes "# GOOD, generation 1, no keys")
+  pub login_said : told_text words.On (Login a) (LoginReply Accepted) ≡ []
+  -- each reply behind the one before
+  pub session : session_text words.On (Login a ∷ test ∷ Logout ∷ []) (LoginReply Accepted ∷ CommandReply Good None 1 [] ∷ LogoutReply ∷ [])
+      ≡ line (codes "00 - -") ++ line (codes "# GOOD")
   pub accepted : IsReplyTo (Login a) (LoginReply Accepted)
   pub already_connected : ¬ IsReplyTo (Login a) (LoginReply AlreadyConnected)
   pub reset_for_a_command : ¬ IsReplyTo (Command 0 [] []) (ResetReply Good)
@@ -64,5 +80,5 @@ replies = (0 ∷ 0 ∷ 0 ∷ 2 ∷ 0x81 ∷ 0 ∷ []) ++ first_contact ++ 0 ∷ 
 pub record SessionTold : Type 0 where
   pub sent : stream_of (frames_of a (host.Command 0 (replicate 6 0) [] ∷ [])) ≡ login_by 1 ++ test_unit_ready ++ logout
   -- the server's next bytes stay unread, and what was there before stays
-  pub whole : Converses a script (Some (replies ++ 7 ∷ [])) (Some (7 ∷ [])) (Some (1 ∷ [])) (Some (1 ∷ login_by 1 ++ test_unit_ready ++ logout))
+  pub whole : Converses words.Off a script (Some (replies ++ 7 ∷ [])) (Some (7 ∷ [])) (Some (1 ∷ [])) (Some (1 ∷ login_by 1 ++ test_unit_ready ++ logout))
       (Some (codes "before ")) (Some (codes "before " ++ line (codes "02 700006000000000a00000000290000000000 -")))

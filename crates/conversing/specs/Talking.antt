@@ -8,7 +8,8 @@ use Rattle.frames.specs.Frames.{Sent, Login, Command, Reset, Logout}
 use Rattle.frames.specs.Replies.{Told, LoginReply, CommandReply, ResetReply, LogoutReply}
 use Rattle.frames.specs.ReplyFronts.{Whole, reply_front_in}
 use Rattle.frames.specs.Sending.{frame_bytes}
-use Rattle.replay_output.specs.Replies.{answer_line}
+use Rattle.replay_output.specs.declared.explained.Explanations.{Explanations}
+use Rattle.replay_output.specs.Explained.{answer_text}
 use Rattle.replay_script.specs.Requests.{Asked}
 use Rattle.replay_script.specs.Requests as host
 use Rattle.replay_script.specs.Script.{requests_in}
@@ -46,30 +47,31 @@ Tells bytes [] rest = rest ≡ bytes
 Tells bytes (reply ∷ replies) rest =
     (piece others : List ℕ) × (bytes ≡ piece ++ others) × (reply_front_in bytes ≡ Whole reply (length piece)) × Tells others replies rest
 
--- the line of a reply, as a replay writes it; those to LOGIN and LOGOUT have none
-abbrev pub told_line : Told → List ℕ
-told_line (LoginReply answer) = []
-told_line (CommandReply status sense number payload) = answer_line status sense payload
-told_line (ResetReply status) = answer_line status None []
-told_line LogoutReply = []
+-- what is written of the reply to a frame, as a replay writes it; of those to LOGIN and LOGOUT nothing is
+abbrev pub told_text : Explanations → Sent → Told → List ℕ
+told_text explanations (Command lun cdb bytes) (CommandReply status sense number payload) = answer_text explanations cdb status sense payload
+told_text explanations (Reset lun) (ResetReply status) = answer_text explanations [] status None []
+told_text explanations _ _ = []
 
-abbrev pub lines_of : List Told → List ℕ
-lines_of replies = flat_map told_line replies
+-- and of the replies to frames, in their order
+abbrev pub session_text : Explanations → List Sent → List Told → List ℕ
+session_text explanations (frame ∷ frames) (reply ∷ replies) = told_text explanations frame reply ++ session_text explanations frames replies
+session_text explanations _ _ = []
 
--- these frames were sent, a reply to each of them was read, in their order, and the lines of the replies were written;
--- the rest is what was read behind them
-pub record Talks (frames : List Sent) (left left' written written' shown shown' : Option (List ℕ)) (rest : List ℕ) : Type 0 where
+-- these frames were sent, a reply to each of them was read, in their order, and the lines of the replies were written, with their
+-- words where they are wanted; the rest is what was read behind them
+pub record Talks (explanations : Explanations) (frames : List Sent) (left left' written written' shown shown' : Option (List ℕ)) (rest : List ℕ) : Type 0 where
   pub read : List ℕ
   pub replies : List Told
   pub consumed : Consumes left left' read
   pub told : Tells read replies rest
   pub answered : AreRepliesTo frames replies
   pub sent : Appends written written' (stream_of frames)
-  pub lines : Appends shown shown' (lines_of replies)
+  pub lines : Appends shown shown' (session_text explanations frames replies)
 
 -- a session whole
-pub record Converses (nexus : Nexus) (text : List ℕ) (left left' written written' shown shown' : Option (List ℕ)) : Type 0 where
+pub record Converses (explanations : Explanations) (nexus : Nexus) (text : List ℕ) (left left' written written' shown shown' : Option (List ℕ)) : Type 0 where
   pub requests : List Asked
   pub rest : List ℕ
   pub script : requests_in text ≡ Ok requests
-  pub talked : Talks (frames_of nexus requests) left left' written written' shown shown' rest
+  pub talked : Talks explanations (frames_of nexus requests) left left' written written' shown shown' rest

@@ -8,14 +8,15 @@ use Rattle.frames.specs.Reading.{Added}
 use Rattle.frames.specs.Replies.{Told, LoginReply, CommandReply, ResetReply, LogoutReply}
 use Rattle.frames.specs.ReplyFronts.{ReplyFront, Partial, Whole, Faulty, reply_front_in}
 use Rattle.frames.specs.Sending.{frame_bytes}
+use Rattle.replay_output.specs.declared.explained.Explanations.{Explanations}
 use Rattle.replay_script.specs.Requests.{Asked}
 use Rattle.replay_script.specs.Script.{requests_in}
 use Rattle.conversing.specs.declared.client_fault.ClientFault.{ClientFault}
 use Rattle.conversing.specs.declared.client_fault.ClientFault.TheVariants.{Line, Refused, BadReply, Read, Write, NoMemory}
-use Rattle.conversing.specs.Talking.{IsReplyTo, told_line, frames_of, Talks}
+use Rattle.conversing.specs.Talking.{IsReplyTo, told_text, frames_of, Talks}
 
--- a frame was sent, its reply was read, and the reply's line was written
-pub record Exchanges (frame : Sent) (pending pending' : List ℕ) (left left' written written' shown shown' : Option (List ℕ)) : Type 0 where
+-- a frame was sent, its reply was read, and what is written of the reply was
+pub record Exchanges (explanations : Explanations) (frame : Sent) (pending pending' : List ℕ) (left left' written written' shown shown' : Option (List ℕ)) : Type 0 where
   pub read : List ℕ
   pub reply : Told
   pub piece : List ℕ
@@ -24,7 +25,7 @@ pub record Exchanges (frame : Sent) (pending pending' : List ℕ) (left left' wr
   pub front : reply_front_in (pending ++ read) ≡ Whole reply (length piece)
   pub answered : IsReplyTo frame reply
   pub sent : Appends written written' (frame_bytes frame)
-  pub line : Appends shown shown' (told_line reply)
+  pub line : Appends shown shown' (told_text explanations frame reply)
 
 -- less than a reply came: the reader is at its end, or a read failed, or was one too many
 abbrev pub EndsBeforeReply : ClientFault → (pending : List ℕ) → (left : Option (List ℕ)) → Type 0
@@ -57,10 +58,10 @@ IsWhy BadReply frame front = IsNoReplyTo frame front
 IsWhy NoMemory frame front = Unit {0}
 IsWhy _ frame front = ⊥
 
--- what a stream begins with is a reply of so many bytes to a frame, and its line was added
-abbrev pub Answers : Sent → ReplyFront → (count : ℕ) → (line line' : List ℕ) → Type 0
-Answers frame front count line line' =
-    (reply : Told) × (front ≡ Whole reply count) × IsReplyTo frame reply × (line' ≡ line ++ told_line reply)
+-- what a stream begins with is a reply of so many bytes to a frame, and what is written of it was added
+abbrev pub Answers : Explanations → Sent → ReplyFront → (count : ℕ) → (line line' : List ℕ) → Type 0
+Answers explanations frame front count line line' =
+    (reply : Told) × (front ≡ Whole reply count) × IsReplyTo frame reply × (line' ≡ line ++ told_text explanations frame reply)
 
 -- the faults of sending
 abbrev pub IsOfSending : ClientFault → Type 0
@@ -89,7 +90,7 @@ Stops Write frame pending left left' written written' shown shown' = Unit {0}
 Stops NoMemory frame pending left left' written written' shown shown' = Unit {0}
 
 -- the frames before one were answered, and that one was not
-pub record Breaks (nexus : Nexus) (requests : List Asked) (fault : ClientFault) (left left' written written' shown shown' : Option (List ℕ)) : Type 0 where
+pub record Breaks (explanations : Explanations) (nexus : Nexus) (requests : List Asked) (fault : ClientFault) (left left' written written' shown shown' : Option (List ℕ)) : Type 0 where
   pub done : List Sent
   pub next : Sent
   pub others : List Sent
@@ -98,14 +99,14 @@ pub record Breaks (nexus : Nexus) (requests : List Asked) (fault : ClientFault) 
   pub written1 : Option (List ℕ)
   pub shown1 : Option (List ℕ)
   pub frames : frames_of nexus requests ≡ done ++ next ∷ others
-  pub talked : Talks done left left1 written written1 shown shown1 rest
+  pub talked : Talks explanations done left left1 written written1 shown shown1 rest
   pub stopped : Stops fault next rest left1 left' written1 written' shown1 shown'
 
 -- a session of a script without a fault
-pub record BreaksWithin (nexus : Nexus) (text : List ℕ) (fault : ClientFault) (left left' written written' shown shown' : Option (List ℕ)) : Type 0 where
+pub record BreaksWithin (explanations : Explanations) (nexus : Nexus) (text : List ℕ) (fault : ClientFault) (left left' written written' shown shown' : Option (List ℕ)) : Type 0 where
   pub requests : List Asked
   pub script : requests_in text ≡ Ok requests
-  pub broke : Breaks nexus requests fault left left' written written' shown shown'
+  pub broke : Breaks explanations nexus requests fault left left' written written' shown shown'
 
 -- the faults of a session that was begun
 abbrev pub IsOfSession : ClientFault → Type 0

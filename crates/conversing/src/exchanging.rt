@@ -8,7 +8,7 @@ ghost use Rattle.conversing.specs.Waiting.{Answers, Exchanges, IsOfSending, IsWh
 use crate::awaiting::await_reply;
 use crate::client_fault::ClientFault;
 use frames::{Frame, Inbox, LoginAnswer, ReplyFrame, ReplyFront, reply_of, write_frame};
-use replay_output::write_answer;
+use replay_output::{Explanations, write_explained};
 use std::io::{self, Read, Write};
 
 /// Writes bytes, and what the writer may still hold back of them.
@@ -37,11 +37,16 @@ fn send<W: Write>(
     }
 }
 
-/// Takes the reply to a frame that is pending, adds its line, and answers how many bytes the reply has.
-fn take_reply(frame: &Frame<'_>, pending: &[u8], line: &mut Vec<u8>) -> Result<usize, ClientFault>
+/// Takes the reply to a frame that is pending, adds what is written of it, and answers how many bytes the reply has.
+fn take_reply(
+    words: Explanations,
+    frame: &Frame<'_>,
+    pending: &[u8],
+    line: &mut Vec<u8>,
+) -> Result<usize, ClientFault>
     requires { reply_front_in pending.now ≡ Partial → ⊥ }
     ensures within { IfOk result (λ count. count ≤ length pending.now) }
-    ensures ok { IfOk result (λ count. Answers (sent frame.now) (reply_front_in pending.now) count line.old.items line.new.items) }
+    ensures ok { IfOk result (λ count. Answers words (sent frame.now) (reply_front_in pending.now) count line.old.items line.new.items) }
     ensures err { IfErr result (λ fault. IsWhy fault (sent frame.now) (reply_front_in pending.now)) }
 {
     let (reply, count) = match reply_of(pending) {
@@ -55,7 +60,7 @@ fn take_reply(frame: &Frame<'_>, pending: &[u8], line: &mut Vec<u8>) -> Result<u
             return Err(ClientFault::Refused(*nexus));
         }
         (
-            Frame::Command { .. },
+            Frame::Command { cdb, .. },
             ReplyFrame::Command {
                 status,
                 sense,
@@ -63,17 +68,20 @@ fn take_reply(frame: &Frame<'_>, pending: &[u8], line: &mut Vec<u8>) -> Result<u
                 ..
             },
         ) => {
-            write_answer(line, status, &sense, bytes)?;
+            write_explained(line, words, cdb, status, &sense, bytes)?;
         }
-        (Frame::Reset { .. }, ReplyFrame::Reset(status)) => write_answer(line, status, &None, b"")?,
+        (Frame::Reset { .. }, ReplyFrame::Reset(status)) => {
+            write_explained(line, words, b"", status, &None, b"")?;
+        }
         (Frame::Logout, ReplyFrame::Logout) => {}
         _ => return Err(ClientFault::BadReply),
     }
     Ok(count)
 }
 
-/// Sends a frame, waits for its reply and writes the reply's line.
+/// Sends a frame, waits for its reply and writes what is written of it.
 pub(crate) fn exchange<R: Read, W: Write, O: Write>(
+    words: Explanations,
     frame: &Frame<'_>,
     inbox: &mut Inbox,
     buffer: &mut Vec<u8>,
@@ -83,7 +91,7 @@ pub(crate) fn exchange<R: Read, W: Write, O: Write>(
     out: &mut O,
 ) -> Result<(), ClientFault>
     requires { IsSendable (sent frame.now) }
-    ensures ok { OnOk result (Exchanges (sent frame.now) inbox.old inbox.new (R.remaining reader.old) (R.remaining reader.new)
+    ensures ok { OnOk result (Exchanges words (sent frame.now) inbox.old inbox.new (R.remaining reader.old) (R.remaining reader.new)
         (W.contents writer.old) (W.contents writer.new) (O.contents out.old) (O.contents out.new)) }
     ensures err { IfErr result (λ fault. Stops fault (sent frame.now) inbox.old (R.remaining reader.old) (R.remaining reader.new)
         (W.contents writer.old) (W.contents writer.new) (O.contents out.old) (O.contents out.new)) }
@@ -91,7 +99,7 @@ pub(crate) fn exchange<R: Read, W: Write, O: Write>(
     send(frame, buffer, writer)?;
     await_reply(inbox, reader, turns)?;
     buffer.clear();
-    let count = take_reply(frame, inbox.pending(), buffer)?;
+    let count = take_reply(words, frame, inbox.pending(), buffer)?;
     inbox.pass(count);
     match write_out(out, buffer.as_slice()) {
         Ok(()) => Ok(()),

@@ -1,4 +1,5 @@
 use crate::{ClientFault, converse};
+use replay_output::Explanations;
 use replay_script::LineFault;
 use scsi_nexus::Nexus;
 use std::alloc::Global;
@@ -95,6 +96,7 @@ fn assert_session(
         A,
         script.as_bytes(),
         &mut out,
+        Explanations::Off,
         9,
     );
     assert_eq!(rt; ended, end);
@@ -114,6 +116,7 @@ fn assert_session(
         A,
         script.as_bytes(),
         &mut out,
+        Explanations::Off,
         99,
     );
     assert_eq!(rt; ended, end);
@@ -141,6 +144,30 @@ fn data_and_a_reset(rt: HostRuntime) {
         \0\0\0\x01\x84";
     let lines = b"00 - 6162\n18 - -\n00 - -\n";
     assert_session(&rt, rt.alloc(), script, replies, Ok(()), sent, lines);
+}
+
+/// With words, a line stands behind each line; the stream is the same.
+#[test]
+fn replies_in_words(rt: HostRuntime) {
+    let mut reader = REPLIES;
+    let mut writer = Vec::new(rt.alloc());
+    let mut out = Vec::new(rt.alloc());
+    let ended = converse(
+        rt.alloc(),
+        &mut reader,
+        &mut writer,
+        A,
+        SCRIPT.as_bytes(),
+        &mut out,
+        Explanations::On,
+        9,
+    );
+    let expected = b"02 700006000000000a00000000290000000000 -\n\
+        # CHECK CONDITION, UNIT ATTENTION: power on, reset, or bus device reset occurred\n\
+        00 - -\n# GOOD\n";
+    assert_eq!(rt; ended, Ok(()));
+    assert_eq!(rt; writer.as_slice(), SENT);
+    assert_eq!(rt; out.as_slice(), expected.as_slice());
 }
 
 #[test]
@@ -231,6 +258,7 @@ fn reads_fail(rt: HostRuntime) {
             A,
             SCRIPT.as_bytes(),
             &mut out,
+            Explanations::Off,
             99,
         );
         assert_eq!(rt; ended, Err(ClientFault::Read));
@@ -257,6 +285,7 @@ fn reads_fail(rt: HostRuntime) {
         A,
         SCRIPT.as_bytes(),
         &mut out,
+        Explanations::Off,
         58,
     );
     assert_eq!(rt; ended, Err(ClientFault::Read));
@@ -280,6 +309,7 @@ fn writes_fail(rt: HostRuntime) {
             A,
             SCRIPT.as_bytes(),
             &mut out,
+            Explanations::Off,
             99,
         );
         assert_eq!(rt; ended, Err(ClientFault::Write));
@@ -298,6 +328,7 @@ fn writes_fail(rt: HostRuntime) {
             A,
             SCRIPT.as_bytes(),
             &mut out,
+            Explanations::Off,
             99,
         );
         assert_eq!(rt; ended, Err(ClientFault::Write));

@@ -8,6 +8,7 @@ use Rattle.audit_log.specs.Lines.{line_of}
 use Rattle.device_server.specs.View.{Changer}
 use Rattle.logical_unit.specs.Step.{made, resets, done}
 use Rattle.target_core.specs.declared.event.Event.TheVariants as event
+use Rattle.explanations.specs.Explanation.{explanation}
 use Rattle.replay_output.specs.Replies.{answer_line}
 use Rattle.replay_script.specs.Text.{pieces}
 use Rattle.replay_script.specs.Words.{unit_in}
@@ -53,5 +54,5 @@ ran = record {
 }
 
 pub replays_run : ReplaysRun
-unfolding ran events_in line_in pieces unit_in digits answer_line line_of encode_with
-replays_run = record { replies = record { ran = ran; lines = refl }; records = record { ran = ran; lines = refl }; refused = record { input = line (codes "reset 0") ++ codes "reset x"; whole = record { consumed = refl; ended = refl; bounded = lit≤ tt }; script = refl } }
+unfolding ran events_in line_in pieces unit_in digits answer_line explanation line_of encode_with
+replays_run = record { replies = record { ran = ran; lines = refl }; explained = record { ran = ran; lines = refl }; records = record { ran = ran; lines = refl }; refused = record { input = line (codes "reset 0") ++ codes "reset x"; whole = record { consumed = refl; ended = refl; bounded = lit≤ tt }; script = refl } }

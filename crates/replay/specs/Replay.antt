@@ -6,13 +6,14 @@ use Rattle.unit_answers.specs.declared.reply.Reply.{Reply}
 use Rattle.target_core.specs.Run.{Runs}
 use Rattle.target_core.specs.declared.event.Event.{Event}
 use Rattle.replay_output.specs.declared.audit_lines.Audit.{Audit}
+use Rattle.replay_output.specs.declared.explained.Explanations.{Explanations}
 use Rattle.replay_script.specs.declared.line_fault.LineFault.{LineFault}
 use Rattle.replay.specs.declared.replay_fault.ReplayFault.{ReplayFault}
 use Rattle.replay.specs.declared.replay_fault.ReplayFault.TheVariants.{Line, NoMemory, Read, Write}
 use Rattle.replay_output.specs.AuditLines.{audit_text}
 use Rattle.script_input.specs.Input.{IsReadWhole}
-use Rattle.replay_output.specs.Replies.{text_of}
 use Rattle.replay_script.specs.Script.{saids, script_in}
+use Rattle.replay.specs.Texts.{run_text}
 
 -- the input was read whole, it is a script, and its events were run
 pub record HasRun (turns : ℕ) (left left' : Option (List ℕ)) (core core' : List UnitView) : Type 0 where
@@ -23,10 +24,11 @@ pub record HasRun (turns : ℕ) (left left' : Option (List ℕ)) (core core' : L
   pub script : script_in input ≡ Ok (saids events)
   pub run : Runs core events replies core'
 
--- and the lines of its replies were written, and then those of the records that the units have now, where they are wanted
-pub record Replays (turns : ℕ) (left left' : Option (List ℕ)) (core core' : List UnitView) (audit : Audit) (written written' : Option (List ℕ)) : Type 0 where
+-- and the lines of its replies were written, with their words where they are wanted, and then those of the records that the units have
+-- now, where they are wanted
+pub record Replays (turns : ℕ) (left left' : Option (List ℕ)) (core core' : List UnitView) (explanations : Explanations) (audit : Audit) (written written' : Option (List ℕ)) : Type 0 where
   pub ran : HasRun turns left left' core core'
-  pub lines : Appends written written' (text_of ran.replies ++ audit_text audit core')
+  pub lines : Appends written written' (run_text explanations ran.events ran.replies ++ audit_text audit core')
 
 -- the input was read whole, and its line n is the first with a fault
 pub record Refuses (turns : ℕ) (left left' : Option (List ℕ)) (n : ℕ) (fault : LineFault) : Type 0 where

@@ -1,5 +1,5 @@
 -- Worked rows: what a replay of one reset writes, and what each fault says.
-use Rattle.std.specs.Prelude.{◌≡◌, ℕ, false, List, [], ◌∷◌, ◌++◌, length, Some, None, Option, codes}
+use Rattle.std.specs.Prelude.{◌≡◌, ℕ, false, List, [], ◌∷◌, ◌++◌, Some, None, codes}
 use Rattle.scsi_sense.specs.declared.status.Status.TheVariants.{Good}
 use Rattle.tape_medium.specs.Elements.{empty_elements}
 use Rattle.audit_log.specs.declared.act.Act.TheVariants.{Reset}
@@ -11,6 +11,8 @@ use Rattle.logical_unit.specs.Step.{made}
 use Rattle.logical_unit.specs.UnitView.{UnitView}
 use Rattle.replay_output.specs.declared.audit_lines.Audit.{Audit}
 use Rattle.replay_output.specs.declared.audit_lines.Audit.TheVariants.{Off, Lines}
+use Rattle.replay_output.specs.declared.explained.Explanations.{Explanations}
+use Rattle.replay_output.specs.declared.explained.Explanations.TheVariants as words
 use Rattle.replay_script.specs.declared.line_fault.LineFault.TheVariants.{BadNexus, BadUnit, BadHex}
 use Rattle.replay.specs.declared.replay_fault.ReplayFault.TheVariants.{Line, NoMemory, Read, Write}
 use Rattle.replay.specs.Faults.{exit_status, fault_text}
@@ -52,11 +54,12 @@ abbrev pub line : List ℕ → List ℕ
 line text = text ++ 10 ∷ []
 
 -- the script of one line, `reset 0`
-abbrev pub ReplaysReset : Audit → (written : List ℕ) → Type 0
-ReplaysReset audit written =
-    Replays 2 (Some (line (codes "reset 0"))) (Some []) (target []) (target (reset ∷ [])) audit (Some (codes "before")) (Some (codes "before" ++ written))
+abbrev pub ReplaysReset : Explanations → Audit → (written : List ℕ) → Type 0
+ReplaysReset explanations audit written =
+    Replays 2 (Some (line (codes "reset 0"))) (Some []) (target []) (target (reset ∷ [])) explanations audit (Some (codes "before")) (Some (codes "before" ++ written))
 
 pub record ReplaysRun : Type 0 where
-  pub replies : ReplaysReset Off (line (codes "00 - -"))
-  pub records : ReplaysReset Lines (line (codes "00 - -") ++ line (codes "1 - RESET 6 - - 00"))
+  pub replies : ReplaysReset words.Off Off (line (codes "00 - -"))
+  pub explained : ReplaysReset words.On Off (line (codes "00 - -") ++ line (codes "# GOOD"))
+  pub records : ReplaysReset words.Off Lines (line (codes "00 - -") ++ line (codes "1 - RESET 6 - - 00"))
   pub refused : Refuses 2 (Some (line (codes "reset 0") ++ codes "reset x")) (Some []) 2 BadUnit

@@ -5,6 +5,6 @@ mod laws;
 mod replay_fault;
 mod replaying;
 
-pub use laws::worked_rows;
+pub use laws::{lines_alone, worked_rows};
 pub use replay_fault::ReplayFault;
 pub use replaying::replay;

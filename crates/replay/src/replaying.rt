@@ -1,14 +1,15 @@
 ghost use Rattle.std.specs.Prelude.{◌≡◌, ◌⊎◌, ◌++◌, ℕ, List, Err, IfErr, OnOk};
 ghost use Rattle.std.specs.Io.KnownBytes.{Appends, Keeps};
 ghost use Rattle.replay.specs.Replay.{HasRun, IsBeforeOutput, IsBeforeRun, Refuses, Replays};
-ghost use Rattle.replay_output.specs.Replies.{text_of};
 ghost use Rattle.target_core.specs.Run.{Runs};
 ghost use Rattle.unit_answers.specs.declared.reply.Reply.{Reply};
 ghost use Rattle.replay_script.specs.declared.line_fault.LineFault.{LineFault};
+ghost use Rattle.replay.specs.Texts.{cdb_of, event_text, run_text};
 
 use crate::replay_fault::ReplayFault;
 use device_server::DeviceServer;
-use replay_output::{Audit, audit_text, write_reply};
+use logical_unit::Reply;
+use replay_output::{Audit, Explanations, audit_text, write_explained};
 use replay_script::events_of;
 use script_input::read_all;
 use std::alloc::{AllocError, Global};
@@ -17,8 +18,8 @@ use std::io::{Read, Write};
 use target_core::{Event, TargetCore};
 
 /// Reads a script to its end, by at most `turns` reads of at most 65,536 bytes, runs its events and
-/// writes a line for each reply, and then, where they are wanted, the lines of the records that the
-/// units have after the run. The whole script is checked before the run, and the whole output is
+/// writes a line for each reply, with one behind it that says it in words where those are wanted, and then,
+/// where they are wanted, the lines of the records that the units have after the run. The whole script is checked before the run, and the whole output is
 /// made before its first byte is written.
 ///
 /// `Line`: the first line with a fault. `Read`: a read failed, or one more was needed than `turns`.
@@ -29,12 +30,13 @@ pub fn replay<D: DeviceServer, R: Read, W: Write>(
     core: &mut TargetCore<D>,
     reader: &mut R,
     writer: &mut W,
+    explanations: Explanations,
     audit: Audit,
     turns: u64,
 ) -> Result<(), ReplayFault>
     ensures ok { OnOk result
         (Replays turns (R.remaining reader.old) (R.remaining reader.new) core.old core.new
-        audit (W.contents writer.old) (W.contents writer.new)) }
+        explanations audit (W.contents writer.old) (W.contents writer.new)) }
     ensures line { (n : ℕ) (f : LineFault) → result ≡ Err (ReplayFault.Line n f) →
         Refuses turns (R.remaining reader.old) (R.remaining reader.new) n f }
     ensures write { result ≡ Err ReplayFault.Write →
@@ -52,7 +54,7 @@ pub fn replay<D: DeviceServer, R: Read, W: Write>(
     // The events hold all that is wanted of it.
     drop(input);
     let mut text = Vec::new(alloc);
-    run(alloc, core, &events, &mut text)?;
+    run(alloc, core, &events, explanations, &mut text)?;
     let records = audit_text(alloc, audit, core.all())?;
     match write_out(writer, &text, records.as_bytes()) {
         Ok(()) => Ok(()),
@@ -60,25 +62,55 @@ pub fn replay<D: DeviceServer, R: Read, W: Write>(
     }
 }
 
-/// Runs events one after another, and adds the line of each reply as it comes. All events are run, also
+/// Runs events one after another, and adds what is written of each reply as it comes. All events are run, also
 /// where a line finds no memory.
 fn run<D: DeviceServer>(
     alloc: Global,
     core: &mut TargetCore<D>,
     events: &[Event],
+    explanations: Explanations,
     text: &mut Vec<u8>,
 ) -> Result<(), AllocError>
     ensures { (replies : List Reply) × Runs core.old events.now replies core.new
-        × OnOk result (text.new.items ≡ text.old.items ++ text_of replies) }
+        × OnOk result (text.new.items ≡ text.old.items ++ run_text explanations events.now replies) }
 {
     let mut written = Ok(());
     for event in events {
         let reply = core.step(alloc, event);
         if written.is_ok() {
-            written = write_reply(text, &reply);
+            written = write_event(text, explanations, event, &reply);
         }
     }
     written
+}
+
+/// Adds what is written of the reply to an event.
+fn write_event(
+    text: &mut Vec<u8>,
+    explanations: Explanations,
+    event: &Event,
+    reply: &Reply,
+) -> Result<(), AllocError>
+    ensures { OnOk result (text.new.items ≡ text.old.items ++ event_text explanations event.now reply.now) }
+{
+    write_explained(
+        text,
+        explanations,
+        cdb_of(event),
+        reply.status,
+        &reply.sense,
+        reply.payload.bytes(),
+    )
+}
+
+/// The CDB of an event; a loss and a reset have none.
+fn cdb_of(event: &Event) -> &[u8]
+    ensures { result.now ≡ cdb_of event.now }
+{
+    match event {
+        Event::Command { cdb, .. } => cdb.as_slice(),
+        Event::Loss { .. } | Event::Reset { .. } => b"",
+    }
 }
 
 /// Writes all of two texts, and what the writer may still hold back of them.

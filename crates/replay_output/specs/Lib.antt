@@ -1,3 +1,4 @@
 pub mod Replies
+pub mod Explained
 pub mod AuditLines
 pub mod Rows

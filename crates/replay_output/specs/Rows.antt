@@ -1,5 +1,5 @@
 -- Worked rows: the lines of replies, and of the records of units.
-use Rattle.std.specs.Prelude.{◌≡◌, ℕ, true, false, List, [], ◌∷◌, ◌++◌, Option, Some, None, codes}
+use Rattle.std.specs.Prelude.{◌≡◌, ℕ, true, false, List, [], ◌∷◌, ◌++◌, replicate, Option, Some, None, codes}
 use Rattle.scsi_nexus.specs.declared.nexus.Nexus.{Nexus}
 use Rattle.scsi_sense.specs.declared.sense.Sense.{Sense}
 use Rattle.scsi_sense.specs.declared.status.Status.{Status}
@@ -14,7 +14,9 @@ use Rattle.unit_answers.specs.declared.reply.Reply.{Reply}
 use Rattle.logical_unit.specs.Step.{made}
 use Rattle.logical_unit.specs.UnitView.{UnitView}
 use Rattle.replay_output.specs.declared.audit_lines.Audit.TheVariants.{Off, Lines, Spans}
+use Rattle.replay_output.specs.declared.explained.Explanations.TheVariants as words
 use Rattle.replay_output.specs.AuditLines.{audit_text}
+use Rattle.replay_output.specs.Explained.{answer_text}
 use Rattle.replay_output.specs.Replies.{reply_line, text_of}
 
 abbrev pub reply : Status → Option Sense → List ℕ → Reply
@@ -42,6 +44,23 @@ pub record ReplyLines : Type 0 where
   -- a line for each, in their order
   pub two : text_of (reply Busy None [] ∷ reply Good None [] ∷ []) ≡ line (codes "08 - -") ++ line (codes "00 - -")
   pub none : text_of [] ≡ []
+
+-- READ KEYS, and its data for one key at generation 1
+abbrev pub read_keys : List ℕ
+read_keys = 0x5E ∷ replicate 6 0 ++ 0 ∷ 0xFF ∷ 0 ∷ []
+
+abbrev pub keys : List ℕ
+keys = 0 ∷ 0 ∷ 0 ∷ 1 ∷ 0 ∷ 0 ∷ 0 ∷ 8 ∷ 0x11 ∷ 0x22 ∷ 0x33 ∷ 0x44 ∷ 0x55 ∷ 0x66 ∷ 0x77 ∷ 0x88 ∷ []
+
+pub record ExplainedReplies : Type 0 where
+  pub off : answer_text words.Off (replicate 6 0) Good None [] ≡ line (codes "00 - -")
+  pub good : answer_text words.On (replicate 6 0) Good None [] ≡ line (codes "00 - -") ++ line (codes "# GOOD")
+  pub sense : answer_text words.On (replicate 6 0) CheckCondition (Some power_on) []
+      ≡ line (codes "02 700006000000000a00000000290000000000 -")
+      ++ line (codes "# CHECK CONDITION, UNIT ATTENTION: power on, reset, or bus device reset occurred")
+  -- the words are those of the command's data
+  pub told : answer_text words.On read_keys Good None keys
+      ≡ line (codes "00 - 00000001000000081122334455667788") ++ line (codes "# GOOD, generation 1, keys 1122334455667788")
 
 abbrev pub entry : ℕ → Option Nexus → Act → Record
 entry number nexus act = record {

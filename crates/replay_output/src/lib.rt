@@ -2,6 +2,7 @@
 #![tactic(auto)]
 
 mod audit_lines;
+mod explained;
 mod hex_text;
 mod laws;
 mod reply_line;
@@ -9,5 +10,6 @@ mod reply_line;
 mod tests;
 
 pub use audit_lines::{Audit, audit_text, records_text};
+pub use explained::{Explanations, write_explained};
 pub use laws::worked_rows;
 pub use reply_line::{write_answer, write_reply};

@@ -4,6 +4,7 @@ ghost use Rattle.command_line.specs.Tasks.{IsContact};
 use crate::client_fault::ClientFault;
 use command_line::Contact;
 use conversing::converse;
+use replay_output::Explanations;
 use script_input::read_all;
 use std::io;
 use std::net::Net;
@@ -13,10 +14,11 @@ use std::os::unix::net::UnixStream;
 const TURNS: u64 = 0xFFFF_FFFF;
 
 /// Reads the script of standard input to its end, sends it as a host to the library that is served at a socket, and
-/// writes a line for each reply to standard output as it comes.
+/// writes a line for each reply to standard output as it comes, with one behind it in words where those are wanted.
 pub fn client<R: AllocGlobal + Input + Net + Print>(
     rt: &R,
     contact: Contact,
+    explanations: Explanations,
 ) -> Result<(), ClientFault>
     requires { IsContact contact }
 {
@@ -36,6 +38,7 @@ pub fn client<R: AllocGlobal + Input + Net + Print>(
         nexus,
         &script,
         &mut out,
+        explanations,
         TURNS,
     )?;
     Ok(())

@@ -10,7 +10,7 @@ use command_line::{CommandLineFault, Task, task_of};
 use permission_chart::write_cells;
 use program_options::LibraryOptions;
 use replay::{ReplayFault, replay};
-use replay_output::Audit;
+use replay_output::{Audit, Explanations};
 use std::fs::Files;
 use std::io::Write;
 use std::net::Net;
@@ -70,9 +70,11 @@ fn perform<R: AllocGlobal + Env + Files + Input + Net + Print + Sync + Threads +
     rt: &R,
 ) -> Result<(), ProgramFault> {
     match task_of_arguments(rt)? {
-        Task::Replay(options, audit) => { Ok(replay_standard_input(rt, options, audit)?) }
+        Task::Replay(options, explanations, audit) => {
+            Ok(replay_standard_input(rt, options, explanations, audit)?)
+        }
         Task::Serve(options, place, audit) => { Ok(serve(rt, options, place, audit)?) }
-        Task::Client(contact) => Ok(client(rt, contact)?),
+        Task::Client(contact, explanations) => Ok(client(rt, contact, explanations)?),
         Task::Cells(class) => {
             write_cells(&mut io::writer(rt), class).map_err(|_| ProgramFault::Cells)
         }
@@ -97,6 +99,7 @@ fn task_of_arguments<R: AllocGlobal + Env>(rt: &R) -> Result<Task, CommandLineFa
 fn replay_standard_input<R: AllocGlobal + Input + Print>(
     rt: &R,
     options: LibraryOptions,
+    explanations: Explanations,
     audit: Audit,
 ) -> Result<(), ReplayFault>
     requires { MakesLibrary options }
@@ -109,6 +112,7 @@ fn replay_standard_input<R: AllocGlobal + Input + Print>(
         &mut core,
         &mut reader,
         &mut writer,
+        explanations,
         audit,
         TURNS,
     )

@@ -5,7 +5,7 @@ use device_server::DeviceServer;
 use logical_unit::{Busy, LogicalUnit};
 use program_options::LibraryOptions;
 use replay::replay;
-use replay_output::Audit;
+use replay_output::{Audit, Explanations};
 use scsi_sense::Status;
 use std::alloc::Global;
 use std::fmt::Write;
@@ -36,7 +36,15 @@ fn assert_written<D: DeviceServer>(
 ) -> Result<(), Fail> {
     let mut reader = script.as_bytes();
     let mut output = Vec::new(alloc);
-    replay(alloc, core, &mut reader, &mut output, audit, 9)?;
+    replay(
+        alloc,
+        core,
+        &mut reader,
+        &mut output,
+        Explanations::Off,
+        audit,
+        9,
+    )?;
     assert_eq!(rt; output.as_slice(), expected.as_bytes());
     Ok(())
 }

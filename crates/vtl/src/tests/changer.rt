@@ -3,7 +3,7 @@
 use super::rows::{POWER_ON, push_lines};
 use program_options::LibraryOptions;
 use replay::replay;
-use replay_output::Audit;
+use replay_output::{Audit, Explanations};
 use std::test::Fail;
 use stocked_library::library;
 
@@ -58,6 +58,7 @@ fn shows_and_moves_the_volumes_of_a_changer(rt: HostRuntime) -> Result<(), Fail>
         &mut library(alloc, &SMALL)?,
         &mut reader,
         &mut output,
+        Explanations::Off,
         Audit::Off,
         9,
     )?;

@@ -8,7 +8,7 @@ use library_device::Device;
 use logical_unit::LogicalUnit;
 use program_options::LibraryOptions;
 use replay::replay;
-use replay_output::Audit;
+use replay_output::{Audit, Explanations};
 use scsi_sense::{Sense, Status};
 use std::alloc::Global;
 use std::fmt::Write;
@@ -51,7 +51,15 @@ fn replay_at_drive(
     expected.push_str(replies)?;
     let mut reader = whole.as_bytes();
     let mut output = Vec::new(alloc);
-    replay(alloc, &mut core, &mut reader, &mut output, Audit::Off, 9)?;
+    replay(
+        alloc,
+        &mut core,
+        &mut reader,
+        &mut output,
+        Explanations::Off,
+        Audit::Off,
+        9,
+    )?;
     assert_eq!(rt; output.as_slice(), expected.as_bytes());
     let mut units = core.into_units();
     let drive = units.pop().ok_or("no drive")?;

@@ -4,7 +4,7 @@ use crate::serve::serve;
 use command_line::{Place, Term};
 use program_options::LibraryOptions;
 use replay::{ReplayFault, replay};
-use replay_output::Audit;
+use replay_output::{Audit, Explanations};
 use replay_script::LineFault;
 use std::io::{Read, Write};
 use std::os::unix::net::UnixListener;
@@ -72,6 +72,7 @@ fn reads_no_more_often_than_it_may(rt: HostRuntime) -> Result<(), Fail> {
             &mut library(rt.alloc(), &LibraryOptions::USUAL)?,
             &mut reader,
             &mut writer,
+            Explanations::Off,
             Audit::Off,
             turns,
         );
@@ -94,6 +95,7 @@ fn tells_a_read_that_failed(rt: HostRuntime) -> Result<(), Fail> {
         &mut library(rt.alloc(), &LibraryOptions::USUAL)?,
         &mut reader,
         &mut writer,
+        Explanations::Off,
         Audit::Off,
         9,
     );
@@ -110,6 +112,7 @@ fn tells_a_closed_output(rt: HostRuntime) -> Result<(), Fail> {
         &mut library(rt.alloc(), &LibraryOptions::USUAL)?,
         &mut reader,
         &mut Closed,
+        Explanations::Off,
         Audit::Off,
         9,
     );

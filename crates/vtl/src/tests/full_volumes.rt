@@ -2,7 +2,7 @@
 
 use program_options::LibraryOptions;
 use replay::replay;
-use replay_output::Audit;
+use replay_output::{Audit, Explanations};
 use std::fmt::Write;
 use std::test::Fail;
 use stocked_library::library;
@@ -64,6 +64,7 @@ fn takes_a_million_filemarks_and_then_256_blocks(rt: HostRuntime) -> Result<(), 
         &mut core,
         &mut reader,
         &mut output,
+        Explanations::Off,
         Audit::Off,
         u64::MAX,
     )?;

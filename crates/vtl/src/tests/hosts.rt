@@ -3,7 +3,7 @@
 use super::A;
 use conversing::{ClientFault, converse};
 use program_options::LibraryOptions;
-use replay_output::Audit;
+use replay_output::{Audit, Explanations};
 use serving::{Attendance, HostFault, Records, host};
 use std::fs::Files;
 use std::net::Net;
@@ -41,6 +41,7 @@ fn send<R: AllocGlobal + Net>(
         A,
         script.as_bytes(),
         replies,
+        Explanations::Off,
         1000,
     ))
 }

@@ -5,7 +5,7 @@ use library_device::Device;
 use logical_unit::{LogicalUnit, named};
 use program_options::LibraryOptions;
 use replay::replay;
-use replay_output::Audit;
+use replay_output::{Audit, Explanations};
 use std::alloc::Global;
 use std::fmt::Write;
 use std::process::Abort;
@@ -46,7 +46,15 @@ fn assert_run(
     }
     let mut reader = script.as_str().as_bytes();
     let mut output = Vec::new(alloc);
-    replay(alloc, core, &mut reader, &mut output, audit, 9)?;
+    replay(
+        alloc,
+        core,
+        &mut reader,
+        &mut output,
+        Explanations::Off,
+        audit,
+        9,
+    )?;
     assert_eq!(rt; output.as_slice(), expected.as_bytes());
     Ok(())
 }

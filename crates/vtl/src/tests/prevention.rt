@@ -6,7 +6,7 @@ use library_device::unit_at;
 use logical_unit::LogicalUnit;
 use program_options::LibraryOptions;
 use replay::replay;
-use replay_output::Audit;
+use replay_output::{Audit, Explanations};
 use scsi_nexus::Nexus;
 use scsi_sense::Status;
 use std::alloc::{AllocError, Global};
@@ -160,6 +160,7 @@ fn may_be_asked_by_the_holder_and_taken_back_by_others(rt: HostRuntime) -> Resul
         &mut core,
         &mut reader,
         &mut output,
+        Explanations::Off,
         Audit::Lines,
         9,
     )?;

@@ -2,7 +2,7 @@
 
 use program_options::LibraryOptions;
 use replay::replay;
-use replay_output::Audit;
+use replay_output::{Audit, Explanations};
 use std::alloc::Global;
 use std::fmt::Write;
 use std::process::Abort;
@@ -58,6 +58,7 @@ pub(super) fn assert_output(
         &mut library(alloc, &LibraryOptions::USUAL)?,
         &mut reader,
         &mut output,
+        Explanations::Off,
         Audit::Off,
         9,
     )?;

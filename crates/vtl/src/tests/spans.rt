@@ -5,7 +5,7 @@ ghost use Rattle.std.specs.Prelude.{◌<◌};
 
 use program_options::LibraryOptions;
 use replay::replay;
-use replay_output::Audit;
+use replay_output::{Audit, Explanations};
 use std::alloc::Global;
 use std::fmt::Write;
 use std::process::Abort;
@@ -287,7 +287,15 @@ fn replies(alloc: Global, script: &str) -> Result<String, Fail> {
     let mut core = library(alloc, &OPTIONS)?;
     let mut reader = script.as_bytes();
     let mut output = Vec::new(alloc);
-    replay(alloc, &mut core, &mut reader, &mut output, Audit::Off, 9)?;
+    replay(
+        alloc,
+        &mut core,
+        &mut reader,
+        &mut output,
+        Explanations::Off,
+        Audit::Off,
+        9,
+    )?;
     match String::from_utf8(output) {
         Ok(text) => Ok(text),
         Err(_) => Err("no text".into()),

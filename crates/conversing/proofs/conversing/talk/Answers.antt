@@ -4,27 +4,27 @@ use Rattle.conversing.proofs.Sessions.{talks_first, talks_next, talks_last, talk
 use Rattle.conversing.proofs.conversing.talk.Goals as goal
 
 pub returns-in-Err-clause-err : goal.returns-in-Err-clause-err
-returns-in-Err-clause-err g c = breaks_first c.args.nexus c.args.requests.now c.in-Err.fault c.args.inbox.now _ _ _ _ _ _ c.requires.nothing_pending c.in-Err.ensures.err
+returns-in-Err-clause-err g c = breaks_first c.args.words c.args.nexus c.args.requests.now c.in-Err.fault c.args.inbox.now _ _ _ _ _ _ c.requires.nothing_pending c.in-Err.ensures.err
 
 pub loop-request-init : goal.loop-request-init
-loop-request-init g c = talks_first c.args.nexus c.args.inbox.now c.exchange.new.inbox _ _ _ _ _ _ c.requires.nothing_pending c.in-Ok.ensures.ok
+loop-request-init g c = talks_first c.args.words c.args.nexus c.args.inbox.now c.exchange.new.inbox _ _ _ _ _ _ c.requires.nothing_pending c.in-Ok.ensures.ok
 
 pub returns-in-Err-exchange-clause-err : goal.returns-in-Err-exchange-clause-err
 returns-in-Err-exchange-clause-err g c =
-    breaks_next c.args.nexus c.args.requests.now c.loop-request.request-index c.request-item.result (sent c.frame_of-frame.result) c.in-Err-exchange.fault _ _ _ _ _ _ _ _ _ c.loop-request.inbox
+    breaks_next c.args.words c.args.nexus c.args.requests.now c.loop-request.request-index c.request-item.result (sent c.frame_of-frame.result) c.in-Err-exchange.fault _ _ _ _ _ _ _ _ _ c.loop-request.inbox
     c.loop-request-test.true c.request-item.is c.frame_of-frame.ensures.frame c.loop-request.invariant c.in-Err-exchange.ensures.err
 
 pub loop-request-preserved : goal.loop-request-preserved
 loop-request-preserved g c =
-    talks_next c.args.nexus c.args.requests.now c.loop-request.request-index c.request-item.result (sent c.frame_of-frame.result) _ _ _ _ _ _ _ _ _ c.loop-request.inbox c.exchange-in-loop-request.new.inbox
+    talks_next c.args.words c.args.nexus c.args.requests.now c.loop-request.request-index c.request-item.result (sent c.frame_of-frame.result) _ _ _ _ _ _ _ _ _ c.loop-request.inbox c.exchange-in-loop-request.new.inbox
     c.loop-request-test.true c.request-item.is c.frame_of-frame.ensures.frame c.loop-request.invariant c.in-Ok-exchange.ensures.ok
 
 pub returns-clause-ok : goal.returns-clause-ok
 returns-clause-ok g c =
-    let all = talks_all c.args.nexus c.args.requests.now c.loop-request.request-index _ _ _ _ _ _ c.loop-request.inbox (omega (arith, c.loop-request-test.false)) c.loop-request.invariant in
-    on_ok c.exchange-2.result _ _ (λ one. talks_last c.args.nexus c.args.requests.now _ _ _ _ _ _ _ _ _ c.loop-request.inbox c.exchange-2.new.inbox all one) c.exchange-2.ensures.ok
+    let all = talks_all c.args.words c.args.nexus c.args.requests.now c.loop-request.request-index _ _ _ _ _ _ c.loop-request.inbox (omega (arith, c.loop-request-test.false)) c.loop-request.invariant in
+    on_ok c.exchange-2.result _ _ (λ one. talks_last c.args.words c.args.nexus c.args.requests.now _ _ _ _ _ _ _ _ _ c.loop-request.inbox c.exchange-2.new.inbox all one) c.exchange-2.ensures.ok
 
 pub returns-clause-err : goal.returns-clause-err
 returns-clause-err g c =
-    let all = talks_all c.args.nexus c.args.requests.now c.loop-request.request-index _ _ _ _ _ _ c.loop-request.inbox (omega (arith, c.loop-request-test.false)) c.loop-request.invariant in
-    if_err c.exchange-2.result _ _ (λ fault stop. breaks_last c.args.nexus c.args.requests.now fault _ _ _ _ _ _ _ _ _ c.loop-request.inbox all stop) c.exchange-2.ensures.err
+    let all = talks_all c.args.words c.args.nexus c.args.requests.now c.loop-request.request-index _ _ _ _ _ _ c.loop-request.inbox (omega (arith, c.loop-request-test.false)) c.loop-request.invariant in
+    if_err c.exchange-2.result _ _ (λ fault stop. breaks_last c.args.words c.args.nexus c.args.requests.now fault _ _ _ _ _ _ _ _ _ c.loop-request.inbox all stop) c.exchange-2.ensures.err

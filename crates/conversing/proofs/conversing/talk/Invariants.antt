@@ -7,5 +7,5 @@ use Rattle.conversing.proofs.conversing.talk.Given as goal
 -- LOGIN and the first requests were answered
 abbrev pub invariant-loop-request : goal.invariant-loop-request
 invariant-loop-request g l =
-    Talks (Login l.fn.nexus ∷ map frame_of (askeds (take l.request-index l.requests))) (g.R.Read.remaining l.fn.reader) (g.R.Read.remaining l.reader)
+    Talks l.fn.words (Login l.fn.nexus ∷ map frame_of (askeds (take l.request-index l.requests))) (g.R.Read.remaining l.fn.reader) (g.R.Read.remaining l.reader)
     (g.W.Write.contents l.fn.writer) (g.W.Write.contents l.writer) (g.O.Write.contents l.fn.out) (g.O.Write.contents l.out) l.inbox

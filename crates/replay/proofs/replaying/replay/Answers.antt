@@ -13,5 +13,5 @@ returns-in-Ok-clause-ok g c =
         script = search rules;
         run = rw c.deref-2.ensures.value at ran.1;
       };
-      lines = rw (c.as_bytes.ensures.value, c.in_ok-records.ensures, c.all.ensures.units, c.deref-3.ensures.value, ran.2, c.new-text.ensures.items) at c.in-Ok.ensures;
+      lines = rw (c.as_bytes.ensures.value, c.in_ok-records.ensures, c.all.ensures.units, c.deref-3.ensures.value, ran.2, c.new-text.ensures.items, c.deref-2.ensures.value) at c.in-Ok.ensures;
     }

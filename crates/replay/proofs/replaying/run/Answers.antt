@@ -1,7 +1,13 @@
-use Rattle.std.proofs.Common.{sym, ◌∙◌}
+use Rattle.std.proofs.Common.{sym, ◌∙◌, arith}
+use Rattle.std.proofs.lemmas.List.{take_all}
 use Rattle.replay.proofs.RunLemmas.{prints_on, runs_on}
 use Rattle.replay.proofs.replaying.run.Goals as goal
 use Rattle.replay.proofs.replaying.run.Goals.{then-is_ok, else-is_ok}
+
+pub returns : goal.returns
+returns g c =
+    let all = take_all c.loop-event.event-index c.args.events.now (omega (arith, c.loop-event-test.false)) in
+    (c.loop-event.invariant.replies, rw all at c.loop-event.invariant.run, rw all at c.loop-event.invariant.lines)
 
 pub loop-event-preserved : goal.loop-event-preserved
 loop-event-preserved g c =
@@ -9,7 +15,7 @@ loop-event-preserved g c =
       | then-is_ok w ↦
           rw (w.written-is, w.text-is)
           (prints_on c.event-item.result c.step-reply.result c.step-reply.new.self _ _ c.loop-event.invariant c.loop-event-test.true c.event-item.is c.step-reply.ensures
-          (sym c.is_ok.ensures.value ∙ w.if-is_ok.true) w.write_reply-written.ensures)
+          (sym c.is_ok.ensures.value ∙ w.if-is_ok.true) w.write_event-written.ensures)
       | else-is_ok w ↦
           rw (w.written-is, w.text-is)
           (runs_on c.event-item.result c.step-reply.result c.step-reply.new.self _ c.loop-event.invariant c.loop-event-test.true c.event-item.is c.step-reply.ensures
