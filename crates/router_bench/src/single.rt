@@ -29,12 +29,13 @@ fn ask(alloc: Global, core: &mut TargetCore<Device>, command: &Event, rewind: &E
     }
 }
 
+/// Measures each task, and answers the target that it made for that.
 pub(crate) fn measure(
     rt: &(impl Clock + Print),
     alloc: Global,
     scale: u32,
     is_told: bool,
-) -> io::Result<()> {
+) -> io::Result<TargetCore<Device>> {
     let mut core = four_drives(alloc)?;
     for lun in [0, 1] {
         let _ = core.step(
@@ -59,5 +60,5 @@ pub(crate) fn measure(
     if !is_told {
         println!(rt; "step left {records} records")?;
     }
-    Ok(())
+    Ok(core)
 }

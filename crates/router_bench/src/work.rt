@@ -34,8 +34,9 @@ impl Task {
     /// How often it is asked, at a scale.
     pub(crate) fn count(self, scale: u32) -> u32 {
         match self {
-            Task::Ready => scale.wrapping_mul(5_000),
-            Task::Write | Task::Read => scale.wrapping_mul(100),
+            Task::Ready => scale.wrapping_mul(2_500),
+            // Whole tapes: a WRITE ends the tape, and there is nothing to read behind it.
+            Task::Write | Task::Read => scale.wrapping_mul(BLOCKS),
         }
     }
 
