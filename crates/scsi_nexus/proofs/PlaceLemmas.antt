@@ -1,12 +1,11 @@
 -- What ascending entries say of a nexus compared with one of them.
-use Rattle.std.proofs.Common.{◌≡◌, ℕ, zero, suc, ◌+◌, ◌<◌, ◌≤◌, Bool, true, false, T, ◌&&◌, cond, List, [], ◌∷◌, length, get_or, Result, Ok, Err, Some, None, refl, sym, ap, ◌∙◌, arith}
+use Rattle.std.proofs.Common.{◌≡◌, ℕ, zero, suc, ◌+◌, ◌<◌, ◌≤◌, Bool, true, false, T, ◌&&◌, cond, List, [], ◌∷◌, length, get_or, Ok, Some, None, inl, inr, refl, sym, ap, ◌∙◌, arith}
+use Rattle.std.proofs.lemmas.Bool.{cases_lt}
 use Rattle.std.proofs.lemmas.List.{get_or_default}
 use Rattle.std.specs.declared.cmp.Ordering.{Ordering}
 use Rattle.std.specs.declared.cmp.Ordering.TheVariants.{Less, Equal, Greater}
-use Rattle.std.specs.Ordering.{is_lt, is_eq, ordering_reverse, ordering_index}
+use Rattle.std.specs.Ordering.{is_lt, is_eq, ordering_reverse}
 use Rattle.std.specs.Prelude.{insert}
-use Rattle.std.specs.List.Sorted.{IsNonDecreasingBy, IsSearchInRange, IsBinarySearchResult}
-use Rattle.std.proofs.lemmas.List.Sorted.{searchable_from_sorted}
 use Rattle.std.proofs.Math.ListN.{set}
 use Rattle.std.specs.FinMap.{is_sorted, find, put}
 use Rattle.std.specs.FinMap.Entries.{below_all, by_order}
@@ -52,18 +51,39 @@ pub above_before : {X : Type 0} (n : Nexus) (x : List (Nexus × X)) (i : ℕ) �
 above_before n x i h lt at j d before =
     nexus_total.congr n (get_or x i d).0 (get_or x j d).0 (at d) ∙ turned (get_or x j d).0 (get_or x i d).0 Less (earlier_below x j i d h before lt)
 
--- entries that ascend rise when compared with a nexus
-comparisons_rise : {X : Type 0} (n : Nexus) (x : List (Nexus × X)) → T (is_sorted nexus_cmp x) → IsNonDecreasingBy (λ e. ordering_index (nexus_cmp e.0 n)) x
-comparisons_rise n x h = searchable_from_sorted nexus_total (λ e. e.0) x n (λ k d low within. ap is_lt (turned (get_or x k d).0 (get_or x (k + 1) d).0 Less (earlier_below x k (k + 1) d h (omega arith) within)))
+-- what one entry compares to, whatever is read past the end
+compared : {X : Type 0} (n : Nexus) (x : List (Nexus × X)) (i : ℕ) (d e : Nexus × X) (o : Ordering) → i < length x → nexus_cmp (get_or x i e).0 n ≡ o → nexus_cmp (get_or x i d).0 n ≡ o
+compared {X} n x i d e o lt h = ap (λ (f : Nexus × X). nexus_cmp f.0 n) (get_or_default x i d e lt) ∙ h
 
--- what a binary search by nexus answers is the place of the nexus
-pub placed : {X : Type 0} (n : Nexus) (x : List (Nexus × X)) (r : Result ℕ ℕ) → T (is_sorted nexus_cmp x) → IsSearchInRange r (length x) → IsBinarySearchResult (λ e. nexus_cmp e.0 n) x r → IsPlaceOf n x r
-placed n x (Ok i) h within at =
-    let here : IsAt n x i = λ d. turned (get_or x i d).0 n Equal (at d) in
-    (within, above_before n x i h within here, here)
-placed n x (Err i) h within parted =
-    let sides = parted (comparisons_rise n x h) in
-    (within, λ j d before. turned (get_or x j d).0 n Less (sides.0 j d (omega arith) before), λ j d after inside. turned (get_or x j d).0 n Greater (sides.1 j d after inside))
+up_to : {X : Type 0} (n : Nexus) (x : List (Nexus × X)) (i j : ℕ) (d : Nexus × X) → T (is_sorted nexus_cmp x) → i < length x → j < i + 1 → nexus_cmp (get_or x i d).0 n ≡ Less → nexus_cmp (get_or x j d).0 n ≡ Less
+up_to n x i j d h lt before less = elim (cases_lt j i) [
+  | inl earlier ↦ nexus_total.trans (get_or x j d).0 (get_or x i d).0 n (earlier_below x j i d h earlier lt) less
+  | inr at ↦
+      let same : j ≡ i = omega arith in
+      rw same less
+]
+
+-- above the i-th entry, and so above all before it
+pub above_more : {X : Type 0} (n : Nexus) (x : List (Nexus × X)) (i : ℕ) (e : Nexus × X) → T (is_sorted nexus_cmp x) → i < length x → nexus_cmp (get_or x i e).0 n ≡ Less → IsAbove n x (i + 1)
+above_more n x i e h lt less j d before = turned (get_or x j d).0 n Less (up_to n x i j d h lt before (compared n x i d e Less lt less))
+
+from_on : {X : Type 0} (n : Nexus) (x : List (Nexus × X)) (i j : ℕ) (d : Nexus × X) → T (is_sorted nexus_cmp x) → i ≤ j → j < length x → nexus_cmp n (get_or x i d).0 ≡ Less → nexus_cmp n (get_or x j d).0 ≡ Less
+from_on n x i j d h from within less = elim (cases_lt i j) [
+  | inl later ↦ nexus_total.trans n (get_or x i d).0 (get_or x j d).0 less (earlier_below x i j d h later within)
+  | inr at ↦
+      let same : j ≡ i = omega arith in
+      rw same less
+]
+
+-- below the i-th entry, and so below all behind it
+pub below_more : {X : Type 0} (n : Nexus) (x : List (Nexus × X)) (i : ℕ) (e : Nexus × X) → T (is_sorted nexus_cmp x) → i < length x → nexus_cmp (get_or x i e).0 n ≡ Greater → IsBelow n x i
+below_more n x i e h lt greater j d from within = from_on n x i j d h from within (turned (get_or x i d).0 n Greater (compared n x i d e Greater lt greater))
+
+-- at the i-th entry
+pub found_at : {X : Type 0} (n : Nexus) (x : List (Nexus × X)) (i : ℕ) (e : Nexus × X) → T (is_sorted nexus_cmp x) → i < length x → nexus_cmp (get_or x i e).0 n ≡ Equal → IsPlaceOf n x (Ok i)
+found_at n x i e h lt equal =
+    let here = at_place n x i e lt (turned (get_or x i e).0 n Equal equal) in
+    (lt, above_before n x i h lt here, here)
 
 rest_above : {X : Type 0} (n : Nexus) (e : Nexus × X) (x : List (Nexus × X)) (i : ℕ) → IsAbove n (e ∷ x) (suc i) → IsAbove n x i
 rest_above n e x i above j d lt = above (suc j) d (omega arith)
