@@ -1,27 +1,59 @@
--- The hexadecimal digit of a value.
-use Rattle.std.proofs.Common.{◌≡◌, ℕ, zero, suc, ◌+◌, ◌<◌, Bool, true, ◌==◌, ◌&&◌, if◌then◌else◌, nat_lt, slice_index, inl, inr, refl, arith}
+-- Hexadecimal digits, two at a time, and block by block.
+use Rattle.std.proofs.Common.{◌≡◌, ℕ, zero, suc, ◌+◌, ◌*◌, ◌/◌, ◌%◌, ◌<◌, Bool, true, ◌==◌, ◌&&◌, List, [], ◌∷◌, ◌++◌, length, slice_index, bit_and, inl, inr, refl, sym, ap, ◌∙◌, append_assoc, arith}
 use Rattle.std.proofs.lemmas.Bool.{and_parts, cases_lt, eqb-true}
-use Rattle.hex.specs.Hex.{lower_digits}
+use Rattle.std.proofs.lemmas.List.{append-nil}
+use Rattle.hex.specs.Hex.{encode_with, encode_lower, lower_digits}
 
--- the code of a digit: 30h onwards, and 61h onwards for the letters
-abbrev pub code_of_digit : ℕ → ℕ
-code_of_digit value = if nat_lt value 10 then 48 + value else 87 + value
+-- the value of each digit of a byte, the first in the low half of a word
+abbrev pub values : ℕ → ℕ
+values byte = byte * 4097 % 65536 / 16
 
--- the first so many of the table are these codes
-abbrev are_codes : ℕ → Bool
-are_codes zero = true
-are_codes (suc n) = (slice_index lower_digits n == code_of_digit n) && are_codes n
+-- and its code: 30h onwards, and 61h onwards for the letters
+abbrev pub codes_of : ℕ → ℕ
+codes_of byte = values byte + 12336 + bit_and ((values byte + 1542) / 16) 257 * 39
 
-code_at : (n value : ℕ) → are_codes n ≡ true → value < n → (slice_index lower_digits value == code_of_digit value) ≡ true
-code_at zero value h lt = absurd (omega arith)
-code_at (suc n) value h lt =
-    let parts = and_parts (slice_index lower_digits n == code_of_digit n) (are_codes n) h in
-    elim (cases_lt value n) [
-      | inl below ↦ code_at n value parts.1 below
+-- the test of one byte, and of the first so many, which compute
+abbrev are_digits : ℕ → Bool
+are_digits byte = (codes_of byte % 256 == slice_index lower_digits (byte / 16)) && (codes_of byte / 256 == slice_index lower_digits (byte % 16))
+
+abbrev all_are_digits : ℕ → Bool
+all_are_digits zero = true
+all_are_digits (suc n) = are_digits n && all_are_digits n
+
+tested : (n byte : ℕ) → all_are_digits n ≡ true → byte < n → are_digits byte ≡ true
+tested zero byte h lt = absurd (omega arith)
+tested (suc n) byte h lt =
+    let parts = and_parts (are_digits n) (all_are_digits n) h in
+    elim (cases_lt byte n) [
+      | inl below ↦ tested n byte parts.1 below
       | inr top ↦
-          let here : value ≡ n = omega arith in
+          let here : byte ≡ n = omega arith in
           rw here parts.0
     ]
 
-pub digit_is : (value : ℕ) → value < 16 → slice_index lower_digits value ≡ code_of_digit value
-digit_is value lt = eqb-true _ _ (code_at 16 value refl lt)
+-- the two digits of a byte, each in its half
+pub digits_are : (byte : ℕ) → byte < 256 → (codes_of byte % 256 ≡ slice_index lower_digits (byte / 16)) × (codes_of byte / 256 ≡ slice_index lower_digits (byte % 16))
+digits_are byte lt =
+    let parts = and_parts _ _ (tested 256 byte refl lt) in
+    (eqb-true _ _ parts.0, eqb-true _ _ parts.1)
+
+-- the digits of some bytes and of those behind them
+pub encode-append : (t xs ys : List ℕ) → encode_with t (xs ++ ys) ≡ encode_with t xs ++ encode_with t ys
+unfolding encode_with
+encode-append t [] ys = refl
+encode-append t (x ∷ xs) ys =
+    ap (λ (rest : List ℕ). slice_index t (x / 16) ∷ slice_index t (x % 16) ∷ rest) (encode-append t xs ys)
+
+-- one block further
+pub one_block : (text text' whole rest block behind : List ℕ) → rest ≡ block ++ behind → text' ≡ text ++ encode_lower block
+    → text ++ encode_lower rest ≡ whole → text' ++ encode_lower behind ≡ whole
+one_block text text' whole rest block behind cut added h =
+    rw added (append_assoc text (encode_lower block) (encode_lower behind)
+    ∙ ap (λ (xs : List ℕ). text ++ xs) (sym (encode-append lower_digits block behind))
+    ∙ ap (λ (xs : List ℕ). text ++ encode_lower xs) (sym cut) ∙ h)
+
+-- no byte is left
+pub all_blocks : (text whole rest : List ℕ) → length rest ≡ 0 → text ++ encode_lower rest ≡ whole → text ≡ whole
+unfolding encode_with
+all_blocks text whole [] none h = sym (append-nil text) ∙ h
+all_blocks text whole (x ∷ rest) none h = absurd (omega arith)

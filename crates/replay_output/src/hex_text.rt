@@ -1,25 +1,40 @@
-//! Bytes in hexadecimal, with lower case letters. The loop looks nothing up in a table, so that many bytes
-//! are written at a time.
+//! Bytes in hexadecimal, with lower case letters. Both digits of a byte are found at once, each in its half of a word, and
+//! nothing is looked up in a table, so that many bytes are written at a time. A block's digits are made in room of its own
+//! and then copied, so that no room of the text is cleared first.
 
-ghost use Rattle.std.specs.Prelude.{◌≡◌, ◌++◌, ◌∷◌, [], ◌*◌, ◌<◌, length, slice_index, OnOk};
+ghost use Rattle.std.specs.Prelude.{◌≡◌, ◌++◌, ◌∷◌, [], ◌*◌, ◌/◌, ◌%◌, ◌≤◌, length, slice_index, OnOk};
 ghost use Rattle.hex.specs.Hex.{encode_lower, lower_digits};
 
 use std::alloc::AllocError;
+
+/// How many bytes are written at a time.
+const BLOCK: usize = 256;
+
+/// How many digits they have.
+const ROOM: usize = 2 * BLOCK;
 
 /// Adds bytes in hexadecimal.
 pub fn write_hex(text: &mut Vec<u8>, bytes: &[u8]) -> Result<(), AllocError>
     ensures { OnOk result (text.new.items ≡ text.old.items ++ encode_lower bytes.now) }
 {
-    let start = text.len();
-    let Some(added) = bytes.len().checked_mul(2) else {
-        return Err(AllocError);
-    };
-    let Some(end) = start.checked_add(added) else {
-        return Err(AllocError);
-    };
-    text.resize(end, 0)?;
-    write_digits(bytes, &mut text[start..]);
+    let mut room = [0; ROOM];
+    let mut rest = bytes;
+    'pieces: while !rest.is_empty() {
+        let (block, behind) = rest.split_at(rest.len().min(BLOCK));
+        write_block(text, &mut room, block)?;
+        rest = behind;
+    }
     Ok(())
+}
+
+/// Adds a block of bytes, whose digits are made in the room given.
+fn write_block(text: &mut Vec<u8>, room: &mut [u8; ROOM], block: &[u8]) -> Result<(), AllocError>
+    requires { length block.now ≤ 256 }
+    ensures { OnOk result (text.new.items ≡ text.old.items ++ encode_lower block.now) }
+{
+    let digits = &mut room[..2 * block.len()];
+    write_digits(block, digits);
+    text.extend_from_slice(digits)
 }
 
 /// Writes each byte as two digits.
@@ -28,9 +43,9 @@ fn write_digits(bytes: &[u8], text: &mut [u8])
     ensures { text.new ≡ encode_lower bytes.now }
 {
     'bytes: for place in 0..bytes.len() {
-        let byte = bytes[place];
-        text[2 * place] = digit_of(byte / 16);
-        text[2 * place + 1] = digit_of(byte % 16);
+        let pair = pair_of(bytes[place]);
+        text[2 * place] = (pair % 256) as u8;
+        text[2 * place + 1] = (pair / 256) as u8;
     }
 }
 
@@ -39,18 +54,18 @@ fn write_digits(bytes: &[u8], text: &mut [u8])
 pub fn digits_of(byte: u8) -> [u8; 2]
     ensures { result ≡ encode_lower (byte ∷ []) }
 {
-    [digit_of(byte / 16), digit_of(byte % 16)]
+    let pair = pair_of(byte);
+    [(pair % 256) as u8, (pair / 256) as u8]
 }
 
-/// The digit of a value.
-#[tactic(auto, using(crate::proofs::HexLines::digit_is))]
-fn digit_of(value: u8) -> u8
-    requires { value < 16 }
-    ensures { result ≡ slice_index lower_digits value }
+/// The two digits of a byte, the first of them in the low half.
+fn pair_of(byte: u8) -> u16
+    ensures first { result % 256 ≡ slice_index lower_digits (byte / 16) }
+    ensures second { result / 256 ≡ slice_index lower_digits (byte % 16) }
 {
-    if value < 10 {
-        b'0' + value
-    } else {
-        b'a' - 10 + value
-    }
+    // The value of each digit in its half: the second stands above the byte, and the byte then moves down by a digit.
+    let values = u16::from(byte).wrapping_mul(0x1001) / 16;
+    // 1 in each half whose value is 10 or more.
+    let letters = (values + 0x0606) / 16 & 0x0101;
+    values + 0x3030 + letters * 39
 }

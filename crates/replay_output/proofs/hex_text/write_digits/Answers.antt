@@ -5,7 +5,8 @@ use Rattle.replay_output.proofs.hex_text.write_digits.Goals as goal
 
 pub bytes-preserved : goal.bytes-preserved
 bytes-preserved c =
-    encode_step lower_digits c.args.bytes.now c.bytes.text c.bytes.place _ _ (omega arith) (omega arith) c.digit_of.ensures c.digit_of-in-bytes.ensures c.bytes.invariant
+    let pair = c.pair_of-pair.ensures in
+    encode_step lower_digits c.args.bytes.now c.bytes.text c.bytes.place _ _ (omega arith) (omega arith) pair.first pair.second c.bytes.invariant
 
 pub returns : goal.returns
 returns c = encode_done _ _ _ c.bytes.place (omega arith) (omega arith) c.bytes.invariant
