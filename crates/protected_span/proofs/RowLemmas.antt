@@ -5,6 +5,7 @@ use Rattle.scsi_nexus.specs.Order.{same_nexus}
 use Rattle.permit_tables.specs.declared.res_type.ResType.{ResType}
 use Rattle.permit_tables.specs.Types.{code_of}
 use Rattle.std.specs.Global.{Vec}
+use Rattle.arrayvec.specs.ArrayVec.{ArrayVec}
 use Rattle.scsi_cdb.specs.Commands as cdb
 use Rattle.tape_medium.specs.declared.volume.VolumeTag.{VolumeTag}
 use Rattle.pr_core.specs.State.{keys_after}
@@ -14,8 +15,8 @@ pub worked_span : (tag : VolumeTag) → WorkedSpan tag
 unfolding cdb.command_of keys_after
 worked_span tag = record { all = refl; alone = refl; data_beside = refl; data_alone = refl; device = refl; beside = refl }
 
-pub struck_out : (cdb : Vec ℕ) → StruckOut cdb
-struck_out cdb = record { commands = refl; others = refl }
+pub struck_out : (cdb : ArrayVec ℕ) (bytes : Vec ℕ) → StruckOut cdb bytes
+struck_out cdb bytes = record { commands = refl; others = refl }
 
 pub needed : (tag : VolumeTag) → ConditionsAreNeeded tag
 unfolding cdb.command_of keys_after

@@ -1,6 +1,7 @@
 -- What a command leaves, at a target, of a nexus that may not change what is in the unit.
 use Rattle.std.specs.Prelude.{◌≡◌, ◌≢◌, ℕ, List, slice_get, Some}
 use Rattle.std.specs.Global.{Vec}
+use Rattle.arrayvec.specs.ArrayVec.{ArrayVec}
 use Rattle.scsi_nexus.specs.declared.nexus.Nexus.{Nexus}
 use Rattle.unit_answers.specs.declared.reply.Reply.{Reply}
 use Rattle.logical_unit.specs.Contents.{SameContents, MayNotChange}
@@ -18,5 +19,5 @@ pub record ChangesNothing (us ms : List UnitView) (at : ℕ) (u : UnitView) : Ty
 -- a command of a nexus that may not change it, at a target, where it may be a MOVE MEDIUM
 abbrev pub OutsiderChangesNothing : Type 0
 OutsiderChangesNothing =
-    (us ms : List UnitView) (at : ℕ) (u : UnitView) (n : Nexus) (cdb bytes : Vec ℕ) (r : Reply) → slice_get us at ≡ Some u → MayNotChange u.kept.reservations n
+    (us ms : List UnitView) (at : ℕ) (u : UnitView) (n : Nexus) (cdb : ArrayVec ℕ) (bytes : Vec ℕ) (r : Reply) → slice_get us at ≡ Some u → MayNotChange u.kept.reservations n
     → Steps us (Command n at cdb bytes) (ms, r) → ChangesNothing us ms at u

@@ -1,6 +1,7 @@
 -- Worked rows: a span in which B's four commands are struck out, what each condition of a span rules out, and who may not change what.
 use Rattle.std.specs.Prelude.{◌≡◌, ℕ, true, false, List, [], ◌∷◌, ◌++◌, map, filter, replicate, Some, None, zero, suc, ◌+◌}
 use Rattle.std.specs.Global.{Vec}
+use Rattle.arrayvec.specs.ArrayVec.{ArrayVec}
 use Rattle.scsi_cdb.specs.declared.action.OutServiceAction.TheVariants as out
 use Rattle.scsi_nexus.specs.declared.nexus.Nexus.{Nexus}
 use Rattle.scsi_nexus.specs.Order.{same_nexus}
@@ -102,9 +103,9 @@ pub record WorkedSpan (tag : VolumeTag) : Type 0 where
   pub beside : (last (unit_with tag held_by_a []) row).kept.reservations ≡ record { keys = (a, 1) ∷ (b, 2) ∷ []; reservation = Some (type.Ea, a); generation = 2 }
 
 -- WHICH EVENTS ARE STRUCK OUT: B's commands to the unit, and nothing else
-pub record StruckOut (cdb : Vec ℕ) : Type 0 where
-  pub commands : struck 1 (is_the_holder a) (event.Command b 1 cdb cdb ∷ event.Command a 1 cdb cdb ∷ event.Command b 0 cdb cdb ∷ []) ≡ event.Command a 1 cdb cdb ∷ event.Command b 0 cdb cdb ∷ []
-  pub others : struck 1 (is_the_holder a) (event.Loss b 1 ∷ event.Reset 1 ∷ event.Command b 1 cdb cdb ∷ []) ≡ event.Loss b 1 ∷ event.Reset 1 ∷ []
+pub record StruckOut (cdb : ArrayVec ℕ) (bytes : Vec ℕ) : Type 0 where
+  pub commands : struck 1 (is_the_holder a) (event.Command b 1 cdb bytes ∷ event.Command a 1 cdb bytes ∷ event.Command b 0 cdb bytes ∷ []) ≡ event.Command a 1 cdb bytes ∷ event.Command b 0 cdb bytes ∷ []
+  pub others : struck 1 (is_the_holder a) (event.Loss b 1 ∷ event.Reset 1 ∷ event.Command b 1 cdb bytes ∷ []) ≡ event.Loss b 1 ∷ event.Reset 1 ∷ []
 
 -- THE CONDITIONS, and why each is there
 

@@ -1,6 +1,7 @@
 ghost use Rattle.protected_span.specs.Contents.{OutsiderChangesNothing};
 ghost use Rattle.protected_span.specs.Reached.{PowerOnIsReached, DrainedIsReached, RunsReach};
 ghost use Rattle.protected_span.specs.Rows.{WorkedSpan, StruckOut, ConditionsAreNeeded, ConditionsSay, MayNot, Contents};
+ghost use Rattle.arrayvec.specs.ArrayVec.{ArrayVec};
 ghost use Rattle.std.specs.Global.{Vec};
 ghost use Rattle.std.specs.Prelude.{ℕ};
 ghost use Rattle.tape_medium.specs.declared.volume.VolumeTag.{VolumeTag};
@@ -51,7 +52,7 @@ pub fn units_are_reached()
 /// that the conditions say so; who may not change what is in a unit, and what counts as the same.
 pub fn span_rows()
     ensures worked { (tag : VolumeTag) → WorkedSpan tag }
-    ensures struck { (cdb : Vec ℕ) → StruckOut cdb }
+    ensures struck { (cdb : ArrayVec ℕ) (bytes : Vec ℕ) → StruckOut cdb bytes }
     ensures needed { (tag : VolumeTag) → ConditionsAreNeeded tag }
     ensures conditions { (tag : VolumeTag) → ConditionsSay tag }
     ensures may_not { MayNot }

@@ -1,12 +1,13 @@
 -- Hexadecimal digits by pairs, and when they are no bytes.
-use Rattle.std.proofs.Common.{◌≡◌, ℕ, suc, ◌+◌, ◌*◌, ◌/◌, ◌%◌, ◌<◌, ◌≤◌, ◌⊎◌, inl, inr, true, false, List, [], ◌∷◌, length, get_or, Some, None, Result, Ok, Err, refl, sym, ap, ◌∙◌, arith}
+use Rattle.std.proofs.Common.{◌≡◌, ℕ, suc, ◌+◌, ◌*◌, ◌/◌, ◌%◌, ◌<◌, ◌≤◌, ◌⊎◌, inl, inr, true, false, List, [], ◌∷◌, length, get_or, take, drop, slice_set, Some, None, Result, Ok, Err, refl, sym, ap, ◌∙◌, arith}
 use Rattle.std.specs.List.{list_all}
 use Rattle.std.proofs.lemmas.Bool.{and_parts}
 use Rattle.std.proofs.lemmas.List.Sums.{list_all-from_AllPass}
 use Rattle.hex.specs.Hex.{decode_of, decode_pairs, digit_or_error, hex_digit_value, is_hex_digit, pair_value, value_at}
 use Rattle.hex.specs.declared.error.FromHexError.{FromHexError}
 use Rattle.hex.proofs.HexLemmas.{decode_of-even, decode_of-odd, decode_of-ok}
-use Rattle.hex.proofs.Pairs.{cons_byte, decode_pairs-ok_pair}
+use Rattle.hex.specs.declared.error.FromHexError.TheVariants.{InvalidHexCharacter}
+use Rattle.hex.proofs.Pairs.{cons_byte, decode_pairs-ok_pair, prepend, decode_step, decode_err, decode_done}
 use Rattle.replay_script.specs.Words.{digit_value, hex_bytes, hex_in, within}
 use Rattle.replay_script.specs.declared.line_fault.LineFault.TheVariants.{BadHex}
 
@@ -93,3 +94,38 @@ bytes_within limit s bytes some few h =
     rw h (grind (arith, len))
 
 pub ruleset refusals = (other_character, odd_digits, no_bytes, too_many_bytes, bytes_within)
+
+-- PAIRS ONE BY ONE
+
+-- the first so many pairs were read
+abbrev pub AreRead : (s out : List ℕ) (i : ℕ) → Type 0
+AreRead s out i = decode_pairs 0 s ≡ prepend (take i out) (decode_pairs (2 * i) (drop (2 * i) s))
+
+-- one pair more
+pub pair_read : (s out : List ℕ) (i high low : ℕ) → 2 * i + 1 < length s → i < length out → Some high ≡ hex_digit_value (get_or s (2 * i) 0)
+    → Some low ≡ hex_digit_value (get_or s (2 * i + 1) 0) → AreRead s out i → AreRead s (slice_set out i (high * 16 + low)) (i + 1)
+pair_read s out i high low fits room eh el before =
+    let pair : pair_value (get_or s (2 * i) 0) (get_or s (2 * i + 1) 0) (2 * i) ≡ Ok (high * 16 + low) = rw (← eh, ← el) refl in
+    decode_step s out i (high * 16 + low) fits room pair before
+
+no_bytes_of : (r : Result (List ℕ) FromHexError) (e : FromHexError) → r ≡ Err e → hex_bytes r ≡ None
+no_bytes_of r e h = rw h refl
+
+stopped : (s out : List ℕ) (i : ℕ) (e : FromHexError) → length s % 2 ≡ 0 → 2 * i + 1 < length s → pair_value (get_or s (2 * i) 0) (get_or s (2 * i + 1) 0) (2 * i) ≡ Err e
+    → AreRead s out i → hex_bytes (decode_of s) ≡ None
+stopped s out i e even fits bad before = no_bytes_of (decode_of s) e (decode_of-even s even ∙ decode_err s out i e fits bad before)
+
+-- no digit first, or second
+pub stopped_high : (s out : List ℕ) (i : ℕ) → length s % 2 ≡ 0 → 2 * i + 1 < length s → None ≡ hex_digit_value (get_or s (2 * i) 0)
+    → AreRead s out i → hex_bytes (decode_of s) ≡ None
+stopped_high s out i even fits eh before =
+    stopped s out i (InvalidHexCharacter (get_or s (2 * i) 0) (2 * i)) even fits (rw (← eh) refl) before
+
+pub stopped_low : (s out : List ℕ) (i high : ℕ) → length s % 2 ≡ 0 → 2 * i + 1 < length s → Some high ≡ hex_digit_value (get_or s (2 * i) 0)
+    → None ≡ hex_digit_value (get_or s (2 * i + 1) 0) → AreRead s out i → hex_bytes (decode_of s) ≡ None
+stopped_low s out i high even fits eh el before =
+    stopped s out i (InvalidHexCharacter (get_or s (2 * i + 1) 0) (2 * i + 1)) even fits (rw (← eh, ← el) refl) before
+
+-- every pair
+pub all_read : (s out : List ℕ) (i : ℕ) → length s % 2 ≡ 0 → length out ≤ i → length s ≤ 2 * i → AreRead s out i → decode_of s ≡ Ok out
+all_read s out i even done whole before = decode_of-even s even ∙ decode_done s out i done whole before

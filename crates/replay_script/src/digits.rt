@@ -1,10 +1,11 @@
-//! Hexadecimal digits to bytes. No loop looks a digit up or ends at a wrong one, so that many digits are taken
-//! at a time.
+//! Hexadecimal digits to bytes. For many no loop looks a digit up or ends at a wrong one, so that many digits are taken
+//! at a time; few are taken one by one.
 
-ghost use Rattle.std.specs.Prelude.{◌≡◌, ◌+◌, ◌*◌, ◌%◌, ◌<◌, true, Ok, length, IfOk};
+ghost use Rattle.std.specs.Prelude.{◌≡◌, ◌+◌, ◌*◌, ◌%◌, ◌<◌, true, Ok, None, length, IfOk, IfSome};
+ghost use Rattle.std.specs.Bool.{MatchBool};
 ghost use Rattle.std.specs.List.{list_all};
-ghost use Rattle.hex.specs.Hex.{decode_of, is_hex_digit};
-ghost use Rattle.replay_script.specs.Words.{digit_value};
+ghost use Rattle.hex.specs.Hex.{decode_of, hex_digit_value, is_hex_digit};
+ghost use Rattle.replay_script.specs.Words.{digit_value, hex_bytes};
 
 use std::alloc::{AllocError, Global};
 
@@ -50,4 +51,34 @@ fn value_of(digit: u8) -> u8
     ensures small { result < 16 }
 {
     (digit % 16 + digit / 64 * 9) % 16
+}
+
+/// Reads pairs of hexadecimal digits, a pair for each byte of the room, and says whether all are digits.
+pub fn read_pairs(word: &[u8], room: &mut [u8]) -> bool
+    requires { length word.now ≡ 2 * length room.old }
+    ensures { MatchBool result (decode_of word.now ≡ Ok room.new) (hex_bytes (decode_of word.now) ≡ None) }
+{
+    'pairs: for place in 0..room.len() {
+        let Some(high) = read_digit(word[2 * place]) else {
+            return false;
+        };
+        let Some(low) = read_digit(word[2 * place + 1]) else {
+            return false;
+        };
+        room[place] = high * 16 + low;
+    }
+    true
+}
+
+/// The value of a hexadecimal digit, in either case, if it is one.
+fn read_digit(digit: u8) -> Option<u8>
+    ensures value { result ≡ hex_digit_value digit }
+    ensures small { IfSome result (λ value. value < 16) }
+{
+    match digit {
+        b'0'..=b'9' => Some(digit - b'0'),
+        b'a'..=b'f' => Some(digit - b'a' + 10),
+        b'A'..=b'F' => Some(digit - b'A' + 10),
+        _ => None,
+    }
 }

@@ -7,15 +7,12 @@ ghost use Rattle.replay_script.specs.Lines.{said, said_by, words_seen, words_in,
 
 use crate::cutting::{cut, is_end};
 use crate::line_fault::LineFault;
-use crate::words::{bytes_of, nexus_of, unit_of};
+use crate::words::{bytes_of, cdb_of, nexus_of, unit_of};
 use std::alloc::Global;
 use target_core::Event;
 
 /// The longest line, without its line feed.
 pub const LINE_LIMIT: usize = 270_000;
-
-/// The longest CDB.
-pub const CDB_LIMIT: usize = 16;
 
 /// The most data that a command may bring.
 const DATA_LIMIT: usize = 131_053;
@@ -120,7 +117,7 @@ fn command_of(alloc: Global, first: &[u8], others: Option<&[u8]>) -> Result<Even
     };
     let nexus = nexus_of(words.nexus)?;
     let lun = unit_of(words.lun)?;
-    let cdb = bytes_of(alloc, words.cdb, CDB_LIMIT)?;
+    let cdb = cdb_of(words.cdb)?;
     let bytes = data_of(alloc, words.data)?;
     Ok(Event::Command {
         nexus,

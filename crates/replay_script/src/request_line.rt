@@ -6,11 +6,12 @@ ghost use Rattle.replay_script.specs.Words.{Gives};
 ghost use Rattle.std.specs.Prelude.{◌∷◌, []};
 
 use crate::cutting::cut;
-use crate::line::{CDB_LIMIT, LINE_LIMIT, LineError, data_of, sole_unit_of, words_of};
+use crate::line::{LINE_LIMIT, LineError, data_of, sole_unit_of, words_of};
 use crate::line_fault::LineFault;
 use crate::request::Request;
 use crate::words::{bytes_of, unit_of};
 use std::alloc::Global;
+use target_core::CDB_LIMIT;
 
 /// The request of a line of a host's script: nothing for an empty one and for a comment.
 #[tactic(auto, unfolding(crate::specs::Requests::request_line_in))]

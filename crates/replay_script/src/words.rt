@@ -1,17 +1,19 @@
-ghost use Rattle.std.specs.Prelude.{◌≡◌};
+ghost use Rattle.std.specs.Prelude.{◌≡◌, Ok, Err, MatchResult};
 ghost use Rattle.replay_script.specs.Words.{Gives, nexus_in, unit_in, hex_in};
 
-use crate::digits::{are_digits, decoded};
+use crate::digits::{are_digits, decoded, read_pairs};
 use crate::line::LineError;
 use crate::line_fault::LineFault;
-use hex::{FromHex, FromHexError};
+use arrayvec::ArrayVec;
+use hex::FromHexError;
 use scsi_nexus::Nexus;
 use std::alloc::{AllocError, Global};
+use target_core::CDB_LIMIT;
 
 /// The target ports are 1 to this one.
 const PORTS: u16 = 4;
 
-/// Up to so many digits, as a CDB has, are decoded sooner one by one than many at a time.
+/// Up to so many digits are decoded sooner one by one than many at a time.
 const SHORT: usize = 32;
 
 /// The nexus of a word `SAS.PORT`: 16 hexadecimal digits, a dot, a port.
@@ -26,13 +28,14 @@ pub fn nexus_of(word: &[u8]) -> Result<Nexus, LineFault>
     if port == 0 || port > PORTS {
         return Err(LineFault::BadNexus);
     }
-    match <[u8; 8] as FromHex>::from_hex(&word[..16]) {
-        Ok(sas) => Ok(Nexus {
-            sas: u64::from_be_bytes(sas),
-            port,
-        }),
-        Err(_) => Err(LineFault::BadNexus),
+    let mut sas = [0; 8];
+    if !read_pairs(&word[..16], &mut sas) {
+        return Err(LineFault::BadNexus);
     }
+    Ok(Nexus {
+        sas: u64::from_be_bytes(sas),
+        port,
+    })
 }
 
 /// The number of a word of decimal digits, 0 to 255 with no leading zero.
@@ -53,6 +56,25 @@ pub fn unit_of(word: &[u8]) -> Result<u8, LineFault>
         }
         _ => Err(LineFault::BadUnit),
     }
+}
+
+/// The 1 to 16 bytes of a CDB in hexadecimal.
+#[tactic(auto, using(crate::proofs::Pairs::refusals), unfolding(crate::specs::Words::hex_in))]
+pub fn cdb_of(word: &[u8]) -> Result<ArrayVec<u8, CDB_LIMIT>, LineFault>
+    ensures { MatchResult result (λ cdb. hex_in 16 word.now ≡ Ok cdb.items) (λ fault. hex_in 16 word.now ≡ Err fault) }
+{
+    let count = word.len() / 2;
+    if count == 0 || count > CDB_LIMIT || word.len() % 2 != 0 {
+        return Err(LineFault::BadHex);
+    }
+    let mut bytes = [0; CDB_LIMIT];
+    let room = &mut bytes[..count];
+    if !read_pairs(word, room) {
+        return Err(LineFault::BadHex);
+    }
+    let mut cdb = ArrayVec::new();
+    let _ = cdb.try_extend_from_slice(room);
+    Ok(cdb)
 }
 
 /// The 1 to `limit` bytes of a word in hexadecimal.

@@ -3,6 +3,7 @@
 use crate::figures::tell;
 use crate::targets::four_drives;
 use crate::work::{BLOCKS, REWIND, TEST_UNIT_READY, Task, loading, nexus_at};
+use arrayvec::ArrayVec;
 use library_device::Device;
 use std::alloc::{AllocError, Global};
 use std::io;
@@ -10,11 +11,11 @@ use std::rt::Clock;
 use std::time::Instant;
 use target_core::{Event, TargetCore};
 
-fn event(alloc: Global, lun: u8, cdb: &[u8], bytes: Vec<u8>) -> Result<Event, AllocError> {
+fn event(lun: u8, cdb: &[u8], bytes: Vec<u8>) -> Result<Event, AllocError> {
     Ok(Event::Command {
         nexus: nexus_at(0),
         lun,
-        cdb: cdb.to_vec(alloc)?,
+        cdb: ArrayVec::try_from(cdb).map_err(|_| AllocError)?,
         bytes,
     })
 }
@@ -38,19 +39,16 @@ pub(crate) fn measure(
 ) -> io::Result<TargetCore<Device>> {
     let mut core = four_drives(alloc)?;
     for lun in [0, 1] {
-        let _ = core.step(
-            alloc,
-            &event(alloc, lun, &TEST_UNIT_READY, Vec::new(alloc))?,
-        );
+        let _ = core.step(alloc, &event(lun, &TEST_UNIT_READY, Vec::new(alloc))?);
     }
-    let _ = core.step(alloc, &event(alloc, 0, &loading(0), Vec::new(alloc))?);
-    let _ = core.step(alloc, &event(alloc, 1, &TEST_UNIT_READY, Vec::new(alloc))?);
-    let rewind = event(alloc, 1, &REWIND, Vec::new(alloc))?;
-    let write = event(alloc, 1, &Task::Write.cdb(), Task::Write.data(alloc)?)?;
+    let _ = core.step(alloc, &event(0, &loading(0), Vec::new(alloc))?);
+    let _ = core.step(alloc, &event(1, &TEST_UNIT_READY, Vec::new(alloc))?);
+    let rewind = event(1, &REWIND, Vec::new(alloc))?;
+    let write = event(1, &Task::Write.cdb(), Task::Write.data(alloc)?)?;
     // The tape takes its memory before anything is measured.
     ask(alloc, &mut core, &write, &rewind, BLOCKS);
     for task in [Task::Ready, Task::Write, Task::Read] {
-        let command = event(alloc, 1, &task.cdb(), task.data(alloc)?)?;
+        let command = event(1, &task.cdb(), task.data(alloc)?)?;
         let count = task.count(scale);
         let start = Instant::now(rt)?;
         ask(alloc, &mut core, &command, &rewind, count);

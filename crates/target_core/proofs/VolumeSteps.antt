@@ -11,6 +11,7 @@ use Rattle.scsi_sense.specs.declared.sense.Sense.{Sense}
 use Rattle.scsi_sense.specs.declared.status.Status.{Status}
 use Rattle.scsi_sense.specs.declared.status.Status.TheVariants.{Good, CheckCondition, Busy, ReservationConflict}
 use Rattle.std.specs.Global.{Vec}
+use Rattle.arrayvec.specs.ArrayVec.{ArrayVec}
 use Rattle.unit_attention.specs.Queues.{has_slot}
 use Rattle.tape_medium.specs.declared.volume.Volume.{Volume}
 use Rattle.device_server.specs.View.{DeviceView, Drive, Changer, kind_of, drives_of, performed, reset_of}
@@ -113,7 +114,7 @@ module _ (c v : UnitView) (ds : List UnitView) (o : IsOrdered c ds) where
   by_carries e r (Some w) k size h = own_carries w k size h
 
 -- A COMMAND
-module _ (c : UnitView) (ds : List UnitView) (o : IsOrdered c ds) (n : Nexus) (cdb bytes : Vec ℕ) (r : Reply) where
+module _ (c : UnitView) (ds : List UnitView) (o : IsOrdered c ds) (n : Nexus) (cdb : ArrayVec ℕ) (bytes : Vec ℕ) (r : Reply) where
   abbrev pub asked : ℕ → Event
   asked at = event.Command n at cdb bytes
 

@@ -2,6 +2,7 @@
 -- left at its unit, by the permission table and the rules on keys alone.
 use Rattle.std.specs.Prelude.{◌≡◌, ◌≢◌, ◌↔◌, ◌⊎◌, ℕ, ◌+◌, true, false, List, [], ◌∷◌, ◌++◌, length, take, slice_get, Some, None, Ok}
 use Rattle.std.specs.Global.{Vec}
+use Rattle.arrayvec.specs.ArrayVec.{ArrayVec}
 use Rattle.scsi_cdb.specs.declared.action.InServiceAction.{InServiceAction}
 use Rattle.scsi_nexus.specs.declared.nexus.Nexus.{Nexus}
 use Rattle.scsi_sense.specs.declared.status.Status.TheVariants.{Good, Busy, ReservationConflict}
@@ -136,7 +137,7 @@ pub record IsServed (h : State) (mid next : List UnitView) (lun : ℕ) (n : Nexu
 -- in every run each command, to a unit that was there at the start, is served by the accepted history before it
 abbrev pub Headline : Type 0
 Headline =
-    (us vs : List UnitView) (before after : List Event) (rs qs : List Reply) (n : Nexus) (lun : ℕ) (cdb bytes : Vec ℕ) (r : Reply) (u : UnitView) → length rs ≡ length before → slice_get us lun ≡ Some u
+    (us vs : List UnitView) (before after : List Event) (rs qs : List Reply) (n : Nexus) (lun : ℕ) (cdb : ArrayVec ℕ) (bytes : Vec ℕ) (r : Reply) (u : UnitView) → length rs ≡ length before → slice_get us lun ≡ Some u
     → Runs us (before ++ event.Command n lun cdb bytes ∷ after) (rs ++ r ∷ qs) vs
     → (mid : List UnitView) × (next : List UnitView) × Runs us before rs mid × Steps mid (event.Command n lun cdb bytes) (next, r) × Runs next after qs vs
     × IsServed (by_history u lun before rs) mid next lun n cdb.items bytes.items r

@@ -1,4 +1,8 @@
+use arrayvec::ArrayVec;
 use scsi_nexus::Nexus;
+
+/// The longest CDB, in bytes.
+pub const CDB_LIMIT: usize = 16;
 
 /// What happens at the target.
 #[derive(Debug, Drop)]
@@ -7,7 +11,7 @@ pub enum Event {
     Command {
         nexus: Nexus,
         lun: u8,
-        cdb: Vec<u8>,
+        cdb: ArrayVec<u8, CDB_LIMIT>,
         bytes: Vec<u8>,
     },
     /// An I_T nexus loss at a logical unit.

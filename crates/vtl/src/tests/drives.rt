@@ -3,6 +3,7 @@
 use super::A;
 use super::rows::{POWER_ON, assert_output, push_lines};
 use super::targets::{changer_marked, loaded_drive, target};
+use arrayvec::ArrayVec;
 use audit_log::line;
 use library_device::Device;
 use logical_unit::LogicalUnit;
@@ -275,7 +276,7 @@ fn has_no_record_of_a_command_to_an_absent_unit(rt: HostRuntime) -> Result<(), F
     let event = Event::Command {
         nexus: A,
         lun: 9,
-        cdb: Vec::from_slice(alloc, &[0; 6])?,
+        cdb: ArrayVec::try_from([0; 6].as_slice())?,
         bytes: Vec::new(alloc),
     };
     let reply = core.step(alloc, &event);

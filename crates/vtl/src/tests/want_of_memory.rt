@@ -4,6 +4,7 @@
 use super::audit::assert_audited;
 use super::targets::target;
 use super::{A, empty_changer};
+use arrayvec::ArrayVec;
 use device_server::{BadPlace, DeviceServer, Outcome, PutFault, TakeFault};
 use library_device::{Device, unit_at};
 use scsi_cdb::{Kind, Request};
@@ -103,7 +104,7 @@ fn want_of_memory_is_busy(rt: HostRuntime) -> Result<(), Fail> {
         events.push(Event::Command {
             nexus: A,
             lun: 0,
-            cdb: Vec::from_slice(alloc, &[0; 6])?,
+            cdb: ArrayVec::try_from([0; 6].as_slice())?,
             bytes: Vec::new(alloc),
         })?;
     }
