@@ -1,6 +1,5 @@
-//! The frames of a session over a byte stream: what a stream begins with, read where it lies; the
-//! same cut piece by piece into frames of their own; and the reply frames. Of each a server's side and a
-//! client's: what the one writes the other reads back (profile).
+//! The frames of a session over a byte stream: what a stream begins with, read where it lies; and the
+//! reply frames. Of each a server's side and a client's: what the one writes the other reads back (profile).
 #![tactic(auto)]
 
 mod awaiting;

@@ -7,7 +7,7 @@ use Rattle.frames.specs.Frames.{Sent, Login, Command, Reset, Logout, Whole, fron
 use Rattle.frames.specs.Stream.{Takes}
 use Rattle.frames.specs.Replies.{ResetReply, LogoutReply, reply_bytes}
 use Rattle.frames.proofs.Taking.{takes_one, takes_more, takes_before}
-use Rattle.session.specs.Answering.{reply_of, Says, Talks, Answers, AnswersAll}
+use Rattle.session.specs.Answering.{command_reply, Says, Talks, Answers, AnswersAll}
 
 -- one frame more
 talks_on : {S : Type 0} (notes : S → DoneValue → S → Type 0) (n : Nexus) (s : S) (fs : List Sent) (f : Sent) (out mid out' : List ℕ) (t u : S)
@@ -48,7 +48,7 @@ talks_append {S} notes n s (f ∷ fs) gs out mid out' t u one two = (one.0, one.
 says_shift : {S : Type 0} (notes : S → DoneValue → S → Type 0) (n : Nexus) (s : S) (f : Sent) (pre out out' : List ℕ) (t : S)
     → Says notes n s f out out' t → Says notes n s f (pre ++ out) (pre ++ out') t
 says_shift notes n s (Command lun cdb bytes) pre out out' t one =
-    (one.0, one.1, one.2, ap (λ (x : List ℕ). pre ++ x) one.3 ∙ sym (append_assoc pre out (reply_of one.0)))
+    (one.0, one.1, one.2, ap (λ (x : List ℕ). pre ++ x) one.3 ∙ sym (append_assoc pre out (command_reply one.0)))
 says_shift notes n s (Reset lun) pre out out' t one =
     (one.0, one.1, one.2, ap (λ (x : List ℕ). pre ++ x) one.3 ∙ sym (append_assoc pre out (reply_bytes (ResetReply one.0.reply.status))))
 says_shift notes n s (Login nexus) pre out out' t one = one

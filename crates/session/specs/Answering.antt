@@ -8,13 +8,13 @@ use Rattle.frames.specs.Stream.{Takes}
 use Rattle.frames.specs.Replies.{CommandReply, ResetReply, LogoutReply, reply_bytes}
 
 -- the reply frame of an answered command
-abbrev pub reply_of : DoneValue → List ℕ
-reply_of d = reply_bytes (CommandReply d.reply.status d.reply.sense d.reply.number d.reply.payload)
+abbrev pub command_reply : DoneValue → List ℕ
+command_reply d = reply_bytes (CommandReply d.reply.status d.reply.sense d.reply.number d.reply.payload)
 
 -- the command was submitted as it stands in its frame, and the reply frame of that very answer was added
 abbrev pub Commanded : {S : Type 0} → (S → DoneValue → S → Type 0) → S → Nexus → (lun : ℕ) → (cdb bytes out out' : List ℕ) → S → Type 0
 Commanded notes s n lun cdb bytes out out' t =
-    (d : DoneValue) × IsAnswer d (Some n) lun (ran cdb bytes) × notes s d t × (out' ≡ out ++ reply_of d)
+    (d : DoneValue) × IsAnswer d (Some n) lun (ran cdb bytes) × notes s d t × (out' ≡ out ++ command_reply d)
 
 abbrev pub WasReset : {S : Type 0} → (S → DoneValue → S → Type 0) → S → (lun : ℕ) → (out out' : List ℕ) → S → Type 0
 WasReset notes s lun out out' t =

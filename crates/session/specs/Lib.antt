@@ -1,4 +1,5 @@
 pub mod Faults
+pub mod Splitting
 pub mod Answering
 pub mod Directories
 pub mod Greeting

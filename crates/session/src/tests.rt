@@ -1,4 +1,4 @@
-use crate::{Directory, End, SessionFault, Station, serve};
+use crate::{Directory, End, SessionFault, Splitter, Station, serve};
 use kept_unit::Done;
 use scsi_nexus::Nexus;
 use std::alloc::Global;
@@ -307,4 +307,38 @@ fn directory_forgets(rt: HostRuntime) -> Result<(), Fail> {
     directory.logout(key);
     assert_eq!(rt; directory.login(A), Ok(key));
     Ok(())
+}
+
+/// What is shown of the frames of a session.
+const FRAMES: &str = "[Login { nexus: Nexus { sas: 5764607523034234890, port: 1 } }, \
+    Command { lun: 0, cdb: [0, 0, 0, 0, 0, 0], bytes: [] }, Logout]";
+
+/// A session has the same frames in pieces of any length.
+#[test]
+fn splits_a_session(rt: HostRuntime) -> Result<(), Fail> {
+    for length in 1..34 {
+        let mut splitter = Splitter::new(rt.alloc());
+        let mut frames = Vec::new(rt.alloc());
+        for piece in ONE_SESSION.chunks(length) {
+            splitter.feed(piece, &mut frames)?;
+        }
+        let shown = format!(in rt.alloc(); "{frames:?}")?;
+        assert_eq!(rt; shown.as_str(), FRAMES, "in pieces of {length}");
+    }
+    Ok(())
+}
+
+/// A fault comes behind the frames before it, and again at each later piece.
+#[test]
+fn splits_faulty_streams(rt: HostRuntime) {
+    for row in &FAULTY {
+        let (input, end, _, losses) = *row;
+        let mut splitter = Splitter::new(rt.alloc());
+        let mut frames = Vec::new(rt.alloc());
+        for piece in [input, ONE_SESSION] {
+            let fault = splitter.feed(piece, &mut frames).err();
+            assert_eq!(rt; fault, end.err(), "{input:?}");
+        }
+        assert_eq!(rt; frames.len(), usize::from(losses > 0), "{input:?}");
+    }
 }
