@@ -1,3 +1,5 @@
+mod streams;
+
 use crate::{Attendance, FaultySession, HostFault, Records, earlier, host};
 use changer_server::Changer;
 use element_map::Elements;
@@ -16,6 +18,7 @@ use std::sync::Wait;
 use std::sync::atomic::{AtomicBool, Ordering};
 use std::test::Fail;
 use std::thread::{self, Threads};
+use tape_medium::{Tape, Volume, VolumeTag};
 use tape_server::TapeDrive;
 use target_core::TargetCore;
 
@@ -42,14 +45,6 @@ const READY: &[u8] = b"\0\0\0\x09\x02\0\x06\0\0\0\0\0\0";
 /// The same to the drive.
 const DRIVE_READY: &[u8] = b"\0\0\0\x09\x02\x01\x06\0\0\0\0\0\0";
 
-/// CHECK CONDITION with 29h/00h, of record 1.
-const POWER_ON_1: &[u8] =
-    b"\0\0\0\x1d\x82\x02\x12\x70\0\x06\0\0\0\0\x0a\0\0\0\0\x29\0\0\0\0\0\0\0\0\0\0\0\0\x01";
-
-/// The same of record 2.
-const POWER_ON_2: &[u8] =
-    b"\0\0\0\x1d\x82\x02\x12\x70\0\x06\0\0\0\0\x0a\0\0\0\0\x29\0\0\0\0\0\0\0\0\0\0\0\0\x02";
-
 /// PERSISTENT RESERVE OUT to the drive, REGISTER of key 1.
 const REGISTER: &[u8] = b"\0\0\0\x25\x02\x01\x0a\x5f\0\0\0\0\0\0\0\x18\0\
     \0\0\0\0\0\0\0\0\0\0\0\0\0\0\0\x01\0\0\0\0\0\0\0\0";
@@ -58,17 +53,75 @@ const REGISTER: &[u8] = b"\0\0\0\x25\x02\x01\x0a\x5f\0\0\0\0\0\0\0\x18\0\
 const RESERVE: &[u8] = b"\0\0\0\x25\x02\x01\x0a\x5f\x01\x03\0\0\0\0\0\x18\0\
     \0\0\0\0\0\0\0\x01\0\0\0\0\0\0\0\0\0\0\0\0\0\0\0\0";
 
-/// GOOD, of record 3.
-const GOOD_3: &[u8] = b"\0\0\0\x0b\x82\0\0\0\0\0\0\0\0\0\x03";
-
-/// GOOD, of record 4.
-const GOOD_4: &[u8] = b"\0\0\0\x0b\x82\0\0\0\0\0\0\0\0\0\x04";
-
 /// WRITE(6) of a block of four bytes to the drive.
 const WRITE: &[u8] = b"\0\0\0\x0d\x02\x01\x06\x0a\0\0\0\x04\0\x01\x02\x03\x04";
 
-/// RESERVATION CONFLICT, of record 5.
-const CONFLICT_5: &[u8] = b"\0\0\0\x0b\x82\x18\0\0\0\0\0\0\0\0\x05";
+const REWIND: &[u8] = b"\0\0\0\x09\x02\x01\x06\x01\0\0\0\0\0";
+
+/// READ(6) of a block of four bytes.
+const READ: &[u8] = b"\0\0\0\x09\x02\x01\x06\x08\0\0\0\x04\0";
+
+/// READ POSITION of the drive.
+const POSITION: &[u8] = b"\0\0\0\x0d\x02\x01\x0a\x34\0\0\0\0\0\0\0\0\0";
+
+/// MOVE MEDIUM of the volume into the drive.
+const TO_DRIVE: &[u8] = b"\0\0\0\x0f\x02\0\x0c\xa5\0\0\0\x04\0\x01\0\0\0\0\0";
+
+/// LOAD UNLOAD of the drive, with LOAD 0.
+const UNLOAD: &[u8] = b"\0\0\0\x09\x02\x01\x06\x1b\0\0\0\0\0";
+
+/// PREVENT ALLOW MEDIUM REMOVAL at the drive, with PREVENT 1.
+const PREVENT: &[u8] = b"\0\0\0\x09\x02\x01\x06\x1e\0\0\0\x01\0";
+
+/// REGISTER of key 1122334455667788h, and of key 99AABBCCDDEEFF00h.
+const REGISTER_LONG: &[u8] = b"\0\0\0\x25\x02\x01\x0a\x5f\0\0\0\0\0\0\0\x18\0\
+    \0\0\0\0\0\0\0\0\x11\x22\x33\x44\x55\x66\x77\x88\0\0\0\0\0\0\0\0";
+
+const REGISTER_OTHER: &[u8] = b"\0\0\0\x25\x02\x01\x0a\x5f\0\0\0\0\0\0\0\x18\0\
+    \0\0\0\0\0\0\0\0\x99\xaa\xbb\xcc\xdd\xee\xff\0\0\0\0\0\0\0\0\0";
+
+/// RESERVE by key 1122334455667788h, Write Exclusive.
+const RESERVE_WRITES: &[u8] = b"\0\0\0\x25\x02\x01\x0a\x5f\x01\x01\0\0\0\0\0\x18\0\
+    \x11\x22\x33\x44\x55\x66\x77\x88\0\0\0\0\0\0\0\0\0\0\0\0\0\0\0\0";
+
+/// READ KEYS, cut at 12 bytes and at 16, and READ RESERVATION.
+const KEYS_CUT: &[u8] = b"\0\0\0\x0d\x02\x01\x0a\x5e\0\0\0\0\0\0\0\x0c\0";
+
+const KEYS: &[u8] = b"\0\0\0\x0d\x02\x01\x0a\x5e\0\0\0\0\0\0\0\x10\0";
+
+const RESERVATION: &[u8] = b"\0\0\0\x0d\x02\x01\x0a\x5e\x01\0\0\0\0\0\0\x18\0";
+
+/// INQUIRY to a unit that isn't there.
+const INQUIRY_AT_9: &[u8] = b"\0\0\0\x09\x02\x09\x06\x12\0\0\0\x24\0";
+
+/// Generation 2, 16 bytes of keys, and half of the first; of record 10.
+const TWO_KEYS_10: &[u8] = b"\0\0\0\x17\x82\0\0\0\0\0\0\0\0\0\x0a\
+    \0\0\0\x02\0\0\0\x10\x11\x22\x33\x44";
+
+/// The block, of records 12 and 16.
+const BLOCK_12: &[u8] = b"\0\0\0\x0f\x82\0\0\0\0\0\0\0\0\0\x0c\x01\x02\x03\x04";
+
+const BLOCK_16: &[u8] = b"\0\0\0\x0f\x82\0\0\0\0\0\0\0\0\0\x10\x01\x02\x03\x04";
+
+/// The drive stands behind one object, of record 14.
+const BEHIND_ONE_14: &[u8] = b"\0\0\0\x1f\x82\0\0\0\0\0\0\0\0\0\x0e\
+    \0\0\0\0\0\0\0\x01\0\0\0\x01\0\0\0\0\0\0\0\0";
+
+/// CHECK CONDITION with BLANK CHECK, end of data, four bytes wanted; of record 17.
+const END_OF_DATA_17: &[u8] = b"\0\0\0\x1d\x82\x02\x12\
+    \xf0\0\x08\0\0\0\x04\x0a\0\0\0\0\0\x05\0\0\0\0\0\0\0\0\0\0\0\x11";
+
+/// No unit is here.
+const NO_UNIT: &[u8] = b"\0\0\0\x2f\x82\0\0\0\0\0\0\0\0\0\0\
+    \x7f\0\x06\x02\x1f\0\0\0                            ";
+
+/// Generation 1, and key 1; of record 8.
+const ONE_KEY_8: &[u8] = b"\0\0\0\x1b\x82\0\0\0\0\0\0\0\0\0\x08\
+    \0\0\0\x01\0\0\0\x08\0\0\0\0\0\0\0\x01";
+
+/// Key 1 holds Exclusive Access; of record 9.
+const HELD_9: &[u8] = b"\0\0\0\x23\x82\0\0\0\0\0\0\0\0\0\x09\
+    \0\0\0\x01\0\0\0\x10\0\0\0\0\0\0\0\x01\0\0\0\0\0\x03\0\0";
 
 /// What a client sends.
 #[derive(Clone, Copy)]
@@ -78,9 +131,35 @@ enum Frame {
     Ready,
     DriveReady,
     Register,
+    RegisterLong,
+    RegisterOther,
     Reserve,
+    ReserveWrites,
+    KeysCut,
+    Keys,
+    Reservation,
+    ToDrive,
     Write,
+    Read,
+    Rewind,
+    Position,
+    Prevent,
+    Unload,
+    InquiryAt9,
     Logout,
+}
+
+/// Data that it is shown, or sense data with a field.
+#[derive(Clone, Copy)]
+enum Data {
+    TwoKeys10,
+    Block12,
+    BehindOne14,
+    Block16,
+    EndOfData17,
+    NoUnit,
+    OneKey8,
+    Held9,
 }
 
 /// What it is answered.
@@ -88,13 +167,20 @@ enum Frame {
 enum Answer {
     Accepted,
     AlreadyConnected,
-    PowerOn1,
-    PowerOn2,
-    Good3,
-    Good4,
-    Conflict5,
     LoggedOut,
+    /// GOOD without data, of the record of this number.
+    Good(u8),
+    /// CHECK CONDITION, of the record of this number, with a sense key, an additional sense code and its qualifier.
+    Check(u8, u8, u8, u8),
+    /// RESERVATION CONFLICT, of the record of this number.
+    Conflict(u8),
+    Shows(Data),
 }
+
+/// The first command of a nexus at a unit reports its power on.
+const POWER_ON_1: Answer = Answer::Check(1, 6, 0x29, 0x00);
+
+const POWER_ON_2: Answer = Answer::Check(2, 6, 0x29, 0x00);
 
 /// What a client does at one of its connections.
 #[derive(Clone, Copy)]
@@ -112,28 +198,63 @@ fn sent(frame: Frame) -> &'static [u8] {
         Frame::Ready => READY,
         Frame::DriveReady => DRIVE_READY,
         Frame::Register => REGISTER,
+        Frame::RegisterLong => REGISTER_LONG,
+        Frame::RegisterOther => REGISTER_OTHER,
         Frame::Reserve => RESERVE,
+        Frame::ReserveWrites => RESERVE_WRITES,
+        Frame::KeysCut => KEYS_CUT,
+        Frame::Keys => KEYS,
+        Frame::Reservation => RESERVATION,
+        Frame::ToDrive => TO_DRIVE,
         Frame::Write => WRITE,
+        Frame::Read => READ,
+        Frame::Rewind => REWIND,
+        Frame::Position => POSITION,
+        Frame::Prevent => PREVENT,
+        Frame::Unload => UNLOAD,
+        Frame::InquiryAt9 => INQUIRY_AT_9,
         Frame::Logout => LOGOUT,
     }
 }
 
-fn answered(answer: Answer) -> &'static [u8] {
-    match answer {
-        Answer::Accepted => ACCEPTED,
-        Answer::AlreadyConnected => ALREADY_CONNECTED,
-        Answer::PowerOn1 => POWER_ON_1,
-        Answer::PowerOn2 => POWER_ON_2,
-        Answer::Good3 => GOOD_3,
-        Answer::Good4 => GOOD_4,
-        Answer::Conflict5 => CONFLICT_5,
-        Answer::LoggedOut => LOGGED_OUT,
+fn data_frame(data: Data) -> &'static [u8] {
+    match data {
+        Data::TwoKeys10 => TWO_KEYS_10,
+        Data::Block12 => BLOCK_12,
+        Data::BehindOne14 => BEHIND_ONE_14,
+        Data::Block16 => BLOCK_16,
+        Data::EndOfData17 => END_OF_DATA_17,
+        Data::NoUnit => NO_UNIT,
+        Data::OneKey8 => ONE_KEY_8,
+        Data::Held9 => HELD_9,
     }
 }
 
-/// A changer with one empty storage element, and an empty drive.
+/// A status alone, and the number of its record.
+const fn status_frame(status: u8, number: u8) -> [u8; 15] {
+    [0, 0, 0, 0x0b, 0x82, status, 0, 0, 0, 0, 0, 0, 0, 0, number]
+}
+
+/// CHECK CONDITION with 18 bytes of sense data, and the number of its record.
+const fn check_frame(number: u8, key: u8, asc: u8, ascq: u8) -> [u8; 33] {
+    [
+        0, 0, 0, 0x1d, 0x82, 2, 0x12, 0x70, 0, key, 0, 0, 0, 0, 0x0a, 0, 0, 0, 0, asc, ascq, 0, 0,
+        0, 0, 0, 0, 0, 0, 0, 0, 0, number,
+    ]
+}
+
+/// A changer with a volume in its one storage element, and an empty drive.
 fn target(alloc: Global) -> Result<TargetCore<Device>, Fail> {
-    let changer = Device::Changer(Changer::new(Elements::new(alloc, 1, 1, 0)?));
+    let volume = Volume {
+        tag: VolumeTag([b'v'; 32]),
+        protected: false,
+        tape: Tape::new(alloc, 1024),
+    };
+    let mut elements = Elements::new(alloc, 1, 1, 0)?;
+    if elements.put(0x0400, volume).is_err() {
+        return Err("no room for a volume".into());
+    }
+    let changer = Device::Changer(Changer::new(elements));
     let drive = Device::Tape(TapeDrive::new());
     let mut units = Vec::new(alloc);
     units.push(unit_at(alloc, 0, 2, changer)?)?;
@@ -145,17 +266,35 @@ fn target(alloc: Global) -> Result<TargetCore<Device>, Fail> {
 }
 
 /// Sends a frame, and reads its answer: whether it is as it should be.
-fn is_answered(
+fn is_told(
     alloc: Global,
     mut stream: &UnixStream,
     frame: Frame,
-    answer: Answer,
+    expected: &[u8],
 ) -> io::Result<bool> {
-    let expected = answered(answer);
     stream.write_all(sent(frame))?;
     let mut read = vec![in alloc; 0u8; expected.len()]?;
     stream.read_exact(read.as_mut_slice())?;
     Ok(read.as_slice() == expected)
+}
+
+fn is_answered(
+    alloc: Global,
+    stream: &UnixStream,
+    frame: Frame,
+    answer: Answer,
+) -> io::Result<bool> {
+    match answer {
+        Answer::Accepted => is_told(alloc, stream, frame, ACCEPTED),
+        Answer::AlreadyConnected => is_told(alloc, stream, frame, ALREADY_CONNECTED),
+        Answer::LoggedOut => is_told(alloc, stream, frame, LOGGED_OUT),
+        Answer::Good(number) => is_told(alloc, stream, frame, &status_frame(0, number)),
+        Answer::Check(number, key, asc, ascq) => {
+            is_told(alloc, stream, frame, &check_frame(number, key, asc, ascq))
+        }
+        Answer::Conflict(number) => is_told(alloc, stream, frame, &status_frame(0x18, number)),
+        Answer::Shows(data) => is_told(alloc, stream, frame, data_frame(data)),
+    }
 }
 
 /// Whether a connection has ended.
@@ -317,7 +456,7 @@ const LINES_OF_A: &[u8] = b"1 500000000000000a.1 TEST-UNIT-READY 2 - - 02\n\
 
 const ONE: [Step; 4] = [
     Step::Says(0, Frame::LoginOfA, Answer::Accepted),
-    Step::Says(0, Frame::Ready, Answer::PowerOn1),
+    Step::Says(0, Frame::Ready, POWER_ON_1),
     Step::Says(0, Frame::Logout, Answer::LoggedOut),
     Step::IsLeft(0),
 ];
@@ -328,17 +467,29 @@ fn one_session(rt: HostRuntime) -> Result<(), Fail> {
     assert_met(&rt, id, sessions("one", 1), &ONE, Ok(()), Some(LINES_OF_A))
 }
 
-const AGAIN: [Step; 7] = [
+const AGAIN: [Step; 15] = [
     Step::Says(0, Frame::LoginOfA, Answer::Accepted),
+    Step::Says(0, Frame::DriveReady, POWER_ON_1),
+    Step::Says(0, Frame::Register, Answer::Good(2)),
+    Step::Says(0, Frame::Reserve, Answer::Good(3)),
+    Step::Says(0, Frame::Prevent, Answer::Good(4)),
+    // Removal is prevented.
+    Step::Says(0, Frame::Unload, Answer::Check(5, 5, 0x53, 0x02)),
     Step::Says(0, Frame::Logout, Answer::LoggedOut),
     Step::IsLeft(0),
     Step::Says(1, Frame::LoginOfA, Answer::Accepted),
-    Step::Says(1, Frame::Ready, Answer::PowerOn1),
+    // A is told of its loss, which has record 6.
+    Step::Says(1, Frame::DriveReady, Answer::Check(7, 6, 0x29, 0x07)),
+    Step::Says(1, Frame::Keys, Answer::Shows(Data::OneKey8)),
+    Step::Says(1, Frame::Reservation, Answer::Shows(Data::Held9)),
+    // There is no volume, and nobody prevents removal.
+    Step::Says(1, Frame::Unload, Answer::Check(10, 2, 0x3a, 0x00)),
     Step::Says(1, Frame::Logout, Answer::LoggedOut),
     Step::IsLeft(1),
 ];
 
-/// A nexus may log in again once its connection has ended, and is told of the loss.
+/// A nexus may log in again once its connection has ended. It is told of its loss, and has its key and its reservation;
+/// it no longer prevents removal.
 #[test]
 fn one_after_the_other(rt: HostRuntime) -> Result<(), Fail> {
     let id = process::id(rt.process());
@@ -349,7 +500,7 @@ const TWO: [Step; 6] = [
     Step::Says(0, Frame::LoginOfA, Answer::Accepted),
     Step::Says(1, Frame::LoginOfA, Answer::AlreadyConnected),
     Step::IsLeft(1),
-    Step::Says(0, Frame::DriveReady, Answer::PowerOn1),
+    Step::Says(0, Frame::DriveReady, POWER_ON_1),
     Step::Says(0, Frame::Logout, Answer::LoggedOut),
     Step::IsLeft(0),
 ];
@@ -378,11 +529,11 @@ fn two_sessions_of_a_nexus(rt: HostRuntime) -> Result<(), Fail> {
 const CONFLICT: [Step; 11] = [
     Step::Says(0, Frame::LoginOfA, Answer::Accepted),
     Step::Says(1, Frame::LoginOfB, Answer::Accepted),
-    Step::Says(0, Frame::DriveReady, Answer::PowerOn1),
-    Step::Says(1, Frame::DriveReady, Answer::PowerOn2),
-    Step::Says(0, Frame::Register, Answer::Good3),
-    Step::Says(0, Frame::Reserve, Answer::Good4),
-    Step::Says(1, Frame::Write, Answer::Conflict5),
+    Step::Says(0, Frame::DriveReady, POWER_ON_1),
+    Step::Says(1, Frame::DriveReady, POWER_ON_2),
+    Step::Says(0, Frame::Register, Answer::Good(3)),
+    Step::Says(0, Frame::Reserve, Answer::Good(4)),
+    Step::Says(1, Frame::Write, Answer::Conflict(5)),
     Step::Says(1, Frame::Logout, Answer::LoggedOut),
     Step::IsLeft(1),
     Step::Says(0, Frame::Logout, Answer::LoggedOut),
@@ -411,13 +562,74 @@ fn a_reservation_against_another_session(rt: HostRuntime) -> Result<(), Fail> {
     )
 }
 
+const ONE_TAPE: [Step; 25] = [
+    Step::Says(0, Frame::LoginOfA, Answer::Accepted),
+    Step::Says(1, Frame::LoginOfB, Answer::Accepted),
+    Step::Says(0, Frame::Ready, POWER_ON_1),
+    Step::Says(0, Frame::DriveReady, POWER_ON_1),
+    Step::Says(1, Frame::DriveReady, POWER_ON_2),
+    Step::Says(0, Frame::ToDrive, Answer::Good(2)),
+    // A volume has come in, which is the drive's record 3.
+    Step::Says(0, Frame::DriveReady, Answer::Check(4, 6, 0x28, 0x00)),
+    Step::Says(1, Frame::DriveReady, Answer::Check(5, 6, 0x28, 0x00)),
+    Step::Says(0, Frame::Write, Answer::Good(6)),
+    Step::Says(0, Frame::Rewind, Answer::Good(7)),
+    Step::Says(0, Frame::RegisterLong, Answer::Good(8)),
+    Step::Says(1, Frame::RegisterOther, Answer::Good(9)),
+    Step::Says(1, Frame::KeysCut, Answer::Shows(Data::TwoKeys10)),
+    Step::Says(0, Frame::ReserveWrites, Answer::Good(11)),
+    Step::Says(1, Frame::Read, Answer::Shows(Data::Block12)),
+    Step::Says(1, Frame::Write, Answer::Conflict(13)),
+    Step::Says(0, Frame::Position, Answer::Shows(Data::BehindOne14)),
+    Step::Says(0, Frame::Rewind, Answer::Good(15)),
+    Step::Says(0, Frame::Read, Answer::Shows(Data::Block16)),
+    Step::Says(0, Frame::Read, Answer::Shows(Data::EndOfData17)),
+    Step::Says(0, Frame::InquiryAt9, Answer::Shows(Data::NoUnit)),
+    Step::Says(1, Frame::Logout, Answer::LoggedOut),
+    Step::IsLeft(1),
+    Step::Says(0, Frame::Logout, Answer::LoggedOut),
+    Step::IsLeft(0),
+];
+
+/// The changer's and then the drive's.
+const LINES_OF_THE_TAPE: &[u8] = b"1 500000000000000a.1 TEST-UNIT-READY 2 - - 02\n\
+    2 500000000000000a.1 MOVE-MEDIUM 6 MOVE-MEDIUM/NONE/OTHER - 00\n\
+    3 500000000000000a.1 LOSS 6 - - 00\n\
+    1 500000000000000a.1 TEST-UNIT-READY 2 - - 02\n\
+    2 500000000000000b.1 TEST-UNIT-READY 2 - - 02\n\
+    3 - MEDIUM-IN 6 - - 00\n\
+    4 500000000000000a.1 TEST-UNIT-READY 4 TEST-UNIT-READY/NONE/OTHER - 02\n\
+    5 500000000000000b.1 TEST-UNIT-READY 4 TEST-UNIT-READY/NONE/OTHER - 02\n\
+    6 500000000000000a.1 WRITE(6) 6 WRITE(6)/NONE/OTHER - 00\n\
+    7 500000000000000a.1 REWIND 6 REWIND/NONE/OTHER - 00\n\
+    8 500000000000000a.1 REGISTER 6 REGISTER/NONE/OTHER - 00\n\
+    9 500000000000000b.1 REGISTER 6 REGISTER/NONE/OTHER - 00\n\
+    10 500000000000000b.1 PR-IN 6 PR-IN/NONE/REGISTERED - 00\n\
+    11 500000000000000a.1 RESERVE 6 RESERVE/NONE/REGISTERED - 00\n\
+    12 500000000000000b.1 READ(6) 6 READ(6)/WE/REGISTERED - 00\n\
+    13 500000000000000b.1 WRITE(6) 3 WRITE(6)/WE/REGISTERED - 18\n\
+    14 500000000000000a.1 READ-POSITION 6 READ-POSITION/WE/HOLDER - 00\n\
+    15 500000000000000a.1 REWIND 6 REWIND/WE/HOLDER - 00\n\
+    16 500000000000000a.1 READ(6) 6 READ(6)/WE/HOLDER - 00\n\
+    17 500000000000000a.1 READ(6) 6 READ(6)/WE/HOLDER - 02\n\
+    18 500000000000000b.1 LOSS 6 - - 00\n\
+    19 500000000000000a.1 LOSS 6 - - 00\n";
+
+/// Two hosts at one tape: keys that are cut, a conflict that leaves the tape as it was, and a unit that isn't there.
+#[test]
+fn two_hosts_at_one_tape(rt: HostRuntime) -> Result<(), Fail> {
+    let id = process::id(rt.process());
+    let lines = Some(LINES_OF_THE_TAPE);
+    assert_met(&rt, id, sessions("tape", 2), &ONE_TAPE, Ok(()), lines)
+}
+
 const DRIVE_AND_CHANGER: [Step; 8] = [
     Step::Says(0, Frame::LoginOfA, Answer::Accepted),
-    Step::Says(0, Frame::DriveReady, Answer::PowerOn1),
+    Step::Says(0, Frame::DriveReady, POWER_ON_1),
     Step::Says(0, Frame::Logout, Answer::LoggedOut),
     Step::IsLeft(0),
     Step::Says(1, Frame::LoginOfB, Answer::Accepted),
-    Step::Says(1, Frame::Ready, Answer::PowerOn1),
+    Step::Says(1, Frame::Ready, POWER_ON_1),
     Step::Says(1, Frame::Logout, Answer::LoggedOut),
     Step::IsLeft(1),
 ];
