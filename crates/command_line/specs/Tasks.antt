@@ -1,12 +1,11 @@
 -- Tasks that can be done as they stand (profile).
-use Rattle.std.specs.Prelude.{◌≤◌, ℕ}
+use Rattle.std.specs.Prelude.{◌≤◌}
 use Rattle.program_options.specs.Options.{AreInRange}
+use Rattle.program_options.specs.Terms.{workers_of}
 use Rattle.program_options.specs.declared.library_options.LibraryOptions.{LibraryOptions}
 use Rattle.command_line.specs.declared.task.Task.{Task}
 use Rattle.command_line.specs.declared.task.Task.TheVariants.{Replay, Serve, Client, Cells}
 use Rattle.command_line.specs.declared.task.Place.{Place}
-use Rattle.command_line.specs.declared.task.Term.{Term}
-use Rattle.command_line.specs.declared.task.Term.TheVariants.{Sessions, InputEnds}
 use Rattle.command_line.specs.declared.task.Contact.{Contact}
 
 -- in range, with a storage element for each volume
@@ -14,12 +13,7 @@ pub record MakesLibrary (options : LibraryOptions) : Type 0 where
   pub range : AreInRange options
   pub fits : options.volumes ≤ options.slots
 
--- by how many workers a library is served
-abbrev pub workers_of : Term → ℕ
-workers_of (Sessions count) = count
-workers_of (InputEnds workers) = workers
-
--- by 1 to 64 of them
+-- by 1 to 64 workers
 pub record IsPlace (place : Place) : Type 0 where
   pub some_workers : 1 ≤ workers_of place.term
   pub few_workers : workers_of place.term ≤ 64

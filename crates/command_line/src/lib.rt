@@ -12,4 +12,4 @@ mod tests;
 pub use command_line_fault::CommandLineFault;
 pub use laws::worked_rows;
 pub use reading::task_of;
-pub use task::{Contact, Place, Task, Term};
+pub use task::{Contact, Place, Task};

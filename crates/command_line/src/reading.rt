@@ -3,10 +3,10 @@ ghost use Rattle.command_line.specs.Tasks.{IsContact, IsDoable, IsPlace, MakesLi
 
 use crate::command_line_fault::CommandLineFault;
 use crate::commands::program;
-use crate::task::{Contact, Place, Task, Term};
+use crate::task::{Contact, Place, Task};
 use clap::ArgMatches;
 use permission_chart::class_named;
-use program_options::{LibraryOptions, OptionFault, fits, nexus_of};
+use program_options::{LibraryOptions, OptionFault, Term, nexus_of};
 use replay_output::{Audit, Explanations};
 use scsi_cdb::Class;
 use std::alloc::{AllocError, Global};
@@ -65,7 +65,7 @@ fn library_of(command: &ArgMatches) -> Result<LibraryOptions, OptionFault>
             .unwrap_or(usual.volumes)
             .min(1024),
     };
-    fits(options.volumes, options.slots)?;
+    options.fits()?;
     Ok(options)
 }
 

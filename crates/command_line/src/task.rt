@@ -1,4 +1,4 @@
-use program_options::LibraryOptions;
+use program_options::{LibraryOptions, Term};
 use replay_output::{Audit, Explanations};
 use scsi_cdb::Class;
 use scsi_nexus::Nexus;
@@ -25,15 +25,6 @@ pub struct Place {
     pub term: Term,
     /// Whether a line for each record so far is printed after each session, and the records kept no longer.
     pub drain: bool,
-}
-
-/// How long a library is served, and by how many workers.
-#[derive(Clone, Copy, Debug, PartialEq, Eq)]
-pub enum Term {
-    /// For so many sessions, each by a worker of its own.
-    Sessions(u8),
-    /// Until standard input ends, by so many workers.
-    InputEnds(u8),
 }
 
 /// Where a library is met, and as which host.

@@ -1,6 +1,7 @@
 //! Words of command lines, and the tasks that they name.
 
-use crate::{Task, Term, task_of};
+use crate::{Task, task_of};
+use program_options::Term;
 use replay_output::{Audit, Explanations};
 use scsi_cdb::Class;
 use std::test::Fail;

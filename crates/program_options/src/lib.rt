@@ -1,14 +1,17 @@
-//! What the options of the program's commands mean: what a library is made of, and which host a client is.
+//! What the options of the program's commands mean: what a library is made of, how long it is served, and which host a
+//! client is.
 #![tactic(auto)]
 
 mod host;
 mod laws;
 mod library_options;
 mod option_fault;
+mod term;
 #[cfg(test)]
 mod tests;
 
 pub use host::nexus_of;
 pub use laws::worked_rows;
-pub use library_options::{LibraryOptions, fits};
+pub use library_options::LibraryOptions;
 pub use option_fault::OptionFault;
+pub use term::Term;

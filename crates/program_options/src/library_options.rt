@@ -1,5 +1,3 @@
-ghost use Rattle.std.specs.Prelude.{◌↔◌, ◌≤◌, IsOk, IsOkUnless};
-
 use crate::option_fault::OptionFault;
 
 /// What a library is made of.
@@ -22,22 +20,24 @@ impl LibraryOptions {
         portals: 0,
         volumes: 1,
     };
+
+    ghost use Rattle.std.specs.Prelude.{◌↔◌, ◌≤◌, IsOk, IsOkUnless};
+
+    /// Whether each volume has a storage element.
+    pub fn fits(&self) -> Result<(), OptionFault>
+        ensures ok { IsOk result ↔ (self.now.volumes ≤ self.now.slots) }
+        ensures err { IsOkUnless result OptionFault.MoreVolumes }
+    {
+        if self.volumes <= self.slots {
+            Ok(())
+        } else {
+            Err(OptionFault::MoreVolumes)
+        }
+    }
 }
 
 impl Default for LibraryOptions {
     fn default() -> LibraryOptions {
         LibraryOptions::USUAL
-    }
-}
-
-/// Whether each of so many volumes has a storage element.
-pub fn fits(volumes: u16, slots: u16) -> Result<(), OptionFault>
-    ensures ok { IsOk result ↔ (volumes ≤ slots) }
-    ensures err { IsOkUnless result OptionFault.MoreVolumes }
-{
-    if volumes <= slots {
-        Ok(())
-    } else {
-        Err(OptionFault::MoreVolumes)
     }
 }

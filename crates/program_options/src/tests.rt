@@ -1,4 +1,4 @@
-use crate::{LibraryOptions, OptionFault, fits, nexus_of};
+use crate::{LibraryOptions, OptionFault, Term, nexus_of};
 use scsi_nexus::Nexus;
 use std::test::Fail;
 
@@ -31,9 +31,16 @@ fn reads_the_address_of_a_host(rt: HostRuntime) -> Result<(), Fail> {
 #[test]
 fn has_a_storage_element_for_each_volume(rt: HostRuntime) {
     let usual = LibraryOptions::default();
-    assert_eq!(rt; fits(usual.volumes, usual.slots), Ok(()));
-    assert_eq!(rt; fits(8, 8), Ok(()));
-    assert_eq!(rt; fits(9, 8), Err(OptionFault::MoreVolumes));
+    assert_eq!(rt; usual.fits(), Ok(()));
+    let rows = [(8, 8, Ok(())), (9, 8, Err(OptionFault::MoreVolumes))];
+    for (volumes, slots, answer) in rows {
+        let options = LibraryOptions {
+            volumes,
+            slots,
+            ..usual
+        };
+        assert_eq!(rt; options.fits(), answer, "{volumes}");
+    }
 }
 
 #[test]
@@ -43,4 +50,12 @@ fn tells_each_fault(rt: HostRuntime) -> Result<(), Fail> {
     let bad = OptionFault::BadNexus.to_string(rt.alloc())?;
     assert_eq!(rt; bad.as_str(), "vtl: bad nexus");
     Ok(())
+}
+
+#[test]
+fn serves_by_so_many_workers(rt: HostRuntime) {
+    let rows = [(Term::Sessions(3), 3, 3), (Term::InputEnds(5), 5, u64::MAX)];
+    for (term, workers, sessions) in rows {
+        assert_eq!(rt; (term.workers(), term.sessions()), (workers, sessions));
+    }
 }

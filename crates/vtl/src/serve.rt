@@ -1,12 +1,13 @@
 //! The library behind a Unix socket.
 
 ghost use Rattle.std.specs.Prelude.{◌≡◌, ◌≤◌};
-ghost use Rattle.command_line.specs.Tasks.{IsPlace, MakesLibrary, workers_of};
+ghost use Rattle.command_line.specs.Tasks.{IsPlace, MakesLibrary};
+ghost use Rattle.program_options.specs.Terms.{sessions_of, workers_of};
 
 use crate::serve_fault::ServeFault;
-use command_line::{Place, Term};
+use command_line::Place;
 use library_device::Device;
-use program_options::LibraryOptions;
+use program_options::{LibraryOptions, Term};
 use replay_output::Audit;
 use serving::{Attendance, HostFault, Records, host};
 use std::fs::{self, Files};
@@ -94,15 +95,12 @@ fn host_for<R: AllocGlobal + Files + Input + Net + Print + Sync + Threads + Wait
 
 /// Who is served for a term.
 fn attendance_of(term: Term, closed: &AtomicBool) -> Attendance<'_>
-    ensures { result.workers ≡ workers_of term }
+    ensures workers { result.workers ≡ workers_of term }
+    ensures sessions { result.sessions ≡ sessions_of term }
 {
-    let (workers, sessions) = match term {
-        Term::Sessions(count) => (count, u64::from(count)),
-        Term::InputEnds(workers) => (workers, u64::MAX),
-    };
     Attendance {
-        workers,
-        sessions,
+        workers: term.workers(),
+        sessions: term.sessions(),
         closed,
     }
 }

@@ -1,9 +1,9 @@
 //! A host and a served library, over a socket.
 
-use super::A;
 use conversing::{ClientFault, converse};
 use program_options::LibraryOptions;
 use replay_output::{Audit, Explanations};
+use scsi_nexus::Nexus;
 use serving::{Attendance, HostFault, Records, host};
 use std::fs::Files;
 use std::net::Net;
@@ -14,6 +14,11 @@ use std::test::Fail;
 use std::thread::{self, Threads};
 use std::{io, process};
 use stocked_library::library;
+
+const A: Nexus = Nexus {
+    sas: 0x5000_0000_0000_000A,
+    port: 1,
+};
 
 /// What came of both ends of a session, and what each wrote.
 #[derive(Drop)]

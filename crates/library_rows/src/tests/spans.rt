@@ -3,9 +3,9 @@
 
 ghost use Rattle.std.specs.Prelude.{◌<◌};
 
+use super::replayed;
 use program_options::LibraryOptions;
-use replay::replay;
-use replay_output::{Audit, Explanations};
+use replay_output::Audit;
 use std::alloc::Global;
 use std::fmt::Write;
 use std::process::Abort;
@@ -183,33 +183,51 @@ const AT_DRIVE_BESIDE: [&'static str; 5] = [
     "5f000000000000001800 000000000000000000000000000000070000000000000000",
 ];
 
+/// Contact, and a volume in the drive, of which both are told.
+const CONTACTS: [&'static str; 7] = [
+    "500000000000000a.1 0 000000000000",
+    "500000000000000a.1 1 000000000000",
+    "500000000000000d.2 0 000000000000",
+    "500000000000000d.2 1 000000000000",
+    "500000000000000a.1 0 a50000000400010000000000",
+    "500000000000000a.1 1 000000000000",
+    "500000000000000d.2 1 000000000000",
+];
+
+const KEY_OF_A: &str = "5f000000000000001800 000000000000000000000000000000010000000000000000";
+
+const KEY_OF_D: &str = "5f000000000000001800 000000000000000000000000000000040000000000000000";
+
+const EXCLUSIVE: &str = "5f010300000000001800 000000000000000100000000000000000000000000000000";
+
+const EXCLUSIVE_OF_ALL: &str =
+    "5f010800000000001800 000000000000000100000000000000000000000000000000";
+
+/// A command of somebody inside to the unit, which stays.
+fn add_command(
+    alloc: Global,
+    scripts: &mut Scripts,
+    sender: &str,
+    unit: u8,
+    command: &str,
+) -> Result<(), Fail> {
+    let line = format!(in alloc; "{sender} {unit} {command}")?;
+    scripts.add(&line, Fate::Same)
+}
+
 /// Contact, a volume in the drive, and the reservation at the unit.
 fn begin(alloc: Global, scripts: &mut Scripts, span: Span, unit: u8) -> Result<(), Fail> {
-    for line in [
-        "500000000000000a.1 0 000000000000",
-        "500000000000000a.1 1 000000000000",
-        "500000000000000d.2 0 000000000000",
-        "500000000000000d.2 1 000000000000",
-        "500000000000000a.1 0 a50000000400010000000000",
-        "500000000000000a.1 1 000000000000",
-        "500000000000000d.2 1 000000000000",
-    ] {
+    for line in CONTACTS {
         scripts.add(line, Fate::Same)?;
     }
-    let key_of_a = "000000000000000000000000000000010000000000000000";
-    let key_of_d = "000000000000000000000000000000040000000000000000";
-    let register = format!(in alloc; "{A} {unit} 5f000000000000001800 {key_of_a}")?;
-    scripts.add(&register, Fate::Same)?;
-    let code = if span == Span::Group {
-        let also = format!(in alloc; "{D} {unit} 5f000000000000001800 {key_of_d}")?;
-        scripts.add(&also, Fate::Same)?;
-        "08"
-    } else {
-        "03"
-    };
-    let by_key = "000000000000000100000000000000000000000000000000";
-    let reserve = format!(in alloc; "{A} {unit} 5f01{code}00000000001800 {by_key}")?;
-    scripts.add(&reserve, Fate::Same)
+    add_command(alloc, scripts, A, unit, KEY_OF_A)?;
+    match span {
+        Span::Holder => add_command(alloc, scripts, A, unit, EXCLUSIVE),
+        Span::Group => {
+            add_command(alloc, scripts, D, unit, KEY_OF_D)?;
+            add_command(alloc, scripts, A, unit, EXCLUSIVE_OF_ALL)
+        }
+    }
 }
 
 /// A line of somebody inside.
@@ -284,18 +302,7 @@ fn add_beside(
 
 /// What a script is answered, line by line.
 fn replies(alloc: Global, script: &str) -> Result<String, Fail> {
-    let mut core = library(alloc, &OPTIONS)?;
-    let mut reader = script.as_bytes();
-    let mut output = Vec::new(alloc);
-    replay(
-        alloc,
-        &mut core,
-        &mut reader,
-        &mut output,
-        Explanations::Off,
-        Audit::Off,
-        9,
-    )?;
+    let output = replayed(alloc, &mut library(alloc, &OPTIONS)?, Audit::Off, script)?;
     match String::from_utf8(output) {
         Ok(text) => Ok(text),
         Err(_) => Err("no text".into()),

@@ -1,13 +1,11 @@
 //! The commands of every unit, the absent units, and the events that aren't commands.
 
-use super::rows::assert_output;
+use super::{Row, assert_rows};
+use replay_output::Audit;
 use std::test::Fail;
 
-#[test]
-fn passes_over_the_first_contact(rt: HostRuntime) -> Result<(), Fail> {
-    assert_output(
-        &rt,
-        rt.alloc(),
+const ROWS: [Row; 6] = [
+    (
         "first contact",
         "500000000000000b.1 0 120000002400\n\
          500000000000000b.1 0 030000001200\n\
@@ -25,14 +23,8 @@ fn passes_over_the_first_contact(rt: HostRuntime) -> Result<(), Fail> {
          00 - 700000000000000a00000000000000000000\n\
          02 700005000000000a00000000240000000000 -\n\
          02 700006000000000a00000000290000000000 -\n",
-    )
-}
-
-#[test]
-fn tells_what_it_is(rt: HostRuntime) -> Result<(), Fail> {
-    assert_output(
-        &rt,
-        rt.alloc(),
+    ),
+    (
         "inquiry and report luns",
         "500000000000000a.1 0 120000000500\n\
          500000000000000a.1 0 120100000a00\n\
@@ -52,14 +44,8 @@ fn tells_what_it_is(rt: HostRuntime) -> Result<(), Fail> {
          00 - 0000000000000000\n\
          00 - 00000010\n\
          02 700005000000000a00000000240000000000 -\n",
-    )
-}
-
-#[test]
-fn answers_for_absent_units(rt: HostRuntime) -> Result<(), Fail> {
-    assert_output(
-        &rt,
-        rt.alloc(),
+    ),
+    (
         "absent units",
         "500000000000000a.1 9 120000002400\n\
          500000000000000a.1 9 120000000100\n\
@@ -77,14 +63,8 @@ fn answers_for_absent_units(rt: HostRuntime) -> Result<(), Fail> {
          02 700005000000000a00000000250000000000 -\n\
          02 700005000000000a00000000250000000000 -\n\
          02 700005000000000a00000000250000000000 -\n",
-    )
-}
-
-#[test]
-fn resets_reach_every_slot(rt: HostRuntime) -> Result<(), Fail> {
-    assert_output(
-        &rt,
-        rt.alloc(),
+    ),
+    (
         "reset reaches slots",
         "500000000000000a.1 0 000000000000\n\
          500000000000000b.2 0 000000000000\n\
@@ -102,14 +82,8 @@ fn resets_reach_every_slot(rt: HostRuntime) -> Result<(), Fail> {
          00 - -\n\
          00 - -\n\
          02 700006000000000a00000000290000000000 -\n",
-    )
-}
-
-#[test]
-fn keeps_registrations_through_a_loss(rt: HostRuntime) -> Result<(), Fail> {
-    assert_output(
-        &rt,
-        rt.alloc(),
+    ),
+    (
         "loss keeps registration",
         "500000000000000a.1 0 000000000000\n\
          500000000000000a.1 0 5f000000000000001800 000000000000000000000000000000010000000000000000\n\
@@ -127,5 +101,22 @@ fn keeps_registrations_through_a_loss(rt: HostRuntime) -> Result<(), Fail> {
          02 700006000000000a00000000290700000000 -\n\
          00 - 000000010000001000000000000000010000000000030000\n\
          02 700006000000000a00000000290000000000 -\n",
-    )
+    ),
+    (
+        "inquiry of a drive",
+        "500000000000000a.1 1 120000002400\n\
+         500000000000000a.1 1 120100000a00\n\
+         500000000000000a.1 1 120180001000\n\
+         500000000000000a.1 1 a00000000000000000ff0000\n",
+        "00 - 018006021f00000056544c494220202054415045204452495645202020202020\
+         30303031\n\
+         00 - 010000020080\n\
+         00 - 0180000430303031\n\
+         00 - 000000100000000000000000000000000001000000000000\n",
+    ),
+];
+
+#[test]
+fn every_unit_answers_what_they_all_have(rt: HostRuntime) -> Result<(), Fail> {
+    assert_rows(&rt, rt.alloc(), Audit::Off, &ROWS)
 }

@@ -4,15 +4,11 @@ use super::{A, B, empty_changer};
 use changer_server::Changer;
 use library_device::unit_at;
 use logical_unit::LogicalUnit;
-use program_options::LibraryOptions;
-use replay::replay;
-use replay_output::{Audit, Explanations};
 use scsi_nexus::Nexus;
 use scsi_sense::Status;
 use std::alloc::{AllocError, Global};
 use std::process::Abort;
 use std::test::Fail;
-use stocked_library::library;
 
 const ALLOW: &[u8] = &[0x1e, 0, 0, 0, 0, 0];
 
@@ -123,47 +119,5 @@ fn outlasts_a_drain(rt: HostRuntime) -> Result<(), Fail> {
     assert!(rt; unit.prevented());
     assert_good(&rt, &mut unit, B, ALLOW);
     assert!(rt; !unit.prevented());
-    Ok(())
-}
-
-#[test]
-fn may_be_asked_by_the_holder_and_taken_back_by_others(rt: HostRuntime) -> Result<(), Fail> {
-    let script = "500000000000000a.1 0 000000000000\n\
-                  500000000000000b.1 0 000000000000\n\
-                  500000000000000a.1 0 5f000000000000001800 000000000000000000000000000000010000000000000000\n\
-                  500000000000000a.1 0 5f010100000000001800 000000000000000100000000000000000000000000000000\n\
-                  500000000000000b.1 0 1e0000000100\n\
-                  500000000000000b.1 0 1e0000000000\n\
-                  500000000000000a.1 0 1e0000000200\n\
-                  500000000000000a.1 0 1e0000000100\n";
-    let expected = "02 700006000000000a00000000290000000000 -\n\
-                    02 700006000000000a00000000290000000000 -\n\
-                    00 - -\n\
-                    00 - -\n\
-                    18 - -\n\
-                    00 - -\n\
-                    02 700005000000000a00000000240000000000 -\n\
-                    00 - -\n\
-                    1 500000000000000a.1 TEST-UNIT-READY 2 - - 02\n\
-                    2 500000000000000b.1 TEST-UNIT-READY 2 - - 02\n\
-                    3 500000000000000a.1 REGISTER 6 REGISTER/NONE/OTHER - 00\n\
-                    4 500000000000000a.1 RESERVE 6 RESERVE/NONE/REGISTERED - 00\n\
-                    5 500000000000000b.1 PREVENT-REMOVAL 3 PREVENT-REMOVAL/WE/OTHER - 18\n\
-                    6 500000000000000b.1 ALLOW-REMOVAL 6 ALLOW-REMOVAL/WE/OTHER - 00\n\
-                    7 500000000000000a.1 PREVENT-REMOVAL 5 PREVENT-REMOVAL/WE/HOLDER - 02\n\
-                    8 500000000000000a.1 PREVENT-REMOVAL 6 PREVENT-REMOVAL/WE/HOLDER - 00\n";
-    let mut reader = script.as_bytes();
-    let mut output = Vec::new(rt.alloc());
-    let mut core = library(rt.alloc(), &LibraryOptions::USUAL)?;
-    replay(
-        rt.alloc(),
-        &mut core,
-        &mut reader,
-        &mut output,
-        Explanations::Off,
-        Audit::Lines,
-        9,
-    )?;
-    assert_eq!(rt; output.as_slice(), expected.as_bytes());
     Ok(())
 }

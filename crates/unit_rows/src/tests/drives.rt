@@ -1,21 +1,17 @@
 //! Worked rows of a drive: commands to logical unit 1, and the replies to them.
 
-use super::A;
-use super::rows::{POWER_ON, assert_output, push_lines};
-use super::targets::{changer_marked, loaded_drive, target};
+use super::targets::{changer, changer_marked, empty_drive, loaded_drive, target};
+use super::{A, assert_replayed};
 use arrayvec::ArrayVec;
 use audit_log::line;
 use library_device::Device;
 use logical_unit::LogicalUnit;
-use program_options::LibraryOptions;
-use replay::replay;
-use replay_output::{Audit, Explanations};
+use replay_output::Audit;
 use scsi_sense::{Sense, Status};
 use std::alloc::Global;
 use std::fmt::Write;
 use std::process::Abort;
 use std::test::Fail;
-use stocked_library::library;
 use tape_medium::VolumeTag;
 use target_core::Event;
 
@@ -28,6 +24,18 @@ const TAG: VolumeTag = VolumeTag([b'T'; 32]);
 const REGISTRATIONS: &str =
     "a 5f000000000000001800 000000000000000000000000000000010000000000000000\n\
                              b 5f000000000000001800 000000000000000000000000000000020000000000000000\n";
+
+const POWER_ON: &str = "02 700006000000000a00000000290000000000 -\n";
+
+/// Adds lines `NEXUS CDB [DATA]` to a script, as commands to the drive. NEXUS is the last digit of a SAS address at
+/// port 1.
+fn push_lines(script: &mut String, lines: &str) -> Result<(), Fail> {
+    for line in lines.lines() {
+        let (nexus, command) = line.split_once(' ').ok_or("no command")?;
+        write!(script, "500000000000000{nexus}.1 1 {command}\n")?;
+    }
+    Ok(())
+}
 
 /// Replays events at a target whose drive has a fresh volume, first the contacts, then those of a
 /// script; compares the replies and hands the drive back. Record 1 is of the volume, and records 2
@@ -44,24 +52,13 @@ fn replay_at_drive(
         loaded_drive(alloc, TAG)?,
     )?;
     let mut whole = String::new(alloc);
-    push_lines(&mut whole, 1, CONTACTS)?;
+    push_lines(&mut whole, CONTACTS)?;
     whole.push_str(script)?;
     let mut expected = String::new(alloc);
     expected.push_str(POWER_ON)?;
     expected.push_str(POWER_ON)?;
     expected.push_str(replies)?;
-    let mut reader = whole.as_bytes();
-    let mut output = Vec::new(alloc);
-    replay(
-        alloc,
-        &mut core,
-        &mut reader,
-        &mut output,
-        Explanations::Off,
-        Audit::Off,
-        9,
-    )?;
-    assert_eq!(rt; output.as_slice(), expected.as_bytes());
+    assert_replayed(rt, alloc, &mut core, Audit::Off, &whole, &expected)?;
     let mut units = core.into_units();
     let drive = units.pop().ok_or("no drive")?;
     Ok(drive)
@@ -75,7 +72,7 @@ fn send_to_drive(
     replies: &str,
 ) -> Result<LogicalUnit<Device>, Fail> {
     let mut script = String::new(alloc);
-    push_lines(&mut script, 1, lines)?;
+    push_lines(&mut script, lines)?;
     replay_at_drive(rt, alloc, script.as_str(), replies)
 }
 
@@ -272,7 +269,7 @@ fn refuses_what_it_does_not_have(rt: HostRuntime) -> Result<(), Fail> {
 #[test]
 fn has_no_record_of_a_command_to_an_absent_unit(rt: HostRuntime) -> Result<(), Fail> {
     let alloc = rt.alloc();
-    let mut core = library(alloc, &LibraryOptions::USUAL)?;
+    let mut core = target(alloc, changer(alloc)?, empty_drive(alloc, 0)?)?;
     let event = Event::Command {
         nexus: A,
         lun: 9,
@@ -290,24 +287,6 @@ fn has_no_record_of_a_command_to_an_absent_unit(rt: HostRuntime) -> Result<(), F
         assert!(rt; unit.records().is_empty());
     }
     Ok(())
-}
-
-#[test]
-fn tells_that_it_is_a_drive(rt: HostRuntime) -> Result<(), Fail> {
-    assert_output(
-        &rt,
-        rt.alloc(),
-        "inquiry of a drive",
-        "500000000000000a.1 1 120000002400\n\
-         500000000000000a.1 1 120100000a00\n\
-         500000000000000a.1 1 120180001000\n\
-         500000000000000a.1 1 a00000000000000000ff0000\n",
-        "00 - 018006021f00000056544c494220202054415045204452495645202020202020\
-         30303031\n\
-         00 - 010000020080\n\
-         00 - 0180000430303031\n\
-         00 - 000000100000000000000000000000000001000000000000\n",
-    )
 }
 
 #[test]
@@ -353,7 +332,7 @@ fn preempt_and_abort_ends_a_prevention(rt: HostRuntime) -> Result<(), Fail> {
 fn a_loss_keeps_the_registration(rt: HostRuntime) -> Result<(), Fail> {
     let alloc = rt.alloc();
     let mut script = String::new(alloc);
-    push_lines(&mut script, 1, REGISTRATIONS)?;
+    push_lines(&mut script, REGISTRATIONS)?;
     script.push_str(
         "500000000000000a.1 1 5f010300000000001800 000000000000000100000000000000000000000000000000\n\
          loss 500000000000000a.1 1\n\

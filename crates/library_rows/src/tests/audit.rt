@@ -1,0 +1,275 @@
+//! What a replay writes of the units' records, and records that are handed out.
+
+use super::{POWER_ON, Row, assert_rows, assert_written, replayed, usual};
+use replay_output::Audit;
+use std::fmt::Write;
+use std::test::Fail;
+
+/// The lines of the records behind the replies.
+const LINES: [Row; 6] = [
+    (
+        "records behind the replies",
+        "500000000000000a.1 0 000000000000\n\
+         500000000000000a.1 0 000000000000\n",
+        "02 700006000000000a00000000290000000000 -\n\
+         00 - -\n\
+         1 500000000000000a.1 TEST-UNIT-READY 2 - - 02\n\
+         2 500000000000000a.1 TEST-UNIT-READY 6 TEST-UNIT-READY/NONE/OTHER - 00\n",
+    ),
+    (
+        "the stage that answered",
+        "500000000000000a.1 0 000000000000\n\
+         500000000000000a.1 0 5f000000000000001800 000000000000000500000000000000060000000000000000\n\
+         500000000000000a.1 0 160000000000\n\
+         500000000000000a.1 0 5f000000000000001800 000000000000000000000000000000010000000000000000\n\
+         500000000000000a.1 0 5f010200000000001800 000000000000000100000000000000000000000000000000\n\
+         500000000000000a.1 9 000000000000\n\
+         500000000000000b.2 0 000000000000\n\
+         500000000000000b.2 0 5f000000000000001800 000000000000000000000000000000020000000000000000\n\
+         500000000000000a.1 0 5f030000000000001800 000000000000000100000000000000000000000000000000\n\
+         500000000000000b.2 0 000000000000\n",
+        "02 700006000000000a00000000290000000000 -\n\
+         18 - -\n\
+         02 700005000000000a00000000200000000000 -\n\
+         00 - -\n\
+         02 700005000000000a00000000240000000000 -\n\
+         02 700005000000000a00000000250000000000 -\n\
+         02 700006000000000a00000000290000000000 -\n\
+         00 - -\n\
+         00 - -\n\
+         02 700006000000000a000000002a0300000000 -\n\
+         1 500000000000000a.1 TEST-UNIT-READY 2 - - 02\n\
+         2 500000000000000a.1 REGISTER 3 REGISTER/NONE/OTHER K1 18\n\
+         3 500000000000000a.1 INVALID 1 - - 02\n\
+         4 500000000000000a.1 REGISTER 6 REGISTER/NONE/OTHER - 00\n\
+         5 500000000000000a.1 RESERVE 5 RESERVE/NONE/REGISTERED - 02\n\
+         6 500000000000000b.2 TEST-UNIT-READY 2 - - 02\n\
+         7 500000000000000b.2 REGISTER 6 REGISTER/NONE/OTHER - 00\n\
+         8 500000000000000a.1 CLEAR 6 CLEAR/NONE/REGISTERED - 00\n\
+         9 500000000000000b.2 TEST-UNIT-READY 4 TEST-UNIT-READY/NONE/OTHER - 02\n",
+    ),
+    (
+        "losses and resets",
+        "500000000000000a.1 0 000000000000\n\
+         500000000000000b.1 0 000000000000\n\
+         500000000000000a.1 0 5f000000000000001800 000000000000000000000000000000010000000000000000\n\
+         500000000000000b.1 0 5f000000000000001800 000000000000000000000000000000020000000000000000\n\
+         500000000000000a.1 0 5f010300000000001800 000000000000000100000000000000000000000000000000\n\
+         loss 500000000000000a.1 0\n\
+         loss 500000000000000f.1 0\n\
+         500000000000000b.1 0 5f010300000000001800 000000000000000200000000000000000000000000000000\n\
+         500000000000000a.1 0 000000000000\n\
+         500000000000000a.1 0 5e01000000000000ff00\n\
+         reset 0\n\
+         reset 9\n",
+        "02 700006000000000a00000000290000000000 -\n\
+         02 700006000000000a00000000290000000000 -\n\
+         00 - -\n\
+         00 - -\n\
+         00 - -\n\
+         00 - -\n\
+         00 - -\n\
+         18 - -\n\
+         02 700006000000000a00000000290700000000 -\n\
+         00 - 000000020000001000000000000000010000000000030000\n\
+         00 - -\n\
+         02 700005000000000a00000000250000000000 -\n\
+         1 500000000000000a.1 TEST-UNIT-READY 2 - - 02\n\
+         2 500000000000000b.1 TEST-UNIT-READY 2 - - 02\n\
+         3 500000000000000a.1 REGISTER 6 REGISTER/NONE/OTHER - 00\n\
+         4 500000000000000b.1 REGISTER 6 REGISTER/NONE/OTHER - 00\n\
+         5 500000000000000a.1 RESERVE 6 RESERVE/NONE/REGISTERED - 00\n\
+         6 500000000000000a.1 LOSS 6 - - 00\n\
+         7 500000000000000b.1 RESERVE 3 RESERVE/EA/REGISTERED - 18\n\
+         8 500000000000000a.1 TEST-UNIT-READY 2 - - 02\n\
+         9 500000000000000a.1 PR-IN 6 PR-IN/EA/HOLDER - 00\n\
+         10 - RESET 6 - - 00\n",
+    ),
+    (
+        "the records of the drive behind those of the changer",
+        "500000000000000a.1 1 000000000000\n\
+         500000000000000a.1 1 000000000000\n\
+         500000000000000a.1 0 000000000000\n\
+         500000000000000a.1 1 100000000100\n\
+         500000000000000a.1 1 050000000000\n\
+         500000000000000a.1 1 0a0000000400 010203\n\
+         500000000000000a.1 1 200000000000\n\
+         500000000000000a.1 1 1b0000000100\n\
+         500000000000000a.1 0 1b0000000100\n\
+         reset 1\n\
+         reset 0\n",
+        "02 700006000000000a00000000290000000000 -\n\
+         02 700002000000000a000000003a0000000000 -\n\
+         02 700006000000000a00000000290000000000 -\n\
+         02 700002000000000a000000003a0000000000 -\n\
+         00 - 000100000001\n\
+         02 700005000000000a00000000240000000000 -\n\
+         02 700005000000000a00000000200000000000 -\n\
+         02 700002000000000a000000003a0000000000 -\n\
+         02 700005000000000a00000000200000000000 -\n\
+         00 - -\n\
+         00 - -\n\
+         1 500000000000000a.1 TEST-UNIT-READY 2 - - 02\n\
+         2 500000000000000a.1 INVALID 1 - - 02\n\
+         3 - RESET 6 - - 00\n\
+         1 500000000000000a.1 TEST-UNIT-READY 2 - - 02\n\
+         2 500000000000000a.1 TEST-UNIT-READY 6 TEST-UNIT-READY/NONE/OTHER - 02\n\
+         3 500000000000000a.1 WRITE-FILEMARKS(6) 6 WRITE-FILEMARKS(6)/NONE/OTHER - 02\n\
+         4 500000000000000a.1 READ-BLOCK-LIMITS 6 READ-BLOCK-LIMITS/NONE/OTHER - 00\n\
+         5 500000000000000a.1 WRITE(6) 5 WRITE(6)/NONE/OTHER - 02\n\
+         6 500000000000000a.1 INVALID 1 - - 02\n\
+         7 500000000000000a.1 LOAD-UNLOAD 6 LOAD-UNLOAD/NONE/OTHER - 02\n\
+         8 - RESET 6 - - 00\n",
+    ),
+    ("an empty script", "", ""),
+    (
+        "prevention, asked by the holder and taken back by others",
+        "500000000000000a.1 0 000000000000\n\
+         500000000000000b.1 0 000000000000\n\
+         500000000000000a.1 0 5f000000000000001800 000000000000000000000000000000010000000000000000\n\
+         500000000000000a.1 0 5f010100000000001800 000000000000000100000000000000000000000000000000\n\
+         500000000000000b.1 0 1e0000000100\n\
+         500000000000000b.1 0 1e0000000000\n\
+         500000000000000a.1 0 1e0000000200\n\
+         500000000000000a.1 0 1e0000000100\n",
+        "02 700006000000000a00000000290000000000 -\n\
+         02 700006000000000a00000000290000000000 -\n\
+         00 - -\n\
+         00 - -\n\
+         18 - -\n\
+         00 - -\n\
+         02 700005000000000a00000000240000000000 -\n\
+         00 - -\n\
+         1 500000000000000a.1 TEST-UNIT-READY 2 - - 02\n\
+         2 500000000000000b.1 TEST-UNIT-READY 2 - - 02\n\
+         3 500000000000000a.1 REGISTER 6 REGISTER/NONE/OTHER - 00\n\
+         4 500000000000000a.1 RESERVE 6 RESERVE/NONE/REGISTERED - 00\n\
+         5 500000000000000b.1 PREVENT-REMOVAL 3 PREVENT-REMOVAL/WE/OTHER - 18\n\
+         6 500000000000000b.1 ALLOW-REMOVAL 6 ALLOW-REMOVAL/WE/OTHER - 00\n\
+         7 500000000000000a.1 PREVENT-REMOVAL 5 PREVENT-REMOVAL/WE/HOLDER - 02\n\
+         8 500000000000000a.1 PREVENT-REMOVAL 6 PREVENT-REMOVAL/WE/HOLDER - 00\n",
+    ),
+];
+
+#[test]
+fn records_follow_the_replies(rt: HostRuntime) -> Result<(), Fail> {
+    assert_rows(&rt, rt.alloc(), Audit::Lines, &LINES)
+}
+
+/// The same, each with the reservation that stood before it.
+const SPANS: [Row; 2] = [
+    (
+        "a reservation that its maker holds",
+        "500000000000000a.1 0 000000000000\n\
+         500000000000000a.1 0 5f000000000000001800 000000000000000000000000000000010000000000000000\n\
+         500000000000000a.1 0 5f010100000000001800 000000000000000100000000000000000000000000000000\n\
+         500000000000000a.1 0 000000000000\n",
+        "02 700006000000000a00000000290000000000 -\n\
+         00 - -\n\
+         00 - -\n\
+         00 - -\n\
+         1 500000000000000a.1 TEST-UNIT-READY 2 - - 02 -\n\
+         2 500000000000000a.1 REGISTER 6 REGISTER/NONE/OTHER - 00 -\n\
+         3 500000000000000a.1 RESERVE 6 RESERVE/NONE/REGISTERED - 00 -\n\
+         4 500000000000000a.1 TEST-UNIT-READY 6 TEST-UNIT-READY/WE/HOLDER - 00 WE/500000000000000a.1\n",
+    ),
+    // A makes a reservation of all registrants, a loss and a conflict leave it, and its CLEAR ends it; drive 1 has none.
+    (
+        "a reservation of all registrants",
+        "500000000000000a.1 0 000000000000\n\
+         500000000000000a.1 0 5f060000000000001800 000000000000000000000000000000010000000000000000\n\
+         500000000000000a.1 0 5f010800000000001800 000000000000000100000000000000000000000000000000\n\
+         loss 500000000000000a.1 0\n\
+         500000000000000b.2 0 1e0000000100\n\
+         500000000000000b.2 0 1e0000000100\n\
+         500000000000000a.1 0 000000000000\n\
+         500000000000000a.1 0 5f030000000000001800 000000000000000100000000000000000000000000000000\n\
+         500000000000000a.1 0 000000000000\n\
+         500000000000000a.1 1 000000000000\n",
+        "02 700006000000000a00000000290000000000 -\n\
+         00 - -\n\
+         00 - -\n\
+         00 - -\n\
+         02 700006000000000a00000000290000000000 -\n\
+         18 - -\n\
+         02 700006000000000a00000000290700000000 -\n\
+         00 - -\n\
+         00 - -\n\
+         02 700006000000000a00000000290000000000 -\n\
+         1 500000000000000a.1 TEST-UNIT-READY 2 - - 02 -\n\
+         2 500000000000000a.1 REGISTER-IGNORE 6 REGISTER-IGNORE/NONE/OTHER - 00 -\n\
+         3 500000000000000a.1 RESERVE 6 RESERVE/NONE/REGISTERED - 00 -\n\
+         4 500000000000000a.1 LOSS 6 - - 00 EAAR/ALL\n\
+         5 500000000000000b.2 PREVENT-REMOVAL 2 - - 02 EAAR/ALL\n\
+         6 500000000000000b.2 PREVENT-REMOVAL 3 PREVENT-REMOVAL/EAAR/OTHER - 18 EAAR/ALL\n\
+         7 500000000000000a.1 TEST-UNIT-READY 2 - - 02 EAAR/ALL\n\
+         8 500000000000000a.1 CLEAR 6 CLEAR/EAAR/HOLDER - 00 EAAR/ALL\n\
+         9 500000000000000a.1 TEST-UNIT-READY 6 TEST-UNIT-READY/NONE/OTHER - 00 -\n\
+         1 500000000000000a.1 TEST-UNIT-READY 2 - - 02 -\n",
+    ),
+];
+
+#[test]
+fn reservations_are_shown_before_each_record(rt: HostRuntime) -> Result<(), Fail> {
+    assert_rows(&rt, rt.alloc(), Audit::Spans, &SPANS)
+}
+
+#[test]
+fn has_no_record_of_a_sender_without_a_slot(rt: HostRuntime) -> Result<(), Fail> {
+    let mut script = String::new(rt.alloc());
+    let mut expected = String::new(rt.alloc());
+    for nexus in 1..=128 {
+        write!(script, "50000000000000{nexus:02x}.1 0 000000000000\n")?;
+        expected.push_str(POWER_ON)?;
+    }
+    script.push_str("50000000000000ff.1 0 120000002400\n")?;
+    expected.push_str("08 - -\n")?;
+    for nexus in 1..=128 {
+        write!(
+            expected,
+            "{nexus} 50000000000000{nexus:02x}.1 TEST-UNIT-READY 2 - - 02\n"
+        )?;
+    }
+    assert_written(
+        &rt,
+        rt.alloc(),
+        "129 contacts",
+        Audit::Lines,
+        script.as_str(),
+        expected.as_str(),
+    )
+}
+
+const BEFORE_THE_DRAIN: &str = "500000000000000a.1 0 000000000000\n\
+    500000000000000a.1 0 5f000000000000001800 000000000000000500000000000000060000000000000000\n";
+
+const REPLIES_BEFORE_THE_DRAIN: &str = "02 700006000000000a00000000290000000000 -\n\
+    18 - -\n\
+    1 500000000000000a.1 TEST-UNIT-READY 2 - - 02\n\
+    2 500000000000000a.1 REGISTER 3 REGISTER/NONE/OTHER K1 18\n";
+
+const BEHIND_THE_DRAIN: &str = "500000000000000a.1 0 000000000000\n";
+
+const REPLIES_BEHIND_THE_DRAIN: &str = "00 - -\n\
+    3 500000000000000a.1 TEST-UNIT-READY 6 TEST-UNIT-READY/NONE/OTHER - 00\n";
+
+#[test]
+fn goes_on_counting_after_a_drain(rt: HostRuntime) -> Result<(), Fail> {
+    let alloc = rt.alloc();
+    let mut core = usual(alloc)?;
+    let output = replayed(alloc, &mut core, Audit::Lines, BEFORE_THE_DRAIN)?;
+    assert_eq!(rt; output.as_slice(), REPLIES_BEFORE_THE_DRAIN.as_bytes());
+    let drained = core.drain(alloc, 0).ok_or("no unit")?;
+    assert_eq!(rt; drained.len(), 2);
+    for (entry, number) in drained.iter().zip(1..) {
+        assert_eq!(rt; entry.number, number);
+    }
+    let of_the_drive = core.drain(alloc, 1).ok_or("no drive")?;
+    assert!(rt; of_the_drive.is_empty());
+    assert!(rt; core.drain(alloc, 2).is_none());
+    let output = replayed(alloc, &mut core, Audit::Lines, BEHIND_THE_DRAIN)?;
+    assert_eq!(rt; output.as_slice(), REPLIES_BEHIND_THE_DRAIN.as_bytes());
+    let drained = core.drain(alloc, 0).ok_or("no unit")?;
+    assert_eq!(rt; drained.len(), 1);
+    Ok(())
+}

@@ -1,0 +1,147 @@
+//! Readers and writers that fail, and what is told of each fault.
+
+use super::{replay_in, usual};
+use replay::ReplayFault;
+use replay_output::Audit;
+use std::alloc::Global;
+use std::io;
+use std::io::{Read, Write};
+use std::process::Abort;
+use std::test::Fail;
+
+/// A reader of a comment, a byte at each read. It counts its reads, and fails at one of them.
+#[derive(Drop)]
+struct Trickle {
+    bytes: u64,
+    reads: u64,
+    fails_at: u64,
+}
+
+impl Read for Trickle {
+    fn read(&mut self, buffer: &mut [u8]) -> io::Result<usize> {
+        self.reads = self.reads.saturating_add(1);
+        if self.reads == self.fails_at {
+            return Err(io::Error::from(io::ErrorKind::BrokenPipe));
+        }
+        if self.bytes < self.reads {
+            return Ok(0);
+        }
+        match buffer.first_mut() {
+            Some(first) => {
+                *first = b'#';
+                Ok(1)
+            }
+            None => Ok(0),
+        }
+    }
+}
+
+#[derive(Drop)]
+struct Closed;
+
+impl Write for Closed {
+    fn write(&mut self, _buffer: &[u8]) -> io::Result<usize> {
+        Err(io::Error::from(io::ErrorKind::BrokenPipe))
+    }
+
+    fn flush(&mut self) -> io::Result<()> {
+        Err(io::Error::from(io::ErrorKind::BrokenPipe))
+    }
+}
+
+/// Replays in the usual library what a reader gives, by at most so many reads.
+fn replayed_usual<R: Read, W: Write>(
+    alloc: Global,
+    reader: &mut R,
+    writer: &mut W,
+    turns: u64,
+) -> Result<Result<(), ReplayFault>, Fail> {
+    let mut core = usual(alloc)?;
+    Ok(replay_in(alloc, &mut core, reader, writer, Audit::Off, turns))
+}
+
+/// Replays a comment of three bytes, which may be read so often, and of which a read fails: how that ends, and how often it
+/// was read.
+fn trickled(
+    alloc: Global,
+    turns: u64,
+    fails_at: u64,
+) -> Result<(Result<(), ReplayFault>, u64), Fail> {
+    let mut reader = Trickle {
+        bytes: 3,
+        reads: 0,
+        fails_at,
+    };
+    let mut writer = Vec::new(alloc);
+    let result = replayed_usual(alloc, &mut reader, &mut writer, turns)?;
+    Ok((result, reader.reads))
+}
+
+const UNREAD: Result<(), ReplayFault> = Err(ReplayFault::Read);
+
+/// How often the comment may be read, which read fails, how often it is read, and how that ends. Its end is a read of its
+/// own.
+const TURNS: [(u64, u64, u64, Result<(), ReplayFault>); 5] = [
+    (4, 0, 4, Ok(())),
+    (5, 0, 4, Ok(())),
+    (3, 0, 3, UNREAD),
+    (0, 0, 0, UNREAD),
+    (9, 2, 2, UNREAD),
+];
+
+#[test]
+fn reads_no_more_often_than_it_may(rt: HostRuntime) -> Result<(), Fail> {
+    for row in &TURNS {
+        let (turns, fails_at, reads, outcome) = *row;
+        let (result, count) = trickled(rt.alloc(), turns, fails_at)?;
+        assert_eq!(rt; result, outcome, "{turns} turns");
+        assert_eq!(rt; count, reads, "{turns} turns");
+    }
+    Ok(())
+}
+
+#[test]
+fn tells_a_closed_output(rt: HostRuntime) -> Result<(), Fail> {
+    let mut reader = b"".as_slice();
+    let result = replayed_usual(rt.alloc(), &mut reader, &mut Closed, 9)?;
+    assert_eq!(rt; result, Err(ReplayFault::Write));
+    Ok(())
+}
+
+/// The fault of a script whose first line has a bad nexus.
+fn fault_of_a_line(alloc: Global) -> Result<ReplayFault, Fail> {
+    let mut reader = b"x 0 000000000000\n".as_slice();
+    let mut writer = Vec::new(alloc);
+    match replayed_usual(alloc, &mut reader, &mut writer, 9)? {
+        Ok(()) => Err("no fault".into()),
+        Err(fault) => Ok(fault),
+    }
+}
+
+/// Compares what is told of a fault, and the exit status by it.
+fn assert_told(
+    rt: &impl Abort,
+    alloc: Global,
+    fault: ReplayFault,
+    text: &str,
+    status: u8,
+) -> Result<(), Fail> {
+    let shown = fault.to_string(alloc)?;
+    assert_eq!(rt; shown.as_str(), text);
+    assert_eq!(rt; fault.status(), status);
+    Ok(())
+}
+
+const OF_THE_SCRIPT: &str = "vtl: device fault\nvtl: the script could not be read";
+
+const OF_THE_REPLIES: &str = "vtl: device fault\nvtl: the replies could not be written";
+
+#[test]
+fn shows_faults(rt: HostRuntime) -> Result<(), Fail> {
+    let alloc = rt.alloc();
+    let fault = fault_of_a_line(alloc)?;
+    assert_told(&rt, alloc, fault, "vtl: line 1: bad nexus", 2)?;
+    assert_told(&rt, alloc, ReplayFault::NoMemory, "vtl: want of memory", 3)?;
+    assert_told(&rt, alloc, ReplayFault::Read, OF_THE_SCRIPT, 4)?;
+    assert_told(&rt, alloc, ReplayFault::Write, OF_THE_REPLIES, 4)
+}
