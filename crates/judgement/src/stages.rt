@@ -5,6 +5,7 @@ ghost use Rattle.device_server.specs.View.{kind_of};
 ghost use Rattle.device_server.specs.Volumes.{is_move};
 ghost use Rattle.unit_state.specs.Kept.{has_room, met};
 ghost use Rattle.pr_core.specs.Judge.{verdict};
+ghost use Rattle.pr_core.specs.State.{cell};
 ghost use Rattle.judgement.specs.Findings.{at_stage};
 ghost use Rattle.unit_answers.specs.Replies.{data_reply};
 ghost use Rattle.unit_state.specs.Readings.{verdict_of};
@@ -15,6 +16,7 @@ ghost use Rattle.unit_commands.specs.Commands.{class_of_command};
 use crate::finding::Finding;
 use audit_log::Stage;
 use device_server::{DeviceServer, Payload, field_fault};
+use permit_tables::Cell;
 use pr_core::Verdict;
 use pr_params::OutParams;
 use scsi_cdb::{Class, Request};
@@ -220,23 +222,24 @@ fn let_through<D: DeviceServer>(
     kept: &mut Kept,
     nexus: Nexus,
     command: &Command,
+    in_cell: Cell,
     bytes: &[u8],
 ) -> Result<(Finding, Reply), AllocError>
     requires room { has_room kept.old nexus ≡ true }
+    requires known { in_cell ≡ cell kept.old.reservations nexus (class_of_command command.now) }
     requires allowed { verdict_of kept.old.reservations nexus command.now ≡ Allowed }
     ensures ok { IfOk result (λ it. let_through (record { device = D.shown server.old.value; kept = met kept.old nexus }) nexus command.now bytes.now ≡ (record { device = D.shown server.new.value; kept = kept.new }, it.0, it.1)) }
     ensures err { OnErr result ((D.shown server.new.value ≡ D.shown server.old.value) × (kept.new ≡ kept.old)) }
     ensures want { OnErr result ((asks_memory command.now && is_none (waiting (class_of_command command.now) (first_other_of (met kept.old nexus).slots nexus))) ≡ true) }
 {
-    let cell = kept.cell(nexus, command);
     match waiting(command.class(), kept.first_other(nexus)) {
         Some(kind) => Ok((
-            Finding::let_in(cell, Stage::OtherAttention),
+            Finding::let_in(in_cell, Stage::OtherAttention),
             kept.tell(alloc, nexus, kind),
         )),
         None => {
             let (finding, reply) = carry_out(alloc, server, kept, nexus, command, bytes)?;
-            Ok((finding.in_cell(cell), reply))
+            Ok((finding.in_cell(in_cell), reply))
         }
     }
 }
@@ -255,14 +258,16 @@ fn check<D: DeviceServer>(
     ensures err { OnErr result ((D.shown server.new.value ≡ D.shown server.old.value) × (kept.new ≡ kept.old)) }
     ensures want { OnErr result ((asks_memory command.now && (is_allowed_by (verdict_of kept.old.reservations nexus command.now) && is_none (waiting (class_of_command command.now) (first_other_of (met kept.old nexus).slots nexus)))) ≡ true) }
 {
-    let rule = match kept.verdict(nexus, command) {
-        Verdict::Allowed => return let_through(alloc, server, kept, nexus, command, bytes),
+    let in_cell = kept.cell(nexus, command);
+    let rule = match kept.verdict(nexus, command, in_cell) {
+        Verdict::Allowed => {
+            return let_through(alloc, server, kept, nexus, command, in_cell, bytes);
+        }
         Verdict::Denied(_) => None,
         Verdict::Rule(rule) => Some(rule),
     };
-    let cell = kept.cell(nexus, command);
     kept.meet(nexus);
-    Ok((Finding::in_conflict(cell, rule), Reply::conflict(alloc)))
+    Ok((Finding::in_conflict(in_cell, rule), Reply::conflict(alloc)))
 }
 
 /// A command that the bytes spell: an attention of ASC 29h, or the reservation check.

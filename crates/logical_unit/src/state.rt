@@ -80,8 +80,9 @@ impl UnitState {
     }
 
     /// Whether a sender has a slot, or one is left for it.
-    pub(crate) fn has_room(&self, nexus: Nexus) -> bool
-        ensures { result ≡ has_room self.now.kept nexus }
+    pub(crate) fn has_room(&mut self, nexus: Nexus) -> bool
+        ensures room { result ≡ has_room self.old.kept nexus }
+        ensures same { self.new ≡ self.old }
     {
         self.kept.has_room(nexus)
     }

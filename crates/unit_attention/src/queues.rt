@@ -17,6 +17,8 @@ pub struct NoSlot;
 #[derive(Debug, Default, Drop)]
 pub struct Queues {
     slots: ArrayVec<(Nexus, Pending), SLOTS>,
+    /// Where the slot that `find` found last stood. It is a guess: any number is right.
+    recent: usize,
 }
 
 impl Model for Queues {
@@ -44,6 +46,7 @@ impl Queues {
     {
         Queues {
             slots: ArrayVec::new(),
+            recent: 0,
         }
     }
 
@@ -52,7 +55,7 @@ impl Queues {
         ensures found { IfOk result (λ place. IsSlotAt self.now nexus place) }
         ensures absent { OnErr result (slot_of self.now nexus ≡ None) }
     {
-        place_of(self.slots.as_slice(), nexus)
+        place_near(self.slots.as_slice(), self.recent, nexus)
     }
 
     fn pending(&self, nexus: Nexus) -> Option<&Pending>
@@ -60,6 +63,20 @@ impl Queues {
     {
         let place = self.place(nexus).ok()?;
         Some(&self.slots.as_slice()[place].1)
+    }
+
+    /// Whether a nexus has a slot. Until another is looked for so, its slot is found at once.
+    pub fn find(&mut self, nexus: Nexus) -> bool
+        ensures found { result ≡ has_slot self.old nexus }
+        ensures same { self.new ≡ self.old }
+    {
+        match self.place(nexus) {
+            Ok(place) => {
+                self.recent = place;
+                true
+            }
+            Err(_) => false,
+        }
     }
 
     /// Whether a nexus has a slot.
@@ -182,6 +199,22 @@ impl Queues {
         for (nexus, pending) in self.slots.as_slice() {
             slots.push((*nexus, pending.copy()));
         }
-        Queues { slots }
+        Queues { slots, recent: 0 }
     }
+}
+
+ghost use Rattle.std.specs.Prelude.{T};
+ghost use Rattle.std.specs.FinMap.{is_sorted};
+ghost use Rattle.scsi_nexus.specs.Order.{nexus_cmp};
+ghost use Rattle.scsi_nexus.specs.Place.{IsPlaceOf};
+
+/// Where the slot of a nexus stands, or would. A place that it may have is tried first.
+fn place_near(slots: &[(Nexus, Pending)], guess: usize, nexus: Nexus) -> Result<usize, usize>
+    requires { T (is_sorted nexus_cmp slots.now) }
+    ensures { IsPlaceOf nexus slots.now result }
+{
+    if guess < slots.len() && slots[guess].0 == nexus {
+        return Ok(guess);
+    }
+    place_of(slots, nexus)
 }

@@ -74,11 +74,12 @@ impl Kept {
         &self.reservations
     }
 
-    /// Whether a sender has a slot, or one is left for it.
-    pub fn has_room(&self, nexus: Nexus) -> bool
-        ensures { result ≡ has_room self.now nexus }
+    /// Whether a sender has a slot, or one is left for it. What is asked of the same sender next finds its slot at once.
+    pub fn has_room(&mut self, nexus: Nexus) -> bool
+        ensures room { result ≡ has_room self.old nexus }
+        ensures same { self.new ≡ self.old }
     {
-        self.queues.has(nexus) || !self.queues.is_full()
+        self.queues.find(nexus) || !self.queues.is_full()
     }
 
     /// The contact that each command is: a nexus without a slot gets one.
@@ -227,8 +228,9 @@ impl Kept {
         self.reservations.cell(nexus, command.class())
     }
 
-    /// What the reservation check says of a command.
-    pub fn verdict(&self, nexus: Nexus, command: &Command) -> Verdict
+    /// What the reservation check says of a command, whose cell was found before.
+    pub fn verdict(&self, nexus: Nexus, command: &Command, in_cell: Cell) -> Verdict
+        requires { in_cell ≡ cell self.now.reservations nexus (class_of_command command.now) }
         ensures { result ≡ verdict_of self.now.reservations nexus command.now }
     {
         match command {
@@ -239,11 +241,10 @@ impl Kept {
             | Command::RequestSense(_, _)
             | Command::Prevent(_)
             | Command::Device(_) => {
-                let cell = self.reservations.cell(nexus, command.class());
-                if is_allowed(cell) {
+                if is_allowed(in_cell) {
                     Verdict::Allowed
                 } else {
-                    Verdict::Denied(cell)
+                    Verdict::Denied(in_cell)
                 }
             }
         }
