@@ -1,3 +1,4 @@
+pub mod Limits
 pub mod Senses
 pub mod Outcomes
 pub mod Mode

@@ -1,22 +1,26 @@
 use std::alloc::{AllocError, Global};
 use std::marker::Model;
 
-/// The data of an answer. Contracts see its bytes.
+/// The data of an answer: at most 65,536 bytes, as many as one command reads (profile). Contracts see its bytes.
 #[derive(Debug, Drop)]
 pub struct Payload {
     bytes: Vec<u8>,
 }
 
 impl Model for Payload {
-    ghost use Rattle.std.specs.Prelude.{List, ℕ};
+    ghost use Rattle.std.specs.Prelude.{List, ℕ, ◌≤◌, length};
+    ghost use Rattle.device_server.specs.Limits.{data_limit};
 
     ghost Value = { List ℕ };
 
     ghost view = { λ p. p.bytes.items };
+
+    ghost invariant = { λ p. length p.bytes.items ≤ data_limit };
 }
 
 impl Payload {
-    ghost use Rattle.std.specs.Prelude.{◌≡◌, [], take, IfOk};
+    ghost use Rattle.std.specs.Prelude.{◌≡◌, ◌≤◌, [], length, take, IfOk};
+    ghost use Rattle.device_server.specs.Limits.{data_limit};
 
     /// No data.
     pub fn none(alloc: Global) -> Payload
@@ -29,6 +33,7 @@ impl Payload {
 
     /// These bytes.
     pub fn of(bytes: Vec<u8>) -> Payload
+        requires { length bytes.items ≤ data_limit }
         ensures { result ≡ bytes.items }
     {
         Payload { bytes }
@@ -36,6 +41,7 @@ impl Payload {
 
     /// A copy of these bytes.
     pub fn copied(alloc: Global, bytes: &[u8]) -> Result<Payload, AllocError>
+        requires { length bytes.now ≤ data_limit }
         ensures { IfOk result (λ payload. payload ≡ bytes.now) }
     {
         Ok(Payload {
@@ -52,8 +58,10 @@ impl Payload {
         self
     }
 
+    /// The bytes, at most 65,536.
     pub fn bytes(&self) -> &[u8]
-        ensures { result.now ≡ self.now }
+        ensures bytes { result.now ≡ self.now }
+        ensures short { length self.now ≤ data_limit }
     {
         self.bytes.as_slice()
     }

@@ -1,6 +1,8 @@
 use Rattle.std.specs.Prelude.{ℕ, ◌≤◌, List, length, Option}
 use Rattle.tape_medium.specs.declared.volume.VolumeTag.{VolumeTag}
 use Rattle.tape_medium.specs.declared.volume.Volume.{Volume}
+use Rattle.element_map.specs.declared.element_type.ElementType.{ElementType}
+use Rattle.element_map.specs.declared.element_type.ElementType.TheVariants.{MediumTransport, DataTransfer, ImportExport, Storage}
 
 -- how many elements of each type there are at most (profile)
 abbrev pub drive_limit : ℕ
@@ -16,3 +18,10 @@ pub record IsWithinLimits (data_transfer : List (Option VolumeTag)) (import_expo
   pub drives : length data_transfer ≤ drive_limit
   pub portals : length import_export ≤ portal_limit
   pub slots : length storage ≤ slot_limit
+
+-- how many elements of a type there may be; there is one medium transport element
+abbrev pub limit_of : ElementType → ℕ
+limit_of MediumTransport = 1
+limit_of DataTransfer = drive_limit
+limit_of ImportExport = portal_limit
+limit_of Storage = slot_limit

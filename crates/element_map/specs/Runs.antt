@@ -93,9 +93,9 @@ pub record IsReport (e : Elements) (r : Report) : Type 0 where
   pub import_export : IsRun e ImportExport r.import_export
   pub storage : IsRun e Storage r.storage
 
--- no run goes past 1024 elements
+-- no run goes past as many elements as there may be of its type
 pub record IsSmall (r : Report) : Type 0 where
-  pub medium_transport : r.medium_transport.from + r.medium_transport.count ≤ 1024
-  pub data_transfer : r.data_transfer.from + r.data_transfer.count ≤ 1024
-  pub import_export : r.import_export.from + r.import_export.count ≤ 1024
+  pub medium_transport : r.medium_transport.from + r.medium_transport.count ≤ 1
+  pub data_transfer : r.data_transfer.from + r.data_transfer.count ≤ 4
+  pub import_export : r.import_export.from + r.import_export.count ≤ 16
   pub storage : r.storage.from + r.storage.count ≤ 1024

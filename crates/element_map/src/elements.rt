@@ -2,7 +2,7 @@
 
 ghost use Rattle.std.specs.Prelude.{◌≡◌, ◌≤◌, length, Ok, Err, OnOk, OnErr, IfOk, IfErr};
 ghost use Rattle.tape_medium.specs.Elements.{empty_elements, reads, takes, puts, notes};
-ghost use Rattle.element_map.specs.Limits.{drive_limit, portal_limit, slot_limit};
+ghost use Rattle.element_map.specs.Limits.{drive_limit, portal_limit, slot_limit, limit_of};
 ghost use Rattle.element_map.specs.Runs.{count_of};
 
 use crate::address::Element;
@@ -66,7 +66,8 @@ impl Elements {
     /// How many elements of a type there are, from `ElementType::first_address` on. There is one medium transport element.
     pub fn count(&self, element_type: ElementType) -> u16
         ensures number { result ≡ count_of self.now element_type }
-        ensures within { result ≤ slot_limit }
+        ensures within { result ≤ limit_of element_type }
+        ensures few { result ≤ slot_limit }
     {
         match element_type {
             ElementType::MediumTransport => 1,

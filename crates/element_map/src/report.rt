@@ -1,6 +1,6 @@
 //! What READ ELEMENT STATUS reports.
 
-ghost use Rattle.std.specs.Prelude.{◌≡◌, ◌<◌, ◌^◌};
+ghost use Rattle.std.specs.Prelude.{◌≡◌, ◌≤◌};
 ghost use Rattle.tape_medium.specs.ElementStatus.{reported};
 ghost use Rattle.element_map.specs.Runs.{in_report, number_in, length_in, first_of_report, IsReport, IsSmall};
 
@@ -58,7 +58,7 @@ impl Report {
     pub(crate) fn length(self, voltag: bool) -> usize
         requires { IsSmall self }
         ensures length { result ≡ length_in voltag self }
-        ensures few { result < 2 ^ 24 }
+        ensures few { result ≤ 54372 }
     {
         self.medium_transport.page_length(voltag)
             + self.data_transfer.page_length(voltag)

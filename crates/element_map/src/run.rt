@@ -1,6 +1,7 @@
 //! Consecutive elements of one type.
 
 ghost use Rattle.std.specs.Prelude.{◌≡◌, ◌<◌, ◌≤◌, ◌+◌, length, slice_index_or, None};
+ghost use Rattle.element_map.specs.Limits.{limit_of};
 ghost use Rattle.element_map.specs.Runs.{tags_of, from_address, count_from, page_length, first_in, IsRun};
 ghost use Rattle.tape_medium.specs.ElementStatus.{descriptor_length};
 
@@ -58,7 +59,8 @@ impl Elements {
     /// How many elements of a type there are, a tag for each.
     fn number_of(&self, element_type: ElementType) -> usize
         ensures number { result ≡ length (tags_of self.now element_type) }
-        ensures within { result ≤ 1024 }
+        ensures within { result ≤ limit_of element_type }
+        ensures few { result ≤ 1024 }
     {
         usize::from(self.count(element_type))
     }
@@ -88,7 +90,7 @@ impl Elements {
         ensures count { result.count ≡ count_from type_code element_type (length (tags_of self.now element_type)) start count }
         ensures from { result.from ≡ from_address element_type (length (tags_of self.now element_type)) start }
         ensures inside { IsRun self.now element_type result }
-        ensures within { result.from + result.count ≤ 1024 }
+        ensures within { result.from + result.count ≤ limit_of element_type }
     {
         let number = self.number_of(element_type);
         let from = start.saturating_sub(element_type.first_address()) as usize;

@@ -16,7 +16,7 @@ impl Elements {
     /// The parameter data of READ ELEMENT STATUS, uncut: a header of 8 bytes, and for each type a page of the elements
     /// that are reported. Those are of the type with `type_code`, of all types at 0, from the address `start` on, at
     /// most `count`; `voltag` asks for the primary volume tag information, 36 bytes a descriptor (SMC-3, "READ
-    /// ELEMENT STATUS command"). All memory is taken at once.
+    /// ELEMENT STATUS command"). All memory is taken at once. Of as many elements as there may be it is 54,380 bytes.
     pub fn status(
         &self,
         alloc: Global,
@@ -25,7 +25,8 @@ impl Elements {
         count: u16,
         voltag: bool,
     ) -> Result<Vec<u8>, AllocError>
-        ensures { IfOk result (λ bytes. bytes.items ≡ element_status self.now type_code start count voltag) }
+        ensures status { IfOk result (λ bytes. bytes.items ≡ element_status self.now type_code start count voltag) }
+        ensures short { IfOk result (λ bytes. length bytes.items ≤ 65536) }
     {
         let report = self.report(type_code, start, count);
         let length = report.length(voltag);

@@ -5,7 +5,7 @@ ghost use Rattle.frames.specs.Replies.{LogoutReply, reply_bytes};
 ghost use Rattle.session.specs.Answering.{Commanded, WasReset, Says};
 
 use crate::station::Station;
-use frames::{Frame, LONGEST_DATA, ReplyFrame, write_reply};
+use frames::{Frame, ReplyFrame, write_reply};
 use scsi_nexus::Nexus;
 use std::alloc::{AllocError, Global};
 
@@ -23,16 +23,11 @@ fn command<S: Station>(
 {
     let done = station.submit(alloc, nexus, lun, cdb, bytes);
     let reply = &done.receipt().reply;
-    let data = reply.payload.bytes();
-    // No unit answers with more; where one did, its frame would be refused like want of memory.
-    if data.len() > LONGEST_DATA {
-        return Err(AllocError);
-    }
     let frame = ReplyFrame::Command {
         status: reply.status,
         sense: reply.sense,
         number: reply.number,
-        bytes: data,
+        bytes: reply.payload.bytes(),
     };
     write_reply(out, &frame)
 }

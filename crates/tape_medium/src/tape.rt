@@ -1,7 +1,7 @@
 //! The tape.
 
 ghost use Rattle.std.specs.Prelude.{◌≡◌, ◌<◌, ◌≤◌, ◌+◌, ◌++◌, ◌↔◌, length, OnOk, OnErr, IfOk, IfErr, IsOk, IsErrOf, IsTrue, Ok, vec_len, vec_capacity, IsOkUnless};
-ghost use Rattle.tape_medium.specs.Limits.{capacity_limit, object_limit};
+ghost use Rattle.tape_medium.specs.Limits.{block_limit, capacity_limit, object_limit};
 ghost use Rattle.tape_medium.specs.Along.{code_of};
 ghost use Rattle.tape_medium.specs.Space.{spaced};
 ghost use Rattle.tape_medium.specs.Tape.{blank, writes_block, writes_blocks, writes_marks, IsFaultOf, object_at, item_of, bytes_of, passed, moved_to, located, erased};
@@ -25,13 +25,13 @@ pub struct Tape {
 
 impl Model for Tape {
     ghost use Rattle.tape_medium.specs.TapeView.{TapeView};
-    ghost use Rattle.tape_medium.specs.Kept.{IsTape};
+    ghost use Rattle.tape_medium.specs.Kept.{IsTape, AreShort};
 
     ghost Value = { TapeView };
 
     ghost view = { λ a. record { objects = a.store; position = a.position; capacity = a.capacity } };
 
-    ghost invariant = { λ a. IsTape a.store a.position a.capacity };
+    ghost invariant = { λ a. IsTape a.store a.position a.capacity × AreShort a.store };
 }
 
 impl Tape {
@@ -188,6 +188,7 @@ impl Tape {
     pub fn read(&mut self, limit: u32, into: &mut Vec<u8>) -> Result<Item, TapeFault>
         ensures item { IfOk result (λ item. item ≡ item_of (object_at self.old)) }
         ensures bytes { OnOk result (into.new.items ≡ into.old.items ++ bytes_of (object_at self.old) limit) }
+        ensures short { OnOk result (length (bytes_of (object_at self.old) limit) ≤ block_limit) }
         ensures after { OnOk result (self.new ≡ passed (object_at self.old) self.old) }
 
         ensures only { IsOkUnless result TapeFault.NoMemory }

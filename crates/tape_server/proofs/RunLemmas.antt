@@ -1,5 +1,5 @@
 -- A run of blocks of one size: so far, one block more, and its end.
-use Rattle.std.proofs.Common.{rules, ◌≡◌, ℕ, ◌+◌, ◌-◌, ◌*◌, ◌<◌, ◌≤◌, zero, suc, true, false, List, [], ◌∷◌, ◌++◌, length, drop, sym, refl, arith, Option, Some, None, length-append, append_assoc, eqb}
+use Rattle.std.proofs.Common.{rules, ◌≡◌, ℕ, Bool, cond, ◌+◌, ◌-◌, ◌*◌, ◌<◌, ◌≤◌, zero, suc, true, false, List, [], ◌∷◌, ◌++◌, length, drop, sym, refl, arith, Option, Some, None, length-append, append_assoc, eqb}
 use Rattle.std.specs.Prelude.{slice_get, is_some}
 use Rattle.std.specs.List.{flat_map}
 use Rattle.std.proofs.Math.Nat.{suc-mul}
@@ -124,3 +124,19 @@ run-stopped size count old now done first bytes told next all is some after has 
 pub run-stepped : (size count : ℕ) (old now : TapeView) (done : ℕ) (first bytes : List ℕ) (told : Option Item) (next : TapeView) (all : List ℕ) → told ≡ met size (object_at now) → is_some told ≡ false → next ≡ passed (object_at now) now → all ≡ bytes ++ whole_bytes size (object_at now) → done < count → RunSoFar size count old now done first bytes → RunSoFar size count old next (done + 1) first all
 run-stepped size count old now done first bytes told next all is none after has within so =
     rw (after, has) (run-step size count old now done first bytes (object_at now) refl (block-of-met size (object_at now) told is none) within so)
+
+block-fits : (b : Bool) (bytes rest : List ℕ) (size count : ℕ) → (b ≡ true → length bytes ≡ size) → length rest ≤ count * size → length (cond b (bytes ++ rest) []) ≤ suc count * size
+block-fits false bytes rest size count same fits = omega arith
+block-fits true bytes rest size count same fits = omega (arith, length-append bytes rest, same refl, suc-mul count size)
+
+-- a run has no more bytes than were asked for
+pub length-run : (size count : ℕ) (objects : List Object) → length (flat_map bytes_of_object (run size objects count)) ≤ count * size
+length-run size zero objects = grind arith
+length-run size (suc count) [] = omega arith
+length-run size (suc count) (Mark ∷ objects) = omega arith
+length-run size (suc count) (Block bytes ∷ objects) =
+    let rest = length-run size count objects in
+    elim (eqb (length bytes) size) as (λ b. eqb (length bytes) size ≡ b → length (flat_map bytes_of_object (cond b (Block bytes ∷ run size objects count) [])) ≤ suc count * size) [
+      | true ↦ λ e. block-fits true bytes (flat_map bytes_of_object (run size objects count)) size count (λ _. grind (arith, common_steps)) rest
+      | false ↦ λ e. omega arith
+    ] refl

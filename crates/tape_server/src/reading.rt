@@ -4,6 +4,7 @@ ghost use Rattle.std.specs.Prelude.{◌≡◌, ◌+◌, ◌*◌, ◌++◌, ◌�
 ghost use Rattle.std.specs.List.{flat_map};
 ghost use Rattle.scsi_sense.specs.declared.condition.Condition.TheVariants.{InvalidFieldInCdb};
 ghost use Rattle.tape_medium.specs.Tape.{ahead, object_at, passed, item_of, bytes_of};
+ghost use Rattle.device_server.specs.Limits.{data_limit};
 ghost use Rattle.device_server.specs.Outcomes.{refused};
 ghost use Rattle.device_server.specs.Drive.{reads, reads_fixed, one_block, unless_nothing, is_fixed_transfer, run, bytes_of_object, ended_by, after_run, end_of_run};
 ghost use Rattle.tape_server.specs.Steps.{is_block, is_item_of, met, whole_bytes};
@@ -52,6 +53,7 @@ fn one_block(
     had: u32,
     bytes: Vec<u8>,
 ) -> Outcome
+    requires { length bytes.items ≤ data_limit }
     ensures { result ≡ one_block suppress_incorrect_length block_length asked had bytes.items }
 {
     let payload = Payload::of(bytes);
@@ -95,6 +97,7 @@ pub(crate) fn read_blocks(
 
 /// The end of a READ of blocks that has so many left to read, by what it met.
 fn end_of_run(left: u32, met: Option<Item>, bytes: Vec<u8>) -> Outcome
+    requires { length bytes.items ≤ data_limit }
     ensures { result ≡ end_of_run left met bytes.items }
 {
     let payload = Payload::of(bytes);

@@ -283,8 +283,9 @@ impl Kept {
     ) -> Result<Payload, AllocError>
         ensures { IfOk result (λ payload. payload ≡ take allocation_length (status_data self.now.reservations service_action)) }
     {
-        let data = self.status_data(alloc, service_action, allocation_length)?;
-        Ok(Payload::of(data).cut(usize::from(allocation_length)))
+        let mut data = self.status_data(alloc, service_action, allocation_length)?;
+        data.truncate(usize::from(allocation_length));
+        Ok(Payload::of(data))
     }
 
     /// Contact, and an allowed PERSISTENT RESERVE OUT command with the attentions that it raises.
