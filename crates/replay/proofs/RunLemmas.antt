@@ -1,6 +1,8 @@
 -- A run whose text is added as it goes.
-use Rattle.std.proofs.Common.{◌≡◌, ℕ, ◌+◌, ◌<◌, List, [], ◌∷◌, ◌++◌, Result, Ok, Err, is_ok, true, false, refl, sym, ap, ◌∙◌, append_assoc, length, take, get_or}
-use Rattle.std.specs.Prelude.{OnOk}
+use Rattle.std.proofs.Common.{◌≡◌, ℕ, ◌+◌, ◌<◌, List, [], ◌∷◌, ◌++◌, Result, Ok, Err, is_ok, true, false, refl, ap, ◌∙◌, append_assoc, length, take, get_or}
+use Rattle.std.specs.Prelude.{IsOk, OnOk}
+use Rattle.std.specs.Global.{Vec}
+use Rattle.std.proofs.lemmas.Grind.{flat_map-append}
 use Rattle.std.proofs.lemmas.List.{take_more, append-nil}
 use Rattle.unit_answers.specs.declared.reply.Reply.{Reply}
 use Rattle.logical_unit.specs.UnitView.{UnitView}
@@ -10,22 +12,23 @@ use Rattle.target_core.proofs.Runs.{Runs-append}
 use Rattle.replay_output.specs.declared.explained.Explanations.{Explanations}
 use Rattle.replay_output.specs.declared.explained.Explanations.TheVariants.{Off}
 use Rattle.replay_output.specs.Replies.{reply_line, text_of}
+use Rattle.replay_script.specs.Events.{joined}
 use Rattle.replay.specs.Texts.{event_text, run_text}
 
--- the first events were run, and, if the outcome is good, what is written of their replies was added
-pub record Printed {E : Type 0} (us : List UnitView) (es : List Event) (i : ℕ) (x : Explanations) (written : Result (Unit {0}) E) (old now : List ℕ) (vs : List UnitView) : Type 0 where
+-- events were run, and, if the outcome is good, so was the one before, and what is written of their replies was added
+pub record Printed {E : Type 0} (us : List UnitView) (es : List Event) (x : Explanations) (before written : Result (Unit {0}) E) (old now : List ℕ) (vs : List UnitView) : Type 0 where
   pub replies : List Reply
-  pub run : Runs us (take i es) replies vs
-  pub lines : OnOk written (now ≡ old ++ run_text x (take i es) replies)
+  pub run : Runs us es replies vs
+  pub lines : OnOk written (IsOk before × (now ≡ old ++ run_text x es replies))
 
--- the text of a run with an event more
-text_on : (x : Explanations) (us vs : List UnitView) (es : List Event) (rs : List Reply) (e : Event) (r : Reply) → Runs us es rs vs
-    → run_text x es rs ++ event_text x e r ≡ run_text x (es ++ e ∷ []) (rs ++ r ∷ [])
-text_on x us vs [] [] e r run = sym (append-nil (event_text x e r))
-text_on x us vs [] (q ∷ rs) e r run = absurd run
-text_on x us vs (d ∷ es) [] e r run = absurd run
-text_on x us vs (d ∷ es) (q ∷ rs) e r run =
-    append_assoc (event_text x d q) (run_text x es rs) (event_text x e r) ∙ ap (λ (t : List ℕ). event_text x d q ++ t) (text_on x run.0 vs es rs e r run.2)
+-- the text of a run and of one behind it
+text_on : (x : Explanations) (us vs : List UnitView) (es fs : List Event) (rs qs : List Reply) → Runs us es rs vs
+    → run_text x es rs ++ run_text x fs qs ≡ run_text x (es ++ fs) (rs ++ qs)
+text_on x us vs [] fs [] qs run = refl
+text_on x us vs [] fs (r ∷ rs) qs run = absurd run
+text_on x us vs (e ∷ es) fs [] qs run = absurd run
+text_on x us vs (e ∷ es) fs (r ∷ rs) qs run =
+    append_assoc (event_text x e r) (run_text x es rs) (run_text x fs qs) ∙ ap (λ (t : List ℕ). event_text x e r ++ t) (text_on x run.0 vs es fs rs qs run.2)
 
 -- without words
 pub lines_of_run : (us vs : List UnitView) (es : List Event) (rs : List Reply) → Runs us es rs vs → run_text Off es rs ≡ text_of rs
@@ -34,46 +37,56 @@ lines_of_run us vs [] (q ∷ rs) run = absurd run
 lines_of_run us vs (d ∷ es) [] run = absurd run
 lines_of_run us vs (d ∷ es) (q ∷ rs) run = ap (λ (t : List ℕ). reply_line q ++ t) (lines_of_run run.0 vs es rs run.2)
 
--- what is written of a reply more
-text_more : (x : Explanations) (us ms : List UnitView) (es : List Event) (i : ℕ) (old now next : List ℕ) (rs : List Reply) (e : Event) (r : Reply) → Runs us (take i es) rs ms → i < length es → e ≡ get_or es i e
-    → now ≡ old ++ run_text x (take i es) rs → next ≡ now ++ event_text x e r → next ≡ old ++ run_text x (take (i + 1) es) (rs ++ r ∷ [])
-text_more x us ms es i old now next rs e r run h is before more =
-    rw (take_more es i e h, ← is)
-    (more ∙ ap (λ (t : List ℕ). t ++ event_text x e r) before ∙ append_assoc old (run_text x (take i es) rs) (event_text x e r)
-    ∙ ap (λ (t : List ℕ). old ++ t) (text_on x us ms (take i es) rs e r run))
+-- what is written of the replies to more events
+text_more : (x : Explanations) (us ms : List UnitView) (es fs : List Event) (rs qs : List Reply) (old now next : List ℕ) → Runs us es rs ms
+    → now ≡ old ++ run_text x es rs → next ≡ now ++ run_text x fs qs → next ≡ old ++ run_text x (es ++ fs) (rs ++ qs)
+text_more x us ms es fs rs qs old now next run before more =
+    more ∙ ap (λ (t : List ℕ). t ++ run_text x fs qs) before ∙ append_assoc old (run_text x es rs) (run_text x fs qs) ∙ ap (λ (t : List ℕ). old ++ t) (text_on x us ms es fs rs qs run)
 
-run_more : (us : List UnitView) (es : List Event) (i : ℕ) (ms : List UnitView) (rs : List Reply) (x : Event) (r : Reply) (vs : List UnitView) → Runs us (take i es) rs ms → i < length es → x ≡ get_or es i x → Steps ms x (vs, r)
-    → Runs us (take (i + 1) es) (rs ++ r ∷ []) vs
-run_more us es i ms rs x r vs t h is s = rw (take_more es i x h, ← is) (Runs-append us ms vs (take i es) (x ∷ []) rs (r ∷ []) t (vs, s, refl))
+on_both : {E : Type 0} (was written : Result (Unit {0}) E) (P Q R : Type 0) → (P → Q → R) → OnOk was P → OnOk written (IsOk was × Q) → OnOk written R
+on_both (Ok done) (Ok more) P Q R f h k = f h k.1
+on_both (Err e) (Ok more) P Q R f h k =
+    let bad = k.0 in
+    absurd cc
+on_both was (Err e) P Q R f h k = tt
 
-on_both : {E : Type 0} (written : Result (Unit {0}) E) (P Q : Type 0) → (P → Q) → OnOk written P → OnOk written Q
-on_both (Ok done) P Q f h = f h
-on_both (Err e) P Q f h = h
-
-before_it : {E : Type 0} (written : Result (Unit {0}) E) (P : Type 0) → is_ok written ≡ true → OnOk written P → P
-before_it (Ok done) P is h = h
-before_it (Err e) P is h = absurd cc
-
-no_line : {E : Type 0} (written : Result (Unit {0}) E) (P : Type 0) → is_ok written ≡ false → OnOk written P
-no_line (Ok done) P is = absurd cc
-no_line (Err e) P is = tt
-
--- an event more, of whose reply a text is added
-pub prints_on : {E : Type 0} {us : List UnitView} {es : List Event} {i : ℕ} {x : Explanations} {was : Result (Unit {0}) E} {old now : List ℕ} {ms : List UnitView} (e : Event) (r : Reply) (vs : List UnitView) (next : List ℕ) (written : Result (Unit {0}) E)
-    → Printed us es i x was old now ms → i < length es → e ≡ get_or es i e → Steps ms e (vs, r) → is_ok was ≡ true → OnOk written (next ≡ now ++ event_text x e r)
-    → Printed us es (i + 1) x written old next vs
-prints_on {us = us} {es = es} {i = i} {x = x} {was = was} {old = old} {now = now} {ms = ms} e r vs next written t h is s good line = record {
-  replies = t.replies ++ r ∷ [];
-  run = run_more us es i ms t.replies e r vs t.run h is s;
-  lines = on_both written _ _ (text_more x us ms es i old now next t.replies e r t.run h is (before_it was _ good t.lines)) line;
+-- more events, and what is written of their replies
+pub prints_more : {E : Type 0} {us : List UnitView} {es : List Event} {x : Explanations} {before was : Result (Unit {0}) E} {old now : List ℕ} {ms : List UnitView} (fs : List Event) (rs : List Reply) (vs : List UnitView) (next : List ℕ) (written : Result (Unit {0}) E)
+    → Printed us es x before was old now ms → Runs ms fs rs vs → OnOk written (IsOk was × (next ≡ now ++ run_text x fs rs)) → Printed us (es ++ fs) x before written old next vs
+prints_more {us = us} {es = es} {x = x} {was = was} {old = old} {now = now} {ms = ms} fs rs vs next written t run lines = record {
+  replies = t.replies ++ rs;
+  run = Runs-append us ms vs es fs t.replies rs t.run run;
+  lines = on_both was written _ _ _ (λ h k. (h.0, text_more x us ms es fs t.replies rs old now next t.run h.1 k)) t.lines lines;
 }
 
--- an event more, behind a text that found no memory
-pub runs_on : {E : Type 0} {us : List UnitView} {es : List Event} {i : ℕ} {x : Explanations} {was : Result (Unit {0}) E} {old now : List ℕ} {ms : List UnitView} (e : Event) (r : Reply) (vs : List UnitView) (next : List ℕ)
-    → Printed us es i x was old now ms → i < length es → e ≡ get_or es i e → Steps ms e (vs, r) → is_ok was ≡ false
-    → Printed us es (i + 1) x was old next vs
-runs_on {us = us} {es = es} {i = i} {was = was} {ms = ms} e r vs next t h is s bad = record {
-  replies = t.replies ++ r ∷ [];
-  run = run_more us es i ms t.replies e r vs t.run h is s;
-  lines = no_line was _ bad;
-}
+-- an event more of a list
+pub prints_on : {E : Type 0} {us : List UnitView} {x : Explanations} {before was : Result (Unit {0}) E} {old now : List ℕ} {ms : List UnitView} (es : List Event) (i : ℕ) (e : Event) (r : Reply) (vs : List UnitView) (next : List ℕ) (written : Result (Unit {0}) E)
+    → Printed us (take i es) x before was old now ms → i < length es → e ≡ get_or es i e → Steps ms e (vs, r) → OnOk written (IsOk was × (next ≡ now ++ event_text x e r))
+    → Printed us (take (i + 1) es) x before written old next vs
+prints_on {x = x} es i e r vs next written t h is s line =
+    rw (take_more es i e h, ← is) (prints_more (e ∷ []) (r ∷ []) vs next written t (vs, s, refl) (rw (append-nil (event_text x e r)) line))
+
+-- a line behind a good outcome, and none behind a text that found no memory
+pub with_line : {E : Type 0} (was written : Result (Unit {0}) E) (P : Type 0) → is_ok was ≡ true → OnOk written P → OnOk written (IsOk was × P)
+with_line was (Ok done) P good h = (good, h)
+with_line was (Err e) P good h = tt
+
+pub no_line : {E : Type 0} (was : Result (Unit {0}) E) (P : Type 0) → is_ok was ≡ false → OnOk was P
+no_line (Ok done) P bad = absurd cc
+no_line (Err e) P bad = tt
+
+-- a piece more
+pub piece_more : {E : Type 0} {us : List UnitView} {x : Explanations} {before was : Result (Unit {0}) E} {old now : List ℕ} {ms : List UnitView} (ps : List (Vec Event)) (p : Vec Event) (fs : List Event) (rs : List Reply) (vs : List UnitView) (next : List ℕ) (written : Result (Unit {0}) E)
+    → Printed us (joined ps) x before was old now ms → fs ≡ p.items → Runs ms fs rs vs → OnOk written (IsOk was × (next ≡ now ++ run_text x fs rs))
+    → Printed us (joined (ps ++ p ∷ [])) x before written old next vs
+piece_more ps p fs rs vs next written t is run lines =
+    rw (flat_map-append (λ (piece : Vec Event). piece.items) ps (p ∷ []), append-nil p.items, ← is) (prints_more fs rs vs next written t run lines)
+
+lines_alone : {E : Type 0} (written : Result (Unit {0}) E) (P Q : Type 0) → OnOk written (P × Q) → OnOk written Q
+lines_alone (Ok done) P Q h = h.1
+lines_alone (Err e) P Q h = tt
+
+-- the whole run
+pub printed : {E : Type 0} {us vs : List UnitView} {es : List Event} {x : Explanations} {written : Result (Unit {0}) E} {old now : List ℕ}
+    → Printed us es x (Ok tt) written old now vs → (replies : List Reply) × Runs us es replies vs × OnOk written (now ≡ old ++ run_text x es replies)
+printed {written = written} t = (t.replies, t.run, lines_alone written _ _ t.lines)

@@ -1,4 +1,4 @@
-ghost use Rattle.std.specs.Prelude.{◌≡◌, ◌⊎◌, ◌++◌, ℕ, List, Err, IfErr, OnOk};
+ghost use Rattle.std.specs.Prelude.{◌≡◌, ◌⊎◌, ◌++◌, ℕ, List, Err, IfErr, IsOk, OnOk};
 ghost use Rattle.std.specs.Io.KnownBytes.{Appends, Keeps};
 ghost use Rattle.replay.specs.Replay.{HasRun, IsBeforeOutput, IsBeforeRun, Refuses, Replays};
 ghost use Rattle.target_core.specs.Run.{Runs};
@@ -10,7 +10,7 @@ use crate::replay_fault::ReplayFault;
 use device_server::DeviceServer;
 use logical_unit::Reply;
 use replay_output::{Audit, Explanations, audit_text, write_explained};
-use replay_script::events_of;
+use replay_script::{Events, events_of};
 use script_input::read_all;
 use std::alloc::{AllocError, Global};
 use std::io;
@@ -54,7 +54,7 @@ pub fn replay<D: DeviceServer, R: Read, W: Write>(
     // The events hold all that is wanted of it.
     drop(input);
     let mut text = Vec::new(alloc);
-    run(alloc, core, &events, explanations, &mut text)?;
+    run(alloc, core, events, explanations, &mut text)?;
     let records = audit_text(alloc, audit, core.all())?;
     match write_out(writer, &text, records.as_bytes()) {
         Ok(()) => Ok(()),
@@ -62,19 +62,38 @@ pub fn replay<D: DeviceServer, R: Read, W: Write>(
     }
 }
 
-/// Runs events one after another, and adds what is written of each reply as it comes. All events are run, also
-/// where a line finds no memory.
+/// Runs events one after another, and adds what is written of each reply as it comes. A piece of them is let go once
+/// it has run. All events are run, also where a line finds no memory.
 fn run<D: DeviceServer>(
+    alloc: Global,
+    core: &mut TargetCore<D>,
+    events: Events,
+    explanations: Explanations,
+    text: &mut Vec<u8>,
+) -> Result<(), AllocError>
+    ensures { (replies : List Reply) × Runs core.old events replies core.new
+        × OnOk result (text.new.items ≡ text.old.items ++ run_text explanations events replies) }
+{
+    let mut written = Ok(());
+    for piece in events.into_pieces() {
+        written = run_piece(alloc, core, &piece, explanations, text, written);
+    }
+    written
+}
+
+/// Runs the events of a piece, and adds what is written of each reply unless an earlier line found no memory.
+fn run_piece<D: DeviceServer>(
     alloc: Global,
     core: &mut TargetCore<D>,
     events: &[Event],
     explanations: Explanations,
     text: &mut Vec<u8>,
+    before: Result<(), AllocError>,
 ) -> Result<(), AllocError>
     ensures { (replies : List Reply) × Runs core.old events.now replies core.new
-        × OnOk result (text.new.items ≡ text.old.items ++ run_text explanations events.now replies) }
+        × OnOk result (IsOk before × (text.new.items ≡ text.old.items ++ run_text explanations events.now replies)) }
 {
-    let mut written = Ok(());
+    let mut written = before;
     for event in events {
         let reply = core.step(alloc, event);
         if written.is_ok() {

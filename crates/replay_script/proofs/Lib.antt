@@ -4,3 +4,4 @@ pub mod Cuts
 pub mod Lines
 pub mod Limits
 pub mod RowLemmas
+pub mod Pieces

@@ -59,8 +59,8 @@ abbrev pub ScriptFails : {A : Type 0} → ScriptFault → Result (List A) (ℕ �
 ScriptFails (Line number what) read = read ≡ Err (number, what)
 ScriptFails NoMemory read = Unit {0}
 
-abbrev pub GivesScript : Result (Vec Event) ScriptFault → Result (List Said) (ℕ × LineFault) → Type 0
-GivesScript (Ok events) read = read ≡ Ok (saids events.items)
+abbrev pub GivesScript : Result (List Event) ScriptFault → Result (List Said) (ℕ × LineFault) → Type 0
+GivesScript (Ok events) read = read ≡ Ok (saids events)
 GivesScript (Err fault) read = ScriptFails fault read
 
 abbrev pub GivesRequests : Result (Vec Request) ScriptFault → Result (List Asked) (ℕ × LineFault) → Type 0

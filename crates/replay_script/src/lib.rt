@@ -4,6 +4,7 @@
 
 mod cutting;
 mod digits;
+mod events;
 mod host_script;
 mod laws;
 mod line;
@@ -16,6 +17,7 @@ mod script_fault;
 mod tests;
 mod words;
 
+pub use events::Events;
 pub use host_script::requests_of;
 pub use laws::worked_rows;
 pub use line_fault::LineFault;

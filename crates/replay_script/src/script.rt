@@ -3,10 +3,10 @@ ghost use Rattle.replay_script.specs.Lines.{line_in};
 ghost use Rattle.replay_script.specs.Script.{GivesScript, TakesLine, FailsAt, saids, script_in};
 
 use crate::cutting::cut;
+use crate::events::Events;
 use crate::line::{LineError, event_of};
 use crate::script_fault::ScriptFault;
 use std::alloc::Global;
-use target_core::Event;
 
 /// The events of a script, in the order of its lines, or its first line with a fault. A line ends at
 /// a line feed, which the last one may lack; empty lines and lines that begin with `#` have no event;
@@ -14,10 +14,10 @@ use target_core::Event;
 ///
 /// `Line`: the number of the first line with a fault, all lines counted from 1, and the first of its
 /// faults. `NoMemory` may come in place of any answer.
-pub fn events_of(alloc: Global, text: &[u8]) -> Result<Vec<Event>, ScriptFault>
+pub fn events_of(alloc: Global, text: &[u8]) -> Result<Events, ScriptFault>
     ensures { GivesScript result (script_in text.now) }
 {
-    let mut events = Vec::new(alloc);
+    let mut events = Events::new(alloc);
     let mut number = 0u64;
     let mut rest = Some(text);
     'lines: while let Some(bytes) = rest {
@@ -34,17 +34,17 @@ pub fn events_of(alloc: Global, text: &[u8]) -> Result<Vec<Event>, ScriptFault>
 /// Adds the event of a line, where it has one.
 fn take_line(
     alloc: Global,
-    events: &mut Vec<Event>,
+    events: &mut Events,
     number: u64,
     line: &[u8],
 ) -> Result<(), ScriptFault>
     ensures ok { OnOk result
-        (TakesLine (saids events.old.items) (saids events.new.items) (line_in line.now)) }
+        (TakesLine (saids events.old) (saids events.new) (line_in line.now)) }
     ensures err { IfErr result (λ fault. FailsAt number fault (line_in line.now)) }
 {
     match event_of(alloc, line) {
         Ok(None) => Ok(()),
-        Ok(Some(event)) => match events.push(event) {
+        Ok(Some(event)) => match events.push(alloc, event) {
             Ok(()) => Ok(()),
             Err(_) => Err(ScriptFault::NoMemory),
         },

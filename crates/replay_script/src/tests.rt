@@ -151,7 +151,9 @@ fn counts_every_line(rt: HostRuntime) -> Result<(), Fail> {
 #[test]
 fn takes_commands_with_and_without_data(rt: HostRuntime) -> Result<(), Fail> {
     let text = "500000000000000A.1 255 5F0000000000000018aB 00fF\n500000000000000a.2 0 00";
-    let events = events_of(rt.alloc(), text.as_bytes())?;
+    let pieces = events_of(rt.alloc(), text.as_bytes())?.into_pieces();
+    assert_eq!(rt; pieces.len(), 1);
+    let events = &pieces[0];
     assert_eq!(rt; events.len(), 2);
     let Event::Command {
         nexus,
@@ -177,7 +179,9 @@ fn takes_commands_with_and_without_data(rt: HostRuntime) -> Result<(), Fail> {
 #[test]
 fn takes_long_data(rt: HostRuntime) -> Result<(), Fail> {
     let text = "500000000000000a.1 1 0a0000001800 00112233445566778899aAbBcCdDeEfF0123456789aBcDeF";
-    let events = events_of(rt.alloc(), text.as_bytes())?;
+    let pieces = events_of(rt.alloc(), text.as_bytes())?.into_pieces();
+    assert_eq!(rt; pieces.len(), 1);
+    let events = &pieces[0];
     assert_eq!(rt; events.len(), 1);
     let Event::Command { bytes, .. } = &events[0] else {
         return Err("no command".into());
@@ -185,6 +189,25 @@ fn takes_long_data(rt: HostRuntime) -> Result<(), Fail> {
     let expected =
         b"\0\x11\x22\x33\x44\x55\x66\x77\x88\x99\xaa\xbb\xcc\xdd\xee\xff\x01\x23\x45\x67\x89\xab\xcd\xef";
     assert_eq!(rt; bytes.as_slice(), expected.as_slice());
+    Ok(())
+}
+
+#[test]
+fn takes_more_events_than_a_piece_has(rt: HostRuntime) -> Result<(), Fail> {
+    let mut text = String::new(rt.alloc());
+    for number in 0..8_193 {
+        text.push_str(if number % 4_096 == 0 {
+            "reset 1\n"
+        } else {
+            "reset 0\n"
+        })?;
+    }
+    let pieces = events_of(rt.alloc(), text.as_bytes())?.into_pieces();
+    assert_eq!(rt; pieces.len(), 3);
+    for (piece, len) in pieces.iter().zip([4_096, 4_096, 1]) {
+        assert_eq!(rt; piece.len(), len);
+        assert!(rt; matches!(&piece[0], Event::Reset { lun: 1 }));
+    }
     Ok(())
 }
 

@@ -7,11 +7,11 @@ returns-in-Ok-clause-ok g c =
     record {
       ran = record {
         input = c.in_ok-input.input.items;
-        events = c.in_ok-events.events.items;
+        events = c.in_ok-events.events;
         replies = ran.0;
         whole = c.in_ok-input.ensures.ok;
         script = search rules;
-        run = rw c.deref-2.ensures.value at ran.1;
+        run = ran.1;
       };
-      lines = rw (c.as_bytes.ensures.value, c.in_ok-records.ensures, c.all.ensures.units, c.deref-3.ensures.value, ran.2, c.new-text.ensures.items, c.deref-2.ensures.value) at c.in-Ok.ensures;
+      lines = rw (c.as_bytes.ensures.value, c.in_ok-records.ensures, c.all.ensures.units, c.deref-2.ensures.value, ran.2, c.new-text.ensures.items) at c.in-Ok.ensures;
     }

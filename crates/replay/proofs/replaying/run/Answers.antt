@@ -1,23 +1,18 @@
-use Rattle.std.proofs.Common.{sym, ◌∙◌, arith}
-use Rattle.std.proofs.lemmas.List.{take_all}
-use Rattle.replay.proofs.RunLemmas.{prints_on, runs_on}
+use Rattle.std.proofs.Common.{◌≡◌, sym, ◌∙◌, ap, map-id, rules}
+use Rattle.std.proofs.lemmas.Iterator.Consumers.{YieldsList-end}
+use Rattle.std.proofs.lemmas.Iterator.Adapters.{YieldsList-from_vec}
+use Rattle.replay_script.specs.Events.{joined}
+use Rattle.replay.proofs.RunLemmas.{piece_more, printed}
 use Rattle.replay.proofs.replaying.run.Goals as goal
-use Rattle.replay.proofs.replaying.run.Goals.{then-is_ok, else-is_ok}
+
+pub loop-piece-preserved : goal.loop-piece-preserved
+loop-piece-preserved g c =
+    let ran = c.run_piece-written.ensures in
+    piece_more c.loop-piece.yielded c.in-Some.piece _ ran.0 _ _ _ c.loop-piece.invariant c.deref.ensures.value ran.1 ran.2
 
 pub returns : goal.returns
 returns g c =
-    let all = take_all c.loop-event.event-index c.args.events.now (omega (arith, c.loop-event-test.false)) in
-    (c.loop-event.invariant.replies, rw all at c.loop-event.invariant.run, rw all at c.loop-event.invariant.lines)
-
-pub loop-event-preserved : goal.loop-event-preserved
-loop-event-preserved g c =
-    elim c.if-is_ok.branch [
-      | then-is_ok w ↦
-          rw (w.written-is, w.text-is)
-          (prints_on c.event-item.result c.step-reply.result c.step-reply.new.self _ _ c.loop-event.invariant c.loop-event-test.true c.event-item.is c.step-reply.ensures
-          (sym c.is_ok.ensures.value ∙ w.if-is_ok.true) w.write_event-written.ensures)
-      | else-is_ok w ↦
-          rw (w.written-is, w.text-is)
-          (runs_on c.event-item.result c.step-reply.result c.step-reply.new.self _ c.loop-event.invariant c.loop-event-test.true c.event-item.is c.step-reply.ensures
-          (sym c.is_ok.ensures.value ∙ w.if-is_ok.false))
-    ]
+    let end = YieldsList-end (YieldsList-from_vec {s = c.into_iter-piece-iterator.result} c.into_pieces-piece-items.result.items (search rules) (search rules))
+    c.loop-piece.yielded c.loop-piece.piece-iterator c.loop-piece.yielded_by c.next.result c.next.new.self c.in-None.is c.next.ensures.steps in
+    let all : joined c.loop-piece.yielded ≡ c.args.events = ap joined (sym (map-id c.loop-piece.yielded) ∙ end.0) ∙ c.into_pieces-piece-items.ensures in
+    printed (rw all at c.loop-piece.invariant)

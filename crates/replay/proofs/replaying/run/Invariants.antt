@@ -1,5 +1,7 @@
+use Rattle.std.proofs.Common.{Ok}
+use Rattle.replay_script.specs.Events.{joined}
 use Rattle.replay.proofs.RunLemmas.{Printed}
 use Rattle.replay.proofs.replaying.run.Given as goal
 
-abbrev pub invariant-loop-event : goal.invariant-loop-event
-invariant-loop-event g l = Printed l.fn.core l.events l.event-index l.explanations l.written l.fn.text.items l.text.items l.core
+abbrev pub invariant-loop-piece : goal.invariant-loop-piece
+invariant-loop-piece g l = Printed l.fn.core (joined l.yielded) l.explanations (Ok tt) l.written l.fn.text.items l.text.items l.core

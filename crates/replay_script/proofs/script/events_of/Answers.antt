@@ -7,7 +7,7 @@ use Rattle.replay_script.proofs.script.events_of.Goals as goal
 pub lines-init : goal.lines-init
 unfolding events_in
 lines-init c = record {
-  known = rw c.new-events.ensures.items (start _);
+  known = rw c.new-events.ensures (start _);
   counted = omega arith;
 }
 
