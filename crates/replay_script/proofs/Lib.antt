@@ -5,3 +5,4 @@ pub mod Lines
 pub mod Limits
 pub mod RowLemmas
 pub mod Pieces
+pub mod Lanes

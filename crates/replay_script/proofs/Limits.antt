@@ -1,5 +1,5 @@
 -- What a host's script gives is within the limits of its words.
-use Rattle.std.proofs.Common.{◌≡◌, ℕ, ◌+◌, ◌<◌, ◌≤◌, Bool, true, false, cond, ltb, leb, eqb, ◌&&◌, List, [], ◌∷◌, ◌++◌, length, get_or, Option, Some, None, Result, Ok, Err, refl, sym, subst, ◌∙◌, arith}
+use Rattle.std.proofs.Common.{◌≡◌, ℕ, ◌+◌, ◌<◌, ◌≤◌, Bool, true, false, cond, ltb, leb, eqb, ◌&&◌, List, [], ◌∷◌, length, get_or, Option, Some, None, Result, Ok, Err, refl, subst, arith}
 use Rattle.std.specs.Prelude.{All, codes}
 use Rattle.std.specs.Str.{bytes_eq}
 use Rattle.std.proofs.lemmas.Bool.{and_parts, ltb-true, leb-true}
@@ -8,8 +8,8 @@ use Rattle.hex.specs.Hex.{decode_of}
 use Rattle.replay_script.specs.declared.line_fault.LineFault.{LineFault}
 use Rattle.replay_script.specs.declared.line_fault.LineFault.TheVariants.{BadHex, TooLong}
 use Rattle.replay_script.specs.Lines.{CommandWords, words_in, bytes_in, sole_unit_in, some_said, ◌>>=◌}
-use Rattle.replay_script.specs.Requests.{Asked, Command, Reset, asked_in, asked_reset_in, request_in, request_line_in, IsWithinLimits}
-use Rattle.replay_script.specs.Script.{lines_in, with_front, by_line}
+use Rattle.replay_script.specs.Requests.{Asked, asked_in, asked_reset_in, request_in, request_line_in, IsWithinLimits}
+use Rattle.replay_script.specs.Script.{lines_in, by_line}
 use Rattle.replay_script.specs.Text.{pieces}
 use Rattle.replay_script.specs.Words.{hex_bytes, hex_in, within, unit_in}
 

@@ -1,8 +1,9 @@
 -- Hexadecimal digits by pairs, and when they are no bytes.
-use Rattle.std.proofs.Common.{◌≡◌, ℕ, suc, ◌+◌, ◌*◌, ◌/◌, ◌%◌, ◌<◌, ◌≤◌, ◌⊎◌, inl, inr, true, false, List, [], ◌∷◌, length, get_or, take, drop, slice_set, Some, None, Result, Ok, Err, refl, sym, ap, ◌∙◌, arith}
+use Rattle.std.proofs.Common.{◌≡◌, ℕ, suc, ◌+◌, ◌*◌, ◌/◌, ◌%◌, ◌<◌, ◌≤◌, ◌⊎◌, inl, inr, true, false, List, [], ◌∷◌, length, get_or, map, take, drop, slice_set, Some, None, Result, Ok, Err, refl, sym, ap, ◌∙◌, arith}
 use Rattle.std.specs.List.{list_all}
 use Rattle.std.proofs.lemmas.Bool.{and_parts}
 use Rattle.std.proofs.lemmas.List.Sums.{list_all-from_AllPass}
+use Rattle.std.proofs.Math.ListN.{get_or-map}
 use Rattle.hex.specs.Hex.{decode_of, decode_pairs, digit_or_error, hex_digit_value, is_hex_digit, pair_value, value_at}
 use Rattle.hex.specs.declared.error.FromHexError.{FromHexError}
 use Rattle.hex.proofs.HexLemmas.{decode_of-even, decode_of-odd, decode_of-ok}
@@ -57,7 +58,7 @@ none_by s bad (Ok bytes) h =
     cc
 
 -- what has another character doesn't decode
-no_digits : (s : List ℕ) → list_all is_hex_digit s ≡ false → hex_bytes (decode_of s) ≡ None
+pub no_digits : (s : List ℕ) → list_all is_hex_digit s ≡ false → hex_bytes (decode_of s) ≡ None
 no_digits s bad = none_by s bad (decode_of s) refl
 
 -- so it says no bytes
@@ -129,3 +130,16 @@ stopped_low s out i high even fits eh el before =
 -- every pair
 pub all_read : (s out : List ℕ) (i : ℕ) → length s % 2 ≡ 0 → length out ≤ i → length s ≤ 2 * i → AreRead s out i → decode_of s ≡ Ok out
 all_read s out i even done whole before = decode_of-even s even ∙ decode_done s out i done whole before
+
+-- PAIRS OF VALUES
+
+-- a digit's value has four bits
+pub small_value : (s : List ℕ) (k : ℕ) → get_or (map digit_value s) k 0 < 16
+small_value s k = rw (get_or-map digit_value s k 0) (omega arith)
+
+-- the bytes of pairs of the values of digits
+pub values_decode : (s values bytes : List ℕ) → length s ≡ 2 * length bytes → list_all is_hex_digit s ≡ true → values ≡ map digit_value s
+    → ((k : ℕ) → k < length bytes → get_or bytes k 0 ≡ get_or values (2 * k) 0 * 16 + get_or values (2 * k + 1) 0) → decode_of s ≡ Ok bytes
+values_decode s values bytes len digits same at =
+    let value = λ (j : ℕ). ap (λ l. get_or l j 0) same ∙ get_or-map digit_value s j 0 in
+    pairs_decode s bytes (omega arith) digits (omega arith) (λ k lt. at k lt ∙ (λ i. value (2 * k) i * 16 + value (2 * k + 1) i))

@@ -33,6 +33,7 @@ impl Events {
 
     /// Adds an event behind the others. The first piece grows with its events, and each later one has its
     /// room from the start.
+    #[inline(always)]
     pub fn push(&mut self, alloc: Global, event: Event) -> Result<(), AllocError>
         ensures { OnOk result (self.new ≡ self.old ++ event ∷ []) }
     {

@@ -13,6 +13,7 @@ mod request;
 mod request_line;
 mod script;
 mod script_fault;
+mod sixteen;
 #[cfg(test)]
 mod tests;
 mod words;

@@ -1,14 +1,17 @@
-ghost use Rattle.std.specs.Prelude.{◌≡◌, ◌∷◌, ℕ, List};
+ghost use Rattle.std.specs.Prelude.{◌≡◌, ◌∷◌, ℕ, List, true, false, codes, OnOk, IfErr};
+ghost use Rattle.std.specs.Str.{bytes_eq};
 ghost use denote.Ref.{Bor};
 ghost use Rattle.std.specs.Option.{option_map};
-ghost use Rattle.replay_script.specs.Words.{Gives, hex_in};
+ghost use Rattle.replay_script.specs.Words.{Gives, Fails, hex_in};
 ghost use Rattle.replay_script.specs.Text.{pieces_after};
-ghost use Rattle.replay_script.specs.Lines.{said, said_by, words_seen, words_in, bytes_in, command_in, loss_in, reset_in, sole_unit_in, line_in};
+ghost use Rattle.replay_script.specs.Lines.{said, some_said, words_seen, words_in, bytes_in, command_in, loss_in, sole_unit_in, event_in, line_in};
+ghost use Rattle.replay_script.specs.Script.{TakesLine, saids};
 
 use crate::cutting::{cut, is_end};
+use crate::events::Events;
 use crate::line_fault::LineFault;
 use crate::words::{bytes_of, cdb_of, nexus_of, unit_of};
-use std::alloc::Global;
+use std::alloc::{AllocError, Global};
 use target_core::Event;
 
 /// The longest line, without its line feed.
@@ -35,6 +38,17 @@ impl From<LineFault> for LineError {
     }
 }
 
+impl From<AllocError> for LineError {
+    ghost use Rattle.std.specs.Prelude.{◌≡◌};
+    ghost use Rattle.replay_script.specs.declared.line.LineError.TheVariants.{NoMemory};
+
+    ghost from_gives = { λ _ error. error ≡ NoMemory };
+
+    fn from(_: AllocError) -> LineError {
+        LineError::NoMemory
+    }
+}
+
 /// The words of a command's line.
 #[derive(Clone, Copy)]
 pub struct Words<'a> {
@@ -44,25 +58,46 @@ pub struct Words<'a> {
     pub data: Option<&'a [u8]>,
 }
 
-/// The event of a line: nothing for an empty one and for a comment.
+/// Adds the event of a line: none for an empty one and for a comment. An event is added where it is made, since what
+/// holds it in between would be copied.
 #[tactic(auto, unfolding(crate::specs::Lines::line_in))]
-pub fn event_of(alloc: Global, line: &[u8]) -> Result<Option<Event>, LineError>
-    ensures { Gives said_by result (line_in line.now) }
+pub fn take_event(alloc: Global, events: &mut Events, line: &[u8]) -> Result<(), LineError>
+    ensures ok { OnOk result (TakesLine (saids events.old) (saids events.new) (line_in line.now)) }
+    ensures err { IfErr result (λ error. Fails error (line_in line.now)) }
 {
     if line.len() > LINE_LIMIT {
         return Err(LineError::Fault(LineFault::TooLong));
     }
     if line.is_empty() || line[0] == b'#' {
-        return Ok(None);
+        return Ok(());
     }
     let (first, rest) = cut(line, b' ');
-    if first == b"loss".as_slice() {
-        return Ok(Some(loss_of(rest)?));
+    if first == b"loss".as_slice() || first == b"reset".as_slice() {
+        return take_other(alloc, events, first, rest);
     }
-    if first == b"reset".as_slice() {
-        return Ok(Some(reset_of(rest)?));
-    }
-    Ok(Some(command_of(alloc, first, rest)?))
+    take_command(alloc, events, first, rest)
+}
+
+/// Adds the event of a line whose first word is `loss` or `reset`, from that word and those behind it.
+fn take_other(
+    alloc: Global,
+    events: &mut Events,
+    first: &[u8],
+    others: Option<&[u8]>,
+) -> Result<(), LineError>
+    requires { bytes_eq first.now (codes "loss") ≡ false → bytes_eq first.now (codes "reset") ≡ true }
+    ensures ok { OnOk result (TakesLine (saids events.old) (saids events.new)
+        (some_said (event_in (first.now ∷ pieces_after 32 others.entry)))) }
+    ensures err { IfErr result (λ error. Fails error (event_in (first.now ∷ pieces_after 32 others.entry))) }
+{
+    let event = if first == b"loss".as_slice() {
+        loss_of(others)?
+    } else {
+        let lun = sole_unit_of(others)?;
+        Event::Reset { lun }
+    };
+    events.push(alloc, event)?;
+    Ok(())
 }
 
 /// The loss of a line `loss SAS.PORT LUN`, from the words behind the first.
@@ -85,14 +120,6 @@ fn loss_of(words: Option<&[u8]>) -> Result<Event, LineError>
     Ok(Event::Loss { nexus, lun })
 }
 
-/// The reset of a line `reset LUN`, from the words behind the first.
-fn reset_of(words: Option<&[u8]>) -> Result<Event, LineError>
-    ensures { Gives said result (reset_in (pieces_after 32 words.entry)) }
-{
-    let lun = sole_unit_of(words)?;
-    Ok(Event::Reset { lun })
-}
-
 /// The unit of a line `reset LUN`, from the words behind the first.
 pub fn sole_unit_of(words: Option<&[u8]>) -> Result<u8, LineError>
     ensures { Gives (λ lun. lun) result (sole_unit_in (pieces_after 32 words.entry)) }
@@ -108,9 +135,17 @@ pub fn sole_unit_of(words: Option<&[u8]>) -> Result<u8, LineError>
     Ok(lun)
 }
 
-/// The command of a line `SAS.PORT LUN CDB [DATA]`, from its first word and those behind it.
-fn command_of(alloc: Global, first: &[u8], others: Option<&[u8]>) -> Result<Event, LineError>
-    ensures { Gives said result (command_in (words_in (first.now ∷ pieces_after 32 others.entry))) }
+/// Adds the command of a line `SAS.PORT LUN CDB [DATA]`, from its first word and those behind it.
+fn take_command(
+    alloc: Global,
+    events: &mut Events,
+    first: &[u8],
+    others: Option<&[u8]>,
+) -> Result<(), LineError>
+    ensures ok { OnOk result (TakesLine (saids events.old) (saids events.new)
+        (some_said (command_in (words_in (first.now ∷ pieces_after 32 others.entry))))) }
+    ensures err { IfErr result (λ error. Fails error
+        (command_in (words_in (first.now ∷ pieces_after 32 others.entry)))) }
 {
     let Some(words) = words_of(first, others) else {
         return Err(LineError::Fault(LineFault::WordCount));
@@ -119,12 +154,14 @@ fn command_of(alloc: Global, first: &[u8], others: Option<&[u8]>) -> Result<Even
     let lun = unit_of(words.lun)?;
     let cdb = cdb_of(words.cdb)?;
     let bytes = data_of(alloc, words.data)?;
-    Ok(Event::Command {
+    let command = Event::Command {
         nexus,
         lun,
         cdb,
         bytes,
-    })
+    };
+    events.push(alloc, command)?;
+    Ok(())
 }
 
 /// The three or four words of a line, the first of them its nexus.

@@ -4,7 +4,7 @@ ghost use Rattle.replay_script.specs.Script.{GivesScript, TakesLine, FailsAt, sa
 
 use crate::cutting::cut;
 use crate::events::Events;
-use crate::line::{LineError, event_of};
+use crate::line::{LineError, take_event};
 use crate::script_fault::ScriptFault;
 use std::alloc::Global;
 
@@ -42,12 +42,8 @@ fn take_line(
         (TakesLine (saids events.old) (saids events.new) (line_in line.now)) }
     ensures err { IfErr result (λ fault. FailsAt number fault (line_in line.now)) }
 {
-    match event_of(alloc, line) {
-        Ok(None) => Ok(()),
-        Ok(Some(event)) => match events.push(alloc, event) {
-            Ok(()) => Ok(()),
-            Err(_) => Err(ScriptFault::NoMemory),
-        },
+    match take_event(alloc, events, line) {
+        Ok(()) => Ok(()),
         Err(LineError::NoMemory) => Err(ScriptFault::NoMemory),
         Err(LineError::Fault(what)) => Err(ScriptFault::Line { number, what }),
     }

@@ -56,8 +56,18 @@ fn refuses_the_first_fault_of_a_line(rt: HostRuntime) -> Result<(), Fail> {
             LineFault::BadNexus,
         ),
         (
-            "no digit",
+            "no digit last",
             "500000000000000g.1 0 000000000000",
+            LineFault::BadNexus,
+        ),
+        (
+            "no digit first",
+            "G00000000000000a.1 0 000000000000",
+            LineFault::BadNexus,
+        ),
+        (
+            "a colon among the digits",
+            "50000000:000000a.1 0 000000000000",
             LineFault::BadNexus,
         ),
         (
@@ -173,6 +183,27 @@ fn takes_commands_with_and_without_data(rt: HostRuntime) -> Result<(), Fail> {
     };
     assert_eq!(rt; nexus.port, 2);
     assert!(rt; bytes.is_empty());
+    Ok(())
+}
+
+#[test]
+fn takes_a_sas_in_either_case(rt: HostRuntime) -> Result<(), Fail> {
+    let rows = [
+        ("0123456789abcdef", 0x0123_4567_89AB_CDEF),
+        ("FEDCBA9876543210", 0xFEDC_BA98_7654_3210),
+        ("aAbBcCdDeEfF0f9F", 0xAABB_CCDD_EEFF_0F9F),
+    ];
+    for (digits, sas) in rows {
+        let text = format!(in rt.alloc(); "{digits}.4 0 00")?;
+        let pieces = events_of(rt.alloc(), text.as_bytes())?.into_pieces();
+        assert_eq!(rt; pieces.len(), 1);
+        let events = &pieces[0];
+        assert_eq!(rt; events.len(), 1);
+        let Event::Command { nexus, .. } = &events[0] else {
+            return Err("no command".into());
+        };
+        assert_eq!(rt; *nexus, Nexus { sas, port: 4 });
+    }
     Ok(())
 }
 

@@ -4,6 +4,7 @@ ghost use Rattle.replay_script.specs.Words.{Gives, nexus_in, unit_in, hex_in};
 use crate::digits::{are_digits, decoded, read_pairs};
 use crate::line::LineError;
 use crate::line_fault::LineFault;
+use crate::sixteen::sixteen_digits;
 use arrayvec::ArrayVec;
 use hex::FromHexError;
 use scsi_nexus::Nexus;
@@ -28,10 +29,9 @@ pub fn nexus_of(word: &[u8]) -> Result<Nexus, LineFault>
     if port == 0 || port > PORTS {
         return Err(LineFault::BadNexus);
     }
-    let mut sas = [0; 8];
-    if !read_pairs(&word[..16], &mut sas) {
+    let Some(sas) = sixteen_digits(&word[..16]) else {
         return Err(LineFault::BadNexus);
-    }
+    };
     Ok(Nexus {
         sas: u64::from_be_bytes(sas),
         port,
@@ -68,12 +68,11 @@ pub fn cdb_of(word: &[u8]) -> Result<ArrayVec<u8, CDB_LIMIT>, LineFault>
         return Err(LineFault::BadHex);
     }
     let mut bytes = [0; CDB_LIMIT];
-    let room = &mut bytes[..count];
-    if !read_pairs(word, room) {
+    if !read_pairs(word, &mut bytes[..count]) {
         return Err(LineFault::BadHex);
     }
-    let mut cdb = ArrayVec::new();
-    let _ = cdb.try_extend_from_slice(room);
+    let mut cdb = ArrayVec::from(bytes);
+    cdb.truncate(count);
     Ok(cdb)
 }
 

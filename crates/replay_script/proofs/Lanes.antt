@@ -1,0 +1,59 @@
+-- Vectors that were computed lane by lane from one.
+use Rattle.std.proofs.Common.{◌≡◌, ℕ, suc, ◌+◌, ◌-◌, ◌*◌, ◌%◌, ◌^◌, eqb, Bool, true, false, not, ◌&&◌, ◌||◌, cond, List, [], ◌∷◌, map, length, Fits, w8, refl, sym, ap, ◌∙◌, arith, inl, inr}
+use Rattle.std.specs.List.{list_all}
+use Rattle.std.proofs.lemmas.Bool.{agree_below, agree_below_at, and_parts, cases_eq, eq-eqb, ne_eqb, eqb-true}
+use Rattle.std.proofs.lemmas.List.{length-map}
+use Rattle.std.proofs.lemmas.Simd.{map-map, mask_l-mod}
+use native.Mathlib.Nat.{two-pow-succ, one-le-pow}
+use lib.Lanes.{Each1, mask_l, sel_l, top}
+
+one_more : (b : Bool) (m n : ℕ) → eqb (cond b 1 0 + 2 * m) (2 ^ suc n - 1) ≡ (b && eqb m (2 ^ n - 1))
+one_more false m n = ne_eqb _ _ (λ e. omega (arith, two-pow-succ n, one-le-pow n 2 (omega arith)))
+one_more true m n =
+    let next = two-pow-succ n in
+    let some = one-le-pow n 2 (omega arith) in
+    elim (cases_eq m (2 ^ n - 1)) [
+      | inl same ↦ eq-eqb _ _ (omega arith) ∙ sym (eq-eqb _ _ same)
+      | inr other ↦ ne_eqb _ _ (λ e. other (omega arith)) ∙ sym (ne_eqb _ _ other)
+    ]
+
+-- the mask of lanes that all pass
+all_set : (p : ℕ → Bool) (v : List ℕ) → eqb (mask_l (map p v)) (2 ^ length v - 1) ≡ list_all p v
+all_set p [] = refl
+all_set p (x ∷ xs) = one_more (p x) (mask_l (map p xs)) (length xs) ∙ ap (λ b. p x && b) (all_set p xs)
+
+all_agree : (p q : ℕ → Bool) (v : List ℕ) → Each1 (Fits w8) v → agree_below p q 256 ≡ true → list_all p v ≡ list_all q v
+all_agree p q [] fits e = refl
+all_agree p q (x ∷ xs) fits e = λ i. agree_below_at p q 256 x e fits.0.fits i && all_agree p q xs fits.1 e i
+
+-- whether each lane is set tells whether each byte passes q
+pub all_pass : (q : ℕ → Bool) (v z : List ℕ) → length v ≡ 16 → Each1 (Fits w8) v → (f : ℕ → ℕ) → z ≡ map f v
+    → agree_below (λ x. top 7 (f x)) q 256 ≡ true → eqb (mask_l (map (top 7) z) % 2 ^ 64) 65535 ≡ list_all q v
+all_pass q v z long fits f lanes all =
+    let p = λ (x : ℕ). top 7 (f x) in
+    let mask = ap (λ l. mask_l l % 2 ^ 64) (ap (map (top 7)) lanes ∙ map-map (top 7) f v) ∙ mask_l-mod (map p v) 64 (omega (arith, length-map v p)) in
+    ap (λ m. eqb m 65535) mask ∙ ap (λ n. eqb (mask_l (map p v)) (2 ^ n - 1)) (sym long) ∙ all_set p v ∙ all_agree p q v fits all
+
+choice : (t : ℕ → Bool) (f g : ℕ → ℕ) (v : List ℕ) → sel_l (map t v) (map f v) (map g v) ≡ map (λ x. cond (t x) (f x) (g x)) v
+choice t f g [] = refl
+choice t f g (x ∷ xs) = ap (λ l. cond (t x) (f x) (g x) ∷ l) (choice t f g xs)
+
+same_value : (b : Bool) (x y : ℕ) → b ≡ true → (not b || eqb x y) ≡ true → x ≡ y
+same_value true x y e h = eqb-true x y h
+same_value false x y e h = absurd (cc)
+
+map_agree : (p : ℕ → Bool) (f g : ℕ → ℕ) (v : List ℕ) → Each1 (Fits w8) v → list_all p v ≡ true
+    → agree_below (λ x. not (p x) || eqb (f x) (g x)) (λ _. true) 256 ≡ true → map f v ≡ map g v
+map_agree p f g [] fits pass e = refl
+map_agree p f g (x ∷ xs) fits pass e =
+    let parts = and_parts (p x) (list_all p xs) pass in
+    let here = same_value (p x) (f x) (g x) parts.0 (agree_below_at (λ x. not (p x) || eqb (f x) (g x)) (λ _. true) 256 x e fits.0.fits) in
+    λ i. here i ∷ map_agree p f g xs fits.1 parts.1 e i
+
+-- a choice between two vectors, at bytes that pass
+pub chosen : (p : ℕ → Bool) (h : ℕ → ℕ) (v : List ℕ) → Each1 (Fits w8) v → list_all p v ≡ true → (m f g : ℕ → ℕ) {ms xs ys : List ℕ} → ms ≡ map m v → xs ≡ map f v → ys ≡ map g v
+    → agree_below (λ x. not (p x) || eqb (cond (top 7 (m x)) (f x) (g x)) (h x)) (λ _. true) 256 ≡ true → sel_l (map (top 7) ms) xs ys ≡ map h v
+chosen p h v fits pass m f g em ef eg all =
+    let t = λ (x : ℕ). top 7 (m x) in
+    (λ i. sel_l (map (top 7) (em i)) (ef i) (eg i)) ∙ ap (λ l. sel_l l (map f v) (map g v)) (map-map (top 7) m v) ∙ choice t f g v
+    ∙ map_agree p (λ x. cond (t x) (f x) (g x)) h v fits pass all
