@@ -25,8 +25,12 @@ pub fn write_answer(
 ) -> Result<(), AllocError>
     ensures { OnOk result (text.new.items ≡ text.old.items ++ answer_line status sense.now payload.now) }
 {
-    text.extend_from_slice(&digits_of(status.code()))?;
-    text.push(b' ')?;
+    let [high, low] = digits_of(status.code());
+    if sense.is_none() && payload.is_empty() {
+        // Most answers have neither, and are added in one piece.
+        return text.extend_from_slice(&[high, low, b' ', b'-', b' ', b'-', b'\n']);
+    }
+    text.extend_from_slice(&[high, low, b' '])?;
     write_sense(text, sense)?;
     text.push(b' ')?;
     write_data(text, payload)?;
