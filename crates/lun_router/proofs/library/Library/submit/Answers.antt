@@ -1,0 +1,8 @@
+use Rattle.std.proofs.Common.{rules}
+use Rattle.lun_router.proofs.library.Library.submit.Goals as goal
+
+pub returns-clause-answer : goal.returns-clause-answer
+returns-clause-answer g c = search rules
+
+pub returns-clause-deed : goal.returns-clause-deed
+returns-clause-deed g c = search rules
