@@ -1,4 +1,4 @@
-use Rattle.std.proofs.Common.{ap, ◌∙◌}
+use Rattle.std.proofs.Common.{rules, ap, ◌∙◌}
 use Rattle.kept_unit.specs.Answers.{count_at}
 use Rattle.kept_unit.proofs.Counting.{stays_kept}
 use Rattle.kept_unit.proofs.kept.Kept.step.Goals as goal
@@ -7,3 +7,9 @@ pub invariant_of-self : goal.invariant_of-self
 invariant_of-self g c =
     stays_kept _ _ _ _ _ _ _ c.count_at.result _ _ _ _ c.execute-reply.ensures.unit c.self.invariant
     (c.count_at.ensures ∙ ap (count_at g.row.LUN) (c.as_slice-numbers.ensures.value ∙ c.own_receipt-receipt.ensures.numbers)) c.add.ensures.total
+
+pub returns-clause-step : goal.returns-clause-step
+returns-clause-step g c = search rules
+
+pub returns-clause-deed : goal.returns-clause-deed
+returns-clause-deed g c = search rules
