@@ -26,7 +26,7 @@ impl Model for Trail {
 }
 
 impl Trail {
-    ghost use Rattle.std.specs.Prelude.{◌≡◌, ◌<◌, ◌≤◌, ◌+◌, [], ◌∷◌, ◌++◌, OnOk, OnErr};
+    ghost use Rattle.std.specs.Prelude.{◌≡◌, ◌<◌, ◌≤◌, ◌+◌, [], ◌∷◌, ◌++◌, length, vec_capacity, OnOk, OnErr};
     ghost use Rattle.audit_log.specs.TrailView.{IsNumbered, last_of};
 
     /// No records yet. The first will have the number after `last`.
@@ -83,7 +83,21 @@ impl Trail {
         ensures numbered { IsNumbered self.old.base self.old.records }
         ensures rest { self.new ≡ record { base = last_of self.old; records = []; room = 0 } }
     {
+        let mut records = Vec::new(alloc);
+        self.drain_into(&mut records);
+        records
+    }
+
+    /// The same into a vector without records, whose room is the trail's from now on: who clears the records once they are read
+    /// and drains into their vector again gives each trail room that was made before. Takes no memory.
+    pub fn drain_into(&mut self, records: &mut Vec<Record>)
+        requires { records.old.items ≡ [] }
+        ensures records { records.new.items ≡ self.old.records }
+        ensures capacity { vec_capacity records.new ≡ length self.old.records + self.old.room }
+        ensures numbered { IsNumbered self.old.base self.old.records }
+        ensures rest { self.new ≡ record { base = last_of self.old; records = []; room = vec_capacity records.old } }
+    {
         self.base = self.last();
-        mem::replace(&mut self.records, Vec::new(alloc))
+        mem::swap(&mut self.records, records);
     }
 }

@@ -154,7 +154,20 @@ impl<const LUN: u8, L: Site, D: DeviceServer> Kept<LUN, L, D> {
         ensures unit { self.new.unit ≡ drained self.old.unit }
         ensures book { self.new.total ≡ self.old.total }
     {
-        self.unit.drain(alloc)
+        let mut records = Vec::new(alloc);
+        self.drain_into(&mut records);
+        records
+    }
+
+    /// The same into a vector without records, whose room the next records have from now on. Takes no memory.
+    pub fn drain_into(&mut self, records: &mut Vec<Record>)
+        requires { records.old.items ≡ [] }
+        ensures records { records.new.items ≡ self.old.unit.records }
+        ensures trail { IsTrail self.old.unit.base self.old.unit.records self.old.unit.kept }
+        ensures unit { self.new.unit ≡ drained self.old.unit }
+        ensures book { self.new.total ≡ self.old.total }
+    {
+        self.unit.drain_into(records);
     }
 
     /// One command at the unit, its record counted in the book and in the part. Without a number it is BUSY, and nothing

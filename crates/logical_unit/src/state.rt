@@ -134,7 +134,7 @@ impl UnitState {
 }
 
 impl UnitState {
-    ghost use Rattle.std.specs.Prelude.{◌≡◌, ◌<◌, ◌+◌, ◌^◌, ℕ, true, false, [], ◌∷◌, ◌++◌, Some, None, IfOk, OnErr};
+    ghost use Rattle.std.specs.Prelude.{◌≡◌, ◌<◌, ◌+◌, ◌^◌, ℕ, true, false, [], ◌∷◌, ◌++◌, Some, None, IfOk, OnErr, length, vec_capacity};
     ghost use Rattle.device_server.specs.View.{DeviceView, kind_of};
     ghost use Rattle.unit_commands.specs.Commands.{spelled};
     ghost use Rattle.judgement.specs.Judge.{takes_memory};
@@ -277,15 +277,17 @@ impl UnitState {
         note_event(&mut self.trail, None, Act::MediumOut)
     }
 
-    /// Hands out the records, a legal trail, and keeps none: what is kept now is the new base. Takes
-    /// no memory.
-    pub(crate) fn drain(&mut self, alloc: Global) -> Vec<Record>
-        ensures records { result.items ≡ self.old.records }
+    /// Hands out the records, a legal trail, into a vector without records, and keeps none: what is kept
+    /// now is the new base, and the vector's room that of the trail. Takes no memory.
+    pub(crate) fn drain_into(&mut self, records: &mut Vec<Record>)
+        requires { records.old.items ≡ [] }
+        ensures records { records.new.items ≡ self.old.records }
+        ensures capacity { vec_capacity records.new ≡ length self.old.records + self.old.room }
         ensures trail { IsTrail self.old.base self.old.records self.old.kept }
-        ensures rest { self.new ≡ record { kept = self.old.kept; base = record { kept = self.old.kept; last = last_in self.old }; records = []; room = 0 } }
+        ensures rest { self.new ≡ record { kept = self.old.kept; base = record { kept = self.old.kept; last = last_in self.old }; records = []; room = vec_capacity records.old } }
     {
         self.base = self.kept.copy();
-        self.trail.drain(alloc)
+        self.trail.drain_into(records);
     }
 }
 

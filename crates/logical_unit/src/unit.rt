@@ -148,9 +148,9 @@ impl<D: DeviceServer> LogicalUnit<D> {
 }
 
 impl<D: DeviceServer> LogicalUnit<D> {
-    ghost use Rattle.std.specs.Prelude.{◌≡◌, ◌+◌, true, Ok, IfOk, IfErr, OnOk, OnErr};
+    ghost use Rattle.std.specs.Prelude.{◌≡◌, ◌+◌, [], true, length, vec_capacity, Ok, IfOk, IfErr, OnOk, OnErr};
     ghost use Rattle.unit_attention.specs.Queues.{has_slot};
-    ghost use Rattle.logical_unit.specs.UnitView.{UnitView, last_number};
+    ghost use Rattle.logical_unit.specs.UnitView.{UnitView, UnitWithRoom, last_number};
     ghost use Rattle.logical_unit.specs.Step.{HasNumber, LacksRecord, IsBusyOnlyFor, Executes, Loses, Resets, drained};
     ghost use Rattle.logical_unit.specs.Medium.{taken_out, put_in, IsRefusal};
     ghost use Rattle.logical_unit.specs.Contents.{SameContents, MayNotChange};
@@ -267,7 +267,21 @@ impl<D: DeviceServer> LogicalUnit<D> {
         ensures trail { IsTrail self.old.unit.base self.old.unit.records self.old.unit.kept }
         ensures unit { self.new.unit ≡ drained self.old.unit }
     {
-        self.state.drain(alloc)
+        let mut records = Vec::new(alloc);
+        self.drain_into(&mut records);
+        records
+    }
+
+    /// The same into a vector without records, whose room the next records have from now on. The vector
+    /// gets the room of those that are handed out. Takes no memory.
+    pub fn drain_into(&mut self, records: &mut Vec<Record>)
+        requires { records.old.items ≡ [] }
+        ensures records { records.new.items ≡ self.old.unit.records }
+        ensures capacity { vec_capacity records.new ≡ length self.old.unit.records + self.old.room }
+        ensures trail { IsTrail self.old.unit.base self.old.unit.records self.old.unit.kept }
+        ensures rest { self.new ≡ record { unit = drained self.old.unit; room = vec_capacity records.old } }
+    {
+        self.state.drain_into(records);
     }
 }
 

@@ -1,6 +1,6 @@
 //! One call at the unit under a lock, or at the units under several: the changer's lock is taken first, then those of the
 //! drives by rising number.
-ghost use Rattle.std.specs.Prelude.{◌≡◌, ◌≢◌, ◌⊎◌, ◌<◌, ◌+◌, [], ◌∷◌, ℕ, Some, None, IsSome, IsNone, IfSome, ◌↔◌};
+ghost use Rattle.std.specs.Prelude.{◌≡◌, ◌≢◌, ◌⊎◌, ◌<◌, ◌+◌, [], ◌∷◌, ℕ, true, false, Some, None, IsTrue, IsSome, IsNone, ◌↔◌};
 ghost use Rattle.scsi_cdb.specs.declared.kind.Kind.TheVariants.{Changer};
 ghost use Rattle.scsi_sense.specs.declared.condition.Condition.TheVariants.{LogicalUnitNotSupported};
 ghost use Rattle.device_server.specs.View.{drives_of};
@@ -158,29 +158,35 @@ pub(crate) fn reset_if_there<const LUN: u8, L: Site, D: DeviceServer, R: Wait>(
     }
 }
 
-/// The records of the unit under this lock, handed out.
+/// The records of the unit under this lock, handed out. True, since the unit is there.
 pub(crate) fn drain_at<const LUN: u8, L: Site, D: DeviceServer, R: Wait>(
     rt: &R,
-    alloc: Global,
     lock: &Locked<LUN, L, D>,
-) -> Vec<Record>
-    ensures { IsSomeTrail result.items }
+    records: &mut Vec<Record>,
+) -> bool
+    requires { records.old.items ≡ [] }
+    ensures there { result ≡ true }
+    ensures trail { IsSomeTrail records.new.items }
 {
-    lock.lock().lock(rt).drain(alloc)
+    let mut kept = lock.lock().lock(rt);
+    kept.drain_into(records);
+    true
 }
 
 /// The same where the unit may be absent.
 pub(crate) fn drain_if_there<const LUN: u8, L: Site, D: DeviceServer, R: Wait>(
     rt: &R,
-    alloc: Global,
     lock: &Option<Locked<LUN, L, D>>,
-) -> Option<Vec<Record>>
-    ensures there { IsSome result ↔ IsSome lock.now }
-    ensures trail { IfSome result (λ entries. IsSomeTrail entries.items) }
+    records: &mut Vec<Record>,
+) -> bool
+    requires { records.old.items ≡ [] }
+    ensures there { IsTrue result ↔ IsSome lock.now }
+    ensures trail { IsTrue result → IsSomeTrail records.new.items }
+    ensures absent { result ≡ false → records.new ≡ records.old }
 {
     match lock {
-        Some(lock) => Some(drain_at(rt, alloc, lock)),
-        None => None,
+        Some(lock) => drain_at(rt, lock, records),
+        None => false,
     }
 }
 

@@ -1,4 +1,4 @@
-ghost use Rattle.std.specs.Prelude.{◌≡◌, ◌≤◌, Some, None, IsNone, IfSome, ◌↔◌};
+ghost use Rattle.std.specs.Prelude.{◌≡◌, ◌<◌, ◌≤◌, [], false, Some, None, IsNone, IfSome, IsTrue, ◌↔◌};
 ghost use Rattle.unit_commands.specs.Commands.{act_of};
 ghost use Rattle.kept_unit.specs.declared.deed.Deed.TheVariants as deed;
 ghost use Rattle.kept_unit.specs.Answers.{IsAnswer, ran, lost, was_reset};
@@ -224,13 +224,30 @@ impl<L0: Site, L1: Site, L2: Site, L3: Site, L4: Site, D: DeviceServer, G: Gate>
         ensures none { IsNone result ↔ (self.now.units ≤ lun) }
         ensures trail { IfSome result (λ entries. IsSomeTrail entries.items) }
     {
+        let mut records = Vec::new(alloc);
+        if self.drain_into(rt, lun, &mut records) {
+            Some(records)
+        } else {
+            None
+        }
+    }
+
+    /// The same into a vector without records, whose room the unit's next records have from now on: who clears the records
+    /// once they are read and drains into their vector again asks for no memory, nor do the commands until that room is used.
+    /// Whether there is such a unit; without one nothing changes.
+    pub fn drain_into<R: Wait>(&self, rt: &R, lun: u8, records: &mut Vec<Record>) -> bool
+        requires { records.old.items ≡ [] }
+        ensures there { IsTrue result ↔ (lun < self.now.units) }
+        ensures trail { IsTrue result → IsSomeTrail records.new.items }
+        ensures absent { result ≡ false → records.new ≡ records.old }
+    {
         match lun {
-            0 => Some(drain_at(rt, alloc, &self.changer)),
-            1 => Some(drain_at(rt, alloc, &self.first)),
-            2 => drain_if_there(rt, alloc, &self.second),
-            3 => drain_if_there(rt, alloc, &self.third),
-            4 => drain_if_there(rt, alloc, &self.fourth),
-            _ => None,
+            0 => drain_at(rt, &self.changer, records),
+            1 => drain_at(rt, &self.first, records),
+            2 => drain_if_there(rt, &self.second, records),
+            3 => drain_if_there(rt, &self.third, records),
+            4 => drain_if_there(rt, &self.fourth, records),
+            _ => false,
         }
     }
 }

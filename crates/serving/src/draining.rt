@@ -14,19 +14,51 @@ use std::alloc::Global;
 use std::io::Write;
 use std::sync::{Mutex, Wait};
 
-/// Takes the records of each unit, LUN 0 first, and writes a line for each, while nobody else writes there. Records whose
-/// lines find no room, or whose lines can't be written, are lost.
+/// Where the lines of records are written while a library is served.
+#[derive(Drop)]
+pub(crate) struct Outlet<W: Write> {
+    writer: W,
+    /// The records that are being written. Its room is that of the records of the next unit that hands out its own, which
+    /// bring theirs: so no room is given back, nor asked for again.
+    records: Vec<Record>,
+}
+
+impl<W: Write> Outlet<W> {
+    /// Nothing is written yet.
+    pub fn new(alloc: Global, writer: W) -> Outlet<W> {
+        Outlet {
+            writer,
+            records: Vec::new(alloc),
+        }
+    }
+
+    /// Takes the records of a unit and writes a line for each. Records whose lines find no room, or whose lines can't be
+    /// written, are lost.
+    fn hand_out<L0: Site, L1: Site, L2: Site, L3: Site, L4: Site, R: Wait>(
+        &mut self,
+        rt: &R,
+        alloc: Global,
+        library: &Library<L0, L1, L2, L3, L4, Device, Pass>,
+        lun: u8,
+    ) -> Result<(), HostFault> {
+        self.records.clear();
+        if library.drain_into(rt, lun, &mut self.records) {
+            write_records(alloc, &self.records, &mut self.writer)?;
+        }
+        Ok(())
+    }
+}
+
+/// Takes the records of each unit, LUN 0 first, and writes a line for each, while nobody else writes there.
 pub(crate) fn hand_out<L0: Site, L1: Site, L2: Site, L3: Site, L4: Site, R: Wait, W: Write>(
     rt: &R,
     alloc: Global,
     library: &Library<L0, L1, L2, L3, L4, Device, Pass>,
-    output: &Mutex<W>,
+    output: &Mutex<Outlet<W>>,
 ) -> Result<(), HostFault> {
-    let mut writer = output.lock(rt);
+    let mut outlet = output.lock(rt);
     for lun in 0..library.units() {
-        if let Some(records) = library.drain(rt, alloc, lun) {
-            write_records(alloc, &records, &mut *writer)?;
-        }
+        outlet.hand_out(rt, alloc, library, lun)?;
     }
     Ok(())
 }

@@ -3,6 +3,7 @@ ghost use Rattle.lun_router.specs.Opening.{IsSince};
 ghost use Rattle.serving.specs.Hosted.{Hosts, of_the_rest};
 
 use crate::closing::close_and_write;
+use crate::draining::Outlet;
 use crate::host_fault::{HostFault, earlier};
 use crate::post::Post;
 use crate::worker::{Attendance, Reception, Worker};
@@ -154,7 +155,7 @@ fn serve_and_write<
     reception: &Reception<'_>,
     writer: &mut W,
 ) -> Result<(Vec<Seat<L0, L1, L2, L3, L4>>, Option<HostFault>), HostFault> {
-    let output = Mutex::new(writer);
+    let output = Mutex::new(Outlet::new(alloc, writer));
     serve_all(rt, alloc, library, seats, reception, Some(&output))
 }
 
@@ -173,7 +174,7 @@ fn serve_all<
     library: &Library<L0, L1, L2, L3, L4, Device, Pass>,
     seats: Vec<Seat<L0, L1, L2, L3, L4>>,
     reception: &Reception<'_>,
-    output: Option<&Mutex<W>>,
+    output: Option<&Mutex<Outlet<W>>>,
 ) -> Result<(Vec<Seat<L0, L1, L2, L3, L4>>, Option<HostFault>), HostFault> {
     let count = seats.len();
     let directory = Mutex::new(Directory::new(alloc));

@@ -1,7 +1,7 @@
 ghost use Rattle.std.specs.Prelude.{◌≡◌, None};
 ghost use Rattle.serving.specs.Hosted.{ServesSome};
 
-use crate::draining::hand_out;
+use crate::draining::{Outlet, hand_out};
 use crate::host_fault::{FaultySession, HostFault, earlier};
 use crate::post::Post;
 use kept_unit::Site;
@@ -91,7 +91,7 @@ impl<'a, L0: Site, L1: Site, L2: Site, L3: Site, L4: Site, R: Wait> Worker<
         &mut self,
         alloc: Global,
         reception: &Reception<'_>,
-        output: Option<&Mutex<W>>,
+        output: Option<&Mutex<Outlet<W>>>,
     ) {
         for _turn in 0..reception.attendance.sessions {
             match reception.next(self.post.rt) {
