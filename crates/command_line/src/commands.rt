@@ -1,6 +1,7 @@
 //! What the program's commands are and say of themselves.
 
 use clap::{Arg, ArgAction, Command, value_parser};
+use program_options::LibraryOptions;
 use std::alloc::{AllocError, Global};
 
 /// What the help of each command ends with.
@@ -96,28 +97,29 @@ fn cells_command<'a>(alloc: Global) -> Result<Command<'a>, AllocError> {
 
 /// The options that say what a library is made of.
 fn with_library<'a>(alloc: Global, command: Command<'a>) -> Result<Command<'a>, AllocError> {
+    let most = LibraryOptions::MOST;
     let drives = Arg::new(alloc, "drives")
         .long("drives")
         .value_name("D")
-        .value_parser(value_parser!(u8).range(1..=4))
+        .value_parser(value_parser!(u8).range(1..=i64::from(most.drives)))
         .default_value("1")
         .help("How many drives there are, as logical units from 1 on");
     let slots = Arg::new(alloc, "slots")
         .long("slots")
         .value_name("S")
-        .value_parser(value_parser!(u16).range(1..=1024))
+        .value_parser(value_parser!(u16).range(1..=i64::from(most.slots)))
         .default_value("8")
         .help("How many storage elements the changer has");
     let portals = Arg::new(alloc, "portals")
         .long("portals")
         .value_name("P")
-        .value_parser(value_parser!(u8).range(0..=16))
+        .value_parser(value_parser!(u8).range(0..=i64::from(most.portals)))
         .default_value("0")
         .help("How many import/export elements the changer has");
     let volumes = Arg::new(alloc, "volumes")
         .long("volumes")
         .value_name("V")
-        .value_parser(value_parser!(u16).range(0..=1024))
+        .value_parser(value_parser!(u16).range(0..=i64::from(most.volumes)))
         .default_value("1")
         .help("How many volumes lie in the first storage elements");
     command.arg(drives)?.arg(slots)?.arg(portals)?.arg(volumes)

@@ -45,25 +45,26 @@ fn library_of(command: &ArgMatches) -> Result<LibraryOptions, OptionFault>
     ensures { IfOk result MakesLibrary }
 {
     let usual = LibraryOptions::USUAL;
+    let most = LibraryOptions::MOST;
     // `clap` sees to it that no value is absent or out of its range: what stands behind each `get_one`
     // says that to the prover alone.
     let options = LibraryOptions {
         drives: command
             .get_one::<u8>("drives")
             .unwrap_or(usual.drives)
-            .clamp(1, 4),
+            .clamp(1, most.drives),
         slots: command
             .get_one::<u16>("slots")
             .unwrap_or(usual.slots)
-            .clamp(1, 1024),
+            .clamp(1, most.slots),
         portals: command
             .get_one::<u8>("portals")
             .unwrap_or(usual.portals)
-            .min(16),
+            .min(most.portals),
         volumes: command
             .get_one::<u16>("volumes")
             .unwrap_or(usual.volumes)
-            .min(1024),
+            .min(most.volumes),
     };
     options.fits()?;
     Ok(options)

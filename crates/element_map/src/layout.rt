@@ -1,13 +1,4 @@
-//! The addresses and numbers of the elements.
-
-/// How many data transfer elements a map has at most (profile).
-pub const DRIVE_LIMIT: u16 = 4;
-
-/// How many import/export elements a map has at most (profile).
-pub const PORTAL_LIMIT: u16 = 16;
-
-/// How many storage elements a map has at most (profile).
-pub const SLOT_LIMIT: u16 = 1024;
+//! The addresses of the elements.
 
 /// The address of the medium transport element (profile).
 pub(crate) const TRANSPORT: u16 = 0;

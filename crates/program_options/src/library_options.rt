@@ -21,6 +21,14 @@ impl LibraryOptions {
         volumes: 1,
     };
 
+    /// The most of each that a library has (profile).
+    pub const MOST: LibraryOptions = LibraryOptions {
+        drives: 4,
+        slots: 1024,
+        portals: 16,
+        volumes: 1024,
+    };
+
     ghost use Rattle.std.specs.Prelude.{◌↔◌, ◌≤◌, IsOk, IsOkUnless};
 
     /// Whether each volume has a storage element.
