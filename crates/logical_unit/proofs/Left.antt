@@ -167,7 +167,6 @@ own_says m n at status sense class whole = record {
   whole = whole;
   fields = λ e. absurd cc;
   unit = λ own e. absurd cc;
-  reached = λ never. refl;
   mode = λ e. absurd cc;
 }
 

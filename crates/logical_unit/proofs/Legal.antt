@@ -40,10 +40,11 @@ use Rattle.unit_state.specs.Readings.{verdict_of, pending_of}
 use Rattle.logical_unit.specs.Begun.{AwaitsEnd}
 use Rattle.logical_unit.specs.Step.{entry_of, event_of}
 use Rattle.unit_state.specs.Kept.{kept_after_loss, kept_after_reset}
-use Rattle.logical_unit.specs.Legal.{is_reserve_out, is_never_refused, reported_if, left_by_class, left_at, kept_by, kept_after, Says, SaysItsOwn, IsCarriedOut, IsLetThrough, IsChecked, IsCommand, IsJudged, AreJudged}
+use Rattle.logical_unit.specs.Legal.{is_reserve_out, is_field_fault, reported_if, left_by_class, left_at, kept_by, kept_after, Says, SaysItsOwn, IsCarriedOut, IsLetThrough, IsChecked, IsCommand, IsJudged, AreJudged}
 use Rattle.judgement.proofs.Carried.{prevents_by}
 use Rattle.device_server.proofs.Outcomes.{performed_own}
 use Rattle.logical_unit.proofs.Plain.{IsPlain, IsPlainIf}
+use Rattle.logical_unit.proofs.FieldFaults.{IsFaultIf, fields_fit}
 
 -- the record of a judgement
 abbrev pub entry : ℕ → Nexus → Act → Present × Finding × Reply → Record
@@ -65,24 +66,22 @@ good_says m n a at payload = record {
   whole = inl (refl, refl);
   fields = λ e. absurd cc;
   unit = λ own e. refl;
-  reached = λ never. refl;
   mode = λ e. absurd cc;
 }
 
-field_says : (m : ℕ) (n : Nexus) (a : Act) (at : Cell) (condition : Condition) → is_never_refused at.class ≡ false
+field_says : (m : ℕ) (n : Nexus) (a : Act) (at : Cell) (condition : Condition) → is_field_fault at.class condition ≡ true
     → SaysItsOwn (entry_of m (Some n) a (let_in at Fields) (check condition).status (check condition).sense) at
 field_says m n a at condition h = record {
   stage = inl refl;
   cell = refl;
   rule = refl;
   whole = inr (refl, refl);
-  fields = λ e. refl;
+  fields = λ e. record { condition = condition; of_class = h; status = refl; sense = refl };
   unit = λ own e. absurd cc;
-  reached = λ never. absurd cc;
   mode = λ e. absurd cc;
 }
 
-data_says : (m : ℕ) (n : Nexus) (a : Act) (at : Cell) (o : Option (List ℕ)) (l : ℕ) → is_never_refused at.class ≡ false
+data_says : (m : ℕ) (n : Nexus) (a : Act) (at : Cell) (o : Option (List ℕ)) (l : ℕ) → is_field_fault at.class InvalidFieldInCdb ≡ true
     → SaysItsOwn (entry_of m (Some n) a (let_in at (data_reply o l).0) (data_reply o l).1.status (data_reply o l).1.sense) at
 data_says m n a at (Some payload) l h = good_says m n a at payload
 data_says m n a at None l h = field_says m n a at InvalidFieldInCdb h
@@ -101,7 +100,7 @@ prevent_fits : (u : Present) (n : Nexus) (at : Cell) (m : ℕ) (a : Act) (zero o
     × ((prevents_by u n zero one).0.kept ≡ left_at (prevents_by u n zero one).1.stage u.kept n None (if zero then class.AllowRemoval else class.PreventRemoval) (prevents_by u n zero one).2.status (prevents_by u n zero one).1.mode_changed)
 prevent_fits u n at m a true one h = (good_says m n a at [], refl)
 prevent_fits u n at m a false true h = (good_says m n a at [], refl)
-prevent_fits u n at m a false false h = (field_says m n a at InvalidFieldInCdb (ap is_never_refused h), refl)
+prevent_fits u n at m a false false h = (field_says m n a at InvalidFieldInCdb (ap (λ k. is_field_fault k InvalidFieldInCdb) h), refl)
 
 steps_fits : (u : Present) (n : Nexus) (r : Request) (bytes : List ℕ) (m : ℕ) (a : Act) → IsPlain (Device r) → (prevented : Bool)
     → Fits (IsCarriedOut u.kept n None (class_of r)) u.kept n (Device r) m a (at_cell (cell_of u n (Device r)) (cond prevented (u, at_stage stage.Device, check MediumRemovalPrevented) (steps u n (performed u.device r bytes))))
@@ -113,7 +112,6 @@ steps_fits u n r bytes m a plain true = (
     whole = inr (refl, refl);
     fields = λ e. absurd cc;
     unit = λ own e. let no = plain.own in absurd cc;
-    reached = λ never. refl;
     mode = λ e. absurd cc;
   },
   plain.tells u.kept n false,
@@ -127,7 +125,6 @@ steps_fits u n r bytes m a plain false =
         whole = own.ended;
         fields = λ e. absurd cc;
         unit = λ every e. let no = plain.own in absurd cc;
-        reached = λ never. refl;
         mode = λ e. let changed = own.mode e in record { class = changed.0; stage = refl; status = changed.1 };
       },
       plain.tells u.kept n (performed u.device r bytes).1.mode_changed,
@@ -136,10 +133,10 @@ steps_fits u n r bytes m a plain false =
 performs_fits : (u : Present) (n : Nexus) (r : Request) (bytes : List ℕ) (m : ℕ) (a : Act) → IsPlain (Device r)
     → Fits (IsCarriedOut u.kept n None (class_of r)) u.kept n (Device r) m a (at_cell (cell_of u n (Device r)) (performs u n r bytes))
 performs_fits u n r bytes m a plain =
-    elim (field_fault u.device r bytes) as (λ (o : Option Condition). Fits (IsCarriedOut u.kept n None (class_of r)) u.kept n (Device r) m a (at_cell (cell_of u n (Device r)) (elim o [ Some condition ↦ (u, at_stage Fields, check condition) | None ↦ cond (unloads r && is_prevented u.kept) (u, at_stage stage.Device, check MediumRemovalPrevented) (steps u n (performed u.device r bytes)) ]))) [
-      | Some condition ↦ (field_says m n a (cell_of u n (Device r)) condition plain.refusable, refl)
-      | None ↦ steps_fits u n r bytes m a plain (unloads r && is_prevented u.kept)
-    ]
+    elim (field_fault u.device r bytes) as (λ (o : Option Condition). IsFaultIf (class_of r) o → Fits (IsCarriedOut u.kept n None (class_of r)) u.kept n (Device r) m a (at_cell (cell_of u n (Device r)) (elim o [ Some condition ↦ (u, at_stage Fields, check condition) | None ↦ cond (unloads r && is_prevented u.kept) (u, at_stage stage.Device, check MediumRemovalPrevented) (steps u n (performed u.device r bytes)) ]))) [
+      | Some condition ↦ λ of_class. (field_says m n a (cell_of u n (Device r)) condition of_class, refl)
+      | None ↦ λ nothing. steps_fits u n r bytes m a plain (unloads r && is_prevented u.kept)
+    ] (fields_fit (kind_of u.device) r bytes)
 
 carried_fits : (u : Present) (n : Nexus) (c : Command) (bytes : List ℕ) (m : ℕ) (a : Act) → IsPlain c
     → Fits (IsCarriedOut u.kept n (list_of c) (class_of_command c)) u.kept n c m a (at_cell (cell_of u n c) (carried_out u n c bytes))

@@ -1,6 +1,7 @@
 pub mod History
 pub mod Check
 pub mod Plain
+pub mod FieldFaults
 pub mod Legal
 pub mod Free
 pub mod Left

@@ -23,7 +23,7 @@ use Rattle.unit_commands.specs.Commands.{command_of, spelled}
 use Rattle.unit_answers.specs.Conditions.{condition_of_fault}
 use Rattle.unit_state.specs.KeptView.{KeptView}
 use Rattle.unit_state.specs.Kept.{after_mode}
-use Rattle.logical_unit.specs.Legal.{left_by_class, is_reserve_out, is_of_every_unit, is_never_refused, is_of_spelling}
+use Rattle.logical_unit.specs.Legal.{left_by_class, is_reserve_out, is_of_every_unit, is_of_spelling}
 
 abbrev pub TellsNothing : Class → Type 0
 TellsNothing class = (k : KeptView) (n : Nexus) (changed : Bool) → after_mode k n changed ≡ left_by_class k n class changed
@@ -33,7 +33,6 @@ pub record IsOwn (class : Class) : Type 0 where
   pub tells : TellsNothing class
   pub listless : is_reserve_out class ≡ false
   pub own : is_of_every_unit class ≡ false
-  pub refusable : is_never_refused class ≡ false
 
 abbrev pub IsPlain : Command → Type 0
 IsPlain (Device r) = IsOwn (class_of r)
@@ -52,29 +51,29 @@ either_own true x y p q = p
 either_own false x y p q = q
 
 request_plain : (r : Request) (bytes : List ℕ) → IsPlainIf (command_of r bytes)
-request_plain request.TestUnitReady bytes = record { tells = λ k n changed. refl; listless = refl; own = refl; refusable = refl }
-request_plain request.Rewind bytes = record { tells = λ k n changed. refl; listless = refl; own = refl; refusable = refl }
+request_plain request.TestUnitReady bytes = record { tells = λ k n changed. refl; listless = refl; own = refl }
+request_plain request.Rewind bytes = record { tells = λ k n changed. refl; listless = refl; own = refl }
 request_plain (request.RequestSense desc l) bytes = tt
-request_plain request.ReadBlockLimits bytes = record { tells = λ k n changed. refl; listless = refl; own = refl; refusable = refl }
-request_plain request.InitializeElementStatus bytes = record { tells = λ k n changed. refl; listless = refl; own = refl; refusable = refl }
-request_plain (request.Read sili fixed l) bytes = record { tells = λ k n changed. refl; listless = refl; own = refl; refusable = refl }
-request_plain (request.Write fixed l) bytes = record { tells = λ k n changed. refl; listless = refl; own = refl; refusable = refl }
-request_plain (request.WriteFilemarks wsmk l) bytes = record { tells = λ k n changed. refl; listless = refl; own = refl; refusable = refl }
-request_plain (request.Space code l) bytes = record { tells = λ k n changed. refl; listless = refl; own = refl; refusable = refl }
+request_plain request.ReadBlockLimits bytes = record { tells = λ k n changed. refl; listless = refl; own = refl }
+request_plain request.InitializeElementStatus bytes = record { tells = λ k n changed. refl; listless = refl; own = refl }
+request_plain (request.Read sili fixed l) bytes = record { tells = λ k n changed. refl; listless = refl; own = refl }
+request_plain (request.Write fixed l) bytes = record { tells = λ k n changed. refl; listless = refl; own = refl }
+request_plain (request.WriteFilemarks wsmk l) bytes = record { tells = λ k n changed. refl; listless = refl; own = refl }
+request_plain (request.Space code l) bytes = record { tells = λ k n changed. refl; listless = refl; own = refl }
 request_plain (request.Inquiry evpd page l) bytes = tt
-request_plain (request.ModeSelect sp l) bytes = record { tells = λ k n changed. refl; listless = refl; own = refl; refusable = refl }
-request_plain request.Erase bytes = record { tells = λ k n changed. refl; listless = refl; own = refl; refusable = refl }
-request_plain (request.ModeSense dbd pc page subpage l) bytes = record { tells = λ k n changed. refl; listless = refl; own = refl; refusable = refl }
-request_plain (request.LoadUnload hold eot load) bytes = record { tells = λ k n changed. refl; listless = refl; own = refl; refusable = refl }
+request_plain (request.ModeSelect sp l) bytes = record { tells = λ k n changed. refl; listless = refl; own = refl }
+request_plain request.Erase bytes = record { tells = λ k n changed. refl; listless = refl; own = refl }
+request_plain (request.ModeSense dbd pc page subpage l) bytes = record { tells = λ k n changed. refl; listless = refl; own = refl }
+request_plain (request.LoadUnload hold eot load) bytes = record { tells = λ k n changed. refl; listless = refl; own = refl }
 request_plain (request.PreventAllowMediumRemoval prevent) bytes = tt
-request_plain (request.Locate bt cp l) bytes = record { tells = λ k n changed. refl; listless = refl; own = refl; refusable = refl }
-request_plain request.ReadPosition bytes = record { tells = λ k n changed. refl; listless = refl; own = refl; refusable = refl }
+request_plain (request.Locate bt cp l) bytes = record { tells = λ k n changed. refl; listless = refl; own = refl }
+request_plain request.ReadPosition bytes = record { tells = λ k n changed. refl; listless = refl; own = refl }
 request_plain (request.PersistentReserveIn action l) bytes = tt
 request_plain (request.ReportLuns select l) bytes = tt
-request_plain (request.MoveMedium transport source destination invert) bytes = record { tells = λ k n changed. refl; listless = refl; own = refl; refusable = refl }
+request_plain (request.MoveMedium transport source destination invert) bytes = record { tells = λ k n changed. refl; listless = refl; own = refl }
 request_plain (request.PersistentReserveOut action scope_type l) bytes = list_plain (lists.reading action scope_type l bytes)
 request_plain (request.ReadElementStatus voltag type_code start count curdata dvcid l) bytes =
-    either_own curdata class.ReadElementStatusCurdata class.ReadElementStatus (record { tells = λ k n changed. refl; listless = refl; own = refl; refusable = refl }) (record { tells = λ k n changed. refl; listless = refl; own = refl; refusable = refl })
+    either_own curdata class.ReadElementStatusCurdata class.ReadElementStatus (record { tells = λ k n changed. refl; listless = refl; own = refl }) (record { tells = λ k n changed. refl; listless = refl; own = refl })
 
 fault_plain : (fault : CdbFault) → is_of_spelling (condition_of_fault fault) ≡ true
 fault_plain Opcode = refl

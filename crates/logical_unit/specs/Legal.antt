@@ -2,11 +2,12 @@
 use Rattle.std.specs.Prelude.{◌≡◌, ◌↔◌, Bool, true, false, List, [], ◌∷◌, Option, None, Some, if◌then◌else◌, ◌⊎◌}
 use Rattle.std.specs.List.{All, flat_map}
 use Rattle.scsi_cdb.specs.declared.classes.Class.{Class}
-use Rattle.scsi_cdb.specs.declared.classes.Class.TheVariants.{Inquiry, ReportLuns, RequestSense, PersistentReserveIn, PreventRemoval, AllowRemoval, ModeSelect, Register, Reserve, Release, Clear, Preempt, PreemptAndAbort, RegisterAndIgnoreExistingKey, RegisterAndMove}
+use Rattle.scsi_cdb.specs.declared.classes.Class.TheVariants.{TestUnitReady, Rewind, ReadBlockLimits, InitializeElementStatus, Erase, ReadPosition, Inquiry, ReportLuns, RequestSense, PersistentReserveIn, PreventRemoval, AllowRemoval, ModeSense, ModeSelect, Register, Reserve, Release, Clear, Preempt, PreemptAndAbort, RegisterAndIgnoreExistingKey, RegisterAndMove}
 use Rattle.scsi_cdb.specs.Classes.{class_of_action}
 use Rattle.scsi_nexus.specs.declared.nexus.Nexus.{Nexus}
 use Rattle.scsi_sense.specs.declared.condition.Condition.{Condition}
-use Rattle.scsi_sense.specs.declared.condition.Condition.TheVariants.{InvalidCommandOperationCode, InvalidFieldInCdb, ParameterListLengthError}
+use Rattle.scsi_sense.specs.declared.condition.Condition.TheVariants.{InvalidCommandOperationCode, InvalidFieldInCdb, InvalidFieldInParameterList, ParameterListLengthError, SavingParametersNotSupported}
+use Rattle.scsi_sense.specs.Conditions.{sense_for}
 use Rattle.scsi_sense.specs.declared.status.Status.{Status}
 use Rattle.scsi_sense.specs.declared.status.Status.TheVariants.{Good, CheckCondition, ReservationConflict}
 use Rattle.unit_attention.specs.declared.kind.Kind.{Kind}
@@ -103,22 +104,52 @@ is_of_every_unit PreventRemoval = true
 is_of_every_unit AllowRemoval = true
 is_of_every_unit class = false
 
--- those of them that no field refuses
-abbrev pub is_never_refused : Class → Bool
-is_never_refused PersistentReserveIn = true
-is_never_refused AllowRemoval = true
-is_never_refused class = false
+-- what may be reported of the fields of a CDB: 24h/00h; of MODE SENSE also 39h/00h; of MODE SELECT also 1Ah/00h and 26h/00h, of its list
+abbrev pub is_of_cdb : Condition → Bool
+is_of_cdb InvalidFieldInCdb = true
+is_of_cdb condition = false
+
+abbrev pub is_of_mode_sense : Condition → Bool
+is_of_mode_sense InvalidFieldInCdb = true
+is_of_mode_sense SavingParametersNotSupported = true
+is_of_mode_sense condition = false
+
+abbrev pub is_of_mode_select : Condition → Bool
+is_of_mode_select InvalidFieldInCdb = true
+is_of_mode_select ParameterListLengthError = true
+is_of_mode_select InvalidFieldInParameterList = true
+is_of_mode_select condition = false
+
+-- and so of the fields of each command other than PERSISTENT RESERVE OUT: nothing of those that no field refuses
+abbrev pub is_field_fault : Class → Condition → Bool
+is_field_fault TestUnitReady condition = false
+is_field_fault Rewind condition = false
+is_field_fault ReadBlockLimits condition = false
+is_field_fault InitializeElementStatus condition = false
+is_field_fault Erase condition = false
+is_field_fault ReadPosition condition = false
+is_field_fault PersistentReserveIn condition = false
+is_field_fault AllowRemoval condition = false
+is_field_fault ModeSense condition = is_of_mode_sense condition
+is_field_fault ModeSelect condition = is_of_mode_select condition
+is_field_fault class condition = is_of_cdb condition
+
+-- fields that are refused: CHECK CONDITION with the sense data of such a condition
+pub record RefusesFields (e : Record) (class : Class) : Type 0 where
+  pub condition : Condition
+  pub of_class : is_field_fault class condition ≡ true
+  pub status : e.status ≡ CheckCondition
+  pub sense : e.sense ≡ Some (sense_for condition)
 
 -- which of stages 5 and 6 a command other than PERSISTENT RESERVE OUT comes to, and what it is answered there, is its own or the
--- device's; but its fields are refused by CHECK CONDITION, and it is GOOD exactly without sense data
+-- device's; but its fields are refused as its class allows, and it is GOOD exactly without sense data
 pub record SaysItsOwn (e : Record) (at : Cell) : Type 0 where
   pub stage : (e.stage ≡ Fields) ⊎ (e.stage ≡ Device)
   pub cell : e.cell ≡ Some at
   pub rule : e.rule ≡ None
   pub whole : IsWhole e.status e.sense
-  pub fields : e.stage ≡ Fields → e.status ≡ CheckCondition
+  pub fields : e.stage ≡ Fields → RefusesFields e at.class
   pub unit : is_of_every_unit at.class ≡ true → e.stage ≡ Device → e.status ≡ Good
-  pub reached : is_never_refused at.class ≡ true → e.stage ≡ Device
   pub mode : e.mode_changed ≡ true → ChangedTheMode e at.class
 
 -- stages 5 and 6

@@ -1,5 +1,5 @@
 -- Worked rows at one unit: a drive with an empty tape at LUN 1, where A holds Exclusive Access and B isn't registered. Both had contact.
-use Rattle.std.specs.Prelude.{◌≡◌, ℕ, Bool, true, false, List, [], ◌∷◌, ◌++◌, replicate, Option, Some, None, Err}
+use Rattle.std.specs.Prelude.{◌≡◌, ℕ, Bool, true, false, List, [], ◌∷◌, ◌++◌, map, replicate, Option, Some, None, Err}
 use Rattle.scsi_cdb.specs.declared.action.OutServiceAction.TheVariants as out
 use Rattle.scsi_cdb.specs.declared.classes.Class.TheVariants as class
 use Rattle.scsi_cdb.specs.declared.request.Request.TheVariants as request
@@ -115,7 +115,8 @@ abbrev pub register_params : (rk sark : ℕ) → OutParams
 register_params rk sark =
     record { rk = rk; sark = sark; dest = None; act = out.Register; scope_type = 0; unreg = false; defect = None; all_ports = false; listed = false; targets = record { items = [] } }
 
--- A's WRITE(6) comes to the check and is allowed, B's is denied, and B's REGISTER with a key breaks K1
+-- A's WRITE(6) comes to the check and is allowed, B's is denied, and B's REGISTER with a key breaks K1; C's first INQUIRY passes over what
+-- waits for C, which C's WRITE(6) is told instead
 pub record AtTheCheck (tag : VolumeTag) : Type 0 where
   pub holder_comes : ComesToTheCheck (drive_held tag) a write (7 ∷ 8 ∷ []) (command.Device (request.Write false 2))
   pub holder_verdict : verdict_of held a (command.Device (request.Write false 2)) ≡ Allowed
@@ -129,6 +130,8 @@ pub record AtTheCheck (tag : VolumeTag) : Type 0 where
   pub keyless_verdict : verdict_of held b (command.ReserveOut (register_params 5 2)) ≡ Rule K1
   pub keyless : asked (drive_held tag) b register (keys 5 2)
       ≡ Some (record { status = ReservationConflict; sense = []; payload = []; stage = ReservationCheck; cell = Some (record { class = class.Register; res_type = Ea; role = Other }); rule = Some K1 })
+  pub passes_over : ComesToTheCheck (drive_held tag) c (0x12 ∷ 0 ∷ 0 ∷ 0 ∷ 0x24 ∷ 0 ∷ []) [] (command.Inquiry false 0 0x24)
+  pub told_before : ComesToTheCheck (drive_held tag) c write (7 ∷ 8 ∷ []) (command.Device (request.Write false 2)) → ⊥
 
 -- the fields of LOAD UNLOAD come before who prevents removal, whose own unloading is prevented too
 pub record Unloading (tag : VolumeTag) : Type 0 where
@@ -140,7 +143,8 @@ pub record Unloading (tag : VolumeTag) : Type 0 where
 -- REQUEST SENSE clears what it tells, also where none of it is asked for; with DESC it clears nothing
 pub record Sensing (tag : VolumeTag) : Type 0 where
   pub all : (answered (drive_released tag) b (0x03 ∷ 0 ∷ 0 ∷ 0 ∷ 0x12 ∷ 0 ∷ []) []).1.payload ≡ sense_with 6 0x2A 0x04
-  pub none : (answered (drive_released tag) b (0x03 ∷ 0 ∷ 0 ∷ 0 ∷ 0 ∷ 0 ∷ []) []).1.payload ≡ []
+  pub none : asked (drive_released tag) b (0x03 ∷ 0 ∷ 0 ∷ 0 ∷ 0 ∷ 0 ∷ []) []
+      ≡ Some (record { status = Good; sense = []; payload = []; stage = Device; cell = Some (record { class = class.RequestSense; res_type = Ea; role = Other }); rule = None })
   pub none_clears : (answered (drive_released tag) b (0x03 ∷ 0 ∷ 0 ∷ 0 ∷ 0 ∷ 0 ∷ []) []).0.kept.slots ≡ slots_with []
   pub descriptor_keeps : (answered (drive_released tag) b (0x03 ∷ 0x01 ∷ 0 ∷ 0 ∷ 0x12 ∷ 0 ∷ []) []).0.kept.slots ≡ slots_with (ReservationsReleased ∷ [])
 
@@ -149,12 +153,14 @@ pub record FirstContact (tag : VolumeTag) : Type 0 where
   pub slot : (answered (drive_held tag) c (0xFF ∷ []) []).0.kept.slots ≡ slots_with [] ++ (c, PowerOn ∷ []) ∷ []
   pub told : asked (drive_held tag) c (0xFF ∷ []) []
       ≡ Some (record { status = CheckCondition; sense = sense_with 5 0x20 0; payload = []; stage = Spelling; cell = None; rule = None })
+  pub invalid : map (λ (e : Record). e.act) (answered (drive_held tag) c (0xFF ∷ []) []).0.records ≡ act.Invalid ∷ []
 
 -- PREVENT 1 prevents, 2 and 3 are refused fields, 0 allows
 pub record Preventing (tag : VolumeTag) : Type 0 where
   pub one : (answered (drive_held tag) a (0x1E ∷ 0 ∷ 0 ∷ 0 ∷ 1 ∷ 0 ∷ []) []).0.kept.preventers ≡ a ∷ []
   pub two : (answered (drive_held tag) a (0x1E ∷ 0 ∷ 0 ∷ 0 ∷ 2 ∷ 0 ∷ []) []).0.kept.preventers ≡ []
-  pub two_refused : sense_bytes (answered (drive_held tag) a (0x1E ∷ 0 ∷ 0 ∷ 0 ∷ 2 ∷ 0 ∷ []) []).1.sense ≡ sense_with 5 0x24 0
+  pub two_refused : asked (drive_held tag) a (0x1E ∷ 0 ∷ 0 ∷ 0 ∷ 2 ∷ 0 ∷ []) []
+      ≡ Some (record { status = CheckCondition; sense = sense_with 5 0x24 0; payload = []; stage = Fields; cell = Some (record { class = class.PreventRemoval; res_type = Ea; role = Holder }); rule = None })
   pub three : (answered (drive_prevented tag) a (0x1E ∷ 0 ∷ 0 ∷ 0 ∷ 3 ∷ 0 ∷ []) []).0.kept.preventers ≡ a ∷ []
   pub three_refused : sense_bytes (answered (drive_prevented tag) a (0x1E ∷ 0 ∷ 0 ∷ 0 ∷ 3 ∷ 0 ∷ []) []).1.sense ≡ sense_with 5 0x24 0
   pub zero : (answered (drive_prevented tag) a (0x1E ∷ 0 ∷ 0 ∷ 0 ∷ 0 ∷ 0 ∷ []) []).0.kept.preventers ≡ []
@@ -190,15 +196,19 @@ noted_in n asked stage status sense cell =
 abbrev pub unsensed : Sense
 unsensed = record { valid = false; filemark = false; eom = false; ili = false; key = 5; information = 0; asc = 0x24; ascq = 0 }
 
--- what no legal trail holds: REGISTER without its list, the loss of a nexus without a slot, sense data beside GOOD, and a PREVENT that ended
--- in CHECK CONDITION at the device's stage
+-- what no legal trail holds: REGISTER without its list, the loss of a nexus without a slot, sense data beside GOOD, a PREVENT that ended
+-- in CHECK CONDITION at the device's stage, a TEST UNIT READY whose fields were refused, and an INQUIRY whose fields were refused by a
+-- condition of parameter lists
 pub record IllegalRecords : Type 0 where
   pub listless : IsJudged (kept_by_a (slots_with []) []) (noted_in a (act.Command class.Register) Device Good None (record { class = class.Register; res_type = Ea; role = Holder })) → ⊥
   pub stranger : IsJudged (kept_by_a (slots_with []) []) (noted c act.Loss Device Good None) → ⊥
   pub sense_beside_good : IsJudged (kept_by_a (slots_with []) []) (noted_in a (act.Command class.Write) Device Good (Some unsensed) (record { class = class.Write; res_type = Ea; role = Holder })) → ⊥
   pub prevent_refused : IsJudged (kept_by_a (slots_with []) []) (noted_in a (act.Command class.PreventRemoval) Device CheckCondition (Some unsensed) (record { class = class.PreventRemoval; res_type = Ea; role = Holder })) → ⊥
+  pub fieldless : IsJudged (kept_by_a (slots_with []) []) (noted_in a (act.Command class.TestUnitReady) Fields CheckCondition (Some unsensed) (record { class = class.TestUnitReady; res_type = Ea; role = Holder })) → ⊥
+  pub other_condition : IsJudged (kept_by_a (slots_with []) []) (noted_in a (act.Command class.Inquiry) Fields CheckCondition (Some (record unsensed { asc = 0x26 })) (record { class = class.Inquiry; res_type = Ea; role = Holder })) → ⊥
 
--- and what it holds: the loss of a nexus that has one
+-- and what it holds: the loss of a nexus that has one, a PREVENT that is GOOD, and an INQUIRY whose fields were refused
 pub record LegalRecords : Type 0 where
   pub known : IsJudged (kept_by_a (slots_with []) []) (noted b act.Loss Device Good None)
   pub prevented : IsJudged (kept_by_a (slots_with []) []) (noted_in a (act.Command class.PreventRemoval) Device Good None (record { class = class.PreventRemoval; res_type = Ea; role = Holder }))
+  pub refused_fields : IsJudged (kept_by_a (slots_with []) []) (noted_in a (act.Command class.Inquiry) Fields CheckCondition (Some unsensed) (record { class = class.Inquiry; res_type = Ea; role = Holder }))

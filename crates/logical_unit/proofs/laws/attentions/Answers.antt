@@ -9,4 +9,4 @@ returns-clause-sensing c tag = record { all = refl; none = refl; none_clears = r
 
 pub returns-clause-contact : goal.returns-clause-contact
 unfolding cdb.command_of keys_after
-returns-clause-contact c tag = record { slot = refl; told = refl }
+returns-clause-contact c tag = record { slot = refl; told = refl; invalid = refl }

@@ -15,4 +15,6 @@ returns c tag = record {
   keyless_comes = record { spells = refl; ready = refl };
   keyless_verdict = refl;
   keyless = refl;
+  passes_over = record { spells = refl; ready = refl };
+  told_before = λ comes. let told = comes.ready in absurd cc;
 }

@@ -1,4 +1,4 @@
-use Rattle.std.proofs.Common.{[], ◌∷◌, Some, None, inl, sym, ap, ◌∙◌, subst, refl}
+use Rattle.std.proofs.Common.{[], ◌∷◌, Some, None, inl, sym, ap, ◌∙◌, refl}
 use Rattle.unit_answers.specs.declared.reply.Reply.{Reply}
 use Rattle.logical_unit.specs.UnitView.{UnitWithRoom, last_number}
 use Rattle.logical_unit.proofs.MoveBusy.{answered_lacks}
