@@ -216,12 +216,20 @@ pub record FixedTransfers (tag : VolumeTag) : Type 0 where
       ≡ checks (loaded tag 512 (tape_of 2 0)) [] refused_transfer
   pub nothing : asked (loaded tag 512 (tape_of 2 0)) (Write true 0) ≡ gives (loaded tag 512 (tape_of 2 0)) []
 
+-- a tape at the last position that there is: what lies before it isn't looked at
+abbrev pub full_of_marks : TapeView
+full_of_marks = record { objects = []; position = 1000000; capacity = 1000 }
+
 -- what doesn't fit, and what a protected volume refuses: the tape stays
 pub record RefusedWrites (tag : VolumeTag) : Type 0 where
   pub overflow : sent (loaded tag 512 (tape_of 2 1)) (Write true 2) (replicate 1024 9)
       ≡ checks (loaded tag 512 (tape_of 2 1)) [] (sense 0xf0 0x4d 0x00 0x00 0x00 0x02 0x00 0x02)
   pub block_overflow : sent (loaded tag 0 (tape_of 2 1)) (Write false 600) (replicate 600 9)
       ≡ checks (loaded tag 0 (tape_of 2 1)) [] (sense 0xf0 0x4d 0x00 0x00 0x02 0x58 0x00 0x02)
+  pub marks_overflow : asked (loaded tag 0 full_of_marks) (WriteFilemarks false 1)
+      ≡ checks (loaded tag 0 full_of_marks) [] (sense 0xf0 0x4d 0x00 0x00 0x00 0x01 0x00 0x02)
+  pub last_mark : asked (loaded tag 0 (record full_of_marks { position = 999999 })) (WriteFilemarks false 1)
+      ≡ gives (loaded tag 0 (record { objects = Mark ∷ []; position = 1000000; capacity = 1000 })) []
   pub protected_medium : sent (protected tag (block_and_mark 1)) (Write false 1) (5 ∷ [])
       ≡ checks (protected tag (block_and_mark 1)) [] (sense 0x70 0x07 0x00 0x00 0x00 0x00 0x27 0x00)
   pub protected_marks : asked (protected tag (block_and_mark 1)) (WriteFilemarks false 1)

@@ -1,12 +1,21 @@
-use Rattle.std.proofs.Common.{refl, inl, inr, ap}
+use Rattle.std.proofs.Common.{[], ◌∷◌, refl, inl, inr, ap}
 use Rattle.std.specs.Prelude.{replicate}
 use Rattle.unit_answers.specs.declared.reply.Reply.{Reply}
-use Rattle.unit_answers.specs.Replies.{AnswersAbsent, conflict}
+use Rattle.unit_answers.specs.Replies.{AnswersAbsent, conflict, good}
+use Rattle.unit_answers.specs.Rows.{refusal}
 use Rattle.unit_answers.proofs.laws.absent_unit.Goals as goal
 
 no_conflict : AnswersAbsent (replicate 6 0) conflict → ⊥
 no_conflict (inl e) = let is = ap (λ (r : Reply). r.status) e in cc
 no_conflict (inr e) = let is = ap (λ (r : Reply). r.status) e in cc
+
+not_good : AnswersAbsent (replicate 6 0) (good []) → ⊥
+not_good (inl e) = let is = ap (λ (r : Reply). r.status) e in cc
+not_good (inr e) = let is = ap (λ (r : Reply). r.status) e in cc
+
+inquiry_not_refused : AnswersAbsent (0x12 ∷ 0 ∷ 0 ∷ 0 ∷ 0x24 ∷ 0 ∷ []) refusal → ⊥
+inquiry_not_refused (inl e) = let is = ap (λ (r : Reply). r.status) e in cc
+inquiry_not_refused (inr e) = let is = ap (λ (r : Reply). r.status) e in cc
 
 pub returns : goal.returns
 returns c = record {
@@ -26,4 +35,7 @@ returns c = record {
   refused = refl;
   wants_memory = inl refl;
   no_conflict = no_conflict;
+  answered = inr refl;
+  not_good = not_good;
+  inquiry_not_refused = inquiry_not_refused;
 }
