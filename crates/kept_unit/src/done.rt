@@ -15,7 +15,7 @@ use std::alloc::Global;
 use std::marker::Model;
 
 /// What was asked: a command is the very slices that were lent to the call.
-#[derive(Clone, Copy)]
+#[derive(Clone, Copy, Debug)]
 pub enum Asked<'a> {
     /// That an I_T nexus is lost.
     Loss,
@@ -26,7 +26,7 @@ pub enum Asked<'a> {
 }
 
 /// A call with its answer. Only the calls of this crate make one: with a number, only a step of a unit does.
-#[derive(Drop)]
+#[derive(Debug, Drop)]
 pub struct Done<'a> {
     nexus: Option<Nexus>,
     lun: u8,

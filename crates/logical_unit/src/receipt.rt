@@ -3,7 +3,7 @@ use std::alloc::Global;
 use unit_answers::Reply;
 
 /// The answer to a MOVE MEDIUM, and the records that it left.
-#[derive(Drop)]
+#[derive(Debug, Drop)]
 pub struct Receipt {
     pub reply: Reply,
     /// For each record the unit that has it, by logical unit number, and its number there: the changer's, then
