@@ -69,6 +69,7 @@ fn follow(reservations: &mut PrState, nobody: &mut Queues, entry: &Record)
         (Act::ReserveOut(params), Status::Good) => {
             let params = params.open();
             let applied = reservations.apply(nexus, &params, nobody);
+            // What was accepted once is accepted again: the prover alone is told.
             prove!(applied.is_ok());
         }
         _ => {}

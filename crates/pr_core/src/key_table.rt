@@ -208,6 +208,7 @@ impl KeyTable {
     {
         let mut entries = ArrayVec::new();
         let copied = entries.try_extend_from_slice(self.entries.as_slice());
+        // Both have the same room: the prover alone is told.
         prove!(copied.is_ok());
         KeyTable { entries }
     }

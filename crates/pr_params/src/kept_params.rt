@@ -88,6 +88,7 @@ impl KeptParams {
         let kept = &*self.kept;
         let mut targets = ArrayVec::new();
         let copied = targets.try_extend_from_slice(kept.targets.as_slice());
+        // There is room for them: the prover alone is told.
         prove!(copied.is_ok());
         OutParams {
             rk: kept.rk,

@@ -37,6 +37,7 @@ fn is_mark_in_way(store: &Store, from: usize, back: bool, over: usize) -> bool
     if back {
         return store.is_mark(from - 1 - over);
     }
+    // Says to the prover alone that a place in the store is a number of 64 bits.
     let _count = store.len();
     store.is_mark(from + over)
 }
