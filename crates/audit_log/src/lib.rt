@@ -16,6 +16,3 @@ pub use lines::{line, write_line, write_reservation};
 pub use record::Record;
 pub use stage::Stage;
 pub use trail::Trail;
-
-#[cfg(test)]
-mod tests;

@@ -4,7 +4,5 @@
 mod changer;
 mod faults;
 mod mode;
-#[cfg(test)]
-mod tests;
 
 pub use changer::Changer;

@@ -6,8 +6,6 @@ mod commands;
 mod laws;
 mod reading;
 mod task;
-#[cfg(test)]
-mod tests;
 
 pub use command_line_fault::CommandLineFault;
 pub use laws::worked_rows;

@@ -11,6 +11,3 @@ mod laws;
 pub use client_fault::ClientFault;
 pub use conversing::converse;
 pub use laws::worked_rows;
-
-#[cfg(test)]
-mod tests;

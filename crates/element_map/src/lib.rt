@@ -13,7 +13,3 @@ mod status;
 
 pub use element_type::ElementType;
 pub use elements::Elements;
-pub use layout::{DRIVE_LIMIT, PORTAL_LIMIT, SLOT_LIMIT};
-
-#[cfg(test)]
-mod tests;

@@ -12,8 +12,6 @@ mod layout;
 mod pieces;
 mod reservations;
 mod senses;
-#[cfg(test)]
-mod tests;
 mod units;
 mod words;
 

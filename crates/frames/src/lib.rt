@@ -34,6 +34,3 @@ pub use reply_laws::{
 };
 pub use sending::write_frame;
 pub use sending_laws::{sent_is_read, sent_rows};
-
-#[cfg(test)]
-mod tests;

@@ -17,6 +17,3 @@ pub use gate::{Gate, Pass};
 pub use library::Library;
 pub use opening::Blanks;
 pub use seat::{Parts, Seat};
-
-#[cfg(test)]
-mod tests;

@@ -7,8 +7,6 @@ mod chart;
 mod classes;
 mod laws;
 mod row;
-#[cfg(test)]
-mod tests;
 
 pub use cells::write_cells;
 pub use chart::Chart;

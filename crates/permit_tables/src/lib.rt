@@ -15,6 +15,3 @@ pub use laws::permission_rows;
 pub use res_type::ResType;
 pub use role::Role;
 pub use words::{permission_words, word, word_holds_each_cell};
-
-#[cfg(test)]
-mod tests;

@@ -219,7 +219,7 @@ impl WalkedState {
 
     /// What an act leaves.
     #[tactic(auto, unfolding(crate::specs::State::keys_after))]
-    pub(crate) fn after(
+    pub fn after(
         &self,
         alloc: Global,
         sender: Nexus,

@@ -28,7 +28,5 @@ pub use laws::{
 pub use pr_fault::PrFault;
 pub use rows::worked_rows;
 pub use state::PrState;
+pub use targets::{TARGET_ROOM, list_targets};
 pub use verdict::Verdict;
-
-#[cfg(test)]
-mod tests;

@@ -128,7 +128,7 @@ impl PrState {
 
 impl PrState {
     /// The act that a command is; none where keys are taken away from nexuses that have none.
-    pub(crate) fn act_of<'a>(
+    pub fn act_of<'a>(
         &self,
         nexus: Nexus,
         params: &OutParams,

@@ -9,7 +9,7 @@ use scsi_nexus::Nexus;
 const TARGET_PORTS: usize = 4;
 
 /// Room for the sender, and for its SAS address and each listed one at every port.
-pub(crate) const TARGET_ROOM: usize = 1 + TARGET_PORTS * (1 + TARGETS);
+pub const TARGET_ROOM: usize = 1 + TARGET_PORTS * (1 + TARGETS);
 
 /// Whether a relative target port is one of the target's.
 pub(crate) fn is_target_port(port: u16) -> bool
@@ -33,11 +33,7 @@ pub(crate) fn names_its_sender_alone(params: &OutParams) -> bool
 }
 
 /// Lists the nexuses that a REGISTER names. The list is large, so it is made where it lies.
-pub(crate) fn list_targets(
-    list: &mut ArrayVec<Nexus, TARGET_ROOM>,
-    sender: Nexus,
-    params: &OutParams,
-)
+pub fn list_targets(list: &mut ArrayVec<Nexus, TARGET_ROOM>, sender: Nexus, params: &OutParams)
     requires { list.old.items ≡ [] }
     ensures { list.new.items ≡ targets sender params.now }
 {

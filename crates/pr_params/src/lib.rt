@@ -21,6 +21,3 @@ pub use out_params::OutParams;
 pub use parameter_list::read_out;
 pub use rows::{parameter_list_rows, status_data_rows};
 pub use status_data::{key_of, write_capabilities, write_keys, write_reservation};
-
-#[cfg(test)]
-mod tests;

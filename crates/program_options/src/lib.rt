@@ -7,8 +7,6 @@ mod laws;
 mod library_options;
 mod option_fault;
 mod term;
-#[cfg(test)]
-mod tests;
 
 pub use host::nexus_of;
 pub use laws::worked_rows;

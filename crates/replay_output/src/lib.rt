@@ -6,8 +6,6 @@ mod explained;
 mod hex_text;
 mod laws;
 mod reply_line;
-#[cfg(test)]
-mod tests;
 
 pub use audit_lines::{Audit, audit_text, records_text};
 pub use explained::{Explanations, write_explained};

@@ -14,8 +14,6 @@ mod request_line;
 mod script;
 mod script_fault;
 mod sixteen;
-#[cfg(test)]
-mod tests;
 mod words;
 
 pub use events::Events;

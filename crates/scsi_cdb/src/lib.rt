@@ -15,8 +15,6 @@ mod layout;
 mod primary;
 mod request;
 mod stream;
-#[cfg(test)]
-mod tests;
 
 pub use action::{InServiceAction, OutServiceAction};
 pub use classes::Class;

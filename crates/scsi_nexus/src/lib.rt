@@ -15,6 +15,3 @@ pub use nexus::Nexus;
 pub use nexus_list::{LIST_CAPACITY, ListFull, NexusList};
 pub use place::place_of;
 pub use transport_id::{TransportId, TransportIdFault, transport_id_reads_back};
-
-#[cfg(test)]
-mod tests;

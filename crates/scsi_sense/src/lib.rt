@@ -8,8 +8,6 @@ mod layout;
 mod sense;
 mod sense_key;
 mod status;
-#[cfg(test)]
-mod tests;
 
 pub use condition::Condition;
 pub use fault::SenseFault;

@@ -15,7 +15,7 @@ use std::io::Write;
 
 /// Closes a library with its seats, and writes the lines that are wanted of the records, LUN 0 first. The lines are made before the first of
 /// them is written.
-pub(crate) fn close_and_write<L0: Site, L1: Site, L2: Site, L3: Site, L4: Site, W: Write>(
+pub fn close_and_write<L0: Site, L1: Site, L2: Site, L3: Site, L4: Site, W: Write>(
     alloc: Global,
     library: Library<L0, L1, L2, L3, L4, Device, Pass>,
     seats: Vec<Seat<L0, L1, L2, L3, L4>>,

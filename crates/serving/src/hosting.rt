@@ -183,13 +183,7 @@ fn serve_all<
     back.reserve(count)?;
     let mut workers = Vec::new(alloc);
     for seat in seats {
-        let post = Post {
-            rt,
-            library,
-            directory: &directory,
-            seat,
-            nexus: None,
-        };
+        let post = Post::new(rt, library, &directory, seat);
         workers.push(Worker { post, fault: None })?;
     }
     thread::for_each_mut(
@@ -202,7 +196,7 @@ fn serve_all<
     for worker in workers {
         let Worker { post, fault } = worker;
         told = earlier(told, fault);
-        if back.push(post.seat).is_err() {
+        if back.push(post.into_seat()).is_err() {
             told = earlier(told, Some(HostFault::NoMemory));
         }
     }

@@ -8,10 +8,8 @@ mod hosting;
 mod post;
 mod worker;
 
+pub use closing::close_and_write;
 pub use host_fault::{FaultySession, HostFault, earlier};
 pub use hosting::{Records, host};
 pub use post::Post;
 pub use worker::Attendance;
-
-#[cfg(test)]
-mod tests;

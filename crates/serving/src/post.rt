@@ -28,6 +28,50 @@ impl<'a, L0: Site, L1: Site, L2: Site, L3: Site, L4: Site, R: Wait> Model
     ghost view = { λ p. record { seat = p.seat; units = p.library.now.units } };
 }
 
+impl<'a, L0: Site, L1: Site, L2: Site, L3: Site, L4: Site, R: Wait> Post<
+    'a,
+    L0,
+    L1,
+    L2,
+    L3,
+    L4,
+    R,
+> {
+    ghost use Rattle.std.specs.Prelude.{◌≡◌};
+
+    /// A place for one session after another.
+    pub fn new(
+        rt: &'a R,
+        library: &'a Library<L0, L1, L2, L3, L4, Device, Pass>,
+        directory: &'a Mutex<Directory>,
+        seat: Seat<L0, L1, L2, L3, L4>,
+    ) -> Post<'a, L0, L1, L2, L3, L4, R>
+        ensures { result ≡ record { seat = seat; units = library.now.units } }
+    {
+        Post {
+            rt,
+            library,
+            directory,
+            seat,
+            nexus: None,
+        }
+    }
+
+    /// The seat, with which the library is closed.
+    pub fn into_seat(self) -> Seat<L0, L1, L2, L3, L4>
+        ensures { result ≡ self.entry.seat }
+    {
+        let Post {
+            rt: _,
+            library: _,
+            directory: _,
+            seat,
+            nexus: _,
+        } = self;
+        seat
+    }
+}
+
 impl<'a, L0: Site, L1: Site, L2: Site, L3: Site, L4: Site, R: Wait> Station
     for Post<'a, L0, L1, L2, L3, L4, R> {
     ghost use Rattle.serving.specs.Posts.{DoesToPost};

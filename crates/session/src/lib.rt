@@ -20,6 +20,3 @@ pub use serving::serve;
 pub use splitter::Splitter;
 pub use splitting_laws::{cuts_change_nothing, splitting_rows};
 pub use station::Station;
-
-#[cfg(test)]
-mod tests;

@@ -12,8 +12,6 @@ pub mod plain;
 mod space;
 mod store;
 mod tape;
-#[cfg(test)]
-mod tests;
 mod volume;
 
 pub use elements::MapFault;

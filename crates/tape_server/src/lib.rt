@@ -6,8 +6,6 @@ mod mode;
 mod positioning;
 mod reading;
 mod sense;
-#[cfg(test)]
-mod tests;
 mod writing;
 
 pub use drive::TapeDrive;

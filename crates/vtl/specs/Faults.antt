@@ -3,20 +3,13 @@ use Rattle.std.specs.Prelude.{ℕ, List, [], ◌∷◌, ◌++◌, Option, Some, 
 use Rattle.std.specs.Option.{option_map}
 use Rattle.command_line.specs.Faults.{command_line_status, command_line_text}
 use Rattle.conversing.specs.Faults as session
+use Rattle.listening.specs.Faults.{serve_status, serve_text}
 use Rattle.replay.specs.Faults as replay
 use Rattle.script_input.specs.Faults as input
-use Rattle.serving.specs.Faults as host
 use Rattle.vtl.specs.declared.client_fault.ClientFault.{ClientFault}
 use Rattle.vtl.specs.declared.client_fault.ClientFault.TheVariants as client
 use Rattle.vtl.specs.declared.program_fault.ProgramFault.{ProgramFault}
 use Rattle.vtl.specs.declared.program_fault.ProgramFault.TheVariants.{CommandLine, Replay, Serve, Client, Cells}
-use Rattle.vtl.specs.declared.serve_fault.ServeFault.{ServeFault}
-use Rattle.vtl.specs.declared.serve_fault.ServeFault.TheVariants as serve
-
-abbrev pub serve_status : ServeFault → ℕ
-serve_status (serve.IsThere path) = 4
-serve_status (serve.CannotListen path) = 4
-serve_status (serve.Host fault) = host.exit_status fault
 
 abbrev pub client_status : ClientFault → ℕ
 client_status (client.Input fault) = input.exit_status fault
@@ -31,11 +24,6 @@ program_status (Client fault) = client_status fault
 program_status Cells = 4
 
 -- the second line names the path
-abbrev pub serve_text : ServeFault → List ℕ
-serve_text (serve.IsThere path) = codes "vtl: device fault\nvtl: cannot listen on " ++ string_bytes path ++ codes ": it is there already"
-serve_text (serve.CannotListen path) = codes "vtl: device fault\nvtl: cannot listen on " ++ string_bytes path
-serve_text (serve.Host fault) = host.fault_text fault
-
 abbrev pub client_text : ClientFault → List ℕ
 client_text (client.Input fault) = input.fault_text fault
 client_text (client.CannotConnect path) = codes "vtl: device fault\nvtl: cannot connect to " ++ string_bytes path

@@ -7,10 +7,6 @@ mod client_fault;
 mod laws;
 mod program;
 mod program_fault;
-mod serve;
-mod serve_fault;
-#[cfg(test)]
-mod tests;
 
 use std::process::ExitCode;
 

@@ -1,6 +1,6 @@
 use crate::client_fault::ClientFault;
-use crate::serve_fault::ServeFault;
 use command_line::CommandLineFault;
+use listening::ServeFault;
 use replay::ReplayFault;
 use std::alloc::AllocError;
 use std::fmt;

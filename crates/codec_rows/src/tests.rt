@@ -1,0 +1,4 @@
+mod commands;
+mod nexuses;
+mod sense;
+mod streams;

@@ -1,0 +1,95 @@
+use scsi_sense::{Condition, Sense, SenseFault, SenseKey, Status};
+use std::test::Fail;
+
+const FIRST_CONTACT: &[u8; 18] = b"\x70\0\x06\0\0\0\0\x0a\0\0\0\0\x29\0\0\0\0\0";
+
+#[test]
+fn writes_and_reads_what_a_host_gets(rt: HostRuntime) {
+    let sense = Sense::of(Condition::PowerOnOrResetOccurred);
+    assert_eq!(rt; sense.to_bytes().as_slice(), FIRST_CONTACT.as_slice());
+    assert_eq!(rt; Sense::from_bytes(FIRST_CONTACT), Ok(sense));
+    assert!(rt; sense.is(&Sense::of(Condition::PowerOnOrResetOccurred)));
+    assert!(rt; !sense.is(&Sense::of(Condition::NexusLossOccurred)));
+    assert_eq!(rt;
+        Sense::from_bytes(&FIRST_CONTACT[..17]),
+        Err(SenseFault::Short)
+    );
+    assert_eq!(rt; Sense::from_bytes(&[0x72; 18]), Err(SenseFault::NotFixed));
+    let none = b"\x70\0\0\0\0\0\0\x0a\0\0\0\0\0\0\0\0\0\0";
+    assert_eq!(rt; Sense::none().to_bytes().as_slice(), none.as_slice());
+}
+
+#[test]
+fn keeps_information_of_an_early_end(rt: HostRuntime) {
+    let sense = Sense {
+        valid: true,
+        ili: true,
+        information: 600,
+        ..Sense::none()
+    };
+    let bytes = b"\xf0\0\x20\0\0\x02\x58\x0a\0\0\0\0\0\0\0\0\0\0";
+    assert_eq!(rt; sense.to_bytes().as_slice(), bytes.as_slice());
+    assert_eq!(rt; Status::ReservationConflict.code(), 0x18);
+}
+
+#[test]
+fn says_statuses_keys_and_conditions(rt: HostRuntime) -> Result<(), Fail> {
+    let reset = Condition::PowerOnOrResetOccurred;
+    let key = SenseKey::UnitAttention;
+    let status = Status::CheckCondition;
+    let line = format!(in rt.alloc(); "{status}: {key}, {reset}")?;
+    let expected = "CHECK CONDITION: UNIT ATTENTION, POWER ON, RESET, OR BUS DEVICE RESET OCCURRED";
+    assert_eq!(rt; line.as_str(), expected);
+    let end = Condition::EndOfMediumDetected;
+    assert_eq!(rt; end.text(), "END-OF-PARTITION/MEDIUM DETECTED");
+    assert_eq!(rt; SenseKey::VolumeOverflow.text(), "VOLUME OVERFLOW");
+    assert_eq!(rt; Status::ReservationConflict.text(), "RESERVATION CONFLICT");
+    Ok(())
+}
+
+#[test]
+fn finds_the_condition_of_sense_data(rt: HostRuntime) {
+    let rows = [
+        Condition::NoAdditionalSenseInformation,
+        Condition::InitializingCommandRequired,
+        Condition::InternalTargetFailure,
+        Condition::InvalidReleaseOfPersistentReservation,
+        Condition::RegistrationsPreempted,
+        Condition::WriteProtected,
+        Condition::EndOfDataDetected,
+        Condition::EndOfMediumDetected,
+    ];
+    for condition in rows {
+        assert_eq!(rt; Sense::of(condition).condition(), Some(condition));
+    }
+    let at_a_filemark = Sense {
+        valid: true,
+        filemark: true,
+        information: 7,
+        ..Sense::of(Condition::FilemarkDetected)
+    };
+    let found = at_a_filemark.condition();
+    assert_eq!(rt; found, Some(Condition::FilemarkDetected));
+    // A filemark as a unit attention is none of the target's.
+    let key = SenseKey::UnitAttention.code();
+    let other = Sense {
+        key,
+        ..at_a_filemark
+    };
+    assert_eq!(rt; other.condition(), None);
+}
+
+#[test]
+fn codes_of_keys(rt: HostRuntime) {
+    for code in 0..=255u8 {
+        let known = match code {
+            0 | 2 | 4 | 5 | 6 | 7 | 8 | 13 => true,
+            _ => false,
+        };
+        let read = SenseKey::of(code);
+        assert_eq!(rt; read.is_some(), known, "at {code}");
+        if let Some(key) = read {
+            assert_eq!(rt; key.code(), code);
+        }
+    }
+}

@@ -1,0 +1,279 @@
+use frames::{
+    Frame, FrameFault, Front, Inbox, LoginAnswer, ReplyFault, ReplyFrame, ReplyFront, await_reply,
+    front_of, reply_of, write_frame, write_reply,
+};
+use scsi_nexus::Nexus;
+use scsi_sense::{Condition, Sense, Status};
+use std::io::{self, Read};
+use std::test::Fail;
+
+const A: Nexus = Nexus {
+    sas: 0x5000_0000_0000_000A,
+    port: 1,
+};
+
+/// A LOGIN of A, a TEST UNIT READY to unit 0, and a LOGOUT.
+const ONE_SESSION: &[u8] = &[
+    0, 0, 0, 0x0b, 1, 0x50, 0, 0, 0, 0, 0, 0, 0x0a, 0, 1, 0, 0, 0, 9, 2, 0, 6, 0, 0, 0, 0, 0, 0, 0,
+    0, 0, 1, 4,
+];
+
+/// Gives its bytes one by one.
+#[derive(Drop)]
+struct Trickle {
+    bytes: &'static [u8],
+    place: usize,
+}
+
+impl Read for Trickle {
+    fn read(&mut self, buffer: &mut [u8]) -> io::Result<usize> {
+        match self.bytes.get(self.place) {
+            Some(byte) if !buffer.is_empty() => {
+                buffer[0] = *byte;
+                self.place += 1;
+                Ok(1)
+            }
+            _ => Ok(0),
+        }
+    }
+}
+
+#[test]
+fn reads_frames_off_a_trickle(rt: HostRuntime) -> Result<(), Fail> {
+    let mut reader = Trickle {
+        bytes: ONE_SESSION,
+        place: 0,
+    };
+    let mut inbox = Inbox::new(rt.alloc())?;
+    let mut lines = Vec::new(rt.alloc());
+    for _ in 0..64 {
+        let Ok(count) = inbox.fill(&mut reader) else {
+            return Err("a read failed".into());
+        };
+        if let Front::Whole(frame, size) = front_of(!lines.is_empty(), inbox.pending()) {
+            lines.push(format!(in rt.alloc(); "{frame:?}")?)?;
+            inbox.pass(size);
+        }
+        if count == 0 {
+            break;
+        }
+    }
+    assert_eq!(rt; lines.len(), 3);
+    assert_eq!(rt;
+        lines[0].as_str(),
+        "Login { nexus: Nexus { sas: 5764607523034234890, port: 1 } }"
+    );
+    assert_eq!(rt;
+        lines[1].as_str(),
+        "Command { lun: 0, cdb: [0, 0, 0, 0, 0, 0], bytes: [] }"
+    );
+    assert_eq!(rt; lines[2].as_str(), "Logout");
+    assert!(rt; inbox.pending().is_empty());
+    Ok(())
+}
+
+#[test]
+fn tells_a_fault_by_its_first_byte(rt: HostRuntime) {
+    assert!(rt; matches!(front_of(false, &[0, 0, 0]), Front::Partial));
+    assert!(rt;
+        matches!(
+            front_of(false, &[0, 0, 0, 0]),
+            Front::Faulty(FrameFault::BadFrame)
+        )
+    );
+    assert!(rt;
+        matches!(
+            front_of(false, &[0, 2, 0, 1]),
+            Front::Faulty(FrameFault::TooLong)
+        )
+    );
+    assert!(rt;
+        matches!(
+            front_of(true, &[0, 0, 0, 0x0b, 1]),
+            Front::Faulty(FrameFault::BadFrame)
+        )
+    );
+    assert!(rt;
+        matches!(
+            front_of(true, &[0, 0, 0, 0x13, 2, 0, 0x11]),
+            Front::Faulty(FrameFault::BadFrame)
+        )
+    );
+}
+
+#[test]
+fn writes_each_reply(rt: HostRuntime) -> Result<(), Fail> {
+    let mut out = Vec::new(rt.alloc());
+    write_reply(&mut out, &ReplyFrame::Login(LoginAnswer::Accepted))?;
+    write_reply(&mut out, &ReplyFrame::Login(LoginAnswer::AlreadyConnected))?;
+    assert_eq!(rt;
+        out.as_slice(),
+        b"\0\0\0\x02\x81\0\0\0\0\x02\x81\x01".as_slice()
+    );
+    let mut out = Vec::new(rt.alloc());
+    let first = ReplyFrame::Command {
+        status: Status::CheckCondition,
+        sense: Some(Sense::of(Condition::PowerOnOrResetOccurred)),
+        number: 1,
+        bytes: &[],
+    };
+    write_reply(&mut out, &first)?;
+    let expected =
+        b"\0\0\0\x1d\x82\x02\x12\x70\0\x06\0\0\0\0\x0a\0\0\0\0\x29\0\0\0\0\0\0\0\0\0\0\0\0\x01";
+    assert_eq!(rt; out.as_slice(), expected.as_slice());
+    let mut out = Vec::new(rt.alloc());
+    let with_data = ReplyFrame::Command {
+        status: Status::Good,
+        sense: None,
+        number: 258,
+        bytes: b"ab",
+    };
+    write_reply(&mut out, &with_data)?;
+    write_reply(&mut out, &ReplyFrame::Reset(Status::Busy))?;
+    write_reply(&mut out, &ReplyFrame::Logout)?;
+    let expected = b"\0\0\0\x0d\x82\0\0\0\0\0\0\0\0\x01\x02ab\0\0\0\x02\x83\x08\0\0\0\x01\x84";
+    assert_eq!(rt; out.as_slice(), expected.as_slice());
+    Ok(())
+}
+
+#[test]
+fn writes_each_frame(rt: HostRuntime) -> Result<(), Fail> {
+    let mut out = Vec::new(rt.alloc());
+    let test_unit_ready = Frame::Command {
+        lun: 0,
+        cdb: &[0; 6],
+        bytes: &[],
+    };
+    write_frame(&mut out, &Frame::Login { nexus: A })?;
+    write_frame(&mut out, &test_unit_ready)?;
+    write_frame(&mut out, &Frame::Logout)?;
+    assert_eq!(rt; out.as_slice(), ONE_SESSION);
+    let mut out = Vec::new(rt.alloc());
+    let write = Frame::Command {
+        lun: 1,
+        cdb: &[0x0a, 0, 0, 0, 4, 0],
+        bytes: b"abcd",
+    };
+    write_frame(&mut out, &write)?;
+    write_frame(&mut out, &Frame::Reset { lun: 7 })?;
+    let expected = b"\0\0\0\x0d\x02\x01\x06\x0a\0\0\0\x04\0abcd\0\0\0\x02\x03\x07";
+    assert_eq!(rt; out.as_slice(), expected.as_slice());
+    Ok(())
+}
+
+#[test]
+fn tells_what_a_client_may_send(rt: HostRuntime) -> Result<(), Fail> {
+    let sent = |lun, cdb, bytes| Frame::Command { lun, cdb, bytes }.is_sendable();
+    let longest = vec![in rt.alloc(); 0u8; 131_072 - 3 - 16]?;
+    let longer = vec![in rt.alloc(); 0u8; 131_072 - 3 - 15]?;
+    assert!(rt; sent(0, &[0; 16], longest.as_slice()));
+    assert!(rt; !sent(0, &[0; 16], longer.as_slice()));
+    assert!(rt; !sent(0, &[], &[]));
+    assert!(rt; !sent(0, &[0; 17], &[]));
+    assert!(rt; Frame::Login { nexus: A }.is_sendable());
+    let fifth = Nexus { sas: 1, port: 5 };
+    assert!(rt; !Frame::Login { nexus: fifth }.is_sendable());
+    assert!(rt; Frame::Reset { lun: 255 }.is_sendable());
+    assert!(rt; Frame::Logout.is_sendable());
+    Ok(())
+}
+
+/// The reply to the first command behind a power on, and GOOD with two bytes of data.
+const TWO_REPLIES: &[u8] =
+    b"\0\0\0\x1d\x82\x02\x12\x70\0\x06\0\0\0\0\x0a\0\0\0\0\x29\0\0\0\0\0\0\0\0\0\0\0\0\x01\
+\0\0\0\x0d\x82\0\0\0\0\0\0\0\0\x01\x02ab";
+
+#[test]
+fn reads_replies_off_a_trickle(rt: HostRuntime) -> Result<(), Fail> {
+    let mut reader = Trickle {
+        bytes: TWO_REPLIES,
+        place: 0,
+    };
+    let mut inbox = Inbox::new(rt.alloc())?;
+    let mut places = Vec::new(rt.alloc());
+    for _ in 0..2 {
+        assert!(rt; matches!(await_reply(&mut inbox, &mut reader), Ok(true)));
+        places.push(reader.place)?;
+        let ReplyFront::Whole(
+            ReplyFrame::Command {
+                status,
+                sense,
+                number,
+                bytes,
+            },
+            size,
+        ) = reply_of(inbox.pending())
+        else {
+            return Err("no reply to a command".into());
+        };
+        if number == 1 {
+            assert!(rt; status == Status::CheckCondition);
+            assert!(rt; sense == Some(Sense::of(Condition::PowerOnOrResetOccurred)));
+            assert!(rt; bytes.is_empty());
+        } else {
+            assert_eq!(rt; number, 258);
+            assert!(rt; status == Status::Good);
+            assert!(rt; sense.is_none());
+            assert_eq!(rt; bytes, b"ab".as_slice());
+        }
+        inbox.pass(size);
+    }
+    // No byte more than the reply is read.
+    assert_eq!(rt; places.as_slice(), [33, 50].as_slice());
+    assert!(rt; matches!(await_reply(&mut inbox, &mut reader), Ok(false)));
+    Ok(())
+}
+
+#[test]
+fn reads_each_reply(rt: HostRuntime) {
+    assert!(rt;
+        matches!(
+            reply_of(b"\0\0\0\x02\x81\0\0\0"),
+            ReplyFront::Whole(ReplyFrame::Login(LoginAnswer::Accepted), 6)
+        )
+    );
+    assert!(rt;
+        matches!(
+            reply_of(b"\0\0\0\x02\x81\x01"),
+            ReplyFront::Whole(ReplyFrame::Login(LoginAnswer::AlreadyConnected), 6)
+        )
+    );
+    assert!(rt;
+        matches!(
+            reply_of(b"\0\0\0\x02\x83\x18"),
+            ReplyFront::Whole(ReplyFrame::Reset(Status::ReservationConflict), 6)
+        )
+    );
+    assert!(rt;
+        matches!(
+            reply_of(b"\0\0\0\x01\x84"),
+            ReplyFront::Whole(ReplyFrame::Logout, 5)
+        )
+    );
+    assert!(rt; matches!(reply_of(b"\0\0\0\x02\x83"), ReplyFront::Partial));
+}
+
+fn fault_of(bytes: &[u8]) -> Option<ReplyFault> {
+    match reply_of(bytes) {
+        ReplyFront::Faulty(fault) => Some(fault),
+        _ => None,
+    }
+}
+
+#[test]
+fn tells_a_bad_reply_by_its_first_byte(rt: HostRuntime) {
+    assert!(rt; fault_of(b"\0\0\0\0") == Some(ReplyFault::NoBody));
+    assert!(rt; fault_of(b"\0\x01\0\x1d").is_none());
+    assert!(rt; fault_of(b"\0\x01\0\x1e") == Some(ReplyFault::TooLong));
+    assert!(rt; fault_of(b"\0\0\0\x02\x02") == Some(ReplyFault::UnknownKind));
+    assert!(rt; fault_of(b"\0\0\0\x03\x81") == Some(ReplyFault::BadLength));
+    assert!(rt; fault_of(b"\0\0\0\x0a\x82") == Some(ReplyFault::BadLength));
+    assert!(rt; fault_of(b"\0\0\0\x1c\x82\x02\x12") == Some(ReplyFault::BadLength));
+    assert!(rt; fault_of(b"\0\0\0\x02\x81\x02") == Some(ReplyFault::UnknownAnswer));
+    assert!(rt; fault_of(b"\0\0\0\x0b\x82\x04") == Some(ReplyFault::UnknownStatus));
+    assert!(rt; fault_of(b"\0\0\0\x1d\x82\x02\x11") == Some(ReplyFault::BadSenseLength));
+    assert!(rt;
+        fault_of(b"\0\0\0\x1d\x82\x02\x12\x72\0\0\0\0\0\0\0\0\0\0\0\0\0\0\0\0\0")
+            == Some(ReplyFault::BadSense)
+    );
+}

@@ -1,0 +1,4 @@
+mod changers;
+mod drives;
+mod elements;
+mod tapes;

@@ -1,0 +1,4 @@
+mod acts;
+mod cells;
+mod charts;
+mod parameters;

@@ -1,0 +1,115 @@
+//! Opens a library for a scene.
+ghost use Rattle.std.specs.Prelude.{◌≡◌, ◌<◌};
+ghost use Rattle.lun_router.specs.Opening.{IsSince};
+
+use super::gates::Flags;
+use super::targets::two_drives;
+use super::{rows, scenes};
+use kept_unit::Site;
+use library_device::Device;
+use lun_router::{Blanks, Gate, Library, Seat};
+use std::alloc::Global;
+use std::marker::Brand;
+use std::process::Abort;
+use std::sync::Wait;
+use std::sync::ledger::Blank;
+use std::test::Fail;
+use std::thread::Threads;
+use std::time::Clock;
+use target_core::TargetCore;
+
+/// What is done with an open library and its seats.
+#[derive(Clone, Copy, Debug, PartialEq, Eq)]
+pub(super) enum Scene {
+    TwoDrives,
+    Drains,
+    HeldUnit,
+    EverySeat,
+    Moving,
+    LossAndReset,
+    SharedDrive,
+}
+
+/// How many seats the libraries have.
+const SEATS: usize = 2;
+
+fn play<
+    L0: Site + Send + Sync,
+    L1: Site + Send + Sync,
+    L2: Site + Send + Sync,
+    L3: Site + Send + Sync,
+    L4: Site + Send + Sync,
+    G: Gate,
+    R: Abort + Clock + Threads + Wait + Sync,
+>(
+    rt: &R,
+    alloc: Global,
+    library: Library<L0, L1, L2, L3, L4, Device, G>,
+    seats: Vec<Seat<L0, L1, L2, L3, L4>>,
+    flags: &Flags,
+    scene: Scene,
+) -> Result<(), Fail> {
+    match scene {
+        Scene::TwoDrives => scenes::ready_at_two_drives(rt, alloc, library, seats),
+        Scene::Drains => scenes::drain_between(rt, alloc, library, seats),
+        Scene::HeldUnit => scenes::hold_one_unit(rt, alloc, library, seats, flags),
+        Scene::EverySeat => scenes::close_with_a_seat_missing(rt, alloc, library, seats),
+        Scene::Moving => scenes::move_volumes(rt, alloc, library, seats),
+        Scene::LossAndReset => rows::lose_and_reset(rt, alloc, library, seats),
+        Scene::SharedDrive => rows::share_a_drive(rt, alloc, library, seats),
+    }
+}
+
+fn day<
+    L0: Site + Send + Sync,
+    L1: Site + Send + Sync,
+    L2: Site + Send + Sync,
+    L3: Site + Send + Sync,
+    L4: Site + Send + Sync,
+    G: Gate,
+    R: Abort + Clock + Threads + Wait + Sync,
+>(
+    rt: &R,
+    alloc: Global,
+    core: TargetCore<Device>,
+    seats: usize,
+    blanks: Blanks,
+    gate: G,
+    flags: &Flags,
+    scene: Scene,
+) -> Result<(), Fail>
+    requires some { 0 < seats }
+    requires zero { (blanks.zero.name ≡ L0.name) × (blanks.zero.parts ≡ L0.parts) × (L0.parts ≡ seats) }
+    requires one { (blanks.one.name ≡ L1.name) × (blanks.one.parts ≡ L1.parts) × (L1.parts ≡ seats) }
+    requires two { (blanks.two.name ≡ L2.name) × (blanks.two.parts ≡ L2.parts) × (L2.parts ≡ seats) }
+    requires three { (blanks.three.name ≡ L3.name) × (blanks.three.parts ≡ L3.parts) × (L3.parts ≡ seats) }
+    requires four { (blanks.four.name ≡ L4.name) × (blanks.four.parts ≡ L4.parts) × (L4.parts ≡ seats) }
+    requires since { IsSince core L0.since L1.since L2.since L3.since L4.since }
+{
+    match Library::<L0, L1, L2, L3, L4, Device, G>::new(alloc, core, seats, blanks, gate) {
+        Ok((library, all)) => play(rt, alloc, library, all, flags, scene),
+        Err((refused, _)) => Err(refused.into()),
+    }
+}
+
+/// Plays a scene in a library of two drives and two volumes, with two seats.
+pub(super) fn run<G: Gate, R: Abort + Clock + Threads + Wait + Sync>(
+    rt: &R,
+    alloc: Global,
+    gate: G,
+    flags: &Flags,
+    scene: Scene,
+) -> Result<(), Fail> {
+    let core = two_drives(alloc)?;
+    let parts = SEATS as u64;
+    let blanks = Blanks {
+        zero: Blank::new(parts),
+        one: Blank::new(parts),
+        two: Blank::new(parts),
+        three: Blank::new(parts),
+        four: Blank::new(parts),
+    };
+    day::<Brand, Brand, Brand, Brand, Brand, G, R>(
+        rt, alloc, core, SEATS, blanks, gate, flags, scene,
+    )
+}

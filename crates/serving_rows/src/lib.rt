@@ -1,0 +1,5 @@
+//! Worked rows of a library that is served over sockets.
+#![tactic(auto)]
+
+#[cfg(test)]
+mod tests;

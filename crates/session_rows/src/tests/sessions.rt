@@ -1,0 +1,344 @@
+use kept_unit::Done;
+use scsi_nexus::Nexus;
+use session::{Directory, End, SessionFault, Splitter, Station, serve};
+use std::alloc::Global;
+use std::io::{self, Read, Write};
+use std::process::Abort;
+use std::test::Fail;
+
+const A: Nexus = Nexus {
+    sas: 0x5000_0000_0000_000A,
+    port: 1,
+};
+
+/// LOGIN of A.
+const LOGIN: &[u8] = b"\0\0\0\x0b\x01\x50\0\0\0\0\0\0\x0a\0\x01";
+
+/// A LOGIN of A, a TEST UNIT READY to unit 0, and a LOGOUT.
+const ONE_SESSION: &[u8] = b"\0\0\0\x0b\x01\x50\0\0\0\0\0\0\x0a\0\x01\
+    \0\0\0\x09\x02\0\x06\0\0\0\0\0\0\
+    \0\0\0\x01\x04";
+
+const ACCEPTED: &[u8] = b"\0\0\0\x02\x81\0";
+
+/// The three replies, of a station that has no unit at all: 25h/00h, without a record.
+const REPLIES: &[u8] = b"\0\0\0\x02\x81\0\
+    \0\0\0\x1d\x82\x02\x12\x70\0\x05\0\0\0\0\x0a\0\0\0\0\x25\0\0\0\0\0\0\0\0\0\0\0\0\0\
+    \0\0\0\x01\x84";
+
+/// A station whose units are absent. It counts what was lost, and may have a session of the nexus already.
+#[derive(Drop)]
+struct Empty {
+    losses: u64,
+    is_connected: bool,
+}
+
+impl Station for Empty {
+    ghost notes = { λ _ _ _. Unit {0} };
+
+    ghost count = { λ _. 2 };
+
+    fn submit<'a>(
+        &mut self,
+        alloc: Global,
+        nexus: Nexus,
+        lun: u8,
+        cdb: &'a [u8],
+        bytes: &'a [u8],
+    ) -> Done<'a> {
+        Done::absent(alloc, nexus, lun, cdb, bytes)
+    }
+
+    fn reset(&mut self, alloc: Global, lun: u8) -> Done<'static> {
+        Done::absent_reset(alloc, lun)
+    }
+
+    fn lose(&mut self, alloc: Global, nexus: Nexus, lun: u8) -> Done<'static> {
+        self.losses = self.losses.saturating_add(1);
+        Done::absent_loss(alloc, nexus, lun)
+    }
+
+    fn units(&self) -> u8 {
+        2
+    }
+
+    fn login(&mut self, _nexus: Nexus) -> Result<usize, SessionFault> {
+        if self.is_connected {
+            Err(SessionFault::AlreadyConnected)
+        } else {
+            Ok(7)
+        }
+    }
+
+    fn logout(&mut self, _key: usize) {}
+}
+
+/// Gives its bytes one by one, and fails at one of its reads.
+#[derive(Drop)]
+struct Trickle<'a> {
+    bytes: &'a [u8],
+    reads: u64,
+    fails_at: u64,
+}
+
+impl<'a> Read for Trickle<'a> {
+    fn read(&mut self, buffer: &mut [u8]) -> io::Result<usize> {
+        self.reads = self.reads.saturating_add(1);
+        if self.reads == self.fails_at {
+            return Err(io::Error::from(io::ErrorKind::BrokenPipe));
+        }
+        match (self.bytes.split_first(), buffer.first_mut()) {
+            (Some((byte, rest)), Some(first)) => {
+                *first = *byte;
+                self.bytes = rest;
+                Ok(1)
+            }
+            _ => Ok(0),
+        }
+    }
+}
+
+/// Takes writes up to one that fails.
+#[derive(Drop)]
+struct Failing {
+    writes: u64,
+    fails_at: u64,
+}
+
+impl Write for Failing {
+    fn write(&mut self, buffer: &[u8]) -> io::Result<usize> {
+        self.writes = self.writes.saturating_add(1);
+        if self.writes == self.fails_at {
+            return Err(io::Error::from(io::ErrorKind::BrokenPipe));
+        }
+        Ok(buffer.len())
+    }
+
+    fn flush(&mut self) -> io::Result<()> {
+        Ok(())
+    }
+}
+
+/// Serves a stream at a station: how it ends, and how often the nexus was lost.
+fn served<R: Read, W: Write>(
+    alloc: Global,
+    is_connected: bool,
+    reader: &mut R,
+    writer: &mut W,
+    turns: u64,
+) -> (Result<End, SessionFault>, u64) {
+    let mut station = Empty {
+        losses: 0,
+        is_connected,
+    };
+    let ended = serve(alloc, &mut station, reader, writer, turns);
+    (ended, station.losses)
+}
+
+/// The same of a stream that comes byte by byte, and what it is answered.
+fn trickled(
+    alloc: Global,
+    bytes: &[u8],
+    fails_at: u64,
+) -> (Result<End, SessionFault>, u64, Vec<u8>) {
+    let mut reader = Trickle {
+        bytes,
+        reads: 0,
+        fails_at,
+    };
+    let mut output = Vec::new(alloc);
+    let (ended, losses) = served(alloc, false, &mut reader, &mut output, 99);
+    (ended, losses, output)
+}
+
+/// The same of a stream that comes at once.
+fn poured(
+    alloc: Global,
+    is_connected: bool,
+    bytes: &[u8],
+    turns: u64,
+) -> (Result<End, SessionFault>, u64, Vec<u8>) {
+    let mut reader = bytes;
+    let mut output = Vec::new(alloc);
+    let (ended, losses) = served(alloc, is_connected, &mut reader, &mut output, turns);
+    (ended, losses, output)
+}
+
+/// Serves a stream that comes at once, and one that comes byte by byte: how each ends, what it is answered, and whether
+/// the nexus was lost.
+fn assert_session(
+    rt: &impl Abort,
+    alloc: Global,
+    input: &[u8],
+    end: Result<End, SessionFault>,
+    replies: &[u8],
+    losses: u64,
+) {
+    let (ended, lost, output) = poured(alloc, false, input, 9);
+    assert_eq!(rt; (ended, lost), (end, losses), "{input:?}");
+    assert_eq!(rt; output.as_slice(), replies, "{input:?}");
+    let (ended, lost, output) = trickled(alloc, input, 0);
+    assert_eq!(rt; (ended, lost), (end, losses), "{input:?}, byte by byte");
+    assert_eq!(rt; output.as_slice(), replies, "{input:?}, byte by byte");
+}
+
+#[test]
+fn one_session(rt: HostRuntime) {
+    assert_session(&rt, rt.alloc(), ONE_SESSION, Ok(End::Logout), REPLIES, 2);
+}
+
+#[test]
+fn reset_of_a_unit(rt: HostRuntime) {
+    let input = b"\0\0\0\x0b\x01\x50\0\0\0\0\0\0\x0a\0\x01\0\0\0\x02\x03\0";
+    let replies = b"\0\0\0\x02\x81\0\0\0\0\x02\x83\x02";
+    assert_session(&rt, rt.alloc(), input, Ok(End::Closed), replies, 2);
+}
+
+/// How a prefix of a session ends, what it is answered, and whether the nexus is lost.
+fn end_of_prefix(length: usize) -> (End, &'static [u8], u64) {
+    let end = if length == 0 || length == 15 || length == 28 {
+        End::Closed
+    } else {
+        End::Cut
+    };
+    if length < 15 {
+        (end, b"", 0)
+    } else if length < 28 {
+        (end, ACCEPTED, 2)
+    } else {
+        (end, &REPLIES[..39], 2)
+    }
+}
+
+/// Each proper prefix of a session ends within a frame or between two.
+#[test]
+fn every_prefix_of_a_session(rt: HostRuntime) {
+    for length in 0..ONE_SESSION.len() {
+        let (end, replies, losses) = end_of_prefix(length);
+        let prefix = &ONE_SESSION[..length];
+        assert_session(&rt, rt.alloc(), prefix, Ok(end), replies, losses);
+    }
+}
+
+const BAD_FRAME: Result<End, SessionFault> = Err(SessionFault::BadFrame);
+
+const TOO_LONG: Result<End, SessionFault> = Err(SessionFault::TooLong);
+
+/// A LOGIN by target port 0.
+const PORT_0: &[u8] = b"\0\0\0\x0b\x01\x50\0\0\0\0\0\0\x0a\0\0";
+
+const SECOND_LOGIN: &[u8] = b"\0\0\0\x0b\x01\x50\0\0\0\0\0\0\x0a\0\x01\0\0\0\x0b\x01";
+
+const LONG_CDB: &[u8] = b"\0\0\0\x0b\x01\x50\0\0\0\0\0\0\x0a\0\x01\0\0\0\x13\x02\0\x11";
+
+/// A stream, how it ends, what it is answered, and whether the nexus is lost.
+type Faulty = (&'static [u8], Result<End, SessionFault>, &'static [u8], u64);
+
+const FAULTY: [Faulty; 6] = [
+    (b"\0\0\0\0", BAD_FRAME, b"", 0),
+    (b"\0\x02\0\x01", TOO_LONG, b"", 0),
+    (b"\0\0\0\x05\x09", BAD_FRAME, b"", 0),
+    (PORT_0, BAD_FRAME, b"", 0),
+    (SECOND_LOGIN, BAD_FRAME, ACCEPTED, 2),
+    (LONG_CDB, BAD_FRAME, ACCEPTED, 2),
+];
+
+#[test]
+fn faulty_streams(rt: HostRuntime) {
+    for row in &FAULTY {
+        let (input, end, replies, losses) = *row;
+        assert_session(&rt, rt.alloc(), input, end, replies, losses);
+    }
+}
+
+/// A read that fails at each place, and one read too few, end a session as its input's fault.
+#[test]
+fn reads_fail(rt: HostRuntime) {
+    for fails_at in 1..34 {
+        let (ended, losses, _) = trickled(rt.alloc(), ONE_SESSION, fails_at);
+        let expected = if fails_at < 16 { 0 } else { 2 };
+        assert_eq!(rt;
+            (ended, losses),
+            (Err(SessionFault::Read), expected),
+            "at {fails_at}"
+        );
+    }
+    let (ended, losses, _) = poured(rt.alloc(), false, LOGIN, 1);
+    assert_eq!(rt; (ended, losses), (Err(SessionFault::Read), 2));
+}
+
+/// How a session ends whose writes fail from one on, and how often the nexus was lost.
+fn cut_off(alloc: Global, fails_at: u64) -> (Result<End, SessionFault>, u64) {
+    let mut reader = Trickle {
+        bytes: ONE_SESSION,
+        reads: 0,
+        fails_at: 0,
+    };
+    let mut writer = Failing {
+        writes: 0,
+        fails_at,
+    };
+    served(alloc, false, &mut reader, &mut writer, 99)
+}
+
+/// A write that fails ends a session, and the nexus is lost all the same.
+#[test]
+fn writes_fail(rt: HostRuntime) {
+    for fails_at in 1..4 {
+        let found = cut_off(rt.alloc(), fails_at);
+        assert_eq!(rt; found, (Err(SessionFault::Write), 2), "at {fails_at}");
+    }
+}
+
+#[test]
+fn second_session_of_a_nexus(rt: HostRuntime) {
+    let (ended, losses, output) = poured(rt.alloc(), true, ONE_SESSION, 9);
+    assert_eq!(rt; (ended, losses), (Err(SessionFault::AlreadyConnected), 0));
+    assert_eq!(rt; output.as_slice(), b"\0\0\0\x02\x81\x01".as_slice());
+}
+
+#[test]
+fn directory_forgets(rt: HostRuntime) -> Result<(), Fail> {
+    let mut directory = Directory::new(rt.alloc());
+    let key = directory.login(A)?;
+    assert_eq!(rt; directory.login(A), Err(SessionFault::AlreadyConnected));
+    let other = directory.login(Nexus { port: 2, ..A })?;
+    assert!(rt; key != other);
+    directory.logout(key);
+    assert_eq!(rt; directory.login(A), Ok(key));
+    Ok(())
+}
+
+/// What is shown of the frames of a session.
+const FRAMES: &str = "[Login { nexus: Nexus { sas: 5764607523034234890, port: 1 } }, \
+    Command { lun: 0, cdb: [0, 0, 0, 0, 0, 0], bytes: [] }, Logout]";
+
+/// A session has the same frames in pieces of any length.
+#[test]
+fn splits_a_session(rt: HostRuntime) -> Result<(), Fail> {
+    for length in 1..34 {
+        let mut splitter = Splitter::new(rt.alloc());
+        let mut frames = Vec::new(rt.alloc());
+        for piece in ONE_SESSION.chunks(length) {
+            splitter.feed(piece, &mut frames)?;
+        }
+        let shown = format!(in rt.alloc(); "{frames:?}")?;
+        assert_eq!(rt; shown.as_str(), FRAMES, "in pieces of {length}");
+    }
+    Ok(())
+}
+
+/// A fault comes behind the frames before it, and again at each later piece.
+#[test]
+fn splits_faulty_streams(rt: HostRuntime) {
+    for row in &FAULTY {
+        let (input, end, _, losses) = *row;
+        let mut splitter = Splitter::new(rt.alloc());
+        let mut frames = Vec::new(rt.alloc());
+        for piece in [input, ONE_SESSION] {
+            let fault = splitter.feed(piece, &mut frames).err();
+            assert_eq!(rt; fault, end.err(), "{input:?}");
+        }
+        assert_eq!(rt; frames.len(), usize::from(losses > 0), "{input:?}");
+    }
+}

@@ -1,0 +1,5 @@
+mod options;
+mod records;
+mod replies;
+mod scripts;
+mod words;

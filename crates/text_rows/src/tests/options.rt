@@ -1,0 +1,61 @@
+use program_options::{LibraryOptions, OptionFault, Term, nexus_of};
+use scsi_nexus::Nexus;
+use std::test::Fail;
+
+#[test]
+fn reads_the_address_of_a_host(rt: HostRuntime) -> Result<(), Fail> {
+    let a = Nexus {
+        sas: 0x5000_0000_0000_000A,
+        port: 4,
+    };
+    let rows = [
+        ("small letters", "500000000000000a", Ok(a)),
+        ("capital letters", "500000000000000A", Ok(a)),
+        ("no digits", "", Err(OptionFault::BadNexus)),
+        ("15 digits", "50000000000000a", Err(OptionFault::BadNexus)),
+        ("17 digits", "5000000000000000a", Err(OptionFault::BadNexus)),
+        (
+            "another letter",
+            "500000000000000g",
+            Err(OptionFault::BadNexus),
+        ),
+        ("a prefix", "0x0000000000000a", Err(OptionFault::BadNexus)),
+        ("a port", "500000000000000a.1", Err(OptionFault::BadNexus)),
+    ];
+    for (name, hex, nexus) in rows {
+        assert_eq!(rt; nexus_of(hex, 4), nexus, "{name}");
+    }
+    Ok(())
+}
+
+#[test]
+fn has_a_storage_element_for_each_volume(rt: HostRuntime) {
+    let usual = LibraryOptions::default();
+    assert_eq!(rt; usual.fits(), Ok(()));
+    let rows = [(8, 8, Ok(())), (9, 8, Err(OptionFault::MoreVolumes))];
+    for (volumes, slots, answer) in rows {
+        let options = LibraryOptions {
+            volumes,
+            slots,
+            ..usual
+        };
+        assert_eq!(rt; options.fits(), answer, "{volumes}");
+    }
+}
+
+#[test]
+fn tells_each_fault(rt: HostRuntime) -> Result<(), Fail> {
+    let more = OptionFault::MoreVolumes.to_string(rt.alloc())?;
+    assert_eq!(rt; more.as_str(), "vtl: more volumes than slots");
+    let bad = OptionFault::BadNexus.to_string(rt.alloc())?;
+    assert_eq!(rt; bad.as_str(), "vtl: bad nexus");
+    Ok(())
+}
+
+#[test]
+fn serves_by_so_many_workers(rt: HostRuntime) {
+    let rows = [(Term::Sessions(3), 3, 3), (Term::InputEnds(5), 5, u64::MAX)];
+    for (term, workers, sessions) in rows {
+        assert_eq!(rt; (term.workers(), term.sessions()), (workers, sessions));
+    }
+}

@@ -1,2 +1,0 @@
-mod faults;
-mod hosts;
