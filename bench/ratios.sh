@@ -1,8 +1,9 @@
 #!/bin/sh
-# Prints how many instructions a command costs `vtl replay`, and how many it costs bench/least.c, the least program in C that
+# Prints how many instructions a command costs `vtl replay`, and how many it costs bench/least.c, a lean program in C that
 # prints the same bytes, for six scripts of bench/scripts.py, and the ratio. Both are counted by callgrind, on a script and on
 # one with twice as many commands: the difference is that of the commands alone. It ends with status 1 where what the two print
-# differs in a byte. It takes valgrind, cc and python3, and a few minutes.
+# differs in a byte. It takes valgrind, cc and python3, and a few minutes. gcc is asked for -O2, since what it makes of the
+# printing at -O3 is slower.
 set -eu
 bench=$(cd "$(dirname "$0")" && pwd)
 top=$(dirname "$bench")
