@@ -1,5 +1,5 @@
 -- Runs that must be answered BUSY, and losses and resets.
-use Rattle.std.proofs.Common.{◌≡◌, ℕ, ◌<◌, ◌^◌, true, List, [], ◌∷◌, Option, None, inl, inr, refl, ap, ◌∙◌, subst, arith}
+use Rattle.std.proofs.Common.{◌≡◌, ℕ, ◌<◌, ◌^◌, true, List, [], ◌∷◌, Option, Some, None, inl, inr, refl, ap, ◌∙◌, subst, arith}
 use Rattle.std.specs.Prelude.{◌⊎◌, map}
 use Rattle.tape_medium.specs.declared.volume.VolumeTag.{VolumeTag}
 use Rattle.scsi_nexus.specs.declared.nexus.Nexus.{Nexus}
@@ -9,6 +9,7 @@ use Rattle.unit_state.specs.Kept.{has_room}
 use Rattle.unit_answers.specs.Replies.{busy}
 use Rattle.logical_unit.specs.Step.{HasNumber, Executes, IsLost, IsReset, done, number_or_0}
 use Rattle.logical_unit.specs.UnitView.{UnitView}
+use Rattle.target_core.proofs.Sending.{busy_run}
 use Rattle.target_core.specs.declared.event.Event.TheVariants as event
 use Rattle.target_core.specs.Run.{AtUnit, Commands, Steps, Runs}
 use Rattle.target_core.specs.Rows.{a, changer, drive, units, last_number_used, with_slots, IsBusyToA, BusyRuns, good_with, not_supported, met_a, LossesAndResets}
@@ -31,7 +32,9 @@ never u closed (event.Command n lun cdb bytes ∷ e ∷ es) rs vs h run = absurd
 pub busy_runs : BusyRuns
 busy_runs = record {
   no_number = never last_number_used (λ room number. let no : 2 ^ 64 < 2 ^ 64 = number in absurd (omega (arith, no)));
+  has_no_number = λ heap. busy_run heap last_number_used;
   no_slot = never (with_slots 128) (λ room number. absurd cc);
+  has_no_slot = λ heap. busy_run heap (with_slots 128);
   last_slot = refl;
   has_slot = refl;
 }
@@ -82,6 +85,9 @@ pub losses_and_resets : (tag : VolumeTag) → LossesAndResets tag
 losses_and_resets tag = record {
   unknown = (units tag, record { unit = drive tag; step = inr (None, refl, refl); units = refl }, refl);
   lost = lost_row;
+  has_lost = record { units = _; run = (_, record { unit = _; step = inr (Some 2, (omega arith, refl), refl); units = refl }, refl) };
   was_reset = reset_row;
+  has_reset = record { units = _; run = (_, record { unit = _; step = inr (2, (omega arith, refl), refl); units = refl }, refl) };
   absent = absent_row tag;
+  has_absent = (units tag, refl, (units tag, refl, refl));
 }

@@ -4,6 +4,7 @@ pub mod History
 pub mod Parts
 pub mod Served
 pub mod Row
+pub mod Sending
 pub mod EventRows
 pub mod SamePlace
 pub mod InOrder

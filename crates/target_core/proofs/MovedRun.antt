@@ -23,7 +23,7 @@ use Rattle.logical_unit.specs.UnitView.{UnitView, last_number}
 use Rattle.target_core.specs.declared.event.Event.{Event}
 use Rattle.target_core.specs.declared.event.Event.TheVariants as event
 use Rattle.target_core.specs.Cartridges.{Cartridge}
-use Rattle.target_core.specs.LibraryRows.{Sent, Sends, AllSend, test_unit_ready, write, sent, stocked, disagreeing, ways, writings, cartridge, IsMovedRun, NotKept, OtherCartridges, IsFailedRun}
+use Rattle.target_core.specs.LibraryRows.{Sent, Sends, AllSend, test_unit_ready, write, sent, sent_out, stocked, disagreeing, ways, writings, cartridge, IsMovedRun, NotKept, OtherCartridges, IsFailedRun}
 use Rattle.target_core.specs.Run.{AtUnit, AtDrive, CommandsNaming, Steps, Runs}
 use Rattle.target_core.specs.Volumes.{Way, way_of, carried_by, writes, is_written}
 
@@ -174,7 +174,7 @@ false_stock = elim (slice_get disagreeing 0) [ Some c ↦ c | None ↦ empty_dri
 abbrev failed : (UnitView × Reply) × UnitView
 failed = moved_one false_stock (empty_drive 1) a (move drive_1 slot_2) []
 
-pub failed_run : (es : List Event) → AllSend es ((0, move drive_1 slot_2, []) ∷ []) → IsFailedRun es
+pub failed_run : (es : List Event) → AllSend es sent_out → IsFailedRun es
 unfolding commands.command_of keys_after
 failed_run (e ∷ []) h = record {
   no_target = refl;

@@ -34,6 +34,11 @@ AllSend [] [] = Unit {0}
 AllSend (e ∷ es) (s ∷ l) = Sends e s × AllSend es l
 AllSend es l = ⊥
 
+-- there are events that send these commands, wherever their data lie
+pub record IsSent (l : List Sent) : Type 0 where
+  pub events : List Event
+  pub send : AllSend events l
+
 abbrev pub test_unit_ready : List ℕ
 test_unit_ready = replicate 6 0
 
@@ -152,5 +157,9 @@ pub record IsFailedRun (es : List Event) : Type 0 where
   pub run : Runs disagreeing es (reply ∷ []) last
   pub fails : is_failure reply.sense ≡ true
 
+-- a move out of the drive
+abbrev pub sent_out : List Sent
+sent_out = (0, move drive_1 slot_2, []) ∷ []
+
 abbrev pub FailedRun : Type 0
-FailedRun = (es : List Event) → AllSend es ((0, move drive_1 slot_2, []) ∷ []) → IsFailedRun es
+FailedRun = (es : List Event) → AllSend es sent_out → IsFailedRun es

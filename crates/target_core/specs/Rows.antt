@@ -1,5 +1,6 @@
 -- Worked rows: a run of eight commands, from power on, in which A registers and reserves Exclusive Access, and then a command of B is denied,
 -- one of A allowed, and one of B breaks a rule on keys; runs that must be answered BUSY; losses and resets; and units that make a target.
+use Rattle.std.specs.Global.{Global}
 use Rattle.std.specs.Prelude.{◌≡◌, ◌⊎◌, ℕ, zero, suc, true, false, List, [], ◌∷◌, ◌++◌, map, replicate, take, Some, None, Ok}
 use Rattle.scsi_cdb.specs.declared.action.OutServiceAction.TheVariants as out
 use Rattle.scsi_cdb.specs.declared.classes.Class.TheVariants as class
@@ -57,6 +58,11 @@ abbrev pub AllSend : List Event → List Sent → Type 0
 AllSend [] [] = Unit {0}
 AllSend (e ∷ es) (s ∷ l) = Sends e s × AllSend es l
 AllSend es l = ⊥
+
+-- there are events that send these commands, wherever their data lie
+pub record IsSent (l : List Sent) : Type 0 where
+  pub events : List Event
+  pub send : AllSend events l
 
 abbrev pub test_unit_ready : List ℕ
 test_unit_ready = replicate 6 0
@@ -142,7 +148,7 @@ pub record IsWorked (tag : VolumeTag) (es : List Event) : Type 0 where
   -- READ RESERVATION shows the generation, the holder's key and the type
   pub shown : map (λ (r : Reply). r.payload) replies ≡ replicate 7 [] ++ (0 ∷ 0 ∷ 0 ∷ 1 ∷ 0 ∷ 0 ∷ 0 ∷ 0x10 ∷ replicate 7 0 ++ 1 ∷ replicate 5 0 ++ 3 ∷ 0 ∷ 0 ∷ []) ∷ []
 
--- whatever events send these commands
+-- whatever events send these commands (there are such: `IsSent sent`)
 abbrev pub WorkedRun : Type 0
 WorkedRun = (tag : VolumeTag) (es : List Event) → AllSend es sent → IsWorked tag es
 
@@ -163,9 +169,17 @@ IsBusyToA u = (es : List Event) (rs : List Reply) (vs : List UnitView)
     → AllSend es ((a, test_unit_ready, []) ∷ []) → Runs (changer ∷ u ∷ []) es rs vs
     → (rs ≡ record { status = Busy; sense = None; payload = []; number = 0 } ∷ []) × (vs ≡ changer ∷ u ∷ [])
 
+-- and there is such a run
+pub record HasBusyRun (u : UnitView) : Type 0 where
+  pub events : List Event
+  pub send : AllSend events ((a, test_unit_ready, []) ∷ [])
+  pub run : Runs (changer ∷ u ∷ []) events (busy ∷ []) (changer ∷ u ∷ [])
+
 pub record BusyRuns : Type 0 where
   pub no_number : IsBusyToA last_number_used
+  pub has_no_number : (heap : Global) → HasBusyRun last_number_used
   pub no_slot : IsBusyToA (with_slots 128)
+  pub has_no_slot : (heap : Global) → HasBusyRun (with_slots 128)
   -- there is room where 127 slots are used, and for a nexus that has one of 128
   pub last_slot : has_room (with_slots 127).kept a ≡ true
   pub has_slot : has_room (with_slots 128).kept (record { sas = 127; port = 1 }) ≡ true
@@ -186,18 +200,26 @@ not_supported = record {
 abbrev pub met_a : UnitView
 met_a = let u = made (Drive empty_drive) 1 2 1 in record u { kept = record u.kept { slots = (a, []) ∷ [] } }
 
+-- some run of these events ends with these replies
+pub record HasRun (us : List UnitView) (es : List Event) (rs : List Reply) : Type 0 where
+  pub units : List UnitView
+  pub run : Runs us es rs units
+
 pub record LossesAndResets (tag : VolumeTag) : Type 0 where
   -- the loss of a nexus that has no slot is GOOD, with no record and nothing changed
   pub unknown : Runs (units tag) (event.Loss a 1 ∷ []) (good_with 0 ∷ []) (units tag)
   -- that of one that has a slot is told to it, as 29h/07h, and has a record
   pub lost : (rs : List Reply) (vs : List UnitView) → Runs (changer ∷ met_a ∷ []) (event.Loss a 1 ∷ []) rs vs
       → (rs ≡ busy ∷ []) ⊎ ((rs ≡ good_with 2 ∷ []) × (map (λ (u : UnitView). u.kept.slots) vs ≡ [] ∷ ((a, NexusLoss ∷ []) ∷ []) ∷ []))
+  pub has_lost : HasRun (changer ∷ met_a ∷ []) (event.Loss a 1 ∷ []) (good_with 2 ∷ [])
   -- a reset has a record, and is told to each nexus that has a slot, as 29h/03h
   pub was_reset : (rs : List Reply) (vs : List UnitView) → Runs (changer ∷ met_a ∷ []) (event.Reset 1 ∷ []) rs vs
       → (rs ≡ busy ∷ []) ⊎ ((rs ≡ good_with 2 ∷ []) × (map (λ (u : UnitView). u.kept.slots) vs ≡ [] ∷ ((a, BusDeviceReset ∷ []) ∷ []) ∷ []))
+  pub has_reset : HasRun (changer ∷ met_a ∷ []) (event.Reset 1 ∷ []) (good_with 2 ∷ [])
   -- of a unit that isn't there they are refused
   pub absent : (rs : List Reply) (vs : List UnitView) → Runs (units tag) (event.Loss a 2 ∷ event.Reset 255 ∷ []) rs vs
       → (rs ≡ not_supported ∷ not_supported ∷ []) × (vs ≡ units tag)
+  pub has_absent : Runs (units tag) (event.Loss a 2 ∷ event.Reset 255 ∷ []) (not_supported ∷ not_supported ∷ []) (units tag)
 
 -- units that make a target, and why others don't
 abbrev pub changer_with : (drives lun count : ℕ) → UnitView

@@ -1,5 +1,6 @@
 ghost use Rattle.target_core.specs.Headline.{Headline};
-ghost use Rattle.target_core.specs.Rows.{WorkedRun, BusyRuns, LossesAndResets, UnitsOfATarget, MarksOfATarget, MarksByTag};
+ghost use Rattle.target_core.specs.Rows.{sent, IsSent, WorkedRun, BusyRuns, LossesAndResets, UnitsOfATarget, MarksOfATarget, MarksByTag};
+ghost use Rattle.std.specs.Global.{Global};
 ghost use Rattle.tape_medium.specs.declared.volume.VolumeTag.{VolumeTag};
 ghost use Rattle.target_core.specs.Laws.{AcceptedHistory, RunsJoin};
 
@@ -26,6 +27,7 @@ pub fn headline()
 /// A run in which a command is denied, one allowed, and one barred by a rule on keys; runs that must be
 /// answered BUSY; losses and resets.
 pub fn worked_run()
+    ensures sent { (heap : Global) → IsSent sent }
     ensures run { WorkedRun }
     ensures busy { BusyRuns }
     ensures events { (tag : VolumeTag) → LossesAndResets tag }

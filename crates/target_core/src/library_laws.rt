@@ -16,16 +16,19 @@ pub fn volumes_stay()
     ensures { VolumesStay }
 {}
 
-ghost use Rattle.target_core.specs.LibraryRows.{PlacesOfATarget, MovedRun, OtherEvents, NotKept, OtherCartridges, FailedRun};
+ghost use Rattle.std.specs.Global.{Global};
+ghost use Rattle.target_core.specs.LibraryRows.{sent, sent_out, IsSent, PlacesOfATarget, MovedRun, OtherEvents, NotKept, OtherCartridges, FailedRun};
 
 /// The places of a target; a run in which a volume is moved into a drive, written on and moved out
 /// again; what keeps no volumes and no cartridges; and units that fail since their marks aren't true.
 pub fn worked_moves()
     ensures places { PlacesOfATarget }
+    ensures sent { (heap : Global) → IsSent sent }
     ensures run { MovedRun }
     ensures events { OtherEvents }
     ensures not_kept { NotKept }
     ensures other_cartridges { OtherCartridges }
+    ensures sent_out { (heap : Global) → IsSent sent_out }
     ensures failure { FailedRun }
 {}
 

@@ -1,6 +1,10 @@
 use Rattle.target_core.proofs.EventRows.{busy_runs, losses_and_resets}
 use Rattle.target_core.proofs.Row.{worked}
+use Rattle.target_core.proofs.Sending.{sent}
 use Rattle.target_core.proofs.laws.worked_run.Goals as goal
+
+pub returns-clause-sent : goal.returns-clause-sent
+returns-clause-sent c = sent
 
 pub returns-clause-run : goal.returns-clause-run
 returns-clause-run c = worked

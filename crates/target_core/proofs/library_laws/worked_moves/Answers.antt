@@ -1,5 +1,12 @@
 use Rattle.target_core.proofs.MovedRun.{moved_run, not_kept, other_cartridges, failed_run}
+use Rattle.target_core.proofs.Sending.{sent_in, sent_out}
 use Rattle.target_core.proofs.library_laws.worked_moves.Goals as goal
+
+pub returns-clause-sent : goal.returns-clause-sent
+returns-clause-sent c = sent_in
+
+pub returns-clause-sent_out : goal.returns-clause-sent_out
+returns-clause-sent_out c = sent_out
 
 pub returns-clause-run : goal.returns-clause-run
 returns-clause-run c = moved_run
