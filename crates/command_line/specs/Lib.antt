@@ -1,3 +1,1 @@
 pub mod Tasks
-pub mod Faults
-pub mod Rows

@@ -1,10 +1,10 @@
 ghost use Rattle.std.specs.Prelude.{IfOk};
 ghost use Rattle.command_line.specs.Tasks.{IsContact, IsDoable, IsPlace, MakesLibrary};
 
-use crate::command_line_fault::CommandLineFault;
 use crate::commands::program;
 use crate::task::{Contact, Place, Task};
 use clap::ArgMatches;
+use command_line_fault::CommandLineFault;
 use permission_chart::class_named;
 use program_options::{LibraryOptions, OptionFault, Term, nexus_of};
 use replay_output::{Audit, Explanations};

@@ -1,6 +1,6 @@
 -- Worked rows: how the program ends.
 use Rattle.std.specs.Prelude.{◌≡◌, [], ◌∷◌, ◌++◌, Some, Ok, Err, codes}
-use Rattle.command_line.specs.declared.command_line_fault.CommandLineFault.TheVariants.{NotText, Options, NoMemory}
+use Rattle.command_line_fault.specs.declared.fault.CommandLineFault.TheVariants.{NotText, Options, NoMemory}
 use Rattle.conversing.specs.declared.client_fault.ClientFault.TheVariants as session
 use Rattle.program_options.specs.declared.option_fault.OptionFault.TheVariants.{MoreVolumes, BadNexus}
 use Rattle.replay.specs.declared.replay_fault.ReplayFault.TheVariants as replay

@@ -5,7 +5,8 @@ ghost use Rattle.vtl.specs.Faults.{ending_line, ending_status};
 
 use crate::client::client;
 use crate::program_fault::ProgramFault;
-use command_line::{CommandLineFault, Task, task_of};
+use command_line::{Task, task_of};
+use command_line_fault::CommandLineFault;
 use listening::serve;
 use permission_chart::write_cells;
 use program_options::LibraryOptions;

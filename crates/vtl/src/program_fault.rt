@@ -1,5 +1,5 @@
 use crate::client_fault::ClientFault;
-use command_line::CommandLineFault;
+use command_line_fault::CommandLineFault;
 use listening::ServeFault;
 use replay::ReplayFault;
 use std::alloc::AllocError;

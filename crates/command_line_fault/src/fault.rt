@@ -18,7 +18,7 @@ pub enum CommandLineFault {
 }
 
 impl fmt::Display for CommandLineFault {
-    ghost use Rattle.command_line.specs.Faults.{command_line_text};
+    ghost use Rattle.command_line_fault.specs.Faults.{command_line_text};
 
     ghost output = { command_line_text };
 
@@ -37,7 +37,7 @@ impl fmt::Display for CommandLineFault {
 
 impl CommandLineFault {
     ghost use Rattle.std.specs.Prelude.{◌≡◌};
-    ghost use Rattle.command_line.specs.Faults.{command_line_status};
+    ghost use Rattle.command_line_fault.specs.Faults.{command_line_status};
 
     /// The exit status of a program that ends by it: 0 after help and the version, 3 for want of memory, else 2 (profile).
     pub fn status(&self) -> u8

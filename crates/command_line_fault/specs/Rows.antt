@@ -2,8 +2,8 @@
 use Rattle.std.specs.Prelude.{◌≡◌, Some, codes}
 use Rattle.clap.specs.declared.error.kind.ErrorKind.TheVariants.{DisplayHelp, DisplayVersion, UnknownArgument, ValueValidation, MissingSubcommand}
 use Rattle.program_options.specs.declared.option_fault.OptionFault.TheVariants.{MoreVolumes, BadNexus}
-use Rattle.command_line.specs.declared.command_line_fault.CommandLineFault.TheVariants.{NotText, Options, NoMemory}
-use Rattle.command_line.specs.Faults.{refusal_status, command_line_status, command_line_text}
+use Rattle.command_line_fault.specs.declared.fault.CommandLineFault.TheVariants.{NotText, Options, NoMemory}
+use Rattle.command_line_fault.specs.Faults.{refusal_status, command_line_status, command_line_text}
 
 pub record StatusesOfRefusals : Type 0 where
   pub help : refusal_status DisplayHelp ≡ 0
