@@ -11,6 +11,7 @@ mod moves;
 mod opening;
 mod routes;
 mod seat;
+mod sent;
 
 pub use closing::{CloseFault, Histories};
 pub use gate::{Gate, Pass};

@@ -16,6 +16,7 @@ ghost use Rattle.lun_router.specs.Answering.{IsSomeTrail};
 
 use crate::gate::Gate;
 use crate::locked::Locked;
+use crate::sent::Sent;
 use audit_log::Record;
 use device_server::DeviceServer;
 use kept_unit::{Done, Kept, Site, move_kept_one, move_kept_two};
@@ -31,21 +32,19 @@ pub(crate) fn step_at<'a, const LUN: u8, L: Site, D: DeviceServer, G: Gate, R: W
     gate: &G,
     lock: &Locked<LUN, L, D>,
     part: &mut Share<L>,
-    nexus: Nexus,
-    cdb: &'a [u8],
-    bytes: &'a [u8],
+    sent: Sent<'a>,
 ) -> Done<'a>
     requires { part.old.parts ≡ 1 }
-    ensures answer { IsAnswer result (Some nexus) LUN (ran cdb.now bytes.now) }
-    ensures deed { result.deed ≡ deed_if result.numbers (deed_of (act_of (kind_at LUN) cdb.now bytes.now)) }
+    ensures answer { IsAnswer result (Some sent.entry.nexus) LUN (ran sent.entry.cdb.now sent.entry.bytes.now) }
+    ensures deed { result.deed ≡ deed_if result.numbers (deed_of (act_of (kind_at LUN) sent.entry.cdb.now sent.entry.bytes.now)) }
     ensures only { OnlyAt LUN result.numbers }
     ensures unnumbered { result.numbers ≡ [] → result.reply ≡ busy }
     ensures part { part.new.amount ≡ part.old.amount + count_at LUN result.numbers }
     ensures parts { part.new.parts ≡ 1 }
 {
     let mut kept = lock.lock().lock(rt);
-    gate.inside(LUN, nexus);
-    kept.step(alloc, part, nexus, cdb, bytes)
+    gate.inside(LUN, sent.nexus);
+    kept.step(alloc, part, sent.nexus, sent.cdb, sent.bytes)
 }
 
 /// The same where the unit may be absent.
@@ -55,22 +54,20 @@ pub(crate) fn step_if_there<'a, const LUN: u8, L: Site, D: DeviceServer, G: Gate
     gate: &G,
     lock: &Option<Locked<LUN, L, D>>,
     part: &mut Share<L>,
-    nexus: Nexus,
-    cdb: &'a [u8],
-    bytes: &'a [u8],
+    sent: Sent<'a>,
 ) -> Done<'a>
     requires { part.old.parts ≡ 1 }
-    ensures answer { IsAnswer result (Some nexus) LUN (ran cdb.now bytes.now) }
-    ensures deed { result.deed ≡ deed_if result.numbers (deed_of (act_of (kind_at LUN) cdb.now bytes.now)) }
+    ensures answer { IsAnswer result (Some sent.entry.nexus) LUN (ran sent.entry.cdb.now sent.entry.bytes.now) }
+    ensures deed { result.deed ≡ deed_if result.numbers (deed_of (act_of (kind_at LUN) sent.entry.cdb.now sent.entry.bytes.now)) }
     ensures only { OnlyAt LUN result.numbers }
     ensures there { IsSome lock.now → result.numbers ≡ [] → result.reply ≡ busy }
-    ensures absent { IsNone lock.now → AnswersAbsent cdb.now result.reply }
+    ensures absent { IsNone lock.now → AnswersAbsent sent.entry.cdb.now result.reply }
     ensures part { part.new.amount ≡ part.old.amount + count_at LUN result.numbers }
     ensures parts { part.new.parts ≡ 1 }
 {
     match lock {
-        Some(lock) => step_at(rt, alloc, gate, lock, part, nexus, cdb, bytes),
-        None => Done::absent(alloc, nexus, LUN, cdb, bytes),
+        Some(lock) => step_at(rt, alloc, gate, lock, part, sent),
+        None => Done::absent(alloc, sent.nexus, LUN, sent.cdb, sent.bytes),
     }
 }
 
@@ -198,22 +195,21 @@ pub(crate) fn move_with_one<'a, const LUN: u8, C: Site, L: Site, D: DeviceServer
     lock: Option<&Locked<LUN, L, D>>,
     part: &mut Share<C>,
     drive_part: &mut Share<L>,
-    nexus: Nexus,
-    cdb: &'a [u8],
-    bytes: &'a [u8],
+    sent: Sent<'a>,
 ) -> Done<'a>
     requires part { part.old.parts ≡ 1 }
     requires drive_part { drive_part.old.parts ≡ 1 }
     requires drive { 0 < LUN }
-    requires named { named (drives_of changer.old.unit.device) cdb.now ≡ LUN ∷ [] }
-    ensures answer { IsAnswer result (Some nexus) 0 (ran cdb.now bytes.now) }
-    ensures deed { result.deed ≡ deed_if result.numbers (deed_of (act_of Changer cdb.now bytes.now)) }
+    requires named { named (drives_of changer.old.unit.device) sent.cdb.now ≡ LUN ∷ [] }
+    ensures answer { IsAnswer result (Some sent.entry.nexus) 0 (ran sent.entry.cdb.now sent.entry.bytes.now) }
+    ensures deed { result.deed ≡ deed_if result.numbers (deed_of (act_of Changer sent.entry.cdb.now sent.entry.bytes.now)) }
     ensures only { (k : ℕ) → k ≢ 0 → k ≢ LUN → count_at k result.numbers ≡ 0 }
     ensures unnumbered { result.numbers ≡ [] → result.reply ≡ busy }
     ensures part { part.new.amount ≡ part.old.amount + count_at 0 result.numbers }
     ensures drive_part { drive_part.new.amount ≡ drive_part.old.amount + count_at LUN result.numbers }
     ensures parts { (part.new.parts ≡ 1) × (drive_part.new.parts ≡ 1) }
 {
+    let Sent { nexus, cdb, bytes } = sent;
     match lock {
         Some(lock) => {
             let mut drive = lock.lock().lock(rt);
@@ -251,17 +247,15 @@ pub(crate) fn move_with_two<
     part: &mut Share<C>,
     low_part: &mut Share<L>,
     high_part: &mut Share<H>,
-    nexus: Nexus,
-    cdb: &'a [u8],
-    bytes: &'a [u8],
+    sent: Sent<'a>,
 ) -> Done<'a>
     requires part { part.old.parts ≡ 1 }
     requires low_part { low_part.old.parts ≡ 1 }
     requires high_part { high_part.old.parts ≡ 1 }
     requires drives { (0 < LOW) × (LOW < HIGH) }
-    requires named { named (drives_of changer.old.unit.device) cdb.now ≡ LOW ∷ HIGH ∷ [] }
-    ensures answer { IsAnswer result (Some nexus) 0 (ran cdb.now bytes.now) }
-    ensures deed { result.deed ≡ deed_if result.numbers (deed_of (act_of Changer cdb.now bytes.now)) }
+    requires named { named (drives_of changer.old.unit.device) sent.cdb.now ≡ LOW ∷ HIGH ∷ [] }
+    ensures answer { IsAnswer result (Some sent.entry.nexus) 0 (ran sent.entry.cdb.now sent.entry.bytes.now) }
+    ensures deed { result.deed ≡ deed_if result.numbers (deed_of (act_of Changer sent.entry.cdb.now sent.entry.bytes.now)) }
     ensures only { (k : ℕ) → k ≢ 0 → k ≢ LOW → k ≢ HIGH → count_at k result.numbers ≡ 0 }
     ensures unnumbered { result.numbers ≡ [] → result.reply ≡ busy }
     ensures part { part.new.amount ≡ part.old.amount + count_at 0 result.numbers }
@@ -269,6 +263,7 @@ pub(crate) fn move_with_two<
     ensures high_part { high_part.new.amount ≡ high_part.old.amount + count_at HIGH result.numbers }
     ensures parts { (part.new.parts ≡ 1) × (low_part.new.parts ≡ 1) × (high_part.new.parts ≡ 1) }
 {
+    let Sent { nexus, cdb, bytes } = sent;
     let (Some(low), Some(high)) = (low, high) else {
         return changer.step(alloc, part, nexus, cdb, bytes);
     };

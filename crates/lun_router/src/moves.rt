@@ -12,10 +12,10 @@ use crate::gate::Gate;
 use crate::library::Library;
 use crate::locks::{move_with_one, move_with_two};
 use crate::seat::Parts;
+use crate::sent::Sent;
 use device_server::DeviceServer;
 use kept_unit::{Done, Kept, Site};
 use logical_unit::named;
-use scsi_nexus::Nexus;
 use std::alloc::Global;
 use std::sync::Wait;
 
@@ -36,74 +36,36 @@ impl<L0: Site, L1: Site, L2: Site, L3: Site, L4: Site, D: DeviceServer, G: Gate>
         changer: &mut Kept<0, L0, D>,
         parts: &mut Parts<L0, L1, L2, L3, L4>,
         drive: u8,
-        nexus: Nexus,
-        cdb: &'a [u8],
-        bytes: &'a [u8],
+        sent: Sent<'a>,
     ) -> Done<'a>
-        requires { named (drives_of changer.old.unit.device) cdb.now ≡ drive ∷ [] }
-        ensures answer { IsAnswer result (Some nexus) 0 (ran cdb.now bytes.now) }
-        ensures deed { result.deed ≡ deed_if result.numbers (deed_of (act_of Changer cdb.now bytes.now)) }
+        requires { named (drives_of changer.old.unit.device) sent.cdb.now ≡ drive ∷ [] }
+        ensures answer { IsAnswer result (Some sent.entry.nexus) 0 (ran sent.entry.cdb.now sent.entry.bytes.now) }
+        ensures deed { result.deed ≡ deed_if result.numbers (deed_of (act_of Changer sent.entry.cdb.now sent.entry.bytes.now)) }
         ensures unnumbered { result.numbers ≡ [] → result.reply ≡ busy }
         ensures rise { Rise parts.old result.numbers parts.new }
     {
         match drive {
             1 => {
                 let lock = Some(&self.first);
-                move_with_one(
-                    rt,
-                    alloc,
-                    changer,
-                    lock,
-                    &mut parts.zero,
-                    &mut parts.one,
-                    nexus,
-                    cdb,
-                    bytes,
-                )
+                let Parts { zero, one, .. } = parts;
+                move_with_one(rt, alloc, changer, lock, zero, one, sent)
             }
             2 => {
                 let lock = self.second.as_ref();
-                move_with_one(
-                    rt,
-                    alloc,
-                    changer,
-                    lock,
-                    &mut parts.zero,
-                    &mut parts.two,
-                    nexus,
-                    cdb,
-                    bytes,
-                )
+                let Parts { zero, two, .. } = parts;
+                move_with_one(rt, alloc, changer, lock, zero, two, sent)
             }
             3 => {
                 let lock = self.third.as_ref();
-                move_with_one(
-                    rt,
-                    alloc,
-                    changer,
-                    lock,
-                    &mut parts.zero,
-                    &mut parts.three,
-                    nexus,
-                    cdb,
-                    bytes,
-                )
+                let Parts { zero, three, .. } = parts;
+                move_with_one(rt, alloc, changer, lock, zero, three, sent)
             }
             4 => {
                 let lock = self.fourth.as_ref();
-                move_with_one(
-                    rt,
-                    alloc,
-                    changer,
-                    lock,
-                    &mut parts.zero,
-                    &mut parts.four,
-                    nexus,
-                    cdb,
-                    bytes,
-                )
+                let Parts { zero, four, .. } = parts;
+                move_with_one(rt, alloc, changer, lock, zero, four, sent)
             }
-            _ => changer.step(alloc, &mut parts.zero, nexus, cdb, bytes),
+            _ => changer.step(alloc, &mut parts.zero, sent.nexus, sent.cdb, sent.bytes),
         }
     }
 
@@ -116,13 +78,11 @@ impl<L0: Site, L1: Site, L2: Site, L3: Site, L4: Site, D: DeviceServer, G: Gate>
         parts: &mut Parts<L0, L1, L2, L3, L4>,
         low: u8,
         high: u8,
-        nexus: Nexus,
-        cdb: &'a [u8],
-        bytes: &'a [u8],
+        sent: Sent<'a>,
     ) -> Done<'a>
-        requires { named (drives_of changer.old.unit.device) cdb.now ≡ low ∷ high ∷ [] }
-        ensures answer { IsAnswer result (Some nexus) 0 (ran cdb.now bytes.now) }
-        ensures deed { result.deed ≡ deed_if result.numbers (deed_of (act_of Changer cdb.now bytes.now)) }
+        requires { named (drives_of changer.old.unit.device) sent.cdb.now ≡ low ∷ high ∷ [] }
+        ensures answer { IsAnswer result (Some sent.entry.nexus) 0 (ran sent.entry.cdb.now sent.entry.bytes.now) }
+        ensures deed { result.deed ≡ deed_if result.numbers (deed_of (act_of Changer sent.entry.cdb.now sent.entry.bytes.now)) }
         ensures unnumbered { result.numbers ≡ [] → result.reply ≡ busy }
         ensures rise { Rise parts.old result.numbers parts.new }
     {
@@ -131,85 +91,31 @@ impl<L0: Site, L1: Site, L2: Site, L3: Site, L4: Site, D: DeviceServer, G: Gate>
         let third = self.third.as_ref();
         let fourth = self.fourth.as_ref();
         match (low, high) {
-            (1, 2) => move_with_two(
-                rt,
-                alloc,
-                changer,
-                first,
-                second,
-                &mut parts.zero,
-                &mut parts.one,
-                &mut parts.two,
-                nexus,
-                cdb,
-                bytes,
-            ),
-            (1, 3) => move_with_two(
-                rt,
-                alloc,
-                changer,
-                first,
-                third,
-                &mut parts.zero,
-                &mut parts.one,
-                &mut parts.three,
-                nexus,
-                cdb,
-                bytes,
-            ),
-            (1, 4) => move_with_two(
-                rt,
-                alloc,
-                changer,
-                first,
-                fourth,
-                &mut parts.zero,
-                &mut parts.one,
-                &mut parts.four,
-                nexus,
-                cdb,
-                bytes,
-            ),
-            (2, 3) => move_with_two(
-                rt,
-                alloc,
-                changer,
-                second,
-                third,
-                &mut parts.zero,
-                &mut parts.two,
-                &mut parts.three,
-                nexus,
-                cdb,
-                bytes,
-            ),
-            (2, 4) => move_with_two(
-                rt,
-                alloc,
-                changer,
-                second,
-                fourth,
-                &mut parts.zero,
-                &mut parts.two,
-                &mut parts.four,
-                nexus,
-                cdb,
-                bytes,
-            ),
-            (3, 4) => move_with_two(
-                rt,
-                alloc,
-                changer,
-                third,
-                fourth,
-                &mut parts.zero,
-                &mut parts.three,
-                &mut parts.four,
-                nexus,
-                cdb,
-                bytes,
-            ),
-            _ => changer.step(alloc, &mut parts.zero, nexus, cdb, bytes),
+            (1, 2) => {
+                let (zero, one, two) = (&mut parts.zero, &mut parts.one, &mut parts.two);
+                move_with_two(rt, alloc, changer, first, second, zero, one, two, sent)
+            }
+            (1, 3) => {
+                let (zero, one, three) = (&mut parts.zero, &mut parts.one, &mut parts.three);
+                move_with_two(rt, alloc, changer, first, third, zero, one, three, sent)
+            }
+            (1, 4) => {
+                let (zero, one, four) = (&mut parts.zero, &mut parts.one, &mut parts.four);
+                move_with_two(rt, alloc, changer, first, fourth, zero, one, four, sent)
+            }
+            (2, 3) => {
+                let (zero, two, three) = (&mut parts.zero, &mut parts.two, &mut parts.three);
+                move_with_two(rt, alloc, changer, second, third, zero, two, three, sent)
+            }
+            (2, 4) => {
+                let (zero, two, four) = (&mut parts.zero, &mut parts.two, &mut parts.four);
+                move_with_two(rt, alloc, changer, second, fourth, zero, two, four, sent)
+            }
+            (3, 4) => {
+                let (zero, three, four) = (&mut parts.zero, &mut parts.three, &mut parts.four);
+                move_with_two(rt, alloc, changer, third, fourth, zero, three, four, sent)
+            }
+            _ => changer.step(alloc, &mut parts.zero, sent.nexus, sent.cdb, sent.bytes),
         }
     }
 
@@ -219,34 +125,20 @@ impl<L0: Site, L1: Site, L2: Site, L3: Site, L4: Site, D: DeviceServer, G: Gate>
         rt: &R,
         alloc: Global,
         parts: &mut Parts<L0, L1, L2, L3, L4>,
-        nexus: Nexus,
-        cdb: &'a [u8],
-        bytes: &'a [u8],
+        sent: Sent<'a>,
     ) -> Done<'a>
-        ensures answer { IsAnswer result (Some nexus) 0 (ran cdb.now bytes.now) }
-        ensures deed { result.deed ≡ deed_if result.numbers (deed_of (act_of Changer cdb.now bytes.now)) }
+        ensures answer { IsAnswer result (Some sent.entry.nexus) 0 (ran sent.entry.cdb.now sent.entry.bytes.now) }
+        ensures deed { result.deed ≡ deed_if result.numbers (deed_of (act_of Changer sent.entry.cdb.now sent.entry.bytes.now)) }
         ensures unnumbered { result.numbers ≡ [] → result.reply ≡ busy }
         ensures rise { Rise parts.old result.numbers parts.new }
     {
         let mut changer = self.changer.lock().lock(rt);
-        self.gate.inside(0, nexus);
-        let names = named(changer.drives(), cdb);
+        self.gate.inside(0, sent.nexus);
+        let names = named(changer.drives(), sent.cdb);
         match names.as_slice() {
-            [drive] => self.move_one(rt, alloc, &mut *changer, parts, *drive, nexus, cdb, bytes),
-            [low, high] => {
-                self.move_two(
-                    rt,
-                    alloc,
-                    &mut *changer,
-                    parts,
-                    *low,
-                    *high,
-                    nexus,
-                    cdb,
-                    bytes,
-                )
-            }
-            _ => changer.step(alloc, &mut parts.zero, nexus, cdb, bytes),
+            [drive] => self.move_one(rt, alloc, &mut *changer, parts, *drive, sent),
+            [low, high] => self.move_two(rt, alloc, &mut *changer, parts, *low, *high, sent),
+            _ => changer.step(alloc, &mut parts.zero, sent.nexus, sent.cdb, sent.bytes),
         }
     }
 }

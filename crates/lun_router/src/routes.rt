@@ -14,6 +14,7 @@ use crate::locks::{
     step_if_there,
 };
 use crate::seat::{Parts, Seat};
+use crate::sent::Sent;
 use audit_log::Record;
 use device_server::DeviceServer;
 use kept_unit::{Asked, Done, Site};
@@ -36,61 +37,23 @@ impl<L0: Site, L1: Site, L2: Site, L3: Site, L4: Site, D: DeviceServer, G: Gate>
         rt: &R,
         alloc: Global,
         parts: &mut Parts<L0, L1, L2, L3, L4>,
-        nexus: Nexus,
         lun: u8,
-        cdb: &'a [u8],
-        bytes: &'a [u8],
+        sent: Sent<'a>,
     ) -> Done<'a>
-        ensures answer { IsAnswer result (Some nexus) lun (ran cdb.now bytes.now) }
-        ensures deed { result.deed ≡ deed_if result.numbers (deed_of (act_of (kind_at lun) cdb.now bytes.now)) }
-        ensures absent { AnswersAsAbsent self.now.units lun cdb.now result.reply }
+        ensures answer { IsAnswer result (Some sent.entry.nexus) lun (ran sent.entry.cdb.now sent.entry.bytes.now) }
+        ensures deed { result.deed ≡ deed_if result.numbers (deed_of (act_of (kind_at lun) sent.entry.cdb.now sent.entry.bytes.now)) }
+        ensures absent { AnswersAsAbsent self.now.units lun sent.entry.cdb.now result.reply }
         ensures unnumbered { LeavesNoneFor self.now.units lun result.numbers result.reply }
         ensures rise { Rise parts.old result.numbers parts.new }
     {
         let gate = &self.gate;
         match lun {
-            0 => self.step_changer(rt, alloc, parts, nexus, cdb, bytes),
-            1 => step_at(
-                rt,
-                alloc,
-                gate,
-                &self.first,
-                &mut parts.one,
-                nexus,
-                cdb,
-                bytes,
-            ),
-            2 => step_if_there(
-                rt,
-                alloc,
-                gate,
-                &self.second,
-                &mut parts.two,
-                nexus,
-                cdb,
-                bytes,
-            ),
-            3 => step_if_there(
-                rt,
-                alloc,
-                gate,
-                &self.third,
-                &mut parts.three,
-                nexus,
-                cdb,
-                bytes,
-            ),
-            4 => step_if_there(
-                rt,
-                alloc,
-                gate,
-                &self.fourth,
-                &mut parts.four,
-                nexus,
-                cdb,
-                bytes,
-            ),
-            _ => Done::absent(alloc, nexus, lun, cdb, bytes),
+            0 => self.step_changer(rt, alloc, parts, sent),
+            1 => step_at(rt, alloc, gate, &self.first, &mut parts.one, sent),
+            2 => step_if_there(rt, alloc, gate, &self.second, &mut parts.two, sent),
+            3 => step_if_there(rt, alloc, gate, &self.third, &mut parts.three, sent),
+            4 => step_if_there(rt, alloc, gate, &self.fourth, &mut parts.four, sent),
+            _ => Done::absent(alloc, sent.nexus, lun, sent.cdb, sent.bytes),
         }
     }
 
@@ -166,7 +129,7 @@ impl<L0: Site, L1: Site, L2: Site, L3: Site, L4: Site, D: DeviceServer, G: Gate>
         if entries.reserve(1).is_err() {
             return Done::busy(alloc, Some(nexus), lun, Asked::Command { cdb, bytes });
         }
-        let done = self.route(rt, alloc, parts, nexus, lun, cdb, bytes);
+        let done = self.route(rt, alloc, parts, lun, Sent { nexus, cdb, bytes });
         entries.push_reserved(done.entry());
         done
     }
