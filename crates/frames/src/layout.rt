@@ -43,9 +43,6 @@ pub(crate) const LOGOUT_REPLY: u8 = 0x84;
 /// sense data, and the record's number.
 pub(crate) const COMMAND_REPLY_FIELDS: usize = 11;
 
-/// The most bytes of data in a reply.
-pub const LONGEST_DATA: usize = 65_536;
-
 /// How many bytes fixed format sense data has (SPC-4, "Fixed format sense data").
 pub(crate) const SENSE_LENGTH: u8 = 18;
 

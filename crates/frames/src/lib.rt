@@ -25,7 +25,7 @@ pub use laws::{
     fault_rows, frame_rows, one_reading, partial_rows, pieces_join, reply_rows, stream_rows,
     taken_is_read,
 };
-pub use layout::{LONGEST_BODY, LONGEST_DATA, LONGEST_REPLY};
+pub use layout::{LONGEST_BODY, LONGEST_REPLY};
 pub use reply_fault::ReplyFault;
 pub use reply_frame::{LoginAnswer, ReplyFrame, ReplyFront, write_reply};
 pub use reply_front::reply_of;
