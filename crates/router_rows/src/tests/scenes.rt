@@ -27,7 +27,7 @@ enum Part<'a> {
     Moves,
 }
 
-/// One hundred TEST UNIT Ask::Ready, to drive 1 and drive 2 by turns, with a drain of both after the fiftieth if there is
+/// One hundred TEST UNIT READYs, to drive 1 and drive 2 by turns, with a drain of both after the fiftieth if there is
 /// somewhere to note the numbers that it hands out.
 fn ask_100_times<L0: Site, L1: Site, L2: Site, L3: Site, L4: Site, G: Gate, R: Abort + Wait>(
     rt: &R,
