@@ -2,15 +2,15 @@
 use Rattle.std.specs.Prelude.{ℕ, List, ◌++◌, codes, Option, Some, None, if◌then◌else◌}
 use Rattle.std.specs.Fmt.{decimal}
 use Rattle.std.specs.Int.{w64, to_be_bytes}
-use Rattle.scsi_cdb.specs.Classes.{class_of_action}
+use Rattle.permit_tables.specs.Classes.{class_of_action}
 use Rattle.scsi_sense.specs.Status.{status_code}
 use Rattle.scsi_nexus.specs.declared.nexus.Nexus.{Nexus}
 use Rattle.permit_tables.specs.declared.res_type.ResType.{ResType}
 use Rattle.permit_tables.specs.Types.{is_all_registrants}
 use Rattle.permit_tables.specs.Text.{class_name, type_name, cell_text}
 use Rattle.permit_tables.specs.declared.cell.Cell.{Cell}
-use Rattle.pr_core.specs.declared.key_rule.KeyRule.{KeyRule}
-use Rattle.pr_core.specs.declared.key_rule.KeyRule.TheVariants.{K1, K2, K3, K4, K5, K6}
+use Rattle.permit_tables.specs.declared.key_rule.KeyRule.{KeyRule}
+use Rattle.permit_tables.specs.declared.key_rule.KeyRule.TheVariants.{K1, K2, K3, K4, K5, K6}
 use Rattle.audit_log.specs.Hexadecimal.{hex_text, two_digits}
 use Rattle.audit_log.specs.Stages.{stage_number}
 use Rattle.audit_log.specs.declared.act.Act.{Act}

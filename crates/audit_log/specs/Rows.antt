@@ -1,15 +1,15 @@
 -- Worked records and their lines: A at port 1.
 use Rattle.std.specs.Prelude.{false, [], Some, None}
-use Rattle.scsi_cdb.specs.declared.classes.Class.TheVariants as class
-use Rattle.scsi_cdb.specs.declared.action.OutServiceAction.TheVariants as out
+use Rattle.permit_tables.specs.declared.classes.Class.TheVariants as class
+use Rattle.permit_tables.specs.declared.service_action.OutServiceAction.TheVariants as out
 use Rattle.scsi_sense.specs.Conditions.{sense_for}
 use Rattle.scsi_sense.specs.declared.condition.Condition.TheVariants.{PowerOnOrResetOccurred, NotReadyToReadyChange, InvalidCommandOperationCode, InvalidFieldInParameterList}
 use Rattle.scsi_sense.specs.declared.status.Status.TheVariants.{Good, CheckCondition, ReservationConflict}
 use Rattle.scsi_nexus.specs.declared.nexus.Nexus.{Nexus}
 use Rattle.permit_tables.specs.declared.res_type.ResType.TheVariants as type
 use Rattle.permit_tables.specs.declared.role.Role.TheVariants.{Holder, Registered, Other}
-use Rattle.pr_params.specs.declared.out_params.OutParams.{OutParams}
-use Rattle.pr_core.specs.declared.key_rule.KeyRule.TheVariants.{K1}
+use Rattle.permit_tables.specs.declared.out_params.OutParams.{OutParams}
+use Rattle.permit_tables.specs.declared.key_rule.KeyRule.TheVariants.{K1}
 use Rattle.audit_log.specs.declared.stage.Stage.TheVariants.{Spelling, ResetAttention, ReservationCheck, OtherAttention, Fields, Device}
 use Rattle.audit_log.specs.declared.act.Act.TheVariants.{Command, ReserveOut, Invalid, Loss, Reset, MediumIn, MediumOut}
 use Rattle.audit_log.specs.declared.record.Record.{Record}

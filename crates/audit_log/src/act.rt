@@ -1,7 +1,6 @@
 ghost use Rattle.std.specs.Prelude.{◌≡◌};
 
-use pr_params::KeptParams;
-use scsi_cdb::Class;
+use permit_tables::{Class, KeptParams};
 
 /// What a record says was asked of the unit.
 #[derive(Debug, Drop)]

@@ -4,8 +4,7 @@ ghost use Rattle.audit_log.specs.Lines.{line_of, nexus_text, cell_text_or_dash, 
 use crate::act::Act;
 use crate::hexadecimal::write_hex;
 use crate::record::Record;
-use permit_tables::{Cell, ResType, class_text};
-use pr_core::KeyRule;
+use permit_tables::{Cell, KeyRule, ResType, class_text};
 use scsi_nexus::Nexus;
 use std::alloc::{AllocError, Global};
 use std::fmt::Write;

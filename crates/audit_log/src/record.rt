@@ -1,7 +1,6 @@
 use crate::act::Act;
 use crate::stage::Stage;
-use permit_tables::Cell;
-use pr_core::KeyRule;
+use permit_tables::{Cell, KeyRule};
 use scsi_nexus::Nexus;
 use scsi_sense::{Sense, Status};
 

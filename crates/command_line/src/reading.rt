@@ -6,9 +6,9 @@ use crate::task::{Contact, Place, Task};
 use clap::ArgMatches;
 use command_line_fault::CommandLineFault;
 use permission_chart::class_named;
+use permit_tables::Class;
 use program_options::{LibraryOptions, OptionFault, Term, nexus_of};
 use replay_output::{Audit, Explanations};
-use scsi_cdb::Class;
 use std::alloc::{AllocError, Global};
 
 /// How many workers serve sessions until standard input ends, where nothing else is asked for.

@@ -1,6 +1,6 @@
+use permit_tables::Class;
 use program_options::{LibraryOptions, Term};
 use replay_output::{Audit, Explanations};
-use scsi_cdb::Class;
 use scsi_nexus::Nexus;
 
 /// What the program is asked to do.

@@ -1,9 +1,9 @@
 //! Words of command lines, and the tasks that they name.
 
 use command_line::{Task, task_of};
+use permit_tables::Class;
 use program_options::Term;
 use replay_output::{Audit, Explanations};
-use scsi_cdb::Class;
 use std::test::Fail;
 
 #[test]

@@ -11,20 +11,20 @@ use Rattle.scsi_sense.specs.declared.status.Status.TheVariants.{Good, CheckCondi
 use Rattle.unit_attention.specs.declared.kind.Kind.{Kind}
 use Rattle.pr_core.specs.State.{State}
 use Rattle.pr_core.specs.Outcome.{refusal}
-use Rattle.pr_core.specs.declared.pr_fault.PrFault.{PrFault}
+use Rattle.permit_tables.specs.declared.pr_fault.PrFault.{PrFault}
 use Rattle.permit_tables.specs.declared.cell.Cell.{Cell}
 use Rattle.audit_log.specs.declared.stage.Stage.TheVariants as stage
 use Rattle.audit_log.specs.declared.stage.Stage.TheVariants.{Fields}
 use Rattle.device_server.specs.View.{DeviceView, kind_of, field_fault, performed}
-use Rattle.unit_commands.specs.declared.command.Command.{Command}
-use Rattle.unit_commands.specs.declared.command.Command.TheVariants.{ReserveOut, ReserveIn, Inquiry, ReportLuns, RequestSense, Prevent, Device}
-use Rattle.unit_answers.specs.Conditions.{condition_of_refusal}
-use Rattle.unit_answers.specs.UnitData.{inquiry_data, selected_luns}
-use Rattle.unit_answers.specs.declared.reply.Reply.{Reply}
-use Rattle.unit_answers.specs.Replies.{check, good, data_reply, IsWhole}
-use Rattle.unit_state.specs.KeptView.{KeptView}
-use Rattle.unit_state.specs.Kept.{accepted, prevented, allowed, is_prevented, after_mode}
-use Rattle.unit_state.specs.Readings.{pending_of}
+use Rattle.judgement.specs.declared.command.Command.{Command}
+use Rattle.judgement.specs.declared.command.Command.TheVariants.{ReserveOut, ReserveIn, Inquiry, ReportLuns, RequestSense, Prevent, Device}
+use Rattle.judgement.specs.Conditions.{condition_of_refusal}
+use Rattle.judgement.specs.UnitData.{inquiry_data, selected_luns}
+use Rattle.judgement.specs.declared.reply.Reply.{Reply}
+use Rattle.judgement.specs.Replies.{check, good, data_reply, IsWhole}
+use Rattle.judgement.specs.KeptView.{KeptView}
+use Rattle.judgement.specs.Kept.{accepted, prevented, allowed, is_prevented, after_mode}
+use Rattle.judgement.specs.Readings.{pending_of}
 use Rattle.judgement.specs.declared.finding.Finding.{Finding}
 use Rattle.judgement.specs.Findings.{at_stage}
 use Rattle.judgement.specs.History.{accepted_as, after_history}

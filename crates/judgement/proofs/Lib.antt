@@ -1,2 +1,3 @@
+pub mod PreventerLaws
 pub mod Ways
 pub mod Carried

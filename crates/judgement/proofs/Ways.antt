@@ -7,11 +7,11 @@ use Rattle.unit_attention.specs.Queues.{first_reset_of, first_other_of}
 use Rattle.pr_core.specs.declared.verdict.Verdict.{Verdict}
 use Rattle.pr_core.specs.declared.verdict.Verdict.TheVariants.{Allowed, Denied, Rule}
 use Rattle.audit_log.specs.declared.stage.Stage.TheVariants.{ResetAttention, OtherAttention}
-use Rattle.unit_commands.specs.declared.command.Command.{Command}
-use Rattle.unit_commands.specs.Commands.{class_of_command}
-use Rattle.unit_answers.specs.declared.reply.Reply.{Reply}
-use Rattle.unit_answers.specs.Replies.{conflict}
-use Rattle.unit_state.specs.Readings.{verdict_of}
+use Rattle.judgement.specs.declared.command.Command.{Command}
+use Rattle.judgement.specs.Commands.{class_of_command}
+use Rattle.judgement.specs.declared.reply.Reply.{Reply}
+use Rattle.judgement.specs.Replies.{conflict}
+use Rattle.judgement.specs.Readings.{verdict_of}
 use Rattle.judgement.specs.declared.finding.Finding.{Finding}
 use Rattle.judgement.specs.Findings.{at_stage, let_in, in_conflict, rule_of}
 use Rattle.judgement.specs.Present.{Present}

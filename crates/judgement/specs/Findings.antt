@@ -4,7 +4,7 @@ use Rattle.std.specs.Prelude.{Bool, false, Option, None, Some}
 use Rattle.audit_log.specs.declared.stage.Stage.{Stage}
 use Rattle.audit_log.specs.declared.stage.Stage.TheVariants.{ReservationCheck, Device}
 use Rattle.permit_tables.specs.declared.cell.Cell.{Cell}
-use Rattle.pr_core.specs.declared.key_rule.KeyRule.{KeyRule}
+use Rattle.permit_tables.specs.declared.key_rule.KeyRule.{KeyRule}
 use Rattle.pr_core.specs.declared.verdict.Verdict.{Verdict}
 use Rattle.pr_core.specs.declared.verdict.Verdict.TheVariants.{Rule}
 use Rattle.judgement.specs.declared.finding.Finding.{Finding}

@@ -7,12 +7,12 @@ use Rattle.scsi_nexus.specs.declared.nexus.Nexus.{Nexus}
 use Rattle.scsi_sense.specs.declared.condition.Condition.{Condition}
 use Rattle.scsi_sense.specs.declared.status.Status.{Status}
 use Rattle.scsi_sense.specs.declared.status.Status.TheVariants.{Good}
-use Rattle.pr_params.specs.declared.out_params.OutParams.{OutParams}
+use Rattle.permit_tables.specs.declared.out_params.OutParams.{OutParams}
 use Rattle.pr_core.specs.State.{State}
 use Rattle.pr_core.specs.Outcome.{applied}
-use Rattle.unit_commands.specs.declared.command.Command.{Command}
-use Rattle.unit_commands.specs.declared.command.Command.TheVariants.{ReserveOut}
-use Rattle.unit_commands.specs.Commands.{spelled}
+use Rattle.judgement.specs.declared.command.Command.{Command}
+use Rattle.judgement.specs.declared.command.Command.TheVariants.{ReserveOut}
+use Rattle.judgement.specs.Commands.{spelled}
 
 abbrev pub is_good : Status → Bool
 is_good Good = true

@@ -2,7 +2,7 @@
 -- attention of ASC 29h that waits, stage 3 the reservation check, stage 4 another attention, stages 5 and 6 the command itself. Beside
 -- the unit and the reply it is said what a record says: the stage, the cell and the rule.
 use Rattle.std.specs.Prelude.{ℕ, Bool, true, false, not, ◌&&◌, ◌==◌, List, [], take, Option, None, Some, is_none, Result, Ok, Err, if◌then◌else◌}
-use Rattle.scsi_cdb.specs.declared.classes.Class.{Class}
+use Rattle.permit_tables.specs.declared.classes.Class.{Class}
 use Rattle.scsi_cdb.specs.declared.request.Request.{Request}
 use Rattle.scsi_cdb.specs.declared.request.Request.TheVariants.{LoadUnload}
 use Rattle.scsi_nexus.specs.declared.nexus.Nexus.{Nexus}
@@ -11,7 +11,7 @@ use Rattle.scsi_sense.specs.declared.condition.Condition.TheVariants.{NoAddition
 use Rattle.unit_attention.specs.declared.kind.Kind.{Kind}
 use Rattle.unit_attention.specs.Queues.{first_reset_of, first_other_of}
 use Rattle.permit_tables.specs.declared.cell.Cell.{Cell}
-use Rattle.pr_params.specs.declared.out_params.OutParams.{OutParams}
+use Rattle.permit_tables.specs.declared.out_params.OutParams.{OutParams}
 use Rattle.pr_core.specs.State.{cell}
 use Rattle.pr_core.specs.Outcome.{refusal}
 use Rattle.pr_core.specs.declared.verdict.Verdict.{Verdict}
@@ -21,20 +21,20 @@ use Rattle.audit_log.specs.declared.stage.Stage.TheVariants.{Spelling, ResetAtte
 use Rattle.device_server.specs.View.{DeviceView, kind_of, field_fault, performed}
 use Rattle.device_server.specs.Volumes.{is_move}
 use Rattle.device_server.specs.declared.outcome.Outcome.{Outcome}
-use Rattle.unit_commands.specs.declared.command.Command.{Command}
-use Rattle.unit_commands.specs.declared.command.Command.TheVariants as command
-use Rattle.unit_commands.specs.declared.command.Command.TheVariants.{ReserveOut, ReserveIn, Inquiry, ReportLuns, RequestSense, Prevent}
-use Rattle.unit_answers.specs.declared.reply.Reply.{Reply}
-use Rattle.unit_answers.specs.Conditions.{condition_of_attention, condition_of_refusal}
-use Rattle.unit_commands.specs.Commands.{spelled, class_of_command, passes_over}
+use Rattle.judgement.specs.declared.command.Command.{Command}
+use Rattle.judgement.specs.declared.command.Command.TheVariants as command
+use Rattle.judgement.specs.declared.command.Command.TheVariants.{ReserveOut, ReserveIn, Inquiry, ReportLuns, RequestSense, Prevent}
+use Rattle.judgement.specs.declared.reply.Reply.{Reply}
+use Rattle.judgement.specs.Conditions.{condition_of_attention, condition_of_refusal}
+use Rattle.judgement.specs.Commands.{spelled, class_of_command, passes_over}
 use Rattle.judgement.specs.declared.finding.Finding.{Finding}
 use Rattle.judgement.specs.Findings.{at_stage, at_device, in_cell, let_in, in_conflict}
-use Rattle.unit_answers.specs.UnitData.{inquiry_data, selected_luns, sense_data}
-use Rattle.unit_answers.specs.Replies.{good, check, conflict, replied, data_reply}
-use Rattle.unit_state.specs.KeptView.{KeptView}
+use Rattle.judgement.specs.UnitData.{inquiry_data, selected_luns, sense_data}
+use Rattle.judgement.specs.Replies.{good, check, conflict, replied, data_reply}
+use Rattle.judgement.specs.KeptView.{KeptView}
 use Rattle.judgement.specs.Present.{Present}
-use Rattle.unit_state.specs.Kept.{reported, accepted, prevented, allowed, is_prevented, after_mode}
-use Rattle.unit_state.specs.Readings.{verdict_of, status_data, pending_of}
+use Rattle.judgement.specs.Kept.{reported, accepted, prevented, allowed, is_prevented, after_mode}
+use Rattle.judgement.specs.Readings.{verdict_of, status_data, pending_of}
 
 -- the cell of the permission table that a command of a sender stands in
 abbrev pub cell_of : Present → Nexus → Command → Cell

@@ -1,3 +1,11 @@
+pub mod Conditions
+pub mod UnitData
+pub mod Replies
+pub mod Rows
+pub mod Commands
+pub mod KeptView
+pub mod Kept
+pub mod Readings
 pub mod Findings
 pub mod Present
 pub mod Judge

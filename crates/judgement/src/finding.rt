@@ -1,6 +1,5 @@
 use audit_log::Stage;
-use permit_tables::Cell;
-use pr_core::KeyRule;
+use permit_tables::{Cell, KeyRule};
 
 /// What a record says of how an event was judged, beside its status and sense data.
 #[derive(Clone, Copy, Debug, PartialEq, Eq)]

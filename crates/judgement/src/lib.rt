@@ -1,8 +1,27 @@
-//! How a command is judged at a logical unit: the stages in their order, the first that applies answers.
+//! What a logical unit makes of a command: the command that its bytes spell, what the unit keeps beside its device and
+//! its records, the replies and the data of the commands that every unit has, and the stages in which a command is
+//! judged, of which the first that applies answers.
 #![tactic(auto)]
 
+mod absence;
+mod command;
+mod conditions;
 mod finding;
+mod kept;
+pub mod laws;
+mod layout;
+mod preventers;
+mod reply;
+mod reserve_params;
 mod stages;
+mod unit_data;
 
+pub use absence::absent;
+pub use command::{Command, act_of, passes_over};
+pub use conditions::{condition_of_attention, condition_of_fault, condition_of_refusal};
 pub use finding::Finding;
+pub use kept::Kept;
+pub use reply::Reply;
+pub use reserve_params::ReserveParams;
 pub use stages::judge;
+pub use unit_data::{inquiry, report_luns, sense_data};

@@ -3,32 +3,31 @@ ghost use Rattle.unit_attention.specs.Queues.{first_reset_of, first_other_of};
 ghost use Rattle.pr_core.specs.declared.verdict.Verdict.TheVariants.{Allowed};
 ghost use Rattle.device_server.specs.View.{kind_of};
 ghost use Rattle.device_server.specs.Volumes.{is_move};
-ghost use Rattle.unit_state.specs.Kept.{has_room, met};
+ghost use Rattle.judgement.specs.Kept.{has_room, met};
 ghost use Rattle.pr_core.specs.Judge.{verdict};
 ghost use Rattle.pr_core.specs.State.{cell};
 ghost use Rattle.judgement.specs.Findings.{at_stage};
-ghost use Rattle.unit_answers.specs.Replies.{data_reply};
-ghost use Rattle.unit_state.specs.Readings.{verdict_of};
+ghost use Rattle.judgement.specs.Replies.{data_reply};
+ghost use Rattle.judgement.specs.Readings.{verdict_of};
 ghost use Rattle.judgement.specs.Judge.{waiting, carried_out, reserves, unloads, performs, let_through, checked, commanded, judged_as, requests_sense, prevents, is_allowed_by, is_carried_out, asks_memory, takes_memory};
 ghost use Rattle.device_server.specs.View.{DeviceView};
-ghost use Rattle.unit_commands.specs.Commands.{class_of_command};
+ghost use Rattle.judgement.specs.Commands.{class_of_command};
 
+use crate::command::{Command, passes_over};
+use crate::conditions::{condition_of_attention, condition_of_refusal};
 use crate::finding::Finding;
+use crate::kept::Kept;
+use crate::reply::Reply;
+use crate::unit_data::{inquiry, report_luns, sense_data};
 use audit_log::Stage;
 use device_server::{DeviceServer, Payload, field_fault};
-use permit_tables::Cell;
+use permit_tables::{Cell, Class, OutParams};
 use pr_core::Verdict;
-use pr_params::OutParams;
-use scsi_cdb::{Class, Request};
+use scsi_cdb::Request;
 use scsi_nexus::Nexus;
 use scsi_sense::Condition;
 use std::alloc::{AllocError, Global};
-use unit_answers::{
-    Reply, condition_of_attention, condition_of_refusal, inquiry, report_luns, sense_data,
-};
 use unit_attention::Kind;
-use unit_commands::{Command, passes_over};
-use unit_state::Kept;
 
 /// An attention that waits, unless the class passes over it.
 fn waiting(class: Class, pending: Option<Kind>) -> Option<Kind>

@@ -6,9 +6,9 @@ use Rattle.scsi_sense.specs.declared.condition.Condition.{Condition}
 use Rattle.audit_log.specs.declared.act.Act.{Act}
 use Rattle.audit_log.specs.declared.record.Record.{Record}
 use Rattle.device_server.specs.View.{DeviceView, kind_of, drives_of}
-use Rattle.unit_answers.specs.declared.reply.Reply.{Reply}
-use Rattle.unit_answers.specs.Replies.{busy, good, check}
-use Rattle.unit_commands.specs.Commands.{act_of}
+use Rattle.judgement.specs.declared.reply.Reply.{Reply}
+use Rattle.judgement.specs.Replies.{busy, good, check}
+use Rattle.judgement.specs.Commands.{act_of}
 use Rattle.logical_unit.specs.Move.{TwoDrives, carried_by_one, carried_one, carried_two, upward, downward, passed, route_at, MovesOne, MovesTwo, numbers_of}
 use Rattle.logical_unit.specs.Route.{named, is_upward}
 use Rattle.logical_unit.specs.UnitView.{UnitView, last_number}

@@ -10,9 +10,9 @@ use Rattle.audit_log.specs.declared.record.Record.{Record}
 use Rattle.device_server.specs.View.{kind_of, drives_of}
 use Rattle.judgement.specs.Present.{Present}
 use Rattle.judgement.specs.declared.finding.Finding.{Finding}
-use Rattle.unit_answers.specs.declared.reply.Reply.{Reply}
-use Rattle.unit_answers.specs.Replies.{busy}
-use Rattle.unit_commands.specs.Commands.{act_of}
+use Rattle.judgement.specs.declared.reply.Reply.{Reply}
+use Rattle.judgement.specs.Replies.{busy}
+use Rattle.judgement.specs.Commands.{act_of}
 use Rattle.logical_unit.specs.Move.{numbers_of, IsSameUnit, judged_at}
 use Rattle.logical_unit.specs.Step.{Executes, LosesAs, loses, IsLost, number_or_0, recorded, entry_of}
 use Rattle.logical_unit.specs.UnitView.{UnitView, last_number}

@@ -4,9 +4,9 @@ use Rattle.scsi_cdb.specs.declared.kind.Kind.{Kind}
 use Rattle.scsi_cdb.specs.declared.kind.Kind.TheVariants.{Changer}
 use Rattle.scsi_nexus.specs.declared.nexus.Nexus.{Nexus}
 use Rattle.device_server.specs.View.{kind_of, drives_of}
-use Rattle.unit_answers.specs.declared.reply.Reply.{Reply}
-use Rattle.unit_answers.specs.Replies.{busy}
-use Rattle.unit_commands.specs.Commands.{act_of}
+use Rattle.judgement.specs.declared.reply.Reply.{Reply}
+use Rattle.judgement.specs.Replies.{busy}
+use Rattle.judgement.specs.Commands.{act_of}
 use Rattle.logical_unit.specs.Move.{TwoDrives, MovesOne, MovesTwo, IsSameUnit, numbers_of}
 use Rattle.logical_unit.specs.Route.{named}
 use Rattle.logical_unit.specs.UnitView.{UnitView}

@@ -1,7 +1,7 @@
 -- What a call was asked, what it answered, and what a seat keeps of it.
 use Rattle.std.specs.Prelude.{◌≡◌, ◌≢◌, ℕ, List, [], ◌∷◌, count_by, map, filter, Option, None, ◌==◌, if◌then◌else◌}
 use Rattle.scsi_nexus.specs.declared.nexus.Nexus.{Nexus}
-use Rattle.unit_answers.specs.declared.reply.Reply.{Reply}
+use Rattle.judgement.specs.declared.reply.Reply.{Reply}
 use Rattle.kept_unit.specs.declared.deed.Deed.{Deed}
 use Rattle.kept_unit.specs.declared.entry.Entry.{Entry}
 

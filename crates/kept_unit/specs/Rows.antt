@@ -1,9 +1,9 @@
 -- Worked rows: what an entry keeps of an act, and the numbers of records by unit.
 use Rattle.std.specs.Prelude.{◌≡◌, ℕ, false, List, [], ◌∷◌, Some, None}
-use Rattle.scsi_cdb.specs.declared.action.OutServiceAction.TheVariants as out
-use Rattle.scsi_cdb.specs.declared.classes.Class.TheVariants as class
+use Rattle.permit_tables.specs.declared.service_action.OutServiceAction.TheVariants as out
+use Rattle.permit_tables.specs.declared.classes.Class.TheVariants as class
 use Rattle.scsi_cdb.specs.declared.kind.Kind.TheVariants.{Drive, Changer}
-use Rattle.pr_params.specs.declared.out_params.OutParams.{OutParams}
+use Rattle.permit_tables.specs.declared.out_params.OutParams.{OutParams}
 use Rattle.audit_log.specs.declared.act.Act.TheVariants as act
 use Rattle.kept_unit.specs.declared.deed.Deed.TheVariants as deed
 use Rattle.kept_unit.specs.Answers.{own_number, at, count_at, OnlyAt}

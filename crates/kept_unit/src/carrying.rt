@@ -1,8 +1,8 @@
 ghost use Rattle.std.specs.Prelude.{◌≡◌, ◌≢◌, ◌+◌, ◌<◌, ◌++◌, [], ◌∷◌, ℕ, Some};
 ghost use Rattle.scsi_cdb.specs.declared.kind.Kind.TheVariants.{Changer};
 ghost use Rattle.device_server.specs.View.{drives_of};
-ghost use Rattle.unit_answers.specs.Replies.{busy};
-ghost use Rattle.unit_commands.specs.Commands.{act_of};
+ghost use Rattle.judgement.specs.Replies.{busy};
+ghost use Rattle.judgement.specs.Commands.{act_of};
 ghost use Rattle.logical_unit.specs.Move.{MovesOne, MovesTwo, numbers_of};
 ghost use Rattle.logical_unit.specs.Route.{named};
 ghost use Rattle.kept_unit.specs.Answers.{IsAnswer, ran, count_at};

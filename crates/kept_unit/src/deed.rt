@@ -3,7 +3,7 @@ ghost use Rattle.audit_log.specs.declared.record.Record.{Record};
 ghost use Rattle.kept_unit.specs.Deeds.{deed_of, deed_if};
 
 use audit_log::{Act, Record};
-use scsi_cdb::Class;
+use permit_tables::Class;
 
 /// What an entry keeps of an act: its kind, and of a command the class. It takes no memory; the parameters of a PERSISTENT
 /// RESERVE OUT are in the record alone.

@@ -1,6 +1,6 @@
 ghost use Rattle.std.specs.Prelude.{◌≡◌, [], None, Some};
 ghost use Rattle.scsi_sense.specs.declared.condition.Condition.TheVariants.{LogicalUnitNotSupported};
-ghost use Rattle.unit_answers.specs.Replies.{AnswersAbsent, busy, check};
+ghost use Rattle.judgement.specs.Replies.{AnswersAbsent, busy, check};
 ghost use Rattle.kept_unit.specs.Answers.{entry_of, IsAnswer, LeavesNothing, lost, was_reset, ran};
 ghost use Rattle.kept_unit.specs.Questions.{question_of};
 

@@ -1,7 +1,7 @@
 ghost use Rattle.std.specs.Prelude.{◌≡◌, ◌+◌, ◌<◌, ◌^◌, [], ℕ, Some, None, IfOk, IsTrue, ◌↔◌};
 ghost use Rattle.device_server.specs.View.{kind_of, drives_of};
-ghost use Rattle.unit_answers.specs.Replies.{busy};
-ghost use Rattle.unit_commands.specs.Commands.{act_of};
+ghost use Rattle.judgement.specs.Replies.{busy};
+ghost use Rattle.judgement.specs.Commands.{act_of};
 ghost use Rattle.logical_unit.specs.Legal.{IsTrail};
 ghost use Rattle.logical_unit.specs.Step.{Executes, IsLost, IsReset, done, drained};
 ghost use Rattle.logical_unit.specs.UnitView.{last_number};

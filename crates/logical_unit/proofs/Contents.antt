@@ -20,7 +20,7 @@ use Rattle.tape_medium.specs.declared.space.SpaceCode.TheVariants.{Blocks, Marks
 use Rattle.tape_medium.specs.declared.volume.Volume.{Volume}
 use Rattle.pr_core.specs.State.{res_type, role}
 use Rattle.pr_core.specs.Outcome.{refusal}
-use Rattle.pr_core.specs.declared.pr_fault.PrFault.{PrFault}
+use Rattle.permit_tables.specs.declared.pr_fault.PrFault.{PrFault}
 use Rattle.pr_core.specs.declared.verdict.Verdict.TheVariants.{Allowed, Denied}
 use Rattle.audit_log.specs.declared.stage.Stage.TheVariants as stage
 use Rattle.audit_log.specs.declared.stage.Stage.TheVariants.{ResetAttention, OtherAttention, Fields}
@@ -33,20 +33,20 @@ use Rattle.device_server.proofs.TapeLemmas.{same_volume}
 use Rattle.logical_unit.specs.Contents.{SameContents, MayNotChange, OutsiderChangesNothing}
 use Rattle.logical_unit.proofs.EndsOf.{by_ends}
 use Rattle.logical_unit.proofs.Quiet.{barred, changer_quiet}
-use Rattle.unit_commands.specs.declared.command.Command.{Command}
-use Rattle.unit_commands.specs.declared.command.Command.TheVariants.{ReserveOut, ReserveIn, Inquiry, ReportLuns, RequestSense, Prevent, Device}
+use Rattle.judgement.specs.declared.command.Command.{Command}
+use Rattle.judgement.specs.declared.command.Command.TheVariants.{ReserveOut, ReserveIn, Inquiry, ReportLuns, RequestSense, Prevent, Device}
 use Rattle.judgement.specs.declared.finding.Finding.{Finding}
-use Rattle.unit_answers.specs.declared.reply.Reply.{Reply}
-use Rattle.unit_answers.specs.Conditions.{condition_of_refusal}
+use Rattle.judgement.specs.declared.reply.Reply.{Reply}
+use Rattle.judgement.specs.Conditions.{condition_of_refusal}
 use Rattle.judgement.specs.Findings.{at_stage}
-use Rattle.unit_answers.specs.Replies.{check}
-use Rattle.unit_answers.specs.Replies.{good}
-use Rattle.unit_commands.specs.Commands.{spelled}
+use Rattle.judgement.specs.Replies.{check}
+use Rattle.judgement.specs.Replies.{good}
+use Rattle.judgement.specs.Commands.{spelled}
 use Rattle.judgement.specs.Present.{Present}
 use Rattle.logical_unit.specs.UnitView.{UnitView}
-use Rattle.unit_state.specs.Kept.{accepted, is_prevented}
+use Rattle.judgement.specs.Kept.{accepted, is_prevented}
 use Rattle.judgement.specs.Judge.{cell_of, carried_out}
-use Rattle.unit_state.specs.Readings.{verdict_of}
+use Rattle.judgement.specs.Readings.{verdict_of}
 use Rattle.judgement.specs.Judge.{steps, unloads, performs, at_cell, judged_as}
 use Rattle.logical_unit.specs.Step.{contacted_present}
 use Rattle.judgement.proofs.Carried.{prevents_by}

@@ -7,17 +7,17 @@ use Rattle.unit_attention.specs.Queues.{first_reset_of, first_other_of}
 use Rattle.pr_core.specs.declared.verdict.Verdict.{Verdict}
 use Rattle.pr_core.specs.declared.verdict.Verdict.TheVariants.{Allowed, Denied, Rule}
 use Rattle.audit_log.specs.declared.stage.Stage.TheVariants.{ResetAttention, OtherAttention}
-use Rattle.unit_commands.specs.declared.command.Command.{Command}
+use Rattle.judgement.specs.declared.command.Command.{Command}
 use Rattle.judgement.specs.declared.finding.Finding.{Finding}
-use Rattle.unit_answers.specs.declared.reply.Reply.{Reply}
+use Rattle.judgement.specs.declared.reply.Reply.{Reply}
 use Rattle.judgement.specs.Findings.{at_stage, in_conflict}
 use Rattle.judgement.specs.Findings.{let_in}
-use Rattle.unit_answers.specs.Replies.{conflict}
-use Rattle.unit_commands.specs.Commands.{class_of_command}
+use Rattle.judgement.specs.Replies.{conflict}
+use Rattle.judgement.specs.Commands.{class_of_command}
 use Rattle.judgement.specs.Present.{Present}
-use Rattle.unit_state.specs.Kept.{reported}
+use Rattle.judgement.specs.Kept.{reported}
 use Rattle.judgement.specs.Judge.{cell_of, tells, carried_out, commanded}
-use Rattle.unit_state.specs.Readings.{verdict_of}
+use Rattle.judgement.specs.Readings.{verdict_of}
 use Rattle.judgement.specs.Judge.{waiting, at_cell, let_through, checked}
 
 abbrev pub IsEnd : Present → Nexus → Command → List ℕ → Present → Type 0

@@ -2,9 +2,9 @@
 use Rattle.std.proofs.Common.{◌≡◌, ℕ, ◌+◌, ◌<◌, ◌^◌, true, List, sym, ap, ◌∙◌, subst, inr}
 use Rattle.scsi_nexus.specs.declared.nexus.Nexus.{Nexus}
 use Rattle.device_server.specs.View.{DeviceView}
-use Rattle.unit_answers.specs.declared.reply.Reply.{Reply}
+use Rattle.judgement.specs.declared.reply.Reply.{Reply}
 use Rattle.logical_unit.specs.UnitView.{UnitView, UnitWithRoom, StateView, unit_of, last_in}
-use Rattle.unit_state.specs.Kept.{has_room}
+use Rattle.judgement.specs.Kept.{has_room}
 use Rattle.logical_unit.specs.Step.{answered, HasNumber, IsBusyOnlyFor, Executes}
 use Rattle.logical_unit.proofs.History.{answers_no_busy}
 

@@ -6,11 +6,11 @@ use Rattle.pr_core.specs.State.{State}
 use Rattle.device_server.specs.View.{kind_of}
 use Rattle.device_server.specs.Ends.{IsSameDevice}
 use Rattle.device_server.specs.Marks.{KeepsMarks}
-use Rattle.unit_commands.specs.declared.command.Command.{Command}
-use Rattle.unit_commands.specs.declared.command.Command.TheVariants.{ReserveOut, ReserveIn, Inquiry, ReportLuns, RequestSense, Prevent, Device}
-use Rattle.unit_commands.specs.Commands.{spelled}
-use Rattle.unit_answers.specs.declared.reply.Reply.{Reply}
-use Rattle.unit_answers.specs.Replies.{busy}
+use Rattle.judgement.specs.declared.command.Command.{Command}
+use Rattle.judgement.specs.declared.command.Command.TheVariants.{ReserveOut, ReserveIn, Inquiry, ReportLuns, RequestSense, Prevent, Device}
+use Rattle.judgement.specs.Commands.{spelled}
+use Rattle.judgement.specs.declared.reply.Reply.{Reply}
+use Rattle.judgement.specs.Replies.{busy}
 use Rattle.judgement.specs.History.{accepted_as, accepted_by, after_history}
 use Rattle.judgement.proofs.Carried.{judged_is, judged_free}
 use Rattle.logical_unit.specs.UnitView.{UnitView}

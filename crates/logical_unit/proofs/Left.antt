@@ -3,7 +3,7 @@ use Rattle.std.proofs.Common.{◌≡◌, ℕ, Bool, true, false, List, Option, S
 use Rattle.std.specs.Prelude.{cond, is_some, [], ◌∷◌}
 use Rattle.std.specs.FinMap.{put}
 use Rattle.scsi_nexus.specs.Order.{nexus_cmp}
-use Rattle.scsi_cdb.specs.declared.classes.Class.TheVariants.{MoveMedium}
+use Rattle.permit_tables.specs.declared.classes.Class.TheVariants.{MoveMedium}
 use Rattle.scsi_cdb.specs.declared.kind.Kind.TheVariants as kind
 use Rattle.scsi_cdb.specs.declared.request.Request.{Request}
 use Rattle.scsi_cdb.specs.declared.request.Request.TheVariants as request
@@ -30,15 +30,15 @@ use Rattle.device_server.specs.View.{DeviceView, Drive, Changer, kind_of, drives
 use Rattle.device_server.specs.Changer.{carried, moved_alone, move_condition}
 use Rattle.device_server.specs.Outcomes.{refused}
 use Rattle.device_server.specs.declared.outcome.Outcome.{Outcome}
-use Rattle.unit_answers.specs.Conditions.{condition_of_attention, condition_of_fault}
-use Rattle.unit_answers.specs.Replies.{check, conflict, replied, IsWhole}
-use Rattle.unit_answers.specs.declared.reply.Reply.{Reply}
-use Rattle.unit_commands.specs.declared.command.Command.{Command}
-use Rattle.unit_commands.specs.declared.command.Command.TheVariants.{Device}
-use Rattle.unit_commands.specs.Commands.{class_of_command, command_of, spelled, act_of_spelled}
-use Rattle.unit_state.specs.Kept.{has_room, met, after_mode}
-use Rattle.unit_state.specs.KeptView.{KeptView}
-use Rattle.unit_state.specs.Readings.{verdict_of}
+use Rattle.judgement.specs.Conditions.{condition_of_attention, condition_of_fault}
+use Rattle.judgement.specs.Replies.{check, conflict, replied, IsWhole}
+use Rattle.judgement.specs.declared.reply.Reply.{Reply}
+use Rattle.judgement.specs.declared.command.Command.{Command}
+use Rattle.judgement.specs.declared.command.Command.TheVariants.{Device}
+use Rattle.judgement.specs.Commands.{class_of_command, command_of, spelled, act_of_spelled}
+use Rattle.judgement.specs.Kept.{has_room, met, after_mode}
+use Rattle.judgement.specs.KeptView.{KeptView}
+use Rattle.judgement.specs.Readings.{verdict_of}
 use Rattle.unit_attention.proofs.Contact.{first_reset_new}
 use Rattle.judgement.specs.Findings.{at_stage, at_device, in_cell, let_in, in_conflict}
 use Rattle.judgement.specs.declared.finding.Finding.{Finding}

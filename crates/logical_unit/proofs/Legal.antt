@@ -1,7 +1,7 @@
 -- What is judged leaves a legal trail.
 use Rattle.std.proofs.Common.{◌≡◌, ℕ, Bool, true, false, ◌==◌, List, [], ◌∷◌, ◌++◌, Option, Some, None, Result, Ok, Err, refl, sym, ap, ◌∙◌, subst, inl, inr}
-use Rattle.scsi_cdb.specs.declared.classes.Class.{Class}
-use Rattle.scsi_cdb.specs.declared.classes.Class.TheVariants as class
+use Rattle.permit_tables.specs.declared.classes.Class.{Class}
+use Rattle.permit_tables.specs.declared.classes.Class.TheVariants as class
 use Rattle.scsi_nexus.specs.declared.nexus.Nexus.{Nexus}
 use Rattle.scsi_sense.specs.declared.condition.Condition.{Condition}
 use Rattle.scsi_sense.specs.declared.condition.Condition.TheVariants.{InvalidFieldInCdb, MediumRemovalPrevented}
@@ -11,7 +11,7 @@ use Rattle.unit_attention.specs.declared.kind.Kind.{Kind}
 use Rattle.unit_attention.specs.Queues.{has_slot, first_reset_of, first_other_of}
 use Rattle.permit_tables.specs.declared.cell.Cell.{Cell}
 use Rattle.pr_core.specs.Outcome.{refusal}
-use Rattle.pr_core.specs.declared.pr_fault.PrFault.{PrFault}
+use Rattle.permit_tables.specs.declared.pr_fault.PrFault.{PrFault}
 use Rattle.pr_core.specs.declared.verdict.Verdict.{Verdict}
 use Rattle.pr_core.specs.declared.verdict.Verdict.TheVariants.{Allowed, Denied, Rule}
 use Rattle.audit_log.specs.declared.act.Act.{Act}
@@ -23,23 +23,23 @@ use Rattle.audit_log.specs.declared.stage.Stage.TheVariants.{ResetAttention, Oth
 use Rattle.device_server.specs.View.{DeviceView, kind_of, field_fault, performed}
 use Rattle.scsi_cdb.specs.declared.request.Request.{Request}
 use Rattle.scsi_cdb.specs.Classes.{class_of}
-use Rattle.unit_commands.specs.declared.command.Command.{Command}
-use Rattle.unit_commands.specs.declared.command.Command.TheVariants.{ReserveOut, ReserveIn, Inquiry, ReportLuns, RequestSense, Prevent, Device}
+use Rattle.judgement.specs.declared.command.Command.{Command}
+use Rattle.judgement.specs.declared.command.Command.TheVariants.{ReserveOut, ReserveIn, Inquiry, ReportLuns, RequestSense, Prevent, Device}
 use Rattle.judgement.specs.declared.finding.Finding.{Finding}
-use Rattle.unit_answers.specs.declared.reply.Reply.{Reply}
-use Rattle.unit_commands.specs.Commands.{class_of_command, list_of, act_of_spelled}
-use Rattle.unit_answers.specs.Conditions.{condition_of_attention, condition_of_refusal}
+use Rattle.judgement.specs.declared.reply.Reply.{Reply}
+use Rattle.judgement.specs.Commands.{class_of_command, list_of, act_of_spelled}
+use Rattle.judgement.specs.Conditions.{condition_of_attention, condition_of_refusal}
 use Rattle.judgement.specs.Findings.{at_stage, let_in, in_conflict}
-use Rattle.unit_answers.specs.UnitData.{inquiry_data, selected_luns}
-use Rattle.unit_answers.specs.Replies.{conflict, check, good, data_reply, IsWhole}
-use Rattle.unit_state.specs.KeptView.{KeptView}
+use Rattle.judgement.specs.UnitData.{inquiry_data, selected_luns}
+use Rattle.judgement.specs.Replies.{conflict, check, good, data_reply, IsWhole}
+use Rattle.judgement.specs.KeptView.{KeptView}
 use Rattle.judgement.specs.Present.{Present}
-use Rattle.unit_state.specs.Kept.{has_room, met, accepted, is_prevented, with_medium}
+use Rattle.judgement.specs.Kept.{has_room, met, accepted, is_prevented, with_medium}
 use Rattle.judgement.specs.Judge.{cell_of, waiting, sensed, senses, tells, steps, unloads, performs, at_cell, carried_out, let_through, checked, commanded, judged_as}
-use Rattle.unit_state.specs.Readings.{verdict_of, pending_of}
+use Rattle.judgement.specs.Readings.{verdict_of, pending_of}
 use Rattle.logical_unit.specs.Begun.{AwaitsEnd}
 use Rattle.logical_unit.specs.Step.{entry_of, event_of}
-use Rattle.unit_state.specs.Kept.{kept_after_loss, kept_after_reset}
+use Rattle.judgement.specs.Kept.{kept_after_loss, kept_after_reset}
 use Rattle.logical_unit.specs.Legal.{is_reserve_out, is_field_fault, reported_if, left_by_class, left_at, kept_by, kept_after, Says, SaysItsOwn, IsCarriedOut, IsLetThrough, IsChecked, IsCommand, IsJudged, AreJudged}
 use Rattle.judgement.proofs.Carried.{prevents_by}
 use Rattle.device_server.proofs.Outcomes.{performed_own}

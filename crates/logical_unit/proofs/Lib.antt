@@ -1,5 +1,4 @@
 pub mod History
-pub mod Check
 pub mod Plain
 pub mod FieldFaults
 pub mod Legal
@@ -15,7 +14,6 @@ pub mod Quiet
 pub mod Contents
 pub mod Outsiders
 pub mod Executed
-pub mod Conflicts
 pub mod Shown
 pub mod MoveBusy
 pub mod Replay

@@ -5,9 +5,9 @@ use Rattle.scsi_nexus.specs.declared.nexus.Nexus.{Nexus}
 use Rattle.scsi_sense.specs.declared.condition.Condition.{Condition}
 use Rattle.scsi_sense.specs.declared.status.Status.TheVariants.{Busy}
 use Rattle.device_server.specs.View.{kind_of, drives_of}
-use Rattle.unit_answers.specs.declared.reply.Reply.{Reply}
-use Rattle.unit_commands.specs.Commands.{spelled}
-use Rattle.unit_commands.specs.declared.command.Command.{Command}
+use Rattle.judgement.specs.declared.reply.Reply.{Reply}
+use Rattle.judgement.specs.Commands.{spelled}
+use Rattle.judgement.specs.declared.command.Command.{Command}
 use Rattle.judgement.specs.Judge.{takes_memory}
 use Rattle.logical_unit.specs.Begun.{IsPutOff, IsEnded}
 use Rattle.logical_unit.specs.Move.{LacksAtChanger}

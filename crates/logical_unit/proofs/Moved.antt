@@ -7,10 +7,10 @@ use Rattle.scsi_sense.specs.declared.condition.Condition.{Condition}
 use Rattle.device_server.specs.View.{DeviceView, kind_of, drives_of}
 use Rattle.judgement.specs.Present.{Present}
 use Rattle.judgement.specs.declared.finding.Finding.{Finding}
-use Rattle.unit_answers.specs.declared.reply.Reply.{Reply}
-use Rattle.unit_answers.specs.Replies.{busy, good, check}
-use Rattle.unit_commands.specs.Commands.{spelled, act_of}
-use Rattle.unit_state.specs.Kept.{has_room}
+use Rattle.judgement.specs.declared.reply.Reply.{Reply}
+use Rattle.judgement.specs.Replies.{busy, good, check}
+use Rattle.judgement.specs.Commands.{spelled, act_of}
+use Rattle.judgement.specs.Kept.{has_room}
 use Rattle.logical_unit.specs.Begun.{HasWays}
 use Rattle.logical_unit.specs.Move.{TwoDrives, is_left, judged_at, route_at, ended, concluded, carried_one, carried_two, MovesOne, MovesTwo}
 use Rattle.logical_unit.specs.Route.{named}

@@ -10,11 +10,11 @@ use Rattle.audit_log.specs.declared.act.Act.TheVariants.{MediumIn, MediumOut}
 use Rattle.audit_log.specs.declared.record.Record.{Record}
 use Rattle.device_server.specs.View.{kind_of}
 use Rattle.judgement.specs.Present.{Present}
-use Rattle.unit_answers.specs.declared.reply.Reply.{Reply}
-use Rattle.unit_answers.specs.Replies.{good, check}
+use Rattle.judgement.specs.declared.reply.Reply.{Reply}
+use Rattle.judgement.specs.Replies.{good, check}
 use Rattle.judgement.specs.declared.finding.Finding.{Finding}
-use Rattle.unit_commands.specs.Commands.{act_of}
-use Rattle.unit_state.specs.Kept.{with_medium}
+use Rattle.judgement.specs.Commands.{act_of}
+use Rattle.judgement.specs.Kept.{with_medium}
 use Rattle.logical_unit.specs.Begun.{IsPutOff, IsEnded, Finishes}
 use Rattle.logical_unit.specs.declared.begun.Halt.{Halt}
 use Rattle.logical_unit.specs.declared.begun.Halt.TheVariants.{Refused, Busy}

@@ -8,8 +8,8 @@ use Rattle.pr_core.specs.State.{res_type, role}
 use Rattle.pr_core.specs.declared.verdict.Verdict.TheVariants.{Allowed, Denied}
 use Rattle.device_server.specs.View.{drives_of}
 use Rattle.judgement.specs.Judge.{judged_as}
-use Rattle.unit_answers.specs.declared.reply.Reply.{Reply}
-use Rattle.unit_commands.specs.declared.command.Command.TheVariants.{Device}
+use Rattle.judgement.specs.declared.reply.Reply.{Reply}
+use Rattle.judgement.specs.declared.command.Command.TheVariants.{Device}
 use Rattle.logical_unit.specs.Contents.{SameContents, MayNotChange}
 use Rattle.logical_unit.specs.Move.{TwoDrives, is_left, judged_at, MovesOne, MovesTwo}
 use Rattle.logical_unit.specs.Route.{named}

@@ -2,8 +2,8 @@
 -- changed mode parameters alone; and bytes that spell none are reported by three conditions.
 use Rattle.std.proofs.Common.{◌≡◌, ℕ, Bool, true, false, List, Result, Ok, Err, refl}
 use Rattle.std.specs.Prelude.{cond}
-use Rattle.scsi_cdb.specs.declared.classes.Class.{Class}
-use Rattle.scsi_cdb.specs.declared.classes.Class.TheVariants as class
+use Rattle.permit_tables.specs.declared.classes.Class.{Class}
+use Rattle.permit_tables.specs.declared.classes.Class.TheVariants as class
 use Rattle.scsi_cdb.specs.declared.fault.CdbFault.{CdbFault}
 use Rattle.scsi_cdb.specs.declared.fault.CdbFault.TheVariants.{Opcode, ShortCdb, ServiceAction, Naca}
 use Rattle.scsi_cdb.specs.declared.kind.Kind.{Kind}
@@ -15,14 +15,14 @@ use Rattle.scsi_nexus.specs.declared.nexus.Nexus.{Nexus}
 use Rattle.scsi_sense.specs.declared.condition.Condition.{Condition}
 use Rattle.scsi_sense.specs.declared.condition.Condition.TheVariants.{ParameterListLengthError}
 use Rattle.pr_params.specs.Lists as lists
-use Rattle.pr_params.specs.declared.out_params.OutParams.{OutParams}
+use Rattle.permit_tables.specs.declared.out_params.OutParams.{OutParams}
 use Rattle.pr_params.specs.declared.list_fault.ListLengthFault.{ListLengthFault}
-use Rattle.unit_commands.specs.declared.command.Command.{Command}
-use Rattle.unit_commands.specs.declared.command.Command.TheVariants.{ReserveOut, Device}
-use Rattle.unit_commands.specs.Commands.{command_of, spelled}
-use Rattle.unit_answers.specs.Conditions.{condition_of_fault}
-use Rattle.unit_state.specs.KeptView.{KeptView}
-use Rattle.unit_state.specs.Kept.{after_mode}
+use Rattle.judgement.specs.declared.command.Command.{Command}
+use Rattle.judgement.specs.declared.command.Command.TheVariants.{ReserveOut, Device}
+use Rattle.judgement.specs.Commands.{command_of, spelled}
+use Rattle.judgement.specs.Conditions.{condition_of_fault}
+use Rattle.judgement.specs.KeptView.{KeptView}
+use Rattle.judgement.specs.Kept.{after_mode}
 use Rattle.logical_unit.specs.Legal.{left_by_class, is_reserve_out, is_of_every_unit, is_of_spelling}
 
 abbrev pub TellsNothing : Class → Type 0

@@ -1,28 +1,28 @@
 -- What a legal trail accepted may be carried out again, and leaves what stood before each record.
 use Rattle.std.proofs.Common.{◌≡◌, ℕ, zero, suc, List, [], ◌∷◌, Option, Some, None, refl, sym, ap, ◌∙◌, subst}
 use Rattle.std.specs.Prelude.{slice_get, take}
-use Rattle.scsi_cdb.specs.declared.classes.Class.{Class}
-use Rattle.scsi_cdb.specs.Classes.{class_of_action}
+use Rattle.permit_tables.specs.declared.classes.Class.{Class}
+use Rattle.permit_tables.specs.Classes.{class_of_action}
 use Rattle.scsi_nexus.specs.declared.nexus.Nexus.{Nexus}
 use Rattle.scsi_sense.specs.declared.status.Status.{Status}
 use Rattle.scsi_sense.specs.declared.status.Status.TheVariants.{Good, CheckCondition, Busy, ReservationConflict}
 use Rattle.unit_attention.specs.declared.kind.Kind.{Kind}
 use Rattle.unit_attention.specs.Queues.{first_reset_of, first_other_of}
-use Rattle.pr_params.specs.declared.out_params.OutParams.{OutParams}
+use Rattle.permit_tables.specs.declared.out_params.OutParams.{OutParams}
 use Rattle.pr_core.specs.State.{State, cell}
 use Rattle.pr_core.specs.Judge.{verdict}
 use Rattle.pr_core.specs.Outcome.{refusal}
-use Rattle.pr_core.specs.declared.pr_fault.PrFault.{PrFault}
+use Rattle.permit_tables.specs.declared.pr_fault.PrFault.{PrFault}
 use Rattle.pr_core.specs.declared.verdict.Verdict.{Verdict}
 use Rattle.pr_core.specs.declared.verdict.Verdict.TheVariants.{Allowed, Denied, Rule}
 use Rattle.audit_log.specs.declared.act.Act.{Act}
 use Rattle.audit_log.specs.declared.act.Act.TheVariants.{Command, ReserveOut, Invalid, Loss, Reset, MediumIn, MediumOut}
 use Rattle.audit_log.specs.declared.record.Record.{Record}
 use Rattle.audit_log.specs.declared.stage.Stage.TheVariants.{ResetAttention, OtherAttention, Fields, Device}
-use Rattle.unit_answers.specs.Conditions.{condition_of_attention, condition_of_refusal}
-use Rattle.unit_answers.specs.Replies.{conflict, check, good}
-use Rattle.unit_state.specs.KeptView.{KeptView}
-use Rattle.unit_state.specs.Kept.{met}
+use Rattle.judgement.specs.Conditions.{condition_of_attention, condition_of_refusal}
+use Rattle.judgement.specs.Replies.{conflict, check, good}
+use Rattle.judgement.specs.KeptView.{KeptView}
+use Rattle.judgement.specs.Kept.{met}
 use Rattle.judgement.specs.Findings.{at_stage, let_in, in_conflict}
 use Rattle.judgement.specs.Judge.{waiting}
 use Rattle.logical_unit.specs.Audit.{span_line, span_lines, ShowsReservations, IsReplayable, AreReplayable, TrailsReplay}

@@ -14,12 +14,12 @@ use Rattle.device_server.specs.View.{DeviceView, kind_of, drives_of, marked}
 use Rattle.device_server.specs.declared.fault.BadPlace.{BadPlace}
 use Rattle.device_server.proofs.MarkLemmas.{drives_give, drives_get, changers_give, changers_get, marks_one}
 use Rattle.judgement.specs.History.{accepted_as, after_history}
-use Rattle.unit_answers.specs.Conditions.{condition_of_fault}
-use Rattle.unit_answers.specs.Replies.{good, check}
-use Rattle.unit_answers.specs.declared.reply.Reply.{Reply}
-use Rattle.unit_commands.specs.Commands.{command_of, spelled}
-use Rattle.unit_commands.specs.declared.command.Command.{Command}
-use Rattle.unit_commands.specs.declared.command.Command.TheVariants.{Device}
+use Rattle.judgement.specs.Conditions.{condition_of_fault}
+use Rattle.judgement.specs.Replies.{good, check}
+use Rattle.judgement.specs.declared.reply.Reply.{Reply}
+use Rattle.judgement.specs.Commands.{command_of, spelled}
+use Rattle.judgement.specs.declared.command.Command.{Command}
+use Rattle.judgement.specs.declared.command.Command.TheVariants.{Device}
 use Rattle.logical_unit.specs.Medium.{taken_out, put_in}
 use Rattle.logical_unit.specs.Move.{TwoDrives, noting, unloaded, loaded, passed, carried_by_one, carried_one, upward, downward, carried_two, route_at, MovesOne, MovesTwo, IsSameUnit}
 use Rattle.logical_unit.specs.Route.{named, is_upward}

@@ -1,17 +1,17 @@
 -- In a legal trail each record changes the registrations, the reservation and the generation as the accepted history says.
 use Rattle.std.proofs.Common.{◌≡◌, ◌≢◌, Bool, true, false, List, [], ◌∷◌, ◌++◌, Option, Some, None, refl, sym, ap, ◌∙◌}
-use Rattle.scsi_cdb.specs.declared.classes.Class.{Class}
-use Rattle.scsi_cdb.specs.declared.classes.Class.TheVariants as class
-use Rattle.scsi_cdb.specs.Classes.{class_of_action}
+use Rattle.permit_tables.specs.declared.classes.Class.{Class}
+use Rattle.permit_tables.specs.declared.classes.Class.TheVariants as class
+use Rattle.permit_tables.specs.Classes.{class_of_action}
 use Rattle.scsi_nexus.specs.declared.nexus.Nexus.{Nexus}
 use Rattle.scsi_sense.specs.declared.status.Status.{Status}
 use Rattle.scsi_sense.specs.declared.status.Status.TheVariants.{Good, CheckCondition, Busy, ReservationConflict}
 use Rattle.unit_attention.specs.declared.kind.Kind.{Kind}
 use Rattle.unit_attention.specs.Queues.{first_reset_of, first_other_of}
-use Rattle.pr_params.specs.declared.out_params.OutParams.{OutParams}
+use Rattle.permit_tables.specs.declared.out_params.OutParams.{OutParams}
 use Rattle.pr_core.specs.State.{State, cell}
 use Rattle.pr_core.specs.Outcome.{applied, refusal}
-use Rattle.pr_core.specs.declared.pr_fault.PrFault.{PrFault}
+use Rattle.permit_tables.specs.declared.pr_fault.PrFault.{PrFault}
 use Rattle.pr_core.specs.declared.verdict.Verdict.{Verdict}
 use Rattle.pr_core.specs.declared.verdict.Verdict.TheVariants.{Allowed, Denied, Rule}
 use Rattle.audit_log.specs.declared.act.Act.{Act}
@@ -19,11 +19,11 @@ use Rattle.audit_log.specs.declared.act.Act.TheVariants.{Command, ReserveOut, In
 use Rattle.audit_log.specs.declared.record.Record.{Record}
 use Rattle.audit_log.specs.declared.stage.Stage.{Stage}
 use Rattle.audit_log.specs.declared.stage.Stage.TheVariants.{Spelling, ResetAttention, ReservationCheck, OtherAttention, Fields, Device}
-use Rattle.unit_answers.specs.Conditions.{condition_of_attention, condition_of_refusal}
-use Rattle.unit_answers.specs.Replies.{conflict, check, good}
-use Rattle.unit_state.specs.KeptView.{KeptView}
-use Rattle.unit_state.specs.Kept.{met, after_mode}
-use Rattle.unit_state.specs.Readings.{verdict_by, pending_of}
+use Rattle.judgement.specs.Conditions.{condition_of_attention, condition_of_refusal}
+use Rattle.judgement.specs.Replies.{conflict, check, good}
+use Rattle.judgement.specs.KeptView.{KeptView}
+use Rattle.judgement.specs.Kept.{met, after_mode}
+use Rattle.judgement.specs.Readings.{verdict_by, pending_of}
 use Rattle.judgement.specs.Findings.{at_stage, let_in, in_conflict}
 use Rattle.judgement.specs.History.{Accepted, after_history}
 use Rattle.judgement.specs.Judge.{waiting}

@@ -7,7 +7,7 @@ use Rattle.pr_core.specs.Judge.{verdict}
 use Rattle.pr_core.specs.Outcome.{refusal}
 use Rattle.pr_core.specs.declared.verdict.Verdict.TheVariants.{Allowed}
 use Rattle.judgement.specs.History.{Accepted, after_history}
-use Rattle.unit_state.specs.KeptView.{KeptView}
+use Rattle.judgement.specs.KeptView.{KeptView}
 use Rattle.logical_unit.specs.Legal.{IsTrail, accepted_in, kept_after}
 use Rattle.logical_unit.specs.UnitView.{Base, UnitView}
 

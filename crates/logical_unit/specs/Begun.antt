@@ -11,11 +11,11 @@ use Rattle.tape_medium.specs.declared.volume.Volume.{Volume}
 use Rattle.audit_log.specs.declared.act.Act.{Act}
 use Rattle.device_server.specs.View.{DeviceView, kind_of, taken, put}
 use Rattle.judgement.specs.declared.finding.Finding.{Finding}
-use Rattle.unit_answers.specs.declared.reply.Reply.{Reply}
-use Rattle.unit_answers.specs.Replies.{busy, good, check, IsWhole}
-use Rattle.unit_commands.specs.Commands.{act_of}
-use Rattle.unit_state.specs.Kept.{has_room}
-use Rattle.unit_state.specs.KeptView.{KeptView}
+use Rattle.judgement.specs.declared.reply.Reply.{Reply}
+use Rattle.judgement.specs.Replies.{busy, good, check, IsWhole}
+use Rattle.judgement.specs.Commands.{act_of}
+use Rattle.judgement.specs.Kept.{has_room}
+use Rattle.judgement.specs.KeptView.{KeptView}
 use Rattle.logical_unit.specs.declared.begun.Begun.{Begun}
 use Rattle.logical_unit.specs.declared.begun.Begun.TheVariants.{Answered, Left}
 use Rattle.logical_unit.specs.declared.begun.Halt.{Halt}

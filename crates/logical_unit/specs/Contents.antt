@@ -5,7 +5,7 @@ use Rattle.permit_tables.specs.Permission.{Changing, row_allows}
 use Rattle.pr_core.specs.State.{State, res_type, role}
 use Rattle.device_server.specs.View.{DeviceView, Drive, Changer}
 use Rattle.device_server.specs.Volumes.{SameVolume, SameAt}
-use Rattle.unit_answers.specs.declared.reply.Reply.{Reply}
+use Rattle.judgement.specs.declared.reply.Reply.{Reply}
 use Rattle.logical_unit.specs.Step.{Executes}
 use Rattle.logical_unit.specs.UnitView.{UnitView}
 

@@ -4,7 +4,7 @@ use Rattle.std.specs.Prelude.{◌≡◌, ◌≢◌, ℕ, List}
 use Rattle.scsi_nexus.specs.declared.nexus.Nexus.{Nexus}
 use Rattle.scsi_sense.specs.declared.status.Status.TheVariants.{Busy}
 use Rattle.device_server.specs.View.{kind_of}
-use Rattle.unit_answers.specs.declared.reply.Reply.{Reply}
+use Rattle.judgement.specs.declared.reply.Reply.{Reply}
 use Rattle.judgement.specs.History.{accepted_by, after_history}
 use Rattle.logical_unit.specs.Step.{answered, Executes}
 use Rattle.logical_unit.specs.UnitView.{UnitView}

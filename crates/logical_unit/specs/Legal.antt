@@ -1,9 +1,9 @@
 -- Legal trails: what each record changes in what is kept, and how it must have been judged after the records before it.
 use Rattle.std.specs.Prelude.{◌≡◌, ◌↔◌, Bool, true, false, List, [], ◌∷◌, Option, None, Some, if◌then◌else◌, ◌⊎◌}
 use Rattle.std.specs.List.{All, flat_map}
-use Rattle.scsi_cdb.specs.declared.classes.Class.{Class}
-use Rattle.scsi_cdb.specs.declared.classes.Class.TheVariants.{TestUnitReady, Rewind, ReadBlockLimits, InitializeElementStatus, Erase, ReadPosition, Inquiry, ReportLuns, RequestSense, PersistentReserveIn, PreventRemoval, AllowRemoval, ModeSense, ModeSelect, Register, Reserve, Release, Clear, Preempt, PreemptAndAbort, RegisterAndIgnoreExistingKey, RegisterAndMove}
-use Rattle.scsi_cdb.specs.Classes.{class_of_action}
+use Rattle.permit_tables.specs.declared.classes.Class.{Class}
+use Rattle.permit_tables.specs.declared.classes.Class.TheVariants.{TestUnitReady, Rewind, ReadBlockLimits, InitializeElementStatus, Erase, ReadPosition, Inquiry, ReportLuns, RequestSense, PersistentReserveIn, PreventRemoval, AllowRemoval, ModeSense, ModeSelect, Register, Reserve, Release, Clear, Preempt, PreemptAndAbort, RegisterAndIgnoreExistingKey, RegisterAndMove}
+use Rattle.permit_tables.specs.Classes.{class_of_action}
 use Rattle.scsi_nexus.specs.declared.nexus.Nexus.{Nexus}
 use Rattle.scsi_sense.specs.declared.condition.Condition.{Condition}
 use Rattle.scsi_sense.specs.declared.condition.Condition.TheVariants.{InvalidCommandOperationCode, InvalidFieldInCdb, InvalidFieldInParameterList, ParameterListLengthError, SavingParametersNotSupported}
@@ -13,7 +13,7 @@ use Rattle.scsi_sense.specs.declared.status.Status.TheVariants.{Good, CheckCondi
 use Rattle.unit_attention.specs.declared.kind.Kind.{Kind}
 use Rattle.unit_attention.specs.Queues.{has_slot, first_reset_of, first_other_of}
 use Rattle.permit_tables.specs.declared.cell.Cell.{Cell}
-use Rattle.pr_params.specs.declared.out_params.OutParams.{OutParams}
+use Rattle.permit_tables.specs.declared.out_params.OutParams.{OutParams}
 use Rattle.pr_core.specs.State.{cell}
 use Rattle.pr_core.specs.Outcome.{refusal}
 use Rattle.pr_core.specs.declared.verdict.Verdict.TheVariants.{Allowed, Denied, Rule}
@@ -24,17 +24,17 @@ use Rattle.audit_log.specs.declared.stage.Stage.{Stage}
 use Rattle.audit_log.specs.declared.stage.Stage.TheVariants.{Spelling, ResetAttention, ReservationCheck, OtherAttention, Fields, Device}
 use Rattle.audit_log.specs.TrailView.{IsNumbered}
 use Rattle.judgement.specs.declared.finding.Finding.{Finding}
-use Rattle.unit_answers.specs.declared.reply.Reply.{Reply}
-use Rattle.unit_answers.specs.Conditions.{condition_of_attention, condition_of_refusal}
+use Rattle.judgement.specs.declared.reply.Reply.{Reply}
+use Rattle.judgement.specs.Conditions.{condition_of_attention, condition_of_refusal}
 use Rattle.judgement.specs.History.{Accepted, is_good, after_history}
 use Rattle.judgement.specs.Findings.{at_stage, let_in, in_conflict}
-use Rattle.unit_answers.specs.Replies.{good, check, conflict, IsWhole}
-use Rattle.unit_state.specs.KeptView.{KeptView}
+use Rattle.judgement.specs.Replies.{good, check, conflict, IsWhole}
+use Rattle.judgement.specs.KeptView.{KeptView}
 use Rattle.logical_unit.specs.UnitView.{Base}
-use Rattle.unit_state.specs.Kept.{has_room, met, reported, accepted, prevented, allowed, is_prevented, after_mode, with_medium}
-use Rattle.unit_state.specs.Readings.{verdict_by, pending_of}
+use Rattle.judgement.specs.Kept.{has_room, met, reported, accepted, prevented, allowed, is_prevented, after_mode, with_medium}
+use Rattle.judgement.specs.Readings.{verdict_by, pending_of}
 use Rattle.judgement.specs.Judge.{waiting}
-use Rattle.unit_state.specs.Kept.{kept_after_loss, kept_after_reset}
+use Rattle.judgement.specs.Kept.{kept_after_loss, kept_after_reset}
 
 -- after the report of an attention, where one waits
 abbrev pub reported_if : KeptView → Nexus → Option Kind → KeptView

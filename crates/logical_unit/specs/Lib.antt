@@ -8,7 +8,3 @@ pub mod Route
 pub mod Move
 pub mod Begun
 pub mod History
-pub mod Check
-pub mod Rows
-pub mod MoveRows
-pub mod AuditRows

@@ -15,10 +15,10 @@ use Rattle.device_server.specs.View.{DeviceView, kind_of, drives_of, held_in, ta
 use Rattle.judgement.specs.Judge.{judged}
 use Rattle.judgement.specs.Present.{Present}
 use Rattle.judgement.specs.declared.finding.Finding.{Finding}
-use Rattle.unit_answers.specs.declared.reply.Reply.{Reply}
-use Rattle.unit_answers.specs.Replies.{busy, good, check}
-use Rattle.unit_commands.specs.Commands.{act_of}
-use Rattle.unit_state.specs.Kept.{has_room}
+use Rattle.judgement.specs.declared.reply.Reply.{Reply}
+use Rattle.judgement.specs.Replies.{busy, good, check}
+use Rattle.judgement.specs.Commands.{act_of}
+use Rattle.judgement.specs.Kept.{has_room}
 use Rattle.logical_unit.specs.declared.medium_fault.MediumFault.{MediumFault}
 use Rattle.logical_unit.specs.declared.medium_fault.MediumFault.TheVariants.{NotADrive, Prevented, Empty, Full, Busy}
 use Rattle.logical_unit.specs.declared.route.Route.{Route}

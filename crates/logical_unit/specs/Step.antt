@@ -11,13 +11,13 @@ use Rattle.audit_log.specs.declared.record.Record.{Record}
 use Rattle.audit_log.specs.declared.stage.Stage.TheVariants.{Device}
 use Rattle.device_server.specs.View.{DeviceView, kind_of, reset_of}
 use Rattle.judgement.specs.declared.finding.Finding.{Finding}
-use Rattle.unit_answers.specs.declared.reply.Reply.{Reply}
-use Rattle.unit_commands.specs.Commands.{spelled, act_of}
+use Rattle.judgement.specs.declared.reply.Reply.{Reply}
+use Rattle.judgement.specs.Commands.{spelled, act_of}
 use Rattle.judgement.specs.Findings.{at_stage}
-use Rattle.unit_answers.specs.Replies.{busy, good, numbered}
+use Rattle.judgement.specs.Replies.{busy, good, numbered}
 use Rattle.judgement.specs.Present.{Present}
 use Rattle.logical_unit.specs.UnitView.{UnitView, UnitWithRoom, last_number}
-use Rattle.unit_state.specs.Kept.{at_power_on, has_room, met, kept_after_loss, kept_after_reset}
+use Rattle.judgement.specs.Kept.{at_power_on, has_room, met, kept_after_loss, kept_after_reset}
 use Rattle.judgement.specs.Judge.{judged, takes_memory}
 
 -- a unit whose records will be numbered from one past a last number

@@ -2,7 +2,7 @@
 use Rattle.std.specs.Prelude.{ℕ, ◌+◌, List, length, map}
 use Rattle.device_server.specs.View.{DeviceView}
 use Rattle.audit_log.specs.declared.record.Record.{Record}
-use Rattle.unit_state.specs.KeptView.{KeptView}
+use Rattle.judgement.specs.KeptView.{KeptView}
 
 -- what records are read from: what was kept before the first of them, and the last number that was used then
 pub record Base : Type 0 where

@@ -1,7 +1,6 @@
 use audit_log::Act;
-use judgement::Finding;
+use judgement::{Finding, Reply};
 use scsi_sense::Condition;
-use unit_answers::Reply;
 
 /// What judgement at a changer leaves of a MOVE MEDIUM.
 #[derive(Drop)]

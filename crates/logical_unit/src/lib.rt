@@ -3,7 +3,6 @@
 
 mod audit;
 mod begun;
-pub mod laws;
 mod medium_fault;
 mod moves;
 mod receipt;
@@ -11,9 +10,9 @@ mod route;
 mod state;
 mod unit;
 
+pub use judgement::{Reply, absent};
 pub use medium_fault::MediumFault;
 pub use moves::{move_one, move_two};
 pub use receipt::Receipt;
 pub use route::{Route, named};
 pub use unit::{Busy, LogicalUnit};
-pub use unit_answers::{Reply, absent};

@@ -15,12 +15,11 @@ use crate::route::{Route, route_of};
 use crate::unit::LogicalUnit;
 use audit_log::Act;
 use device_server::{DeviceServer, Payload};
-use judgement::Finding;
+use judgement::{Finding, Reply};
 use scsi_nexus::Nexus;
 use scsi_sense::Condition;
 use std::alloc::Global;
 use tape_medium::Volume;
-use unit_answers::Reply;
 
 /// Takes out the volume of a drive that gives it, with the number of its record.
 fn take_out<D: DeviceServer>(drive: &mut LogicalUnit<D>) -> (Volume, u64)

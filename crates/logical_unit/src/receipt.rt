@@ -1,6 +1,6 @@
 use arrayvec::ArrayVec;
+use judgement::Reply;
 use std::alloc::Global;
-use unit_answers::Reply;
 
 /// The answer to a MOVE MEDIUM, and the records that it left.
 #[derive(Debug, Drop)]

@@ -3,14 +3,11 @@ use crate::begun::Begun;
 use crate::route::Route;
 use audit_log::{Act, Record, Stage, Trail};
 use device_server::DeviceServer;
-use judgement::{Finding, judge};
+use judgement::{Command, Finding, Kept, Reply, act_of, judge};
 use scsi_nexus::Nexus;
 use scsi_sense::{Sense, Status};
 use std::alloc::{AllocError, Global};
 use std::marker::Model;
-use unit_answers::Reply;
-use unit_commands::{Command, act_of};
-use unit_state::Kept;
 
 /// A unit without its device: what it keeps now, the records, and what was kept before the first of
 /// them. What it keeps is always what the records make of that.
@@ -44,7 +41,7 @@ impl UnitState {
     ghost use Rattle.std.specs.Prelude.{◌≡◌, ◌<◌, ◌+◌, ◌^◌, ◌⊎◌, ℕ, true, false, [], map, string_bytes, IfOk, IsTrue};
     ghost use Rattle.unit_attention.specs.Queues.{has_slot};
     ghost use Rattle.logical_unit.specs.UnitView.{Base, StateView, last_in};
-    ghost use Rattle.unit_state.specs.Kept.{at_power_on, has_room, is_prevented, HaveSlots};
+    ghost use Rattle.judgement.specs.Kept.{at_power_on, has_room, is_prevented, HaveSlots};
     ghost use Rattle.logical_unit.specs.Audit.{span_lines};
     ghost use Rattle.logical_unit.specs.Legal.{IsTrail};
 
@@ -136,18 +133,18 @@ impl UnitState {
 impl UnitState {
     ghost use Rattle.std.specs.Prelude.{◌≡◌, ◌<◌, ◌+◌, ◌^◌, ℕ, true, false, [], ◌∷◌, ◌++◌, Some, None, IfOk, OnErr, length, vec_capacity};
     ghost use Rattle.device_server.specs.View.{DeviceView, kind_of};
-    ghost use Rattle.unit_commands.specs.Commands.{spelled};
+    ghost use Rattle.judgement.specs.Commands.{spelled};
     ghost use Rattle.judgement.specs.Judge.{takes_memory};
     ghost use Rattle.unit_attention.specs.Queues.{has_slot};
     ghost use Rattle.audit_log.specs.declared.act.Act.TheVariants.{Loss, Reset, MediumIn, MediumOut};
     ghost use Rattle.logical_unit.specs.UnitView.{Base, StateView, unit_of, last_in};
-    ghost use Rattle.unit_state.specs.Kept.{has_room, is_prevented, with_medium};
+    ghost use Rattle.judgement.specs.Kept.{has_room, is_prevented, with_medium};
     ghost use Rattle.logical_unit.specs.Step.{answered, contacted_present, event_of};
-    ghost use Rattle.unit_state.specs.Kept.{kept_after_loss, kept_after_reset};
+    ghost use Rattle.judgement.specs.Kept.{kept_after_loss, kept_after_reset};
     ghost use Rattle.logical_unit.specs.Legal.{IsTrail};
     ghost use Rattle.scsi_cdb.specs.declared.kind.Kind.TheVariants.{Changer};
     ghost use Rattle.device_server.specs.View.{drives_of};
-    ghost use Rattle.unit_answers.specs.Replies.{IsWhole, numbered};
+    ghost use Rattle.judgement.specs.Replies.{IsWhole, numbered};
     ghost use Rattle.logical_unit.specs.Begun.{Spells, Begins, StaysIf, IsLeftOpen, AwaitsEnd};
     ghost use Rattle.logical_unit.specs.Step.{entry_of};
 

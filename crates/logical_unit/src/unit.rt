@@ -4,7 +4,7 @@ use crate::route::Route;
 use crate::state::UnitState;
 use audit_log::{Act, Record};
 use device_server::DeviceServer;
-use judgement::Finding;
+use judgement::{Finding, Reply};
 use scsi_cdb::Kind;
 use scsi_nexus::Nexus;
 use scsi_sense::Condition;
@@ -12,7 +12,6 @@ use std::alloc::{AllocError, Global};
 use std::marker::Model;
 use tape_medium::{Volume, VolumeTag};
 use thiserror::Error;
-use unit_answers::Reply;
 
 /// There is no room for a record of the event, or no number, and nothing has changed.
 #[derive(Clone, Copy, Debug, PartialEq, Eq, Error)]
@@ -42,7 +41,7 @@ impl<D: DeviceServer> LogicalUnit<D> {
     ghost use Rattle.std.specs.Prelude.{◌≡◌, map, string_bytes, IfOk, IfErr};
     ghost use Rattle.logical_unit.specs.Audit.{audit_of};
     ghost use Rattle.device_server.specs.View.{kind_of, drives_of, held_in};
-    ghost use Rattle.unit_state.specs.Kept.{is_prevented, HaveSlots};
+    ghost use Rattle.judgement.specs.Kept.{is_prevented, HaveSlots};
     ghost use Rattle.logical_unit.specs.Step.{made};
     ghost use Rattle.logical_unit.specs.Legal.{IsTrail};
     ghost use Rattle.logical_unit.specs.UnitView.{last_number};
@@ -289,7 +288,7 @@ impl<D: DeviceServer> LogicalUnit<D> {
     ghost use Rattle.std.specs.Prelude.{◌≡◌, ◌<◌, ◌+◌, ◌⊎◌, false, Ok, IsOk, is_ok, IsTrue, OnOk, IfErr, Err};
     ghost use Rattle.scsi_cdb.specs.declared.kind.Kind.TheVariants.{Changer};
     ghost use Rattle.device_server.specs.View.{kind_of, drives_of, taken, put};
-    ghost use Rattle.unit_answers.specs.Replies.{IsWhole};
+    ghost use Rattle.judgement.specs.Replies.{IsWhole};
     ghost use Rattle.judgement.specs.Present.{Present};
     ghost use Rattle.logical_unit.specs.Begun.{Spells, BeginsAt, AwaitsEnd};
     ghost use Rattle.logical_unit.specs.Medium.{taken_out, put_in};

@@ -2,9 +2,9 @@
 use Rattle.std.specs.Prelude.{◌≡◌, ◌⊎◌, ◌≤◌, ℕ, List, []}
 use Rattle.scsi_sense.specs.declared.condition.Condition.TheVariants.{LogicalUnitNotSupported}
 use Rattle.audit_log.specs.declared.record.Record.{Record}
-use Rattle.unit_answers.specs.Replies.{AnswersAbsent, busy, check, good}
-use Rattle.unit_answers.specs.declared.reply.Reply.{Reply}
-use Rattle.unit_state.specs.KeptView.{KeptView}
+use Rattle.judgement.specs.Replies.{AnswersAbsent, busy, check, good}
+use Rattle.judgement.specs.declared.reply.Reply.{Reply}
+use Rattle.judgement.specs.KeptView.{KeptView}
 use Rattle.logical_unit.specs.Legal.{IsTrail}
 use Rattle.logical_unit.specs.UnitView.{Base}
 

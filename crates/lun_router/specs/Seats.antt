@@ -1,6 +1,6 @@
 -- What a seat holds, and what a call does to it.
 use Rattle.std.specs.Prelude.{◌≡◌, ◌⊎◌, ℕ, ◌+◌, List, [], ◌∷◌, ◌++◌, sum_by}
-use Rattle.unit_answers.specs.Replies.{busy}
+use Rattle.judgement.specs.Replies.{busy}
 use Rattle.kept_unit.specs.declared.entry.Entry.{Entry}
 use Rattle.kept_unit.specs.Answers.{DoneValue, entry_of, count_at}
 

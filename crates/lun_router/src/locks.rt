@@ -4,8 +4,8 @@ ghost use Rattle.std.specs.Prelude.{◌≡◌, ◌≢◌, ◌⊎◌, ◌<◌, �
 ghost use Rattle.scsi_cdb.specs.declared.kind.Kind.TheVariants.{Changer};
 ghost use Rattle.scsi_sense.specs.declared.condition.Condition.TheVariants.{LogicalUnitNotSupported};
 ghost use Rattle.device_server.specs.View.{drives_of};
-ghost use Rattle.unit_answers.specs.Replies.{AnswersAbsent, busy, check};
-ghost use Rattle.unit_commands.specs.Commands.{act_of};
+ghost use Rattle.judgement.specs.Replies.{AnswersAbsent, busy, check};
+ghost use Rattle.judgement.specs.Commands.{act_of};
 ghost use Rattle.logical_unit.specs.Route.{named};
 ghost use Rattle.logical_unit.specs.Step.{done};
 ghost use Rattle.kept_unit.specs.declared.deed.Deed.TheVariants as Deed;

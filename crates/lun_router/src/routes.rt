@@ -1,5 +1,5 @@
 ghost use Rattle.std.specs.Prelude.{◌≡◌, ◌<◌, ◌≤◌, [], false, Some, None, IsNone, IfSome, IsTrue, ◌↔◌};
-ghost use Rattle.unit_commands.specs.Commands.{act_of};
+ghost use Rattle.judgement.specs.Commands.{act_of};
 ghost use Rattle.kept_unit.specs.declared.deed.Deed.TheVariants as deed;
 ghost use Rattle.kept_unit.specs.Answers.{IsAnswer, ran, lost, was_reset};
 ghost use Rattle.kept_unit.specs.Deeds.{deed_of, deed_if};

@@ -1,3 +1,6 @@
+pub mod Classes
+pub mod ServiceActions
+pub mod Pairs
 pub mod Types
 pub mod Permission
 pub mod Words

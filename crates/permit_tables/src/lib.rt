@@ -1,17 +1,34 @@
-//! Which commands a reservation lets through: the permission table, a cell for each class of
-//! command, type of reservation and role of the sender.
+//! Which commands a reservation lets through: the permission table, a cell for each class of command, type of reservation
+//! and role of the sender. With it stand the terms that go with such a verdict: what a PERSISTENT RESERVE OUT command asks,
+//! the rules on keys, and why an allowed command is refused.
 #![tactic(auto)]
 
 mod cell;
 mod class_names;
+mod classes;
+mod kept_params;
+mod key_rule;
 mod laws;
+mod layout;
+mod list_defect;
+mod out_params;
+mod pr_fault;
 mod res_type;
 mod role;
+mod service_action;
 mod words;
 
 pub use cell::{Cell, allowed};
 pub use class_names::class_text;
+pub use classes::Class;
+pub use kept_params::KeptParams;
+pub use key_rule::KeyRule;
 pub use laws::permission_rows;
+pub use layout::TARGETS;
+pub use list_defect::ListDefect;
+pub use out_params::OutParams;
+pub use pr_fault::PrFault;
 pub use res_type::ResType;
 pub use role::Role;
+pub use service_action::OutServiceAction;
 pub use words::{permission_words, word, word_holds_each_cell};

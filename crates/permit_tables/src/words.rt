@@ -3,11 +3,11 @@ ghost use Rattle.permit_tables.specs.Permission.{is_allowed};
 ghost use Rattle.permit_tables.specs.Words.{word_of, place_of, bit_of, type_number, role_number};
 ghost use Rattle.permit_tables.specs.declared.res_type.ResType.{ResType};
 ghost use Rattle.permit_tables.specs.declared.role.Role.{Role};
-ghost use Rattle.scsi_cdb.specs.declared.classes.Class.{Class};
+ghost use Rattle.permit_tables.specs.declared.classes.Class.{Class};
 
+use crate::classes::Class;
 use crate::res_type::ResType;
 use crate::role::Role;
-use scsi_cdb::Class;
 
 /// Each nexus may send it under any reservation.
 const EVERYBODY: u32 = 0x1F_FFFF;

@@ -15,7 +15,7 @@ use Rattle.scsi_nexus.specs.Order.{nexus_cmp, same_nexus}
 use Rattle.scsi_nexus.proofs.NexusLaws.{nexus_total, nexus_exact, eq_by_cmp-nexus, same_nexus-true}
 use Rattle.pr_core.specs.Acts.{Act, Register, Reserve, Release, Clear, Preempt, Move}
 use Rattle.pr_core.specs.Table.{all_keyed, IsProper}
-use Rattle.pr_params.specs.Status.{key_in}
+use Rattle.permit_tables.specs.Pairs.{key_in}
 use Rattle.pr_core.specs.State.{State, Keys, key, key_after, keys_by, named, keys_after, after, after_all, reservation_after, generation_after, power_on, registrants}
 
 pub key_in-put : (x : Keys) (n : Nexus) (k : ℕ) (q : Nexus) → key_in (put nexus_cmp n k x) q ≡ (if same_nexus q n then k else key_in x q)

@@ -5,5 +5,3 @@ pub mod Steps
 pub mod RaisedLaws
 pub mod Room
 pub mod ManyLaws
-pub mod RowLaws
-pub mod CommandLaws

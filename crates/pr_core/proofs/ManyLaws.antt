@@ -9,7 +9,7 @@ use Rattle.std.proofs.lemmas.List.{take_more}
 use Rattle.std.proofs.lemmas.List.Sums.{fold_push}
 use Rattle.scsi_nexus.specs.declared.nexus.Nexus.{Nexus}
 use Rattle.scsi_nexus.specs.Order.{nexus_cmp, same_nexus}
-use Rattle.pr_params.specs.Status.{key_in}
+use Rattle.permit_tables.specs.Pairs.{key_in}
 use Rattle.pr_core.specs.Acts.{Register}
 use Rattle.pr_core.specs.State.{State, Keys, capacity, keys_after}
 use Rattle.pr_core.proofs.Steps.{registered, unregistered}

@@ -15,7 +15,7 @@ use Rattle.scsi_nexus.proofs.NexusLaws.{eq_by_cmp-nexus, same_nexus-refl}
 use Rattle.scsi_nexus.proofs.PlaceLemmas.{at_place, above_before, find-place}
 use Rattle.unit_attention.specs.declared.kind.Kind.{Kind}
 use Rattle.unit_attention.specs.Queues.{Slots, raised as raised_in, all_raised}
-use Rattle.pr_params.specs.Status.{key_in}
+use Rattle.permit_tables.specs.Pairs.{key_in}
 use Rattle.pr_core.specs.Acts.{Act}
 use Rattle.pr_core.specs.State.{State, Keys}
 use Rattle.pr_core.specs.Table.{IsProper}

@@ -11,13 +11,13 @@ use Rattle.pr_core.proofs.KeyLaws.{never_zero}
 use Rattle.std.proofs.lemmas.Bool.{or_parts}
 use Rattle.std.specs.Prelude.{is_none}
 use Rattle.permit_tables.specs.declared.cell.Cell.{Cell}
-use Rattle.pr_params.specs.declared.out_params.OutParams.{OutParams}
-use Rattle.scsi_cdb.specs.declared.action.OutServiceAction.{OutServiceAction}
-use Rattle.scsi_cdb.specs.declared.action.OutServiceAction.TheVariants as out
+use Rattle.permit_tables.specs.declared.out_params.OutParams.{OutParams}
+use Rattle.permit_tables.specs.declared.service_action.OutServiceAction.{OutServiceAction}
+use Rattle.permit_tables.specs.declared.service_action.OutServiceAction.TheVariants as out
 use Rattle.pr_core.specs.declared.verdict.Verdict.TheVariants.{Allowed, Denied, Rule}
-use Rattle.pr_core.specs.declared.pr_fault.PrFault.TheVariants.{InvalidField, InvalidParam, NoRegistrationRoom}
-use Rattle.pr_core.specs.declared.key_rule.KeyRule.{KeyRule}
-use Rattle.pr_core.specs.declared.key_rule.KeyRule.TheVariants.{K3}
+use Rattle.permit_tables.specs.declared.pr_fault.PrFault.TheVariants.{InvalidField, InvalidParam, NoRegistrationRoom}
+use Rattle.permit_tables.specs.declared.key_rule.KeyRule.{KeyRule}
+use Rattle.permit_tables.specs.declared.key_rule.KeyRule.TheVariants.{K3}
 use Rattle.pr_core.specs.Judge.{verdict}
 use Rattle.pr_core.specs.Outcome.{is_full, refusal, act_of}
 use Rattle.pr_core.specs.Targets.{is_target_port, targets}
@@ -26,7 +26,7 @@ use Rattle.scsi_nexus.specs.Order.{nexus_cmp, same_nexus}
 use Rattle.scsi_nexus.proofs.NexusLaws.{nexus_total, eq_by_cmp-nexus, same_nexus-sym}
 use Rattle.pr_core.specs.Acts.{Act, Register, Reserve, Release, Clear, Preempt, Move}
 use Rattle.pr_core.specs.Table.{IsProper}
-use Rattle.pr_params.specs.Status.{key_in}
+use Rattle.permit_tables.specs.Pairs.{key_in}
 use Rattle.pr_core.specs.State.{State, capacity, type_in, Keys, key, keys_after, takes, is_all_held, is_registered}
 use Rattle.pr_core.proofs.TableLaws.{proper-filter}
 use Rattle.pr_core.proofs.Steps.{cleared, preempted_all, preempted_others, preempted_key, moved, moved_away, kept_reserve, kept_release}

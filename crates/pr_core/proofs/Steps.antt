@@ -10,7 +10,7 @@ use Rattle.pr_core.specs.Table.{IsProper, put_all, remove_all, register_all}
 use Rattle.pr_core.specs.Targets.{is_among}
 use Rattle.std.proofs.lemmas.Bool.{eq-eqb, false≢true}
 use Rattle.std.proofs.lemmas.Map.Views.{exact_unsigned_eq}
-use Rattle.pr_params.specs.Status.{key_in}
+use Rattle.permit_tables.specs.Pairs.{key_in}
 use Rattle.pr_core.specs.State.{State, capacity, Keys, key, key_after, keys_after, takes, is_all_held}
 use Rattle.pr_core.proofs.KeyLaws.{key-after, key_in-put, proper-after, proper-power_on, same_keys}
 use Rattle.pr_core.proofs.TableLaws.{proper-filter, proper-put, key_in-filter}

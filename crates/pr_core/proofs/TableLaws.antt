@@ -11,7 +11,7 @@ use Rattle.std.specs.declared.cmp.Ordering.TheVariants.{Less, Equal, Greater}
 use Rattle.scsi_nexus.specs.declared.nexus.Nexus.{Nexus}
 use Rattle.scsi_nexus.specs.Order.{nexus_cmp, same_nexus}
 use Rattle.scsi_nexus.proofs.NexusLaws.{nexus_total, same_nexus-true, same_nexus-refl, eq_by_cmp-nexus}
-use Rattle.pr_params.specs.Status.{key_in}
+use Rattle.permit_tables.specs.Pairs.{key_in}
 use Rattle.pr_core.specs.State.{Keys}
 use Rattle.pr_core.specs.Table.{IsProper, all_keyed}
 use Rattle.pr_core.proofs.KeyLaws.{keyed-put}

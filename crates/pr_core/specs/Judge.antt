@@ -2,14 +2,14 @@
 -- RESERVE OUT command").
 use Rattle.std.specs.Prelude.{ℕ, Bool, false, not, ◌&&◌, ◌||◌, ◌==◌, if◌then◌else◌, List, Option, None, Some}
 use Rattle.std.specs.List.{list_any}
-use Rattle.scsi_cdb.specs.declared.action.OutServiceAction.TheVariants.{Register, Reserve, Preempt, PreemptAndAbort, RegisterAndIgnoreExistingKey, RegisterAndMove}
-use Rattle.scsi_cdb.specs.Classes.{class_of_action}
+use Rattle.permit_tables.specs.declared.service_action.OutServiceAction.TheVariants.{Register, Reserve, Preempt, PreemptAndAbort, RegisterAndIgnoreExistingKey, RegisterAndMove}
+use Rattle.permit_tables.specs.Classes.{class_of_action}
 use Rattle.scsi_nexus.specs.declared.nexus.Nexus.{Nexus}
 use Rattle.permit_tables.specs.Permission.{is_allowed}
 use Rattle.permit_tables.specs.Types.{code_of}
-use Rattle.pr_params.specs.declared.out_params.OutParams.{OutParams}
-use Rattle.pr_core.specs.declared.key_rule.KeyRule.{KeyRule}
-use Rattle.pr_core.specs.declared.key_rule.KeyRule.TheVariants.{K1, K2, K3, K4, K5, K6}
+use Rattle.permit_tables.specs.declared.out_params.OutParams.{OutParams}
+use Rattle.permit_tables.specs.declared.key_rule.KeyRule.{KeyRule}
+use Rattle.permit_tables.specs.declared.key_rule.KeyRule.TheVariants.{K1, K2, K3, K4, K5, K6}
 use Rattle.pr_core.specs.declared.verdict.Verdict.{Verdict}
 use Rattle.pr_core.specs.declared.verdict.Verdict.TheVariants.{Allowed, Denied, Rule}
 use Rattle.pr_core.specs.Targets.{targets}

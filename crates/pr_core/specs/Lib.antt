@@ -4,5 +4,3 @@ pub mod State
 pub mod Judge
 pub mod Outcome
 pub mod Table
-pub mod Laws
-pub mod Rows

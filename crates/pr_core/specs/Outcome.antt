@@ -2,18 +2,18 @@
 -- (SPC-4, "PERSISTENT RESERVE OUT command" and the clauses on each service action).
 use Rattle.std.specs.Prelude.{ℕ, Bool, false, not, ◌&&◌, ◌||◌, ◌==◌, nat_lt, nat_le, if◌then◌else◌, List, [], length, filter, Option, None, Some, is_some, is_none}
 use Rattle.std.specs.List.{filter_map, list_any}
-use Rattle.scsi_cdb.specs.declared.action.OutServiceAction.TheVariants as out
+use Rattle.permit_tables.specs.declared.service_action.OutServiceAction.TheVariants as out
 use Rattle.scsi_nexus.specs.declared.nexus.Nexus.{Nexus}
 use Rattle.scsi_nexus.specs.Order.{same_nexus}
 use Rattle.permit_tables.specs.Types.{coded_type, is_registrants_only}
 use Rattle.unit_attention.specs.declared.kind.Kind.{Kind}
 use Rattle.unit_attention.specs.declared.kind.Kind.TheVariants.{ReservationsPreempted, ReservationsReleased, RegistrationsPreempted}
-use Rattle.pr_params.specs.declared.out_params.OutParams.{OutParams}
+use Rattle.permit_tables.specs.declared.out_params.OutParams.{OutParams}
 use Rattle.pr_core.specs.declared.act.Standing.{Standing}
 use Rattle.pr_core.specs.Acts.{Act, Register, Reserve, Release, Clear, Preempt, Move}
 use Rattle.pr_core.specs.Targets.{is_target_port, targets, is_among}
-use Rattle.pr_core.specs.declared.pr_fault.PrFault.{PrFault}
-use Rattle.pr_core.specs.declared.pr_fault.PrFault.TheVariants.{InvalidField, InvalidParam, InvalidRelease, NoRegistrationRoom}
+use Rattle.permit_tables.specs.declared.pr_fault.PrFault.{PrFault}
+use Rattle.permit_tables.specs.declared.pr_fault.PrFault.TheVariants.{InvalidField, InvalidParam, InvalidRelease, NoRegistrationRoom}
 use Rattle.pr_core.specs.State.{State, capacity, is_registered, is_all_held, is_holder, is_sole_holder, res_type, registrants, takes, is_taking, key_after, keys_after, type_in, after}
 use Rattle.pr_core.specs.Judge.{held_code}
 

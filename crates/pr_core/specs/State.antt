@@ -3,7 +3,7 @@
 use Rattle.std.specs.Prelude.{◌≢◌, ℕ, ◌+◌, ◌%◌, ◌^◌, Bool, true, false, not, ◌&&◌, ◌||◌, ◌==◌, if◌then◌else◌, List, [], ◌∷◌, ◌++◌, length, map, Option, None, Some, unwrap_or, is_none}
 use Rattle.std.specs.List.{fold}
 use Rattle.std.specs.FinMap.{put}
-use Rattle.scsi_cdb.specs.declared.classes.Class.{Class}
+use Rattle.permit_tables.specs.declared.classes.Class.{Class}
 use Rattle.scsi_nexus.specs.declared.nexus.Nexus.{Nexus}
 use Rattle.scsi_nexus.specs.Limits.{list_limit}
 use Rattle.scsi_nexus.specs.Order.{nexus_cmp, same_nexus}
@@ -13,7 +13,7 @@ use Rattle.permit_tables.specs.declared.role.Role.{Role}
 use Rattle.permit_tables.specs.declared.role.Role.TheVariants.{Holder, Registered, Other}
 use Rattle.permit_tables.specs.declared.cell.Cell.{Cell}
 use Rattle.permit_tables.specs.Types.{coded_type, is_all_registrants}
-use Rattle.pr_params.specs.Status.{key_in}
+use Rattle.permit_tables.specs.Pairs.{key_in}
 use Rattle.pr_core.specs.Acts.{Act, Register, Reserve, Release, Clear, Preempt, Move}
 use Rattle.pr_core.specs.Targets.{is_among}
 

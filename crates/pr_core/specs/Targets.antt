@@ -3,7 +3,7 @@ use Rattle.std.specs.Prelude.{ℕ, Bool, ◌&&◌, nat_le, if◌then◌else◌, 
 use Rattle.std.specs.List.{flat_map, list_any}
 use Rattle.scsi_nexus.specs.declared.nexus.Nexus.{Nexus}
 use Rattle.scsi_nexus.specs.Order.{same_nexus}
-use Rattle.pr_params.specs.declared.out_params.OutParams.{OutParams}
+use Rattle.permit_tables.specs.declared.out_params.OutParams.{OutParams}
 
 -- the relative target ports of the target (profile)
 abbrev pub is_target_port : ℕ → Bool

@@ -41,7 +41,7 @@ pub(crate) struct Standing {
 
 impl ReservationAct<'_> {
     /// Whether PRGENERATION counts the act.
-    pub(crate) fn is_counted(self) -> bool
+    pub fn is_counted(self) -> bool
         ensures { result ≡ is_counted (act_shown self.entry) }
     {
         match self {
@@ -56,7 +56,7 @@ impl ReservationAct<'_> {
     /// The key of a nexus after the act, 0 for none, from its key before: `is_taking` says whether
     /// the act is a preemption that takes the reservation, and `is_all_held` whether that was of an
     /// all registrants type.
-    pub(crate) fn key_after(
+    pub fn key_after(
         self,
         sender: Nexus,
         nexus: Nexus,

@@ -5,11 +5,10 @@ ghost use Rattle.pr_core.specs.declared.verdict.Verdict.{Verdict};
 ghost use Rattle.pr_core.specs.Targets.{targets as targets_of};
 ghost use Rattle.pr_core.specs.Outcome.{refusal, act_of, applied, raised_by, removed_by};
 
-use crate::pr_fault::PrFault;
 use crate::state::PrState;
 use crate::targets::{list_targets, names_its_sender_alone};
 use arrayvec::ArrayVec;
-use pr_params::OutParams;
+use permit_tables::{OutParams, PrFault};
 use scsi_nexus::{Nexus, NexusList};
 use unit_attention::Queues;
 

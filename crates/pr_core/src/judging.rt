@@ -3,14 +3,11 @@ ghost use Rattle.pr_core.specs.State.{key, is_registered};
 ghost use Rattle.pr_core.specs.Judge.{broken_rule, has_unregistered, has_other_key, verdict};
 ghost use Rattle.pr_core.specs.Targets.{targets as targets_of};
 
-use crate::key_rule::KeyRule;
 use crate::state::PrState;
 use crate::targets::{list_targets, names_its_sender_alone};
 use crate::verdict::Verdict;
 use arrayvec::ArrayVec;
-use permit_tables::allowed;
-use pr_params::OutParams;
-use scsi_cdb::OutServiceAction;
+use permit_tables::{KeyRule, OutParams, OutServiceAction, allowed};
 use scsi_nexus::Nexus;
 
 impl PrState {

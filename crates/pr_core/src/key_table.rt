@@ -2,7 +2,7 @@ ghost use Rattle.std.specs.Prelude.{◌≡◌, ◌≢◌, ℕ, ◌<◌, ◌≤�
 ghost use Rattle.std.specs.FinMap.{put};
 ghost use Rattle.std.specs.List.{list_any};
 ghost use Rattle.scsi_nexus.specs.Order.{nexus_cmp, same_nexus};
-ghost use Rattle.pr_params.specs.Status.{key_in};
+ghost use Rattle.permit_tables.specs.Pairs.{key_in};
 ghost use Rattle.pr_core.specs.State.{capacity};
 ghost use Rattle.pr_core.specs.Table.{IsProper, put_all, remove_all, register_all};
 

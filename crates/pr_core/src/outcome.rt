@@ -7,12 +7,9 @@ ghost use Rattle.pr_core.specs.Outcome.{refusal, register_refusal, reserve_refus
 
 use crate::act::ReservationAct;
 use crate::key_table::REGISTRATIONS;
-use crate::pr_fault::PrFault;
 use crate::state::{PrState, type_in};
 use crate::targets::is_target_port;
-use permit_tables::ResType;
-use pr_params::OutParams;
-use scsi_cdb::OutServiceAction;
+use permit_tables::{OutParams, OutServiceAction, PrFault, ResType};
 use scsi_nexus::Nexus;
 
 impl PrState {

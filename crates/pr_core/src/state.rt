@@ -6,8 +6,7 @@ ghost use Rattle.pr_core.specs.Table.{IsProper};
 
 use crate::act::ReservationAct;
 use crate::key_table::KeyTable;
-use permit_tables::{Cell, ResType, Role};
-use scsi_cdb::Class;
+use permit_tables::{Cell, Class, ResType, Role};
 use scsi_nexus::{Nexus, NexusList};
 use std::marker::Model;
 
@@ -319,7 +318,7 @@ impl PrState {
 }
 
 /// The type in a byte of scope and type, `None` for a byte that isn't scope 0 with a known type.
-pub(crate) fn type_in(code: u8) -> ResType
+pub fn type_in(code: u8) -> ResType
     ensures { result ≡ type_in_byte code }
 {
     ResType::from_code(code).unwrap_or(ResType::None)

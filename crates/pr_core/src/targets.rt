@@ -2,7 +2,7 @@ ghost use Rattle.std.specs.Prelude.{◌≡◌, true, [], ◌∷◌, ◌++◌};
 ghost use Rattle.pr_core.specs.Targets.{is_target_port, at_all_ports, targets, is_among};
 
 use arrayvec::ArrayVec;
-use pr_params::{OutParams, TARGETS};
+use permit_tables::{OutParams, TARGETS};
 use scsi_nexus::Nexus;
 
 /// How many relative target ports the target has, from 1 on (profile).

@@ -1,5 +1,4 @@
-use crate::key_rule::KeyRule;
-use permit_tables::Cell;
+use permit_tables::{Cell, KeyRule};
 
 /// How a PERSISTENT RESERVE OUT command is judged. All but `Allowed` end in RESERVATION CONFLICT.
 #[derive(Clone, Copy, Debug, PartialEq, Eq)]

@@ -4,7 +4,7 @@ use Rattle.std.proofs.lemmas.Grind.{common_steps}
 use Rattle.scsi_nexus.specs.declared.nexus.Nexus.{Nexus}
 use Rattle.scsi_nexus.specs.Order.{same_nexus}
 use Rattle.scsi_nexus.proofs.NexusLaws.{eq_by_cmp-nexus}
-use Rattle.pr_params.specs.Status.{Pairs, key_in}
+use Rattle.permit_tables.specs.Pairs.{Pairs, key_in}
 
 -- the first registration of a nexus has its key
 pub key_in-drop : (n : Nexus) (x : Pairs) (i : ℕ) (d : Nexus × ℕ) → i < length x → same_nexus n (get_or x i d).0 ≡ true → key_in (drop i x) n ≡ (get_or x i d).1

@@ -2,15 +2,15 @@
 use Rattle.std.specs.Prelude.{ℕ, zero, suc, ◌+◌, ◌*◌, ◌/◌, ◌%◌, ◌^◌, Bool, true, false, ◌==◌, ◌&&◌, ◌||◌, not, nat_le, if◌then◌else◌, List, [], ◌∷◌, length, take, drop, map, slice_index, Option, None, Some, is_none, Result, Ok, Err}
 use Rattle.std.specs.List.{list_all}
 use Rattle.byteorder.specs.Endian.{big_number}
-use Rattle.scsi_cdb.specs.declared.action.OutServiceAction.{OutServiceAction}
-use Rattle.scsi_cdb.specs.declared.action.OutServiceAction.TheVariants.{Register, RegisterAndIgnoreExistingKey, RegisterAndMove}
+use Rattle.permit_tables.specs.declared.service_action.OutServiceAction.{OutServiceAction}
+use Rattle.permit_tables.specs.declared.service_action.OutServiceAction.TheVariants.{Register, RegisterAndIgnoreExistingKey, RegisterAndMove}
 use Rattle.scsi_nexus.specs.declared.nexus.Nexus.{Nexus}
 use Rattle.scsi_nexus.specs.Limits.{list_limit}
 use Rattle.scsi_nexus.specs.TransportId.{sas_format, sas_address}
-use Rattle.pr_params.specs.declared.out_params.OutParams.{OutParams}
+use Rattle.permit_tables.specs.declared.out_params.OutParams.{OutParams}
 use Rattle.pr_params.specs.declared.list_fault.ListLengthFault.{ListLengthFault}
-use Rattle.pr_params.specs.declared.list_fault.ListDefect.{ListDefect}
-use Rattle.pr_params.specs.declared.list_fault.ListDefect.TheVariants.{Field, TransportId}
+use Rattle.permit_tables.specs.declared.list_defect.ListDefect.{ListDefect}
+use Rattle.permit_tables.specs.declared.list_defect.ListDefect.TheVariants.{Field, TransportId}
 
 -- the number in the n bytes from place i, the highest first
 abbrev pub number_at : ℕ → ℕ → List ℕ → ℕ

@@ -1,11 +1,11 @@
 -- Worked parameter lists and data.
 use Rattle.std.specs.Prelude.{◌≡◌, ℕ, true, false, List, [], ◌∷◌, ◌++◌, replicate, take, None, Some, Ok, Err}
-use Rattle.scsi_cdb.specs.declared.action.OutServiceAction.{OutServiceAction}
-use Rattle.scsi_cdb.specs.declared.action.OutServiceAction.TheVariants as out
+use Rattle.permit_tables.specs.declared.service_action.OutServiceAction.{OutServiceAction}
+use Rattle.permit_tables.specs.declared.service_action.OutServiceAction.TheVariants as out
 use Rattle.scsi_nexus.specs.declared.nexus.Nexus.{Nexus}
 use Rattle.permit_tables.specs.declared.res_type.ResType.TheVariants.{We, Wero, Wear}
-use Rattle.pr_params.specs.declared.out_params.OutParams.{OutParams}
-use Rattle.pr_params.specs.declared.list_fault.ListDefect.TheVariants.{Field, TransportId}
+use Rattle.permit_tables.specs.declared.out_params.OutParams.{OutParams}
+use Rattle.permit_tables.specs.declared.list_defect.ListDefect.TheVariants.{Field, TransportId}
 use Rattle.pr_params.specs.Lists.{reading, length_fault}
 use Rattle.pr_params.specs.Status.{keys_data, reservation_data, full_status_data}
 

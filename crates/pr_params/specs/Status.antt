@@ -7,20 +7,13 @@ use Rattle.byteorder.specs.Endian.{big_bytes}
 use Rattle.scsi_nexus.specs.declared.nexus.Nexus.{Nexus}
 use Rattle.scsi_nexus.specs.Order.{nexus_cmp, same_nexus}
 use Rattle.scsi_nexus.specs.TransportId.{transport_id}
+use Rattle.permit_tables.specs.Pairs.{Pairs, key_in}
 use Rattle.permit_tables.specs.declared.res_type.ResType.{ResType}
 use Rattle.permit_tables.specs.Types.{code_of, is_all_registrants}
-
--- the registered nexuses, each with its key, ascending
-abbrev pub Pairs : Type 0
-Pairs = List (Nexus × ℕ)
 
 -- of how many registrations data is written at most (profile)
 abbrev pub pair_limit : ℕ
 pair_limit = 65536
-
--- the key of a nexus, 0 for none
-abbrev pub key_in : Pairs → Nexus → ℕ
-key_in pairs n = unwrap_or (find nexus_cmp n pairs) 0
 
 -- PRGENERATION and ADDITIONAL LENGTH
 abbrev pub header : (generation additional : ℕ) → List ℕ

@@ -1,6 +1,7 @@
 //! The places of the parameter lists and of the parameter data of persistent reservations (SPC-4,
 //! "PERSISTENT RESERVE OUT parameter list" and "PERSISTENT RESERVE IN command").
 
+use permit_tables::TARGETS;
 use scsi_nexus::TRANSPORT_ID_LENGTH;
 
 /// RESERVATION KEY of both lists.
@@ -29,9 +30,6 @@ pub(crate) const LISTED_LENGTH_FIELD: usize = 24;
 
 /// Where the TransportIDs of a list with SPEC_I_PT begin.
 pub(crate) const LISTED_IDS: usize = 28;
-
-/// How many SAS addresses a REGISTER list names at most (profile).
-pub const TARGETS: usize = 256;
 
 /// The length of the most TransportIDs that a list with SPEC_I_PT may have.
 pub(crate) const LISTED_LENGTH: usize = TARGETS * TRANSPORT_ID_LENGTH;

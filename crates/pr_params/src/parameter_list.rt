@@ -6,12 +6,11 @@ use crate::layout::{
     APTPL, BASIC_LENGTH, MOVE_FLAGS, RELATIVE_TARGET_PORT, RESERVATION_KEY,
     SERVICE_ACTION_RESERVATION_KEY, TRANSPORT_ID, TRANSPORT_ID_LENGTH_FIELD, UNREG,
 };
-use crate::list_fault::{ListDefect, ListLengthFault};
-use crate::out_params::OutParams;
+use crate::list_fault::ListLengthFault;
 use crate::register_list::{has_register_length, read_register};
 use arrayvec::ArrayVec;
 use byteorder::{BigEndian, ByteOrder};
-use scsi_cdb::OutServiceAction;
+use permit_tables::{ListDefect, OutParams, OutServiceAction};
 use scsi_nexus::{Nexus, TransportId};
 
 /// A PERSISTENT RESERVE OUT command from its service action, its byte of scope and type, its

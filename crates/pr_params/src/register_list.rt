@@ -7,13 +7,11 @@ ghost use Rattle.pr_params.specs.Lists.{is_register_length, listed_length, regis
 use crate::bits::is_set;
 use crate::layout::{
     ALL_TG_PT, APTPL, BASIC_FLAGS, BASIC_LENGTH, LISTED_IDS, LISTED_LENGTH, LISTED_LENGTH_FIELD,
-    RESERVATION_KEY, SERVICE_ACTION_RESERVATION_KEY, SPEC_I_PT, TARGETS,
+    RESERVATION_KEY, SERVICE_ACTION_RESERVATION_KEY, SPEC_I_PT,
 };
-use crate::list_fault::ListDefect;
-use crate::out_params::OutParams;
 use arrayvec::ArrayVec;
 use byteorder::{BigEndian, ByteOrder};
-use scsi_cdb::OutServiceAction;
+use permit_tables::{ListDefect, OutParams, OutServiceAction, TARGETS};
 use scsi_nexus::{TRANSPORT_ID_LENGTH, TransportId};
 
 /// Whether the bytes are as many as a list of either REGISTER says: 24, or with SPEC_I_PT 28 and

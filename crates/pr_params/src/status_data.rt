@@ -1,7 +1,8 @@
 ghost use Rattle.std.specs.Prelude.{◌≡◌, ◌==◌, ◌<◌, ◌≤◌, ◌+◌, ◌/◌, ◌∷◌, ◌++◌, length, take, replicate, IfOk};
 ghost use Rattle.byteorder.specs.Endian.{big_bytes};
 ghost use Rattle.permit_tables.specs.Types.{code_of};
-ghost use Rattle.pr_params.specs.Status.{pair_limit, header, key_in, shown_key, keys_data, reservation_data, capabilities_data};
+ghost use Rattle.permit_tables.specs.Pairs.{key_in};
+ghost use Rattle.pr_params.specs.Status.{pair_limit, header, shown_key, keys_data, reservation_data, capabilities_data};
 
 use crate::layout::{HEADER_LENGTH, KEY_LENGTH, RESERVATION_LENGTH, RESERVATION_SCOPE_TYPE};
 use byteorder::{BigEndian, ByteOrder};

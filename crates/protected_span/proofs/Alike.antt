@@ -9,8 +9,8 @@ use Rattle.permit_tables.specs.declared.res_type.ResType.{ResType}
 use Rattle.permit_tables.specs.declared.res_type.ResType.TheVariants as type
 use Rattle.pr_core.specs.Table.{IsProper}
 use Rattle.pr_core.specs.State.{State, capacity, key, is_registered}
-use Rattle.unit_answers.specs.declared.reply.Reply.{Reply}
-use Rattle.unit_state.specs.KeptView.{KeptView}
+use Rattle.judgement.specs.declared.reply.Reply.{Reply}
+use Rattle.judgement.specs.KeptView.{KeptView}
 use Rattle.logical_unit.specs.UnitView.{UnitView}
 use Rattle.protected_span.specs.Span.{is_the_holder}
 

@@ -6,7 +6,7 @@ use Rattle.scsi_sense.specs.declared.status.Status.TheVariants.{Busy}
 use Rattle.permit_tables.specs.Permission.{Changing, row_allows}
 use Rattle.pr_core.specs.State.{res_type, role}
 use Rattle.device_server.specs.View.{DeviceView, kind_of}
-use Rattle.unit_answers.specs.declared.reply.Reply.{Reply}
+use Rattle.judgement.specs.declared.reply.Reply.{Reply}
 use Rattle.logical_unit.specs.Move.{TwoDrives, judged_at}
 use Rattle.logical_unit.specs.Step.{Executes, IsLost, IsReset}
 use Rattle.logical_unit.specs.UnitView.{UnitView}

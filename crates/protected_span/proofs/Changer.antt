@@ -6,7 +6,7 @@ use Rattle.std.proofs.lemmas.Map.Views.{exact_unsigned_eq}
 use Rattle.scsi_nexus.specs.declared.nexus.Nexus.{Nexus}
 use Rattle.scsi_sense.specs.declared.status.Status.TheVariants.{Busy}
 use Rattle.device_server.specs.View.{DeviceView, drives_of}
-use Rattle.unit_answers.specs.declared.reply.Reply.{Reply}
+use Rattle.judgement.specs.declared.reply.Reply.{Reply}
 use Rattle.logical_unit.specs.Move.{TwoDrives, route_at, carried_one, carried_two, MovesOne, MovesTwo}
 use Rattle.logical_unit.specs.Route.{named}
 use Rattle.logical_unit.specs.Step.{Executes, HasNumber}
@@ -17,7 +17,7 @@ use Rattle.pr_core.specs.State.{res_type, role}
 use Rattle.target_core.specs.Run.{AtUnit, AtDrive, AtDrives, MovesWith, MovesBetween, CommandsNaming, CommandsAt}
 use Rattle.target_core.proofs.History.{get-set_same, get-set_other}
 use Rattle.target_core.proofs.Ordered.{one_named, two_named}
-use Rattle.target_core.proofs.Parts.{set-same}
+use Rattle.target_laws.proofs.Parts.{set-same}
 use Rattle.protected_span.specs.Struck.{SameReply}
 use Rattle.protected_span.proofs.Along.{IsKeptAlong}
 use Rattle.protected_span.proofs.Carry.{BothDrives, one_alike, two_alike}

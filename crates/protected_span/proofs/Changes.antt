@@ -6,31 +6,31 @@ use Rattle.scsi_nexus.specs.declared.nexus.Nexus.{Nexus}
 use Rattle.scsi_sense.specs.declared.condition.Condition.{Condition}
 use Rattle.scsi_sense.specs.declared.condition.Condition.TheVariants.{MediumRemovalPrevented}
 use Rattle.unit_attention.specs.declared.kind.Kind.{Kind}
-use Rattle.pr_params.specs.declared.out_params.OutParams.{OutParams}
+use Rattle.permit_tables.specs.declared.out_params.OutParams.{OutParams}
 use Rattle.pr_core.specs.Acts.{Act}
 use Rattle.pr_core.specs.State.{State, after}
 use Rattle.pr_core.specs.Judge.{verdict}
 use Rattle.pr_core.specs.Outcome.{refusal, act_of, applied}
-use Rattle.pr_core.specs.declared.pr_fault.PrFault.{PrFault}
+use Rattle.permit_tables.specs.declared.pr_fault.PrFault.{PrFault}
 use Rattle.pr_core.specs.declared.verdict.Verdict.TheVariants.{Allowed}
 use Rattle.pr_core.proofs.KeyLaws.{proper-after}
 use Rattle.pr_core.proofs.Room.{room}
 use Rattle.audit_log.specs.declared.stage.Stage.TheVariants as stage
 use Rattle.audit_log.specs.declared.stage.Stage.TheVariants.{ResetAttention, OtherAttention, Fields}
 use Rattle.device_server.specs.View.{kind_of, field_fault, performed}
-use Rattle.unit_commands.specs.declared.command.Command.{Command}
-use Rattle.unit_commands.specs.declared.command.Command.TheVariants.{ReserveOut, ReserveIn, Inquiry, ReportLuns, RequestSense, Prevent, Device}
+use Rattle.judgement.specs.declared.command.Command.{Command}
+use Rattle.judgement.specs.declared.command.Command.TheVariants.{ReserveOut, ReserveIn, Inquiry, ReportLuns, RequestSense, Prevent, Device}
 use Rattle.judgement.specs.declared.finding.Finding.{Finding}
-use Rattle.unit_answers.specs.declared.reply.Reply.{Reply}
-use Rattle.unit_answers.specs.Conditions.{condition_of_refusal}
+use Rattle.judgement.specs.declared.reply.Reply.{Reply}
+use Rattle.judgement.specs.Conditions.{condition_of_refusal}
 use Rattle.judgement.specs.Findings.{at_stage}
-use Rattle.unit_answers.specs.Replies.{check}
-use Rattle.unit_answers.specs.Replies.{good}
-use Rattle.unit_commands.specs.Commands.{spelled}
+use Rattle.judgement.specs.Replies.{check}
+use Rattle.judgement.specs.Replies.{good}
+use Rattle.judgement.specs.Commands.{spelled}
 use Rattle.judgement.specs.Present.{Present}
 use Rattle.logical_unit.specs.UnitView.{UnitView}
-use Rattle.unit_state.specs.Kept.{accepted, is_prevented, after_mode}
-use Rattle.unit_state.specs.Readings.{verdict_of, pending_of}
+use Rattle.judgement.specs.Kept.{accepted, is_prevented, after_mode}
+use Rattle.judgement.specs.Readings.{verdict_of, pending_of}
 use Rattle.judgement.specs.Judge.{sensed, steps, unloads, performs, judged_as}
 use Rattle.judgement.specs.Judge.{carried_out}
 use Rattle.logical_unit.specs.Step.{contacted_present, Executes}

@@ -7,17 +7,17 @@ use Rattle.scsi_sense.specs.declared.status.Status.TheVariants.{Busy}
 use Rattle.device_server.specs.View.{DeviceView, kind_of}
 use Rattle.judgement.specs.Present.{Present}
 use Rattle.judgement.specs.declared.finding.Finding.{Finding}
-use Rattle.unit_answers.specs.declared.reply.Reply.{Reply}
-use Rattle.unit_answers.specs.Replies.{busy, good, check}
-use Rattle.unit_commands.specs.Commands.{spelled, act_of}
-use Rattle.unit_state.specs.Kept.{has_room}
+use Rattle.judgement.specs.declared.reply.Reply.{Reply}
+use Rattle.judgement.specs.Replies.{busy, good, check}
+use Rattle.judgement.specs.Commands.{spelled, act_of}
+use Rattle.judgement.specs.Kept.{has_room}
 use Rattle.logical_unit.specs.Move.{is_left, judged_at, ended, concluded, is_carried}
 use Rattle.logical_unit.specs.Step.{recorded, HasNumber, contacted_present}
 use Rattle.logical_unit.specs.UnitView.{UnitView}
 use Rattle.protected_span.proofs.Carry.{Same, With}
 use Rattle.pr_core.specs.State.{State}
 use Rattle.protected_span.proofs.Alike.{Says}
-use Rattle.unit_state.specs.KeptView.{KeptView}
+use Rattle.judgement.specs.KeptView.{KeptView}
 use Rattle.protected_span.proofs.Changes.{Change, judged_changes}
 use Rattle.protected_span.proofs.Insider.{says-refl}
 use Rattle.protected_span.proofs.Units.{not_busy, Beside, Moved, moved}

@@ -2,9 +2,9 @@
 use Rattle.std.proofs.Common.{◌≡◌, ℕ, Bool, true, false, cond, not, ◌==◌, ◌&&◌, ◌||◌, List, [], ◌∷◌, ◌++◌, Option, Some, None, is_some, inl, inr, refl, sym, ap, ◌∙◌, subst}
 use Rattle.std.specs.Prelude.{if◌then◌else◌, ◌⊎◌}
 use Rattle.std.specs.List.{list_any, list_all, flat_map}
-use Rattle.scsi_cdb.specs.declared.action.OutServiceAction.{OutServiceAction}
-use Rattle.scsi_cdb.specs.declared.action.OutServiceAction.TheVariants as out
-use Rattle.scsi_cdb.specs.Classes.{class_of_action}
+use Rattle.permit_tables.specs.declared.service_action.OutServiceAction.{OutServiceAction}
+use Rattle.permit_tables.specs.declared.service_action.OutServiceAction.TheVariants as out
+use Rattle.permit_tables.specs.Classes.{class_of_action}
 use Rattle.scsi_nexus.specs.declared.nexus.Nexus.{Nexus}
 use Rattle.scsi_nexus.specs.Order.{same_nexus}
 use Rattle.scsi_nexus.proofs.NexusLaws.{same_nexus-true, same_nexus-refl}
@@ -14,16 +14,16 @@ use Rattle.permit_tables.specs.declared.res_type.ResType.TheVariants as type
 use Rattle.permit_tables.specs.declared.res_type.ResType.TheVariants.{Earo, Eaar}
 use Rattle.permit_tables.specs.declared.role.Role.TheVariants.{Holder, Registered, Other}
 use Rattle.permit_tables.specs.Permission.{is_allowed}
-use Rattle.pr_params.specs.declared.out_params.OutParams.{OutParams}
+use Rattle.permit_tables.specs.declared.out_params.OutParams.{OutParams}
 use Rattle.pr_core.specs.Acts.{Act, Register}
 use Rattle.pr_core.specs.Targets.{targets, is_among, at_all_ports, at_ports}
 use Rattle.pr_core.specs.State.{State, key, is_registered, is_holder, res_type, role, cell, after}
-use Rattle.pr_core.specs.declared.key_rule.KeyRule.{KeyRule}
+use Rattle.permit_tables.specs.declared.key_rule.KeyRule.{KeyRule}
 use Rattle.pr_core.specs.declared.verdict.Verdict.TheVariants.{Allowed, Denied, Rule}
 use Rattle.pr_core.specs.Judge.{verdict, broken_rule}
 use Rattle.pr_core.specs.Outcome.{act_of, applied, register_act, raised_by, removed_by}
 use Rattle.pr_core.proofs.KeyLaws.{key-after}
-use Rattle.unit_state.specs.Kept.{preventers_after}
+use Rattle.judgement.specs.Kept.{preventers_after}
 use Rattle.protected_span.proofs.Alike.{IsHeldInside, IsShared}
 use Rattle.logical_unit.proofs.Quiet.{Shut, barred}
 use Rattle.protected_span.proofs.Outsider.{Calm}

@@ -3,8 +3,8 @@ use Rattle.std.proofs.Common.{◌≡◌, ℕ, Bool, true, false, cond, not, ◌=
 use Rattle.std.specs.Prelude.{if◌then◌else◌, unwrap_or, is_none, length, nat_lt}
 use Rattle.std.specs.List.{list_any, list_all, filter_map, cons_option}
 use Rattle.std.proofs.lemmas.Grind.{common_steps}
-use Rattle.scsi_cdb.specs.declared.action.OutServiceAction.{OutServiceAction}
-use Rattle.scsi_cdb.specs.declared.action.OutServiceAction.TheVariants as out
+use Rattle.permit_tables.specs.declared.service_action.OutServiceAction.{OutServiceAction}
+use Rattle.permit_tables.specs.declared.service_action.OutServiceAction.TheVariants as out
 use Rattle.scsi_nexus.specs.declared.nexus.Nexus.{Nexus}
 use Rattle.scsi_nexus.specs.Order.{same_nexus}
 use Rattle.scsi_nexus.proofs.NexusLaws.{same_nexus-true, same_nexus-refl}
@@ -13,20 +13,20 @@ use Rattle.permit_tables.specs.declared.res_type.ResType.{ResType}
 use Rattle.permit_tables.specs.declared.res_type.ResType.TheVariants.{Ea}
 use Rattle.permit_tables.specs.declared.role.Role.TheVariants.{Holder, Registered, Other}
 use Rattle.permit_tables.specs.Types.{is_registrants_only}
-use Rattle.pr_params.specs.declared.out_params.OutParams.{OutParams}
-use Rattle.pr_params.specs.Status.{key_in}
+use Rattle.permit_tables.specs.declared.out_params.OutParams.{OutParams}
+use Rattle.permit_tables.specs.Pairs.{key_in}
 use Rattle.pr_core.specs.Acts.{Act, Register, Reserve, Release, Clear, Preempt, Move}
 use Rattle.pr_core.specs.Targets.{is_among, targets}
-use Rattle.scsi_cdb.specs.declared.classes.Class.{Class}
-use Rattle.scsi_cdb.specs.Classes.{class_of_action}
+use Rattle.permit_tables.specs.declared.classes.Class.{Class}
+use Rattle.permit_tables.specs.Classes.{class_of_action}
 use Rattle.permit_tables.specs.Types.{code_of}
 use Rattle.permit_tables.specs.Permission.{is_allowed}
 use Rattle.std.specs.Prelude.{nat_le}
 use Rattle.std.proofs.lemmas.Bool.{eq-eqb, false≢true}
 use Rattle.std.proofs.lemmas.Map.Views.{exact_unsigned_eq}
-use Rattle.pr_core.specs.declared.key_rule.KeyRule.{KeyRule}
-use Rattle.pr_core.specs.declared.key_rule.KeyRule.TheVariants.{K1, K2, K3, K4}
-use Rattle.pr_core.specs.declared.pr_fault.PrFault.TheVariants.{InvalidField, InvalidParam, InvalidRelease, NoRegistrationRoom}
+use Rattle.permit_tables.specs.declared.key_rule.KeyRule.{KeyRule}
+use Rattle.permit_tables.specs.declared.key_rule.KeyRule.TheVariants.{K1, K2, K3, K4}
+use Rattle.permit_tables.specs.declared.pr_fault.PrFault.TheVariants.{InvalidField, InvalidParam, InvalidRelease, NoRegistrationRoom}
 use Rattle.pr_core.specs.declared.verdict.Verdict.{Verdict}
 use Rattle.pr_core.specs.declared.verdict.Verdict.TheVariants.{Allowed, Denied, Rule}
 use Rattle.pr_core.specs.Judge.{verdict, broken_rule, breaks_third, has_unregistered, has_other_key}
@@ -43,7 +43,7 @@ use Rattle.pr_core.specs.State.{State, Keys, key, is_registered, res_type, is_al
 use Rattle.pr_core.specs.Judge.{held_code}
 use Rattle.pr_core.specs.Outcome.{act_of, applied, told, raised_for, raised, is_removed, removed, raised_by, removed_by}
 use Rattle.pr_core.proofs.KeyLaws.{key-after}
-use Rattle.unit_state.specs.Kept.{preventers_after}
+use Rattle.judgement.specs.Kept.{preventers_after}
 use Rattle.logical_unit.proofs.Quiet.{Shut, barred}
 use Rattle.protected_span.proofs.Outsider.{Calm}
 

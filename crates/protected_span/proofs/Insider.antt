@@ -2,8 +2,8 @@
 use Rattle.std.proofs.Common.{◌≡◌, ℕ, Bool, true, false, cond, not, ◌==◌, ◌&&◌, List, [], ◌∷◌, ◌++◌, filter, take, Option, Some, None, Err, refl, ap, subst}
 use Rattle.std.specs.Prelude.{option_and_then}
 use Rattle.std.specs.List.{list_all}
-use Rattle.scsi_cdb.specs.declared.action.OutServiceAction.{OutServiceAction}
-use Rattle.scsi_cdb.specs.declared.action.OutServiceAction.TheVariants as out
+use Rattle.permit_tables.specs.declared.service_action.OutServiceAction.{OutServiceAction}
+use Rattle.permit_tables.specs.declared.service_action.OutServiceAction.TheVariants as out
 use Rattle.scsi_cdb.specs.declared.request.Request.{Request}
 use Rattle.scsi_nexus.specs.declared.nexus.Nexus.{Nexus}
 use Rattle.scsi_nexus.specs.Order.{same_nexus}
@@ -14,31 +14,31 @@ use Rattle.unit_attention.specs.declared.kind.Kind.TheVariants.{ModeParametersCh
 use Rattle.unit_attention.specs.Pending.{without_kind, oldest_reset, oldest_other}
 use Rattle.unit_attention.specs.Queues.{Slots, slot_of, first_reset_of, first_other_of}
 use Rattle.permit_tables.specs.declared.cell.Cell.{Cell}
-use Rattle.pr_params.specs.declared.out_params.OutParams.{OutParams}
+use Rattle.permit_tables.specs.declared.out_params.OutParams.{OutParams}
 use Rattle.pr_core.specs.State.{State}
 use Rattle.pr_core.specs.Targets.{is_among}
 use Rattle.pr_core.specs.Outcome.{act_of, applied, raised_by, removed_by, refusal}
-use Rattle.pr_core.specs.declared.pr_fault.PrFault.{PrFault}
+use Rattle.permit_tables.specs.declared.pr_fault.PrFault.{PrFault}
 use Rattle.pr_core.specs.declared.verdict.Verdict.{Verdict}
 use Rattle.pr_core.specs.declared.verdict.Verdict.TheVariants.{Allowed, Denied, Rule}
 use Rattle.audit_log.specs.declared.stage.Stage.TheVariants as stage
 use Rattle.audit_log.specs.declared.stage.Stage.TheVariants.{ResetAttention, OtherAttention, Fields}
 use Rattle.device_server.specs.View.{field_fault, performed}
-use Rattle.unit_commands.specs.declared.command.Command.{Command}
-use Rattle.unit_commands.specs.declared.command.Command.TheVariants.{ReserveOut, ReserveIn, Inquiry, ReportLuns, RequestSense, Prevent, Device}
+use Rattle.judgement.specs.declared.command.Command.{Command}
+use Rattle.judgement.specs.declared.command.Command.TheVariants.{ReserveOut, ReserveIn, Inquiry, ReportLuns, RequestSense, Prevent, Device}
 use Rattle.judgement.specs.declared.finding.Finding.{Finding}
-use Rattle.unit_answers.specs.declared.reply.Reply.{Reply}
-use Rattle.unit_answers.specs.Conditions.{condition_of_refusal}
+use Rattle.judgement.specs.declared.reply.Reply.{Reply}
+use Rattle.judgement.specs.Conditions.{condition_of_refusal}
 use Rattle.judgement.specs.Findings.{at_stage, in_conflict}
 use Rattle.judgement.specs.Findings.{let_in}
-use Rattle.unit_answers.specs.Replies.{conflict, check}
-use Rattle.unit_answers.specs.Replies.{good}
-use Rattle.unit_commands.specs.Commands.{class_of_command}
+use Rattle.judgement.specs.Replies.{conflict, check}
+use Rattle.judgement.specs.Replies.{good}
+use Rattle.judgement.specs.Commands.{class_of_command}
 use Rattle.judgement.specs.Present.{Present}
-use Rattle.unit_state.specs.Kept.{accepted, is_prevented, preventers_after, after_mode}
+use Rattle.judgement.specs.Kept.{accepted, is_prevented, preventers_after, after_mode}
 use Rattle.unit_attention.specs.Queues.{all_raised}
 use Rattle.judgement.specs.Judge.{cell_of, tells, carried_out, commanded}
-use Rattle.unit_state.specs.Readings.{verdict_of, status_data, pending_of}
+use Rattle.judgement.specs.Readings.{verdict_of, status_data, pending_of}
 use Rattle.judgement.specs.Judge.{waiting, sensed, steps, unloads, performs, at_cell, let_through, checked, judged_as}
 use Rattle.judgement.proofs.Carried.{prevents_by}
 use Rattle.protected_span.proofs.Alike.{Alike, Says}

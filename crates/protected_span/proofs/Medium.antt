@@ -12,7 +12,7 @@ use Rattle.device_server.specs.declared.fault.PutFault.{PutFault}
 use Rattle.logical_unit.specs.declared.medium_fault.MediumFault.{MediumFault}
 use Rattle.logical_unit.specs.declared.medium_fault.MediumFault.TheVariants.{NotADrive, Prevented}
 use Rattle.logical_unit.specs.UnitView.{UnitView}
-use Rattle.unit_state.specs.Kept.{with_medium, is_prevented}
+use Rattle.judgement.specs.Kept.{with_medium, is_prevented}
 use Rattle.logical_unit.specs.Medium.{taken_out, taken_as, put_in, put_as}
 use Rattle.logical_unit.specs.Move.{IsSameUnit}
 use Rattle.logical_unit.proofs.SameUnits.{out_same, in_same}

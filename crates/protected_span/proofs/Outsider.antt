@@ -1,8 +1,8 @@
 -- What a command of a nexus outside leaves, as those inside see it.
 use Rattle.std.proofs.Common.{◌≡◌, ℕ, Bool, true, false, cond, not, ◌==◌, ◌&&◌, List, [], ◌∷◌, filter, Option, Some, None, Result, Ok, Err, refl, ap, ◌∙◌, subst}
 use Rattle.std.specs.List.{list_any, list_all}
-use Rattle.scsi_cdb.specs.declared.classes.Class.{Class}
-use Rattle.scsi_cdb.specs.declared.classes.Class.TheVariants.{AllowRemoval, PreventRemoval}
+use Rattle.permit_tables.specs.declared.classes.Class.{Class}
+use Rattle.permit_tables.specs.declared.classes.Class.TheVariants.{AllowRemoval, PreventRemoval}
 use Rattle.scsi_cdb.specs.declared.request.Request.{Request}
 use Rattle.scsi_cdb.specs.Classes.{class_of}
 use Rattle.scsi_nexus.specs.declared.nexus.Nexus.{Nexus}
@@ -15,28 +15,28 @@ use Rattle.unit_attention.specs.Pending.{without_kind}
 use Rattle.unit_attention.specs.Queues.{slot_of}
 use Rattle.permit_tables.specs.declared.cell.Cell.{Cell}
 use Rattle.permit_tables.specs.Permission.{group_of, row_allows, is_allowed}
-use Rattle.pr_params.specs.declared.out_params.OutParams.{OutParams}
+use Rattle.permit_tables.specs.declared.out_params.OutParams.{OutParams}
 use Rattle.pr_core.specs.State.{State, res_type, role}
 use Rattle.pr_core.specs.Judge.{verdict}
 use Rattle.pr_core.specs.Outcome.{act_of, applied, raised_by, removed_by, refusal}
-use Rattle.pr_core.specs.declared.pr_fault.PrFault.{PrFault}
+use Rattle.permit_tables.specs.declared.pr_fault.PrFault.{PrFault}
 use Rattle.pr_core.specs.declared.verdict.Verdict.TheVariants.{Allowed, Denied}
 use Rattle.audit_log.specs.declared.stage.Stage.TheVariants as stage
 use Rattle.audit_log.specs.declared.stage.Stage.TheVariants.{ResetAttention, OtherAttention, Fields}
 use Rattle.device_server.specs.View.{DeviceView, field_fault, performed}
-use Rattle.unit_commands.specs.declared.command.Command.{Command}
-use Rattle.unit_commands.specs.declared.command.Command.TheVariants.{ReserveOut, ReserveIn, Inquiry, ReportLuns, RequestSense, Prevent, Device}
+use Rattle.judgement.specs.declared.command.Command.{Command}
+use Rattle.judgement.specs.declared.command.Command.TheVariants.{ReserveOut, ReserveIn, Inquiry, ReportLuns, RequestSense, Prevent, Device}
 use Rattle.judgement.specs.declared.finding.Finding.{Finding}
-use Rattle.unit_answers.specs.declared.reply.Reply.{Reply}
-use Rattle.unit_answers.specs.Conditions.{condition_of_refusal}
+use Rattle.judgement.specs.declared.reply.Reply.{Reply}
+use Rattle.judgement.specs.Conditions.{condition_of_refusal}
 use Rattle.judgement.specs.Findings.{at_stage}
-use Rattle.unit_answers.specs.Replies.{check}
-use Rattle.unit_answers.specs.Replies.{good}
-use Rattle.unit_commands.specs.Commands.{class_of_command}
+use Rattle.judgement.specs.Replies.{check}
+use Rattle.judgement.specs.Replies.{good}
+use Rattle.judgement.specs.Commands.{class_of_command}
 use Rattle.judgement.specs.Present.{Present}
-use Rattle.unit_state.specs.Kept.{accepted, is_prevented, preventers_after, after_mode}
+use Rattle.judgement.specs.Kept.{accepted, is_prevented, preventers_after, after_mode}
 use Rattle.judgement.specs.Judge.{cell_of, tells, carried_out}
-use Rattle.unit_state.specs.Readings.{verdict_of, pending_of}
+use Rattle.judgement.specs.Readings.{verdict_of, pending_of}
 use Rattle.judgement.specs.Judge.{sensed, steps, unloads, performs, at_cell, judged_as}
 use Rattle.judgement.proofs.Carried.{prevents_by}
 use Rattle.unit_attention.proofs.SlotOf.{change-apart}

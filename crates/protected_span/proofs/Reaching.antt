@@ -7,20 +7,20 @@ use Rattle.std.proofs.lemmas.Map.Views.{exact_unsigned_eq}
 use Rattle.scsi_nexus.specs.declared.nexus.Nexus.{Nexus}
 use Rattle.scsi_sense.specs.declared.condition.Condition.{Condition}
 use Rattle.unit_attention.specs.Queues.{has_slot}
-use Rattle.pr_params.specs.declared.out_params.OutParams.{OutParams}
+use Rattle.permit_tables.specs.declared.out_params.OutParams.{OutParams}
 use Rattle.pr_core.specs.State.{State, power_on}
 use Rattle.pr_core.specs.Judge.{verdict}
 use Rattle.pr_core.specs.Outcome.{refusal, applied}
-use Rattle.pr_core.specs.Laws.{commanded}
-use Rattle.pr_core.specs.Laws as laws
-use Rattle.pr_core.specs.declared.pr_fault.PrFault.{PrFault}
+use Rattle.pr_laws.specs.Laws.{commanded}
+use Rattle.pr_laws.specs.Laws as laws
+use Rattle.permit_tables.specs.declared.pr_fault.PrFault.{PrFault}
 use Rattle.pr_core.specs.declared.verdict.Verdict.{Verdict}
 use Rattle.pr_core.specs.declared.verdict.Verdict.TheVariants.{Allowed, Denied, Rule}
 use Rattle.pr_core.proofs.KeyLaws.{proper-power_on}
-use Rattle.pr_core.proofs.CommandLaws.{holder_is_registered}
+use Rattle.pr_laws.proofs.CommandLaws.{holder_is_registered}
 use Rattle.tape_medium.specs.declared.volume.Volume.{Volume}
 use Rattle.device_server.specs.View.{DeviceView, drives_of}
-use Rattle.unit_answers.specs.declared.reply.Reply.{Reply}
+use Rattle.judgement.specs.declared.reply.Reply.{Reply}
 use Rattle.logical_unit.specs.Medium.{taken_out, put_in}
 use Rattle.logical_unit.specs.Move.{TwoDrives, is_left, judged_at, route_at, carried_one, carried_two, MovesOne, MovesTwo}
 use Rattle.logical_unit.specs.Step.{Executes, IsLost, IsReset, HasNumber, answered, resets}

@@ -10,11 +10,11 @@ use Rattle.unit_attention.specs.Pending.{with_kind}
 use Rattle.unit_attention.specs.Queues.{has_slot, contacted}
 use Rattle.audit_log.specs.declared.record.Record.{Record}
 use Rattle.device_server.specs.View.{kind_of}
-use Rattle.unit_answers.specs.declared.reply.Reply.{Reply}
-use Rattle.unit_commands.specs.Commands.{spelled}
-use Rattle.unit_answers.specs.Replies.{busy}
+use Rattle.judgement.specs.declared.reply.Reply.{Reply}
+use Rattle.judgement.specs.Commands.{spelled}
+use Rattle.judgement.specs.Replies.{busy}
 use Rattle.logical_unit.specs.UnitView.{UnitView, last_number}
-use Rattle.unit_state.specs.Kept.{has_room}
+use Rattle.judgement.specs.Kept.{has_room}
 use Rattle.logical_unit.specs.Step.{contacted_present, Executes, answered, loses, resets, LosesAs, HasNumber}
 use Rattle.logical_unit.specs.Step.{IsLost, IsReset, done, number_or_0}
 use Rattle.protected_span.proofs.Units.{not_busy}

@@ -9,8 +9,8 @@ use Rattle.unit_attention.specs.declared.kind.Kind.TheVariants.{MediumChanged}
 use Rattle.unit_attention.specs.Queues.{has_slot}
 use Rattle.tape_medium.specs.declared.volume.Volume.{Volume}
 use Rattle.device_server.specs.View.{DeviceView}
-use Rattle.unit_answers.specs.declared.reply.Reply.{Reply}
-use Rattle.unit_state.specs.KeptView.{KeptView}
+use Rattle.judgement.specs.declared.reply.Reply.{Reply}
+use Rattle.judgement.specs.KeptView.{KeptView}
 use Rattle.logical_unit.specs.Medium.{taken_out, put_in}
 use Rattle.logical_unit.specs.Step.{Executes, IsLost, IsReset, answered}
 use Rattle.logical_unit.specs.UnitView.{UnitView, last_number}

@@ -8,9 +8,9 @@ use Rattle.scsi_sense.specs.declared.status.Status.TheVariants.{Busy}
 use Rattle.unit_attention.specs.Queues.{has_slot}
 use Rattle.device_server.specs.View.{DeviceView, kind_of, drives_of}
 use Rattle.judgement.proofs.Carried.{judged_free}
-use Rattle.unit_answers.specs.declared.reply.Reply.{Reply}
-use Rattle.unit_commands.specs.Commands.{spelled}
-use Rattle.unit_state.specs.Kept.{has_room}
+use Rattle.judgement.specs.declared.reply.Reply.{Reply}
+use Rattle.judgement.specs.Commands.{spelled}
+use Rattle.judgement.specs.Kept.{has_room}
 use Rattle.logical_unit.specs.Move.{TwoDrives, is_left, judged_at, route_at, concluded, carried_one, carried_two, moved_one, moved_two, MovesOne, MovesTwo}
 use Rattle.logical_unit.specs.Route.{named}
 use Rattle.logical_unit.specs.Step.{Executes, IsLost, IsReset, HasNumber, answered, contacted_present}

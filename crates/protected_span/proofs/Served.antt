@@ -7,7 +7,7 @@ use Rattle.scsi_nexus.specs.declared.nexus.Nexus.{Nexus}
 use Rattle.unit_attention.specs.Queues.{has_slot}
 use Rattle.device_server.specs.View.{kind_of}
 use Rattle.logical_unit.specs.UnitView.{UnitView}
-use Rattle.unit_answers.specs.declared.reply.Reply.{Reply}
+use Rattle.judgement.specs.declared.reply.Reply.{Reply}
 use Rattle.target_core.specs.declared.event.Event.{Event}
 use Rattle.protected_span.specs.Span.{is_the_holder, IsFair}
 use Rattle.protected_span.specs.Struck.{struck, RunsThrough, InSpan, Serves}

@@ -13,23 +13,23 @@ use Rattle.unit_attention.specs.Pending.{with_kind, without_kind}
 use Rattle.unit_attention.specs.Queues.{Slots, has_slot, with_change, raised, was_reset}
 use Rattle.unit_attention.proofs.SlotLemmas.{sorted-change}
 use Rattle.pr_core.specs.Outcome.{refusal, raised_by, act_of}
-use Rattle.pr_core.specs.declared.pr_fault.PrFault.{PrFault}
+use Rattle.permit_tables.specs.declared.pr_fault.PrFault.{PrFault}
 use Rattle.audit_log.specs.declared.stage.Stage.TheVariants as stage
 use Rattle.audit_log.specs.declared.stage.Stage.TheVariants.{ResetAttention, OtherAttention, Fields}
 use Rattle.device_server.specs.View.{field_fault, performed}
-use Rattle.unit_commands.specs.declared.command.Command.{Command}
-use Rattle.unit_commands.specs.declared.command.Command.TheVariants.{ReserveOut, ReserveIn, Inquiry, ReportLuns, RequestSense, Prevent, Device}
+use Rattle.judgement.specs.declared.command.Command.{Command}
+use Rattle.judgement.specs.declared.command.Command.TheVariants.{ReserveOut, ReserveIn, Inquiry, ReportLuns, RequestSense, Prevent, Device}
 use Rattle.judgement.specs.declared.finding.Finding.{Finding}
-use Rattle.unit_answers.specs.declared.reply.Reply.{Reply}
-use Rattle.unit_answers.specs.Conditions.{condition_of_refusal}
+use Rattle.judgement.specs.declared.reply.Reply.{Reply}
+use Rattle.judgement.specs.Conditions.{condition_of_refusal}
 use Rattle.judgement.specs.Findings.{at_stage}
-use Rattle.unit_answers.specs.Replies.{check}
-use Rattle.unit_answers.specs.Replies.{good}
+use Rattle.judgement.specs.Replies.{check}
+use Rattle.judgement.specs.Replies.{good}
 use Rattle.judgement.specs.Present.{Present}
-use Rattle.unit_state.specs.Kept.{accepted, is_prevented, after_mode}
+use Rattle.judgement.specs.Kept.{accepted, is_prevented, after_mode}
 use Rattle.unit_attention.specs.Queues.{all_raised}
-use Rattle.unit_state.specs.Kept.{with_slots, all_told}
-use Rattle.unit_state.specs.Readings.{pending_of}
+use Rattle.judgement.specs.Kept.{with_slots, all_told}
+use Rattle.judgement.specs.Readings.{pending_of}
 use Rattle.judgement.specs.Judge.{sensed, steps, unloads, performs, judged_as}
 use Rattle.judgement.specs.Judge.{carried_out}
 use Rattle.judgement.proofs.Carried.{prevents_by}

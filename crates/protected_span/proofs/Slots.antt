@@ -10,7 +10,7 @@ use Rattle.unit_attention.specs.declared.kind.Kind.{Kind}
 use Rattle.unit_attention.specs.Pending.{with_kind}
 use Rattle.unit_attention.specs.Queues.{Slots, slot_of, raised, all_raised}
 use Rattle.unit_attention.proofs.SlotOf.{slot-change, change-alike, change-apart, with_kind-twice}
-use Rattle.unit_state.specs.Kept.{with_slots, others_told, all_told}
+use Rattle.judgement.specs.Kept.{with_slots, others_told, all_told}
 
 -- attentions that are raised alike
 pub all_raised-alike : (l : List (Nexus × Kind)) (q r : Slots) (m : Nexus) → slot_of q m ≡ slot_of r m → slot_of (all_raised q l) m ≡ slot_of (all_raised r l) m

@@ -13,12 +13,12 @@ use Rattle.pr_core.specs.State.{State, cell, res_type, role}
 use Rattle.pr_core.specs.declared.verdict.Verdict.TheVariants.{Allowed, Denied}
 use Rattle.unit_attention.specs.Queues.{has_slot}
 use Rattle.device_server.specs.View.{kind_of}
-use Rattle.unit_commands.specs.declared.command.Command.{Command}
-use Rattle.unit_commands.specs.declared.command.Command.TheVariants.{ReserveOut, ReserveIn, Inquiry, ReportLuns, RequestSense, Prevent, Device}
-use Rattle.unit_answers.specs.declared.reply.Reply.{Reply}
-use Rattle.unit_commands.specs.Commands.{spelled, class_of_command}
-use Rattle.unit_answers.specs.Replies.{good}
-use Rattle.unit_state.specs.Readings.{verdict_of, status_data}
+use Rattle.judgement.specs.declared.command.Command.{Command}
+use Rattle.judgement.specs.declared.command.Command.TheVariants.{ReserveOut, ReserveIn, Inquiry, ReportLuns, RequestSense, Prevent, Device}
+use Rattle.judgement.specs.declared.reply.Reply.{Reply}
+use Rattle.judgement.specs.Commands.{spelled, class_of_command}
+use Rattle.judgement.specs.Replies.{good}
+use Rattle.judgement.specs.Readings.{verdict_of, status_data}
 use Rattle.logical_unit.specs.Step.{Executes}
 use Rattle.logical_unit.specs.UnitView.{UnitView}
 use Rattle.logical_unit.proofs.History.{executes_stays}

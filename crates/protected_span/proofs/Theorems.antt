@@ -5,10 +5,10 @@ use Rattle.scsi_nexus.specs.declared.nexus.Nexus.{Nexus}
 use Rattle.permit_tables.specs.declared.res_type.ResType.{ResType}
 use Rattle.permit_tables.specs.declared.res_type.ResType.TheVariants as type
 use Rattle.permit_tables.specs.Types.{is_all_registrants}
-use Rattle.pr_core.specs.Laws.{is_kept_by}
+use Rattle.pr_laws.specs.Laws.{is_kept_by}
 use Rattle.pr_core.specs.State.{State, key, is_registered, res_type}
-use Rattle.pr_params.specs.Status.{key_in}
-use Rattle.unit_answers.specs.declared.reply.Reply.{Reply}
+use Rattle.permit_tables.specs.Pairs.{key_in}
+use Rattle.judgement.specs.declared.reply.Reply.{Reply}
 use Rattle.logical_unit.specs.UnitView.{UnitView}
 use Rattle.target_core.specs.declared.event.Event.{Event}
 use Rattle.target_core.specs.declared.event.Event.TheVariants as event

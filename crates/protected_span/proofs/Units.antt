@@ -8,21 +8,21 @@ use Rattle.scsi_sense.specs.declared.status.Status.TheVariants.{Busy}
 use Rattle.unit_attention.specs.declared.kind.Kind.TheVariants.{NexusLoss}
 use Rattle.unit_attention.specs.Pending.{with_kind}
 use Rattle.unit_attention.specs.Queues.{Slots, slot_of, has_slot, contacted}
-use Rattle.pr_params.specs.declared.out_params.OutParams.{OutParams}
+use Rattle.permit_tables.specs.declared.out_params.OutParams.{OutParams}
 use Rattle.pr_core.specs.State.{State, res_type, role}
 use Rattle.pr_core.specs.Judge.{verdict}
 use Rattle.pr_core.specs.Outcome.{applied}
 use Rattle.pr_core.specs.declared.verdict.Verdict.TheVariants.{Allowed}
 use Rattle.device_server.specs.View.{kind_of, reset_of}
-use Rattle.unit_commands.specs.declared.command.Command.{Command}
+use Rattle.judgement.specs.declared.command.Command.{Command}
 use Rattle.judgement.specs.declared.finding.Finding.{Finding}
-use Rattle.unit_answers.specs.declared.reply.Reply.{Reply}
-use Rattle.unit_commands.specs.Commands.{spelled}
-use Rattle.unit_answers.specs.Replies.{busy}
-use Rattle.unit_state.specs.KeptView.{KeptView}
+use Rattle.judgement.specs.declared.reply.Reply.{Reply}
+use Rattle.judgement.specs.Commands.{spelled}
+use Rattle.judgement.specs.Replies.{busy}
+use Rattle.judgement.specs.KeptView.{KeptView}
 use Rattle.judgement.specs.Present.{Present}
 use Rattle.logical_unit.specs.UnitView.{UnitView, last_number}
-use Rattle.unit_state.specs.Readings.{verdict_of}
+use Rattle.judgement.specs.Readings.{verdict_of}
 use Rattle.judgement.specs.Judge.{judged}
 use Rattle.judgement.specs.Judge.{judged_as}
 use Rattle.audit_log.specs.declared.act.Act.{Act}

@@ -4,10 +4,10 @@ use Rattle.std.specs.FinMap.{is_sorted}
 use Rattle.scsi_nexus.specs.declared.nexus.Nexus.{Nexus}
 use Rattle.scsi_nexus.specs.Order.{nexus_cmp}
 use Rattle.unit_attention.specs.Queues.{slot_limit}
-use Rattle.pr_params.specs.declared.out_params.OutParams.{OutParams}
-use Rattle.pr_core.specs.Laws.{commanded}
+use Rattle.permit_tables.specs.declared.out_params.OutParams.{OutParams}
+use Rattle.pr_laws.specs.Laws.{commanded}
 use Rattle.device_server.specs.View.{DeviceView}
-use Rattle.unit_answers.specs.declared.reply.Reply.{Reply}
+use Rattle.judgement.specs.declared.reply.Reply.{Reply}
 use Rattle.logical_unit.specs.Step.{made, drained}
 use Rattle.logical_unit.specs.UnitView.{UnitView}
 use Rattle.target_core.specs.declared.event.Event.{Event}

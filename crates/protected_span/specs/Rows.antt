@@ -2,27 +2,27 @@
 use Rattle.std.specs.Prelude.{◌≡◌, ℕ, true, false, List, [], ◌∷◌, ◌++◌, map, filter, replicate, Some, None, zero, suc, ◌+◌}
 use Rattle.std.specs.Global.{Vec}
 use Rattle.arrayvec.specs.ArrayVec.{ArrayVec}
-use Rattle.scsi_cdb.specs.declared.action.OutServiceAction.TheVariants as out
+use Rattle.permit_tables.specs.declared.service_action.OutServiceAction.TheVariants as out
 use Rattle.scsi_nexus.specs.declared.nexus.Nexus.{Nexus}
 use Rattle.scsi_nexus.specs.Order.{same_nexus}
 use Rattle.scsi_sense.specs.declared.status.Status.{Status}
 use Rattle.scsi_sense.specs.declared.status.Status.TheVariants.{Good, CheckCondition, ReservationConflict}
 use Rattle.permit_tables.specs.declared.res_type.ResType.{ResType}
 use Rattle.permit_tables.specs.declared.res_type.ResType.TheVariants as type
-use Rattle.pr_params.specs.declared.out_params.OutParams.{OutParams}
+use Rattle.permit_tables.specs.declared.out_params.OutParams.{OutParams}
 use Rattle.pr_core.specs.State.{State}
 use Rattle.pr_core.specs.Judge.{verdict}
 use Rattle.pr_core.specs.Outcome.{applied, refusal}
-use Rattle.pr_core.specs.declared.pr_fault.PrFault.TheVariants.{NoRegistrationRoom}
-use Rattle.pr_core.specs.declared.key_rule.KeyRule.TheVariants.{K1, K3, K5}
+use Rattle.permit_tables.specs.declared.pr_fault.PrFault.TheVariants.{NoRegistrationRoom}
+use Rattle.permit_tables.specs.declared.key_rule.KeyRule.TheVariants.{K1, K3, K5}
 use Rattle.pr_core.specs.declared.verdict.Verdict.TheVariants.{Allowed, Rule}
 use Rattle.tape_medium.specs.Object.{Block}
 use Rattle.tape_medium.specs.Tape.{blank}
 use Rattle.tape_medium.specs.TapeView.{TapeView}
 use Rattle.tape_medium.specs.declared.volume.VolumeTag.{VolumeTag}
 use Rattle.device_server.specs.View.{DeviceView, Drive}
-use Rattle.unit_answers.specs.declared.reply.Reply.{Reply}
-use Rattle.unit_state.specs.KeptView.{KeptView}
+use Rattle.judgement.specs.declared.reply.Reply.{Reply}
+use Rattle.judgement.specs.KeptView.{KeptView}
 use Rattle.logical_unit.specs.Step.{answered}
 use Rattle.logical_unit.specs.UnitView.{UnitView}
 use Rattle.target_core.specs.declared.event.Event.TheVariants as event

@@ -2,8 +2,8 @@
 -- that unit can be struck out, and nobody inside sees a difference.
 use Rattle.std.specs.Prelude.{◌≡◌, ◌⊎◌, ℕ, Bool, true, false, not, List, [], ◌∷◌, slice_get, Some, Result, Ok}
 use Rattle.std.specs.List.{list_all}
-use Rattle.scsi_cdb.specs.declared.action.OutServiceAction.{OutServiceAction}
-use Rattle.scsi_cdb.specs.declared.action.OutServiceAction.TheVariants as out
+use Rattle.permit_tables.specs.declared.service_action.OutServiceAction.{OutServiceAction}
+use Rattle.permit_tables.specs.declared.service_action.OutServiceAction.TheVariants as out
 use Rattle.scsi_nexus.specs.declared.nexus.Nexus.{Nexus}
 use Rattle.scsi_nexus.specs.Order.{same_nexus}
 use Rattle.scsi_sense.specs.declared.condition.Condition.{Condition}
@@ -12,10 +12,10 @@ use Rattle.pr_params.specs.Lists.{has_spec_i_pt, has_all_tg_pt, register_params}
 use Rattle.pr_core.specs.State.{State, key, is_registered, res_type}
 use Rattle.pr_core.specs.Targets.{targets}
 use Rattle.device_server.specs.View.{kind_of}
-use Rattle.unit_commands.specs.declared.command.Command.{Command}
-use Rattle.unit_commands.specs.declared.command.Command.TheVariants.{ReserveOut, ReserveIn}
-use Rattle.unit_commands.specs.Commands.{spelled}
-use Rattle.unit_answers.specs.declared.reply.Reply.{Reply}
+use Rattle.judgement.specs.declared.command.Command.{Command}
+use Rattle.judgement.specs.declared.command.Command.TheVariants.{ReserveOut, ReserveIn}
+use Rattle.judgement.specs.Commands.{spelled}
+use Rattle.judgement.specs.declared.reply.Reply.{Reply}
 use Rattle.logical_unit.specs.UnitView.{UnitView}
 use Rattle.target_core.specs.declared.event.Event.{Event}
 use Rattle.target_core.specs.Run.{Runs}

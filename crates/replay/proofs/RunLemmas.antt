@@ -4,7 +4,7 @@ use Rattle.std.specs.Prelude.{IsOk, OnOk}
 use Rattle.std.specs.Global.{Vec}
 use Rattle.std.proofs.lemmas.Grind.{flat_map-append}
 use Rattle.std.proofs.lemmas.List.{take_more, append-nil}
-use Rattle.unit_answers.specs.declared.reply.Reply.{Reply}
+use Rattle.judgement.specs.declared.reply.Reply.{Reply}
 use Rattle.logical_unit.specs.UnitView.{UnitView}
 use Rattle.target_core.specs.declared.event.Event.{Event}
 use Rattle.target_core.specs.Run.{Steps, Runs}

@@ -1,6 +1,6 @@
 -- What is written of the replies of a run.
 use Rattle.std.specs.Prelude.{ℕ, List, [], ◌∷◌, ◌++◌}
-use Rattle.unit_answers.specs.declared.reply.Reply.{Reply}
+use Rattle.judgement.specs.declared.reply.Reply.{Reply}
 use Rattle.target_core.specs.declared.event.Event.{Event}
 use Rattle.target_core.specs.declared.event.Event.TheVariants.{Command, Loss, Reset}
 use Rattle.replay_output.specs.declared.explained.Explanations.{Explanations}

@@ -6,7 +6,7 @@ ghost use Rattle.replay_output.specs.declared.explained.Explanations.TheVariants
 ghost use Rattle.replay_output.specs.Replies.{text_of};
 ghost use Rattle.target_core.specs.declared.event.Event.{Event};
 ghost use Rattle.target_core.specs.Run.{Runs};
-ghost use Rattle.unit_answers.specs.declared.reply.Reply.{Reply};
+ghost use Rattle.judgement.specs.declared.reply.Reply.{Reply};
 ghost use Rattle.replay.specs.Texts.{run_text};
 ghost use Rattle.replay.specs.Rows.{FaultsTold, FaultsInOrder, ReplaysRun};
 

@@ -2,7 +2,7 @@ ghost use Rattle.std.specs.Prelude.{◌≡◌, ◌⊎◌, ◌++◌, ℕ, List, E
 ghost use Rattle.std.specs.Io.KnownBytes.{Appends, Keeps};
 ghost use Rattle.replay.specs.Replay.{HasRun, IsBeforeOutput, IsBeforeRun, Refuses, Replays};
 ghost use Rattle.target_core.specs.Run.{Runs};
-ghost use Rattle.unit_answers.specs.declared.reply.Reply.{Reply};
+ghost use Rattle.judgement.specs.declared.reply.Reply.{Reply};
 ghost use Rattle.replay_script.specs.declared.line_fault.LineFault.{LineFault};
 ghost use Rattle.replay.specs.Texts.{cdb_of, event_text, run_text};
 

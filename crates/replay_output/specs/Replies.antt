@@ -6,7 +6,7 @@ use Rattle.scsi_sense.specs.FixedSense.{fixed_sense}
 use Rattle.scsi_sense.specs.Status.{status_code}
 use Rattle.scsi_sense.specs.declared.sense.Sense.{Sense}
 use Rattle.scsi_sense.specs.declared.status.Status.{Status}
-use Rattle.unit_answers.specs.declared.reply.Reply.{Reply}
+use Rattle.judgement.specs.declared.reply.Reply.{Reply}
 
 -- bytes in hexadecimal, or a dash where there are none
 abbrev pub hex_or_dash : List ℕ → List ℕ

@@ -10,7 +10,7 @@ use Rattle.audit_log.specs.declared.record.Record.{Record}
 use Rattle.audit_log.specs.declared.stage.Stage.TheVariants.{Device}
 use Rattle.device_server.specs.Drive.{empty_drive}
 use Rattle.device_server.specs.View.{Drive}
-use Rattle.unit_answers.specs.declared.reply.Reply.{Reply}
+use Rattle.judgement.specs.declared.reply.Reply.{Reply}
 use Rattle.logical_unit.specs.Step.{made}
 use Rattle.logical_unit.specs.UnitView.{UnitView}
 use Rattle.replay_output.specs.declared.audit_lines.Audit.TheVariants.{Off, Lines, Spans}

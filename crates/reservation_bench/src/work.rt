@@ -1,7 +1,6 @@
 use arrayvec::ArrayVec;
+use permit_tables::{OutParams, OutServiceAction};
 use pr_core::{PrState, Verdict};
-use pr_params::OutParams;
-use scsi_cdb::OutServiceAction;
 use scsi_nexus::Nexus;
 use std::io;
 use unit_attention::Queues;

@@ -4,8 +4,8 @@ use Rattle.std.specs.Prelude.{ℕ, ◌-◌, ◌==◌, nat_lt, Bool, true, false,
 use Rattle.scsi_cdb.specs.Bits.{bit, bits, byte, two_bytes, three_bytes, four_bytes, signed_three_bytes}
 use Rattle.scsi_cdb.specs.declared.action.InServiceAction.{InServiceAction}
 use Rattle.scsi_cdb.specs.declared.action.InServiceAction.TheVariants as in_act
-use Rattle.scsi_cdb.specs.declared.action.OutServiceAction.{OutServiceAction}
-use Rattle.scsi_cdb.specs.declared.action.OutServiceAction.TheVariants as out_act
+use Rattle.permit_tables.specs.ServiceActions.{out_service_action}
+use Rattle.permit_tables.specs.declared.service_action.OutServiceAction.{OutServiceAction}
 use Rattle.scsi_cdb.specs.declared.fault.CdbFault.{CdbFault}
 use Rattle.scsi_cdb.specs.declared.fault.CdbFault.TheVariants.{Opcode, ShortCdb, ServiceAction, Naca}
 use Rattle.scsi_cdb.specs.declared.kind.Kind.{Kind}
@@ -36,25 +36,13 @@ pub record Row : Type 0 where
 abbrev pub row : ℕ → ℕ → Units → (List ℕ → Option Request) → Row
 row opcode length units fields = record { opcode = opcode; length = length; units = units; fields = fields }
 
--- the service actions of PERSISTENT RESERVE IN and OUT
+-- the service actions of PERSISTENT RESERVE IN
 abbrev pub in_service_action : ℕ → Option InServiceAction
 in_service_action code =
     if code == 0x00 then Some in_act.ReadKeys
     else if code == 0x01 then Some in_act.ReadReservation
     else if code == 0x02 then Some in_act.ReportCapabilities
     else if code == 0x03 then Some in_act.ReadFullStatus
-    else None
-
-abbrev pub out_service_action : ℕ → Option OutServiceAction
-out_service_action code =
-    if code == 0x00 then Some out_act.Register
-    else if code == 0x01 then Some out_act.Reserve
-    else if code == 0x02 then Some out_act.Release
-    else if code == 0x03 then Some out_act.Clear
-    else if code == 0x04 then Some out_act.Preempt
-    else if code == 0x05 then Some out_act.PreemptAndAbort
-    else if code == 0x06 then Some out_act.RegisterAndIgnoreExistingKey
-    else if code == 0x07 then Some out_act.RegisterAndMove
     else None
 
 -- the only service action of READ POSITION: the short form, with block identifiers

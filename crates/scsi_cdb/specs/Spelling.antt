@@ -3,8 +3,7 @@ use Rattle.std.specs.Prelude.{◌≡◌, ℕ, ◌+◌, ◌-◌, ◌*◌, ◌/◌
 use Rattle.scsi_cdb.specs.Commands.{command_of, row_of, length_in, reading}
 use Rattle.scsi_cdb.specs.declared.action.InServiceAction.{InServiceAction}
 use Rattle.scsi_cdb.specs.declared.action.InServiceAction.TheVariants as in_act
-use Rattle.scsi_cdb.specs.declared.action.OutServiceAction.{OutServiceAction}
-use Rattle.scsi_cdb.specs.declared.action.OutServiceAction.TheVariants as out_act
+use Rattle.permit_tables.specs.ServiceActions.{out_code}
 use Rattle.scsi_cdb.specs.declared.kind.Kind.{Kind}
 use Rattle.scsi_cdb.specs.declared.request.Request.{Request}
 use Rattle.scsi_cdb.specs.declared.request.Request.TheVariants.{TestUnitReady, Rewind, RequestSense, ReadBlockLimits, InitializeElementStatus, Read, Write, WriteFilemarks, Space, Inquiry, ModeSelect, Erase, ModeSense, LoadUnload, PreventAllowMediumRemoval, Locate, ReadPosition, PersistentReserveIn, PersistentReserveOut, ReportLuns, MoveMedium, ReadElementStatus}
@@ -41,16 +40,6 @@ in_code in_act.ReadKeys = 0x00
 in_code in_act.ReadReservation = 0x01
 in_code in_act.ReportCapabilities = 0x02
 in_code in_act.ReadFullStatus = 0x03
-
-abbrev pub out_code : OutServiceAction → ℕ
-out_code out_act.Register = 0x00
-out_code out_act.Reserve = 0x01
-out_code out_act.Release = 0x02
-out_code out_act.Clear = 0x03
-out_code out_act.Preempt = 0x04
-out_code out_act.PreemptAndAbort = 0x05
-out_code out_act.RegisterAndIgnoreExistingKey = 0x06
-out_code out_act.RegisterAndMove = 0x07
 
 -- each command's bytes in their order
 abbrev pub spelling : Request → List ℕ

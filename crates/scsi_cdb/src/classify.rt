@@ -1,8 +1,8 @@
 ghost use Rattle.std.specs.Prelude.{◌≡◌};
 ghost use Rattle.scsi_cdb.specs.Classes.{class_of};
 
-use crate::classes::Class;
 use crate::request::Request;
+use permit_tables::Class;
 
 /// The class of a request: the row of the permission table that it is judged by.
 pub fn class(request: &Request) -> Class

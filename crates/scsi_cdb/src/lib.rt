@@ -3,7 +3,6 @@
 
 mod action;
 mod changer;
-mod classes;
 mod classify;
 mod decoding;
 mod encoding;
@@ -16,8 +15,7 @@ mod primary;
 mod request;
 mod stream;
 
-pub use action::{InServiceAction, OutServiceAction};
-pub use classes::Class;
+pub use action::InServiceAction;
 pub use classify::class;
 pub use decoding::decode;
 pub use encoding::{cdb_length, encode};
@@ -26,4 +24,5 @@ pub use kind::Kind;
 pub use laws::{
     request_reads_back, worked_lengths, worked_rows, worked_rows_of_changers, worked_rows_of_drives,
 };
+pub use permit_tables::{Class, OutServiceAction};
 pub use request::Request;

@@ -1,4 +1,5 @@
-use crate::action::{InServiceAction, OutServiceAction};
+use crate::action::InServiceAction;
+use permit_tables::OutServiceAction;
 
 /// A command with its fields, each as the CDB has it. A field of bits is in the low bits of its
 /// number.

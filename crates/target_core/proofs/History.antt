@@ -10,7 +10,7 @@ use Rattle.pr_core.specs.State.{State}
 use Rattle.device_server.specs.Marks.{KeepsMarks}
 use Rattle.device_server.specs.View.{DeviceView, kind_of, drives_of}
 use Rattle.device_server.proofs.MarkLemmas.{resets_keep_marks}
-use Rattle.unit_answers.specs.declared.reply.Reply.{Reply}
+use Rattle.judgement.specs.declared.reply.Reply.{Reply}
 use Rattle.judgement.specs.History.{Accepted, accepted_as, accepted_by, after_history}
 use Rattle.logical_unit.specs.Move.{TwoDrives, IsSameUnit}
 use Rattle.logical_unit.specs.Route.{named}

@@ -15,7 +15,7 @@ use Rattle.device_server.specs.Marks.{marks, KeepsMarks}
 use Rattle.device_server.specs.View.{DeviceView, Drive, Changer, kind_of, drives_of, held_in, marked}
 use Rattle.device_server.specs.declared.fault.BadPlace.{BadPlace}
 use Rattle.device_server.proofs.MarkLemmas.{drives_give, drives_get, changers_give, changers_get, marks_one, each_is_marked}
-use Rattle.unit_answers.specs.declared.reply.Reply.{Reply}
+use Rattle.judgement.specs.declared.reply.Reply.{Reply}
 use Rattle.logical_unit.specs.Move.{TwoDrives, noting, unloaded, loaded, passed, carried_by_one, carried_one, upward, downward, carried_two, route_at, MovesOne, MovesTwo, IsSameUnit}
 use Rattle.logical_unit.specs.Medium.{taken_out, put_in}
 use Rattle.logical_unit.specs.Route.{drive_at, is_upward, named_by, named}

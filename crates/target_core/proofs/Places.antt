@@ -5,8 +5,8 @@ use Rattle.std.proofs.lemmas.List.{map-set}
 use Rattle.scsi_nexus.specs.declared.nexus.Nexus.{Nexus}
 use Rattle.unit_attention.specs.Queues.{has_slot}
 use Rattle.audit_log.specs.declared.record.Record.{Record}
-use Rattle.unit_answers.specs.declared.reply.Reply.{Reply}
-use Rattle.unit_answers.specs.Replies.{busy}
+use Rattle.judgement.specs.declared.reply.Reply.{Reply}
+use Rattle.judgement.specs.Replies.{busy}
 use Rattle.logical_unit.specs.UnitView.{UnitView, UnitWithRoom, units_of}
 use Rattle.logical_unit.specs.Step.{Executes, Loses, Resets, drained, done, number_or_0}
 use Rattle.logical_unit.specs.Legal.{IsTrail}

@@ -1,7 +1,7 @@
 -- A run goes on by one step, and by another run.
 use Rattle.std.proofs.Common.{◌≡◌, ℕ, ◌+◌, ◌<◌, List, [], ◌∷◌, ◌++◌, refl, subst, ap, ◌∙◌, append_assoc, length, take, get_or}
 use Rattle.std.proofs.lemmas.List.{take_more}
-use Rattle.unit_answers.specs.declared.reply.Reply.{Reply}
+use Rattle.judgement.specs.declared.reply.Reply.{Reply}
 use Rattle.logical_unit.specs.UnitView.{UnitView}
 use Rattle.target_core.specs.declared.event.Event.{Event}
 use Rattle.target_core.specs.Run.{Steps, Runs}

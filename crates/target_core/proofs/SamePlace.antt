@@ -2,8 +2,8 @@
 use Rattle.std.proofs.Common.{◌≡◌, ℕ, Bool, true, false, List, Option, inl, inr, ap, ◌∙◌}
 use Rattle.scsi_nexus.specs.declared.nexus.Nexus.{Nexus}
 use Rattle.unit_attention.specs.Queues.{has_slot}
-use Rattle.unit_answers.specs.declared.reply.Reply.{Reply}
-use Rattle.unit_state.specs.KeptView.{KeptView}
+use Rattle.judgement.specs.declared.reply.Reply.{Reply}
+use Rattle.judgement.specs.KeptView.{KeptView}
 use Rattle.logical_unit.specs.UnitView.{UnitView}
 use Rattle.logical_unit.specs.Step.{Executes, LosesAs, IsLost, IsReset}
 use Rattle.logical_unit.proofs.History.{executes_stays}

@@ -1,9 +1,3 @@
 pub mod Faults
 pub mod Run
 pub mod Laws
-pub mod Headline
-pub mod Rows
-pub mod Failures
-pub mod Volumes
-pub mod LibraryRows
-pub mod Cartridges

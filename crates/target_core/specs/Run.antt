@@ -4,9 +4,9 @@ use Rattle.scsi_nexus.specs.declared.nexus.Nexus.{Nexus}
 use Rattle.scsi_sense.specs.declared.condition.Condition.TheVariants.{LogicalUnitNotSupported}
 use Rattle.audit_log.specs.declared.record.Record.{Record}
 use Rattle.device_server.specs.View.{drives_of}
-use Rattle.unit_answers.specs.declared.reply.Reply.{Reply}
+use Rattle.judgement.specs.declared.reply.Reply.{Reply}
 use Rattle.logical_unit.specs.Legal.{IsTrail}
-use Rattle.unit_answers.specs.Replies.{AnswersAbsent, check}
+use Rattle.judgement.specs.Replies.{AnswersAbsent, check}
 use Rattle.logical_unit.specs.Step.{Executes, IsLost, IsReset, drained}
 use Rattle.logical_unit.specs.Move.{TwoDrives, MovesOne, MovesTwo}
 use Rattle.logical_unit.specs.Route.{named}

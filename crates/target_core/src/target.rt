@@ -252,7 +252,7 @@ fn drain<D: DeviceServer>(
 
 impl<D: DeviceServer> TargetCore<D> {
     ghost use Rattle.std.specs.Prelude.{◌≡◌, List, ◌++◌, Some, None, OnOk, OnErr, IfOk, IfErr};
-    ghost use Rattle.unit_answers.specs.declared.reply.Reply.{Reply};
+    ghost use Rattle.judgement.specs.declared.reply.Reply.{Reply};
     ghost use Rattle.target_core.specs.Faults.{fault_of};
     ghost use Rattle.std.specs.Global.{Vec};
     ghost use Rattle.std.specs.Option.{option_map};

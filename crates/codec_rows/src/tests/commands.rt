@@ -1,7 +1,5 @@
-use scsi_cdb::{
-    CdbFault, Class, InServiceAction, Kind, OutServiceAction, Request, cdb_length, class, decode,
-    encode,
-};
+use permit_tables::{Class, OutServiceAction};
+use scsi_cdb::{CdbFault, InServiceAction, Kind, Request, cdb_length, class, decode, encode};
 
 const READ_KEYS: Request = Request::PersistentReserveIn {
     service_action: InServiceAction::ReadKeys,

@@ -1,5 +1,4 @@
-use permit_tables::*;
-use scsi_cdb::Class;
+use permit_tables::{Class, *};
 use std::test::Fail;
 
 #[test]

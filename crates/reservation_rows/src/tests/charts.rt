@@ -1,5 +1,5 @@
 use permission_chart::{Chart, class_named, write_cells};
-use scsi_cdb::Class;
+use permit_tables::Class;
 use std::test::Fail;
 
 const WHOLE: &str = "\

@@ -1,8 +1,7 @@
 mod lists;
 
-use permit_tables::ResType;
+use permit_tables::{OutServiceAction, ResType};
 use pr_params::*;
-use scsi_cdb::OutServiceAction;
 use scsi_nexus::Nexus;
 use std::test::Fail;
 

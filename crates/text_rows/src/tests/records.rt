@@ -1,8 +1,6 @@
 use audit_log::*;
-use permit_tables::{Cell, ResType, Role};
-use pr_core::KeyRule;
+use permit_tables::{Cell, Class, KeyRule, OutServiceAction, ResType, Role};
 use pr_params::read_out;
-use scsi_cdb::{Class, OutServiceAction};
 use scsi_nexus::Nexus;
 use scsi_sense::{Condition, Sense, Status};
 use std::alloc::{AllocError, Global};

@@ -3,7 +3,7 @@ use Rattle.audit_log.specs.declared.record.Record.{Record}
 use Rattle.device_server.specs.View.{drives_of}
 use Rattle.logical_unit.specs.Route.{named}
 use Rattle.logical_unit.specs.UnitView.{last_number}
-use Rattle.unit_commands.specs.Commands.{act_of}
+use Rattle.judgement.specs.Commands.{act_of}
 use Rattle.scsi_cdb.specs.declared.kind.Kind.TheVariants.{Changer}
 use Rattle.kept_unit.specs.Answers.{count_at}
 use Rattle.kept_unit.specs.Deeds.{deed_of, deed_if}

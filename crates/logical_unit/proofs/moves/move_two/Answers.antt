@@ -1,5 +1,5 @@
 use Rattle.std.proofs.Common.{[], ◌∷◌, Some, None, inl, sym, ap, ◌∙◌, refl}
-use Rattle.unit_answers.specs.declared.reply.Reply.{Reply}
+use Rattle.judgement.specs.declared.reply.Reply.{Reply}
 use Rattle.logical_unit.specs.UnitView.{UnitWithRoom, last_number}
 use Rattle.logical_unit.proofs.MoveBusy.{answered_lacks}
 use Rattle.logical_unit.proofs.Numbers.{noted, answered_noted, ends_noted, joined_two, unmoved_two, drive_noted}

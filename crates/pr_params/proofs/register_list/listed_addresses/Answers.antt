@@ -2,7 +2,7 @@ use Rattle.std.proofs.Common.{arith, ap, sym, ◌∙◌, map, cond, None, Some}
 use Rattle.std.specs.List.{list_all}
 use Rattle.scsi_nexus.specs.TransportId.{sas_address}
 use Rattle.pr_params.specs.Lists.{is_sas}
-use Rattle.pr_params.specs.declared.list_fault.ListDefect.TheVariants.{TransportId}
+use Rattle.permit_tables.specs.declared.list_defect.ListDefect.TheVariants.{TransportId}
 use Rattle.pr_params.proofs.IdLaws.{ids-listed, defect-listed}
 use Rattle.pr_params.proofs.register_list.listed_addresses.Goals as goal
 

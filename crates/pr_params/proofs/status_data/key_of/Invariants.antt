@@ -1,5 +1,5 @@
 use Rattle.std.proofs.Common.{◌≡◌, drop}
-use Rattle.pr_params.specs.Status.{key_in}
+use Rattle.permit_tables.specs.Pairs.{key_in}
 use Rattle.pr_params.proofs.status_data.key_of.Given as goal
 
 -- none of the registrations so far is the nexus's

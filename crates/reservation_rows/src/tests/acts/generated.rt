@@ -4,10 +4,8 @@
 ghost use Rattle.std.specs.Prelude.{◌<◌};
 
 use arrayvec::ArrayVec;
-use permit_tables::ResType;
+use permit_tables::{OutParams, OutServiceAction, ResType};
 use pr_core::{list_targets, *};
-use pr_params::OutParams;
-use scsi_cdb::OutServiceAction;
 use scsi_nexus::Nexus;
 use std::alloc::Global;
 use std::process::Abort;

@@ -1,8 +1,7 @@
 use arrayvec::ArrayVec;
-use permit_tables::{ResType, Role};
+use permit_tables::{OutParams, OutServiceAction, ResType, Role};
 use pr_core::*;
-use pr_params::{OutParams, read_out, write_full_status, write_keys, write_reservation};
-use scsi_cdb::OutServiceAction;
+use pr_params::{read_out, write_full_status, write_keys, write_reservation};
 use scsi_nexus::{Nexus, NexusList};
 use std::process::Abort;
 use std::test::Fail;

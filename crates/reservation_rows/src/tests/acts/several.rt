@@ -3,10 +3,9 @@
 use super::rows::{
     A, Answer, B, B_IS_TOLD, C, DONE, Row, Sent, after, assert_held, keys_of, send_all,
 };
-use permit_tables::ResType;
+use permit_tables::{OutServiceAction, ResType};
 use pr_core::*;
 use pr_params::{ListLengthFault, read_out, write_keys};
-use scsi_cdb::OutServiceAction;
 use scsi_nexus::Nexus;
 use std::process::Abort;
 use std::test::Fail;

@@ -1,7 +1,7 @@
 use super::B;
 use arrayvec::ArrayVec;
-use pr_params::{ListDefect, ListLengthFault, OutParams, TARGETS, read_out};
-use scsi_cdb::OutServiceAction;
+use permit_tables::{ListDefect, OutParams, OutServiceAction, TARGETS};
+use pr_params::{ListLengthFault, read_out};
 use std::alloc::{AllocError, Global};
 use std::test::Fail;
 

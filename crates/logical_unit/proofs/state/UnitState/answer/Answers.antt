@@ -1,5 +1,5 @@
 use Rattle.std.proofs.Common.{rules, ◌≡◌, true, sym, subst}
-use Rattle.unit_state.specs.Kept.{has_room}
+use Rattle.judgement.specs.Kept.{has_room}
 use Rattle.logical_unit.specs.UnitView.{StateView}
 use Rattle.logical_unit.proofs.Plain.{IsPlainIf, spelled_plain}
 use Rattle.logical_unit.proofs.Legal.{answered_stands}

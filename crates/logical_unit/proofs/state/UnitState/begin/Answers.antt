@@ -3,9 +3,9 @@ use Rattle.scsi_cdb.specs.declared.kind.Kind.{Kind}
 use Rattle.device_server.specs.View.{kind_of}
 use Rattle.judgement.specs.Judge.{judged_as}
 use Rattle.judgement.specs.Present.{Present}
-use Rattle.unit_commands.specs.Commands.{spelled, act_of, act_of_spelled}
-use Rattle.unit_state.specs.Kept.{has_room, met}
-use Rattle.unit_state.specs.KeptView.{KeptView}
+use Rattle.judgement.specs.Commands.{spelled, act_of, act_of_spelled}
+use Rattle.judgement.specs.Kept.{has_room, met}
+use Rattle.judgement.specs.KeptView.{KeptView}
 use Rattle.logical_unit.specs.Begun.{IsLeft}
 use Rattle.logical_unit.specs.UnitView.{StateView, unit_of}
 use Rattle.logical_unit.proofs.Left.{Opens, opens}

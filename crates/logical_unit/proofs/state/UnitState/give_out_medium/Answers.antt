@@ -1,6 +1,6 @@
 use Rattle.std.proofs.Common.{◌≡◌, false, sym, subst}
 use Rattle.logical_unit.specs.UnitView.{StateView}
-use Rattle.unit_state.specs.Kept.{is_prevented}
+use Rattle.judgement.specs.Kept.{is_prevented}
 use Rattle.logical_unit.proofs.Legal.{medium_out_stands}
 use Rattle.logical_unit.proofs.state.UnitState.give_out_medium.Goals as goal
 

@@ -1,5 +1,0 @@
-use Rattle.logical_unit.proofs.Shown.{trail_shows}
-use Rattle.logical_unit.proofs.laws.trail_shows_history.Goals as goal
-
-pub returns : goal.returns
-returns c = trail_shows

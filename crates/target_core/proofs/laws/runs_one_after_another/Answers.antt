@@ -1,5 +1,0 @@
-use Rattle.target_core.proofs.Runs.{Runs-append}
-use Rattle.target_core.proofs.laws.runs_one_after_another.Goals as goal
-
-pub returns : goal.returns
-returns c = Runs-append

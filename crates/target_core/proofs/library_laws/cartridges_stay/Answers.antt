@@ -1,5 +1,0 @@
-use Rattle.target_core.proofs.CartridgeSteps.{cartridges_stay}
-use Rattle.target_core.proofs.library_laws.cartridges_stay.Goals as goal
-
-pub returns : goal.returns
-returns c = cartridges_stay

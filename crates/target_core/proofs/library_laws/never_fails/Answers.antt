@@ -1,5 +1,0 @@
-use Rattle.target_core.proofs.NoFailures.{never_fails}
-use Rattle.target_core.proofs.library_laws.never_fails.Goals as goal
-
-pub returns : goal.returns
-returns c = never_fails

@@ -1,0 +1,16 @@
+pub mod Parts
+pub mod Served
+pub mod Row
+pub mod Sending
+pub mod EventRows
+pub mod Devices
+pub mod CommandWays
+pub mod Agreement
+pub mod StaysTarget
+pub mod NoFailures
+pub mod VolumePlaces
+pub mod VolumeCarries
+pub mod VolumeSteps
+pub mod MovedRun
+pub mod CartridgeDevices
+pub mod CartridgeSteps

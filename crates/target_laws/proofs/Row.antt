@@ -1,0 +1,109 @@
+-- The worked run, by computing. The drive takes all commands, beside a changer.
+use Rattle.std.proofs.Common.{◌≡◌, ℕ, zero, suc, ◌+◌, ◌^◌, Bool, true, false, ◌&&◌, ltb, List, [], ◌∷◌, ◌++◌, inr, refl, ap, ◌∙◌, take}
+use Rattle.std.proofs.lemmas.Bool.{ltb-true}
+use Rattle.scsi_cdb.specs.Commands as cdb
+use Rattle.scsi_cdb.specs.declared.kind.Kind.{Kind}
+use Rattle.tape_medium.specs.declared.volume.VolumeTag.{VolumeTag}
+use Rattle.pr_core.specs.State.{keys_after}
+use Rattle.device_server.specs.View.{kind_of}
+use Rattle.judgement.specs.declared.reply.Reply.{Reply}
+use Rattle.judgement.specs.History.{Accepted, accepted_by, after_history}
+use Rattle.judgement.specs.Kept.{has_room}
+use Rattle.logical_unit.specs.Step.{answered}
+use Rattle.logical_unit.specs.UnitView.{UnitView, last_number}
+use Rattle.target_core.specs.declared.event.Event.{Event}
+use Rattle.target_core.specs.declared.event.Event.TheVariants as event
+use Rattle.target_core.specs.Run.{Runs, Steps}
+use Rattle.target_core.specs.Laws.{accepted_at, accepted_in}
+use Rattle.target_laws.specs.Headline.{by_history}
+use Rattle.target_laws.specs.Rows.{Sent, Sends, AllSend, sent, changer, drive, IsWorked}
+
+-- the replies of one unit, and the unit in the end
+abbrev replies_of : UnitView → List Sent → List Reply
+replies_of u [] = []
+replies_of u (s ∷ l) = (answered u s.0 s.1 s.2).1 ∷ replies_of (answered u s.0 s.1 s.2).0 l
+
+abbrev last_of : UnitView → List Sent → UnitView
+last_of u [] = u
+last_of u (s ∷ l) = last_of (answered u s.0 s.1 s.2).0 l
+
+-- whether there is always room, and a number
+abbrev is_open : UnitView → List Sent → Bool
+is_open u [] = true
+is_open u (s ∷ l) = has_room u.kept s.0 && (ltb (last_number u + 1) (2 ^ 64) && is_open (answered u s.0 s.1 s.2).0 l)
+
+and_left : (x y : Bool) → (x && y) ≡ true → x ≡ true
+and_left true y e = refl
+and_left false y e = absurd cc
+
+and_right : (x y : Bool) → (x && y) ≡ true → y ≡ true
+and_right true y e = e
+and_right false y e = absurd cc
+
+-- the history that commands add at one unit
+abbrev added : Kind → List Sent → List Reply → List Accepted
+added kind (s ∷ l) (r ∷ rs) = accepted_by kind s.0 s.1 s.2 r.status ++ added kind l rs
+added kind l rs = []
+
+step : (u : UnitView) (e : Event) (s : Sent) → Sends e s → has_room u.kept s.0 ≡ true → ltb (last_number u + 1) (2 ^ 64) ≡ true → Steps (changer ∷ u ∷ []) e (changer ∷ (answered u s.0 s.1 s.2).0 ∷ [], (answered u s.0 s.1 s.2).1)
+step u (event.Command n lun cdb bytes) s h room number =
+    let x = answered u s.0 s.1 s.2 in
+    rw (h.0, h.1, h.2, h.3) (record { unit = x.0; step = inr (room, ltb-true (last_number u + 1) (2 ^ 64) number, refl); units = refl })
+step u (event.Loss n lun) s h room number = absurd h
+step u (event.Reset lun) s h room number = absurd h
+
+runs : (u : UnitView) (es : List Event) (l : List Sent) → AllSend es l → is_open u l ≡ true → Runs (changer ∷ u ∷ []) es (replies_of u l) (changer ∷ last_of u l ∷ [])
+runs u [] [] h opens = refl
+runs u (e ∷ es) (s ∷ l) h opens =
+    let x = answered u s.0 s.1 s.2 in
+    let room = has_room u.kept s.0 in
+    let number = ltb (last_number u + 1) (2 ^ 64) in
+    let rest = is_open x.0 l in
+    let after = and_right room (number && rest) opens in
+    (changer ∷ x.0 ∷ [], step u e s h.0 (and_left room (number && rest) opens) (and_left number rest after), runs x.0 es l h.1 (and_right number rest after))
+runs u [] (s ∷ l) h opens = absurd h
+runs u (e ∷ es) [] h opens = absurd h
+
+one : (kind : Kind) (e : Event) (s : Sent) (r : Reply) → Sends e s → accepted_at kind 1 e r ≡ accepted_by kind s.0 s.1 s.2 r.status
+one kind (event.Command n lun cdb bytes) s r h = rw (h.0, h.1, h.2, h.3) refl
+one kind (event.Loss n lun) s r h = absurd h
+one kind (event.Reset lun) s r h = absurd h
+
+adds : (kind : Kind) (k : ℕ) (es : List Event) (l : List Sent) (rs : List Reply) → AllSend es l → accepted_in kind 1 (take k es) rs ≡ added kind (take k l) rs
+adds kind zero es l rs h = refl
+adds kind (suc k) [] [] rs h = refl
+adds kind (suc k) (e ∷ es) (s ∷ l) [] h = refl
+adds kind (suc k) (e ∷ es) (s ∷ l) (r ∷ rs) h = ap (λ (x : List Accepted). x ++ accepted_in kind 1 (take k es) rs) (one kind e s r h.0) ∙ ap (λ (x : List Accepted). accepted_by kind s.0 s.1 s.2 r.status ++ x) (adds kind k es l rs h.1)
+adds kind (suc k) [] (s ∷ l) rs h = absurd h
+adds kind (suc k) (e ∷ es) [] rs h = absurd h
+
+is_open_sent : (tag : VolumeTag) → is_open (drive tag) sent ≡ true
+unfolding cdb.command_of keys_after
+is_open_sent tag = refl
+
+-- what stands before the k-th command
+module _ (tag : VolumeTag) (es : List Event) (h : AllSend es sent) where
+  by : (k : ℕ) → by_history (drive tag) 1 (take k es) (take k (replies_of (drive tag) sent)) ≡ after_history (drive tag).kept.reservations (added (kind_of (drive tag).device) (take k sent) (take k (replies_of (drive tag) sent)))
+  by k = ap (λ (x : List Accepted). after_history (drive tag).kept.reservations x) (adds (kind_of (drive tag).device) k es sent (take k (replies_of (drive tag) sent)) h)
+
+pub worked : (tag : VolumeTag) (es : List Event) → AllSend es sent → IsWorked tag es
+unfolding cdb.command_of keys_after
+worked tag es h = record {
+  replies = replies_of (drive tag) sent;
+  last = last_of (drive tag) sent;
+  run = runs (drive tag) es sent h (is_open_sent tag);
+  statuses = refl;
+  before_write = by tag es h 4;
+  before_own_write = by tag es h 5;
+  before_register = by tag es h 6;
+  before_read = by tag es h 7;
+  spells_write = refl;
+  denied = refl;
+  allowed = refl;
+  spells_register = refl;
+  broken = refl;
+  stages = refl;
+  rules = refl;
+  cells = refl;
+  shown = refl;
+}

@@ -1,0 +1,5 @@
+use Rattle.target_laws.proofs.Served.{served}
+use Rattle.target_laws.proofs.laws.headline.Goals as goal
+
+pub returns : goal.returns
+returns c = served

@@ -1,0 +1,94 @@
+-- The volumes of a target, each at its place: through every event of every run no volume is lost, doubled, made or exchanged for another. A
+-- place is an element of the changer, by its address (SMC-3, "Element addressing"); a data transfer element is the bay of its drive.
+use Rattle.std.specs.Prelude.{◌≡◌, ◌≢◌, ◌==◌, ◌&&◌, ◌+◌, ℕ, zero, Bool, true, false, List, [], ◌∷◌, ◌++◌, length, slice_get, Option, Some, None, Result, Ok, if◌then◌else◌}
+use Rattle.scsi_cdb.specs.declared.kind.Kind.TheVariants as kind
+use Rattle.scsi_cdb.specs.declared.request.Request.TheVariants.{MoveMedium}
+use Rattle.scsi_sense.specs.declared.condition.Condition.{Condition}
+use Rattle.tape_medium.specs.declared.volume.Volume.{Volume}
+use Rattle.device_server.specs.Volumes.{volume_at, SameCartridge, SameVolume, SameAt, is_write}
+use Rattle.judgement.specs.declared.reply.Reply.{Reply}
+use Rattle.judgement.specs.Commands.{spelled}
+use Rattle.judgement.specs.declared.command.Command.{Command}
+use Rattle.judgement.specs.declared.command.Command.TheVariants.{Device}
+use Rattle.judgement.specs.History.{is_good}
+use Rattle.logical_unit.specs.Route.{drive_at}
+use Rattle.logical_unit.specs.UnitView.{UnitView}
+use Rattle.target_core.specs.declared.event.Event.{Event}
+use Rattle.target_core.specs.declared.event.Event.TheVariants as event
+use Rattle.target_core.specs.Faults.{fault_of}
+use Rattle.target_core.specs.Run.{Steps, Runs}
+
+-- THE PLACES
+abbrev pub bay_of : Option UnitView → Option Volume
+bay_of None = None
+bay_of (Some drive) = volume_at drive.device 0
+
+abbrev pub volume_by : List UnitView → (changer : UnitView) → (address : ℕ) → (drive : Option ℕ) → Option Volume
+volume_by us changer address (Some lun) = bay_of (slice_get us lun)
+volume_by us changer address None = volume_at changer.device address
+
+-- the volume at an element of a target, a changer with its drives
+abbrev pub volume_in : List UnitView → (address : ℕ) → Option Volume
+volume_in [] address = None
+volume_in (c ∷ ds) address = volume_by (c ∷ ds) c address (drive_at (length ds) address)
+
+-- WHAT AN EVENT MAY CHANGE. A way from one element to another
+pub record Way : Type 0 where
+  pub source : ℕ
+  pub destination : ℕ
+
+abbrev pub way_of : Result Command Condition → Option Way
+way_of (Ok (Device (MoveMedium transport source destination invert))) = Some (record { source = source; destination = destination })
+way_of command = None
+
+-- the way that an event carried a volume: that of a MOVE MEDIUM to the changer that ended GOOD
+abbrev pub carried_by : Event → Reply → Option Way
+carried_by (event.Command n zero cdb bytes) r = if is_good r.status then way_of (spelled kind.Changer cdb.items bytes.items) else None
+carried_by e r = None
+
+abbrev pub lun_of : Event → ℕ
+lun_of (event.Command n lun cdb bytes) = lun
+lun_of (event.Loss n lun) = lun
+lun_of (event.Reset lun) = lun
+
+-- whether an event is to the drive at an element: logical unit n is at 00FFh + n (profile)
+abbrev pub is_to : Event → (address : ℕ) → Bool
+is_to e address = address == lun_of e + 0xFF
+
+abbrev pub writes : Result Command Condition → Bool
+writes (Ok (Device request)) = is_write request
+writes command = false
+
+-- whether an event writes on the tape of its drive: a WRITE, WRITE FILEMARKS or ERASE that ended GOOD
+abbrev pub is_written : Event → Reply → Bool
+is_written (event.Command n lun cdb bytes) r = is_good r.status && writes (spelled kind.Drive cdb.items bytes.items)
+is_written e r = false
+
+-- what stays the same of a volume: all of it, unless the event is to its drive; then all but where its tape stands, and but what is on it
+-- where that is written
+abbrev pub StaysSame : (to_its_drive written : Bool) → (before after : Volume) → Type 0
+StaysSame false written before after = after ≡ before
+StaysSame true false before after = SameVolume before after
+StaysSame true true before after = SameCartridge before after
+
+-- one volume was carried: it has left its source and stands at its destination, which was empty, the same volume; and every other element
+-- is as it was
+pub record IsCarried (before after : List UnitView) (way : Way) : Type 0 where
+  pub volume : Volume
+  pub full : volume_in before way.source ≡ Some volume
+  pub empty : volume_in before way.destination ≡ None
+  pub left : volume_in after way.source ≡ None
+  pub there : SameAt SameVolume (Some volume) (volume_in after way.destination)
+  pub others : (address : ℕ) → address ≢ way.source → address ≢ way.destination → volume_in after address ≡ volume_in before address
+
+-- one volume was carried, or at every element there is the same volume, or none, as before
+abbrev pub KeepsVolumes : (before after : List UnitView) → Event → Reply → Option Way → Type 0
+KeepsVolumes before after e r (Some way) = IsCarried before after way
+KeepsVolumes before after e r None = (address : ℕ) → SameAt (StaysSame (is_to e address) (is_written e r)) (volume_in before address) (volume_in after address)
+
+-- so it is of each event of each run of a target, from the units before it to those after it
+abbrev pub VolumesStay : Type 0
+VolumesStay =
+    (us vs : List UnitView) (before after : List Event) (rs qs : List Reply) (e : Event) (r : Reply) → fault_of us ≡ None → length rs ≡ length before
+    → Runs us (before ++ e ∷ after) (rs ++ r ∷ qs) vs
+    → (mid : List UnitView) × (next : List UnitView) × Runs us before rs mid × Steps mid e (next, r) × Runs next after qs vs × KeepsVolumes mid next e r (carried_by e r)

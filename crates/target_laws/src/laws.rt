@@ -1,0 +1,41 @@
+ghost use Rattle.target_laws.specs.Headline.{Headline};
+ghost use Rattle.target_laws.specs.Rows.{sent, IsSent, WorkedRun, BusyRuns, LossesAndResets, UnitsOfATarget, MarksOfATarget, MarksByTag};
+ghost use Rattle.std.specs.Global.{Global};
+ghost use Rattle.tape_medium.specs.declared.volume.VolumeTag.{VolumeTag};
+ghost use Rattle.target_core.specs.Laws.{AcceptedHistory, RunsJoin};
+
+/// In every run the registrations, the reservation and the generation of a unit are those of its
+/// accepted history: the PERSISTENT RESERVE OUT commands to it that ended GOOD, oldest first, taken
+/// one after another from what stood at first.
+pub fn accepted_history()
+    ensures { AcceptedHistory }
+{}
+
+/// A run of some events and then a run of others is a run of all of them.
+pub fn runs_one_after_another()
+    ensures { RunsJoin }
+{}
+
+/// In every run each command to a unit that is there is answered BUSY, with nothing changed, as it
+/// must be where no slot or no number is left, or is decided by what the accepted acts before it left
+/// at that unit, by the permission table and the rules on keys: RESERVATION CONFLICT comes exactly
+/// where they don't allow it, and changes nothing but the contact and the record.
+pub fn headline()
+    ensures { Headline }
+{}
+
+/// A run in which a command is denied, one allowed, and one barred by a rule on keys; runs that must be
+/// answered BUSY; losses and resets.
+pub fn worked_run()
+    ensures sent { (heap : Global) → IsSent sent }
+    ensures run { WorkedRun }
+    ensures busy { BusyRuns }
+    ensures events { (tag : VolumeTag) → LossesAndResets tag }
+{}
+
+/// Units that make a target, and why others don't.
+pub fn worked_units()
+    ensures units { UnitsOfATarget }
+    ensures marks { (tag : VolumeTag) → MarksOfATarget tag }
+    ensures tags { MarksByTag }
+{}

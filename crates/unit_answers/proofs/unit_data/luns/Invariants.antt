@@ -1,7 +1,0 @@
-use Rattle.std.proofs.Common.{◌≡◌, ◌∷◌, ◌++◌, ◌/◌, ◌%◌}
-use Rattle.std.specs.Prelude.{replicate}
-use Rattle.unit_answers.specs.UnitData.{luns_below}
-use Rattle.unit_answers.proofs.unit_data.luns.Given as goal
-
-abbrev pub invariant-loop-lun : goal.invariant-loop-lun
-invariant-loop-lun l = l.data.items ≡ 0 ∷ 0 ∷ (l.length / 256) ∷ (l.length % 256) ∷ (replicate 4 0 ++ luns_below l.lun)

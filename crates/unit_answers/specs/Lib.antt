@@ -1,4 +1,0 @@
-pub mod Conditions
-pub mod UnitData
-pub mod Replies
-pub mod Rows

@@ -1,0 +1,4 @@
+pub mod Check
+pub mod Rows
+pub mod MoveRows
+pub mod AuditRows

@@ -1,0 +1,116 @@
+ghost use Rattle.unit_laws.specs.Check.{ReservationCheck};
+ghost use Rattle.logical_unit.specs.History.{KeepsHistory, AnswersNoBusy};
+ghost use Rattle.logical_unit.specs.Legal.{ConflictsAtTheCheck, TrailHistory};
+
+/// A command that comes to the reservation check is carried out by its own rules exactly if its cell
+/// of the permission table and the rules on keys allow it; else it ends in RESERVATION CONFLICT, and
+/// the device, the registrations, the reservation and the generation stay as they were.
+pub fn reservation_check()
+    ensures { ReservationCheck }
+{}
+
+/// A command changes the registrations, the reservation and the generation exactly as an accepted
+/// PERSISTENT RESERVE OUT does; every other command, and a refused one, leaves them.
+pub fn accepted_commands()
+    ensures { KeepsHistory }
+{}
+
+/// What judgement answers is never BUSY itself: a command is BUSY only where it isn't judged.
+pub fn judged_is_not_busy()
+    ensures { AnswersNoBusy }
+{}
+
+/// In a legal trail a record has RESERVATION CONFLICT exactly if the reservation check decided it.
+pub fn conflicts_at_the_check()
+    ensures { ConflictsAtTheCheck }
+{}
+
+/// In a legal trail the registrations, the reservation and the generation now are those of the base and
+/// of the accepted history that the records show.
+pub fn trail_shows_history()
+    ensures { TrailHistory }
+{}
+
+ghost use Rattle.logical_unit.specs.Audit.{ShowsReservations, TrailsReplay};
+ghost use Rattle.unit_laws.specs.AuditRows.{AuditLines};
+
+/// In a legal trail the reservation in each line of `audit` is the one that the records before it leave of
+/// what was kept before the first, and what a record accepted is allowed and not refused where it stands;
+/// worked lines.
+pub fn audit_shows_reservations()
+    ensures lines { ShowsReservations }
+    ensures replay { TrailsReplay }
+    ensures rows { AuditLines }
+{}
+
+ghost use Rattle.logical_unit.specs.Move.{OneStays, TwoStay};
+
+/// A MOVE MEDIUM leaves the changer and each drive that it names the same unit: of the same kind and size, with
+/// its number, and with its registrations, its reservation and its generation.
+pub fn moves_keep_units()
+    ensures one { OneStays }
+    ensures two { TwoStay }
+{}
+
+ghost use Rattle.tape_medium.specs.declared.volume.VolumeTag.{VolumeTag};
+ghost use Rattle.unit_laws.specs.Rows.{AtTheCheck, Unloading, Sensing, FirstContact, Preventing, RefusedMedia, RefusedAsDue, IllegalRecords, LegalRecords};
+
+/// A command that the reservation check allows, one that it denies, and one that breaks a rule on keys.
+pub fn decided_at_the_check()
+    ensures { (tag : VolumeTag) → AtTheCheck tag }
+{}
+
+/// LOAD UNLOAD where removal is prevented, and PREVENT ALLOW MEDIUM REMOVAL by each of its values.
+pub fn preventions()
+    ensures unloading { (tag : VolumeTag) → Unloading tag }
+    ensures preventing { (tag : VolumeTag) → Preventing tag }
+{}
+
+/// What REQUEST SENSE clears, and what a first contact leaves.
+pub fn attentions()
+    ensures sensing { (tag : VolumeTag) → Sensing tag }
+    ensures contact { (tag : VolumeTag) → FirstContact tag }
+{}
+
+/// Volumes that aren't taken out, or put in.
+pub fn refused_media()
+    ensures faults { (tag : VolumeTag) → RefusedMedia tag }
+    ensures due { (tag : VolumeTag) → RefusedAsDue tag }
+{}
+
+/// Records that stand in a legal trail, and records that don't.
+pub fn legal_and_illegal_records()
+    ensures legal { LegalRecords }
+    ensures illegal { IllegalRecords }
+{}
+
+ghost use Rattle.unit_laws.specs.MoveRows.{NamedDrives, IntoADrive, OutOfAReservedDrive, CarriedOrNot, MemoryOfCommands, RefusedMoves, AtAHeldChanger, BetweenDrives, NumbersOfRecords};
+
+/// The drives that a MOVE MEDIUM names.
+pub fn named_drives()
+    ensures { NamedDrives }
+{}
+
+/// A MOVE MEDIUM into a drive, out of one whatever its reservation, and from one into another.
+pub fn carried_volumes()
+    ensures into { IntoADrive }
+    ensures out { OutOfAReservedDrive }
+    ensures between { BetweenDrives }
+{}
+
+/// Which moves with a drive carry a volume, and which of the device's commands takes no memory.
+pub fn carried_or_not()
+    ensures moves { CarriedOrNot }
+    ensures memory { MemoryOfCommands }
+{}
+
+/// Moves that are refused for what is at the drive or at the changer, with no volume moved.
+pub fn refused_moves()
+    ensures drives { RefusedMoves }
+    ensures changer { AtAHeldChanger }
+{}
+
+/// The numbers of the records that a move leaves.
+pub fn numbers_of_records()
+    ensures { NumbersOfRecords }
+{}

@@ -1,3 +1,0 @@
-pub mod KeptView
-pub mod Kept
-pub mod Readings
