@@ -1,4 +1,5 @@
-//! Worked rows of bytes: commands, sense data, identifiers of nexuses and frames, read and written.
+//! Worked rows of bytes and texts that no script shows: encodings, frames, tables and their chart, generated reservations, records, and
+//! lines of scripts.
 #![tactic(auto)]
 
 #[cfg(test)]

@@ -1,4 +1,12 @@
+mod cells;
+mod charts;
 mod commands;
+mod generated;
 mod nexuses;
+mod options;
+mod parameters;
+mod records;
+mod scripts;
 mod sense;
 mod streams;
+mod words;

@@ -1,4 +1,5 @@
-//! Worked rows of the library at power on: scripts, with the replies and the records that they must have.
+//! Worked rows of tapes and elements, of the drives and changers that have them, of the units and targets made of these, and
+//! of replays, as far as no case of `script_cases` can say them.
 #![tactic(auto)]
 
 #[cfg(test)]

@@ -1,0 +1,179 @@
+//! Both bodies over generated commands: what `PrState` shows is what the walk over the accepted acts
+//! shows.
+
+ghost use Rattle.std.specs.Prelude.{◌<◌};
+
+use arrayvec::ArrayVec;
+use permit_tables::ResType;
+use pr_core::{PrState, ReservationAct, Verdict, list_targets};
+use pr_laws::WalkedState;
+use pr_params::OutParams;
+use scsi_cdb::OutServiceAction;
+use scsi_nexus::Nexus;
+use std::alloc::Global;
+use std::process::Abort;
+use std::test::Fail;
+use unit_attention::Queues;
+
+/// Numbers that follow from a seed, by Knuth's linear congruence.
+#[derive(Drop)]
+struct Numbers(u64);
+
+impl Numbers {
+    /// The next number below a bound.
+    fn below(&mut self, bound: u64) -> u64
+        requires { 0 < bound }
+        ensures { result < bound }
+    {
+        let multiplied = self.0.wrapping_mul(6_364_136_223_846_793_005);
+        self.0 = multiplied.wrapping_add(1_442_695_040_888_963_407);
+        (self.0 >> 33) % bound
+    }
+
+    fn nexus(&mut self) -> Nexus {
+        Nexus {
+            sas: 10 + self.below(3),
+            port: if self.below(2) == 0 { 1 } else { 2 },
+        }
+    }
+
+    fn act(&mut self) -> OutServiceAction {
+        match self.below(12) {
+            0 | 1 | 2 => OutServiceAction::Register,
+            3 | 4 => OutServiceAction::Reserve,
+            5 => OutServiceAction::Release,
+            6 => OutServiceAction::Clear,
+            7 | 8 => OutServiceAction::Preempt,
+            9 => OutServiceAction::PreemptAndAbort,
+            10 => OutServiceAction::RegisterAndIgnoreExistingKey,
+            _ => OutServiceAction::RegisterAndMove,
+        }
+    }
+
+    /// A byte of scope and type, seldom an unknown one.
+    fn scope_type(&mut self) -> u8 {
+        match self.below(8) {
+            0 => 0x01,
+            1 => 0x03,
+            2 => 0x05,
+            3 => 0x06,
+            4 => 0x07,
+            5 => 0x08,
+            6 => 0x07,
+            _ => 0x12,
+        }
+    }
+
+    /// A command, mostly with its sender's key and mostly with the type that is held.
+    fn command(&mut self, state: &PrState, sender: Nexus) -> OutParams {
+        let rk = if self.below(8) == 0 {
+            self.below(4)
+        } else {
+            state.key_of(sender)
+        };
+        let scope_type = match state.reservation() {
+            Some((res_type, _)) if self.below(2) == 0 => res_type.code(),
+            Some(_) | None => self.scope_type(),
+        };
+        let act = self.act();
+        let registers = matches!(
+            act,
+            OutServiceAction::Register | OutServiceAction::RegisterAndIgnoreExistingKey
+        );
+        let mut targets = ArrayVec::new();
+        let listed = registers && self.below(4) == 0;
+        if listed {
+            targets.push(10 + self.below(3));
+            targets.push(10 + self.below(3));
+        }
+        OutParams {
+            rk,
+            sark: self.below(4),
+            dest: Some(self.nexus()),
+            act,
+            scope_type,
+            unreg: self.below(2) == 0,
+            defect: None,
+            all_ports: registers && self.below(3) == 0,
+            listed,
+            targets,
+        }
+    }
+}
+
+/// Sends a command, and walks on where its act was accepted. Whether it was carried out.
+fn sent(
+    alloc: Global,
+    state: &mut PrState,
+    walked: &mut WalkedState,
+    sender: Nexus,
+    params: &OutParams,
+) -> Result<bool, Fail> {
+    match state.judge(sender, params) {
+        Verdict::Allowed => {
+            let mut named = ArrayVec::new();
+            list_targets(&mut named, sender, params);
+            let act = state.act_of(sender, params, named.as_slice());
+            if state.apply(sender, params, &mut Queues::new()).is_err() {
+                return Ok(false);
+            }
+            if let Some(act) = act {
+                *walked = walked.after(alloc, sender, act)?;
+            }
+            Ok(true)
+        }
+        Verdict::Denied(_) | Verdict::Rule(_) => Ok(false),
+    }
+}
+
+fn compare(rt: &impl Abort, state: &PrState, walked: &WalkedState) {
+    assert_eq!(rt; walked.registrations(), state.registrations());
+    assert_eq!(rt; walked.reservation(), state.reservation());
+    assert_eq!(rt; walked.generation(), state.generation());
+    for sas in 10..13 {
+        for port in 1..5 {
+            let nexus = Nexus { sas, port };
+            assert_eq!(rt; walked.key_of(nexus), state.key_of(nexus));
+            assert_eq!(rt; walked.role(nexus), state.role(nexus));
+        }
+    }
+}
+
+#[test]
+fn both_bodies_agree_over_generated_commands(rt: HostRuntime) -> Result<(), Fail> {
+    let mut numbers = Numbers(1);
+    let mut carried_out = 0u32;
+    for _ in 0..50 {
+        let mut state = PrState::new();
+        let mut walked = WalkedState::after_all(rt.alloc(), &[])?;
+        for _ in 0..80 {
+            let sender = numbers.nexus();
+            let params = numbers.command(&state, sender);
+            if sent(rt.alloc(), &mut state, &mut walked, sender, &params)? {
+                carried_out = carried_out.saturating_add(1);
+            }
+            compare(&rt, &state, &walked);
+        }
+    }
+    assert!(rt; carried_out > 1000, "{carried_out}");
+    Ok(())
+}
+
+#[test]
+fn both_bodies_agree_over_a_shared_key(rt: HostRuntime) -> Result<(), Fail> {
+    let first = Nexus { sas: 10, port: 1 };
+    let second = Nexus { sas: 11, port: 1 };
+    let alone = [first];
+    let both = [second, first];
+    let acts = [
+        (first, ReservationAct::Register(7, &alone)),
+        (second, ReservationAct::Register(7, &both)),
+        (first, ReservationAct::Reserve(ResType::Ea)),
+        (second, ReservationAct::Preempt(7, 0x05)),
+    ];
+    let walked = WalkedState::after_all(rt.alloc(), &acts)?;
+    assert_eq!(rt; walked.registrations(), [(second, 7)].as_slice());
+    assert_eq!(rt; walked.reservation(), Some((ResType::Wero, second)));
+    assert_eq!(rt; walked.generation(), 3);
+    Ok(())
+}

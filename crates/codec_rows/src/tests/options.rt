@@ -1,0 +1,44 @@
+use program_options::{OptionFault, Term, nexus_of};
+use scsi_nexus::Nexus;
+use std::test::Fail;
+
+#[test]
+fn reads_the_address_of_a_host(rt: HostRuntime) -> Result<(), Fail> {
+    let a = Nexus {
+        sas: 0x5000_0000_0000_000A,
+        port: 4,
+    };
+    let rows = [
+        ("small letters", "500000000000000a", Ok(a)),
+        ("capital letters", "500000000000000A", Ok(a)),
+        ("no digits", "", Err(OptionFault::BadNexus)),
+        ("15 digits", "50000000000000a", Err(OptionFault::BadNexus)),
+        ("17 digits", "5000000000000000a", Err(OptionFault::BadNexus)),
+        (
+            "another letter",
+            "500000000000000g",
+            Err(OptionFault::BadNexus),
+        ),
+        ("a prefix", "0x0000000000000a", Err(OptionFault::BadNexus)),
+        ("a port", "500000000000000a.1", Err(OptionFault::BadNexus)),
+    ];
+    for (name, hex, nexus) in rows {
+        assert_eq!(rt; nexus_of(hex, 4), nexus, "{name}");
+    }
+    Ok(())
+}
+
+#[test]
+fn tells_a_bad_nexus(rt: HostRuntime) -> Result<(), Fail> {
+    let bad = OptionFault::BadNexus.to_string(rt.alloc())?;
+    assert_eq!(rt; bad.as_str(), "vtl: bad nexus");
+    Ok(())
+}
+
+#[test]
+fn serves_by_so_many_workers(rt: HostRuntime) {
+    let rows = [(Term::Sessions(3), 3, 3), (Term::InputEnds(5), 5, u64::MAX)];
+    for (term, workers, sessions) in rows {
+        assert_eq!(rt; (term.workers(), term.sessions()), (workers, sessions));
+    }
+}

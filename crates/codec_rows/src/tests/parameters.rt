@@ -1,0 +1,23 @@
+use pr_params::read_out;
+use scsi_cdb::OutServiceAction;
+use std::test::Fail;
+
+/// A REGISTER list with SPEC_I_PT, key 7 and the SAS address 500000000000000Ch.
+const LISTING: [u8; 52] = [
+    0, 0, 0, 0, 0, 0, 0, 0, 0, 0, 0, 0, 0, 0, 0, 7, 0, 0, 0, 0, 8, 0, 0, 0, 0, 0, 0, 0x18, 6, 0, 0,
+    0, 0x50, 0, 0, 0, 0, 0, 0, 0x0c, 0, 0, 0, 0, 0, 0, 0, 0, 0, 0, 0, 0,
+];
+
+#[test]
+fn keeps_a_command_with_its_addresses(rt: HostRuntime) -> Result<(), Fail> {
+    let Ok(params) = read_out(OutServiceAction::Register, 0, 52, &LISTING) else {
+        return Err("a wrong length".into());
+    };
+    let kept = params.keep(rt.alloc())?;
+    assert_eq!(rt; kept.act(), OutServiceAction::Register);
+    assert_eq!(rt; kept.open(), params);
+    let text = format!(in rt.alloc(); "{kept:?}")?;
+    assert!(rt; text.contains("sark: 7"));
+    assert!(rt; text.contains("targets: [5764607523034234892]"));
+    Ok(())
+}

@@ -1,4 +1,0 @@
-mod changers;
-mod drives;
-mod elements;
-mod tapes;

@@ -1,0 +1,112 @@
+use super::TAG;
+use element_map::Elements;
+use std::alloc::{AllocError, Global};
+use std::test::Fail;
+use tape_medium::{MapFault, Tape, Volume, VolumeTag};
+
+fn volume(alloc: Global, tag: VolumeTag) -> Volume {
+    Volume {
+        tag,
+        protected: false,
+        tape: Tape::new(alloc, 10),
+    }
+}
+
+/// One drive, two storage elements, a volume in the first of these.
+fn one_drive(alloc: Global) -> Result<Elements, AllocError> {
+    let mut elements = Elements::new(alloc, 1, 2, 0)?;
+    let _ = elements.put(0x400, volume(alloc, TAG));
+    Ok(elements)
+}
+
+/// Two drives, the second with a volume, three storage elements, two import/export elements, the second full.
+fn of_all_types(alloc: Global) -> Result<Elements, AllocError> {
+    let mut elements = Elements::new(alloc, 2, 3, 2)?;
+    let _ = elements.mark(0x101, Some(TAG));
+    let _ = elements.put(0x201, volume(alloc, TAG));
+    Ok(elements)
+}
+
+#[test]
+fn status_of_a_type_that_there_is_not_is_a_header_of_zeros(rt: HostRuntime) -> Result<(), Fail> {
+    let elements = of_all_types(rt.alloc())?;
+    let status = elements.status(rt.alloc(), 5, 0, 9, true)?;
+    assert_eq!(rt; status.as_slice(), [0; 8].as_slice());
+    Ok(())
+}
+
+fn read(elements: &Elements, address: u16) -> Result<Option<VolumeTag>, MapFault> {
+    elements.read(address)
+}
+
+/// A volume that goes into a drive leaves the elements.
+#[test]
+fn moves_no_volume_into_a_drive(rt: HostRuntime) -> Result<(), Fail> {
+    let mut elements = one_drive(rt.alloc())?;
+    let moved = elements.move_volume(0x400, 0x100);
+    assert_eq!(rt; moved, Err(MapFault::BadAddress));
+    assert_eq!(rt; read(&elements, 0x400), Ok(Some(TAG)));
+    Ok(())
+}
+
+#[test]
+fn full_element_hands_back_the_same_volume(rt: HostRuntime) -> Result<(), Fail> {
+    let mut elements = one_drive(rt.alloc())?;
+    let other = VolumeTag([b'Z'; 32]);
+    match elements.put(0x400, volume(rt.alloc(), other)) {
+        Ok(()) => assert!(rt; false),
+        Err((volume, fault)) => {
+            assert_eq!(rt; (volume.tag, fault), (other, MapFault::DestinationFull));
+        }
+    }
+    assert_eq!(rt; read(&elements, 0x400), Ok(Some(TAG)));
+    Ok(())
+}
+
+/// The tag of what is taken out of an element.
+fn taken(elements: &mut Elements, address: u16) -> Result<VolumeTag, MapFault> {
+    match elements.take(address) {
+        Ok(volume) => Ok(volume.tag),
+        Err(fault) => Err(fault),
+    }
+}
+
+/// What it shows, an address, and what is in the element.
+type Held = (&'static str, u16, Result<Option<VolumeTag>, MapFault>);
+
+const HELD: [Held; 5] = [
+    ("the transport", 0, Ok(None)),
+    ("an empty drive", 0x100, Ok(None)),
+    ("a drive", 0x101, Ok(Some(TAG))),
+    ("no drive", 0x102, Err(MapFault::BadAddress)),
+    ("an import/export element", 0x201, Ok(Some(TAG))),
+];
+
+/// What it shows, an address, and why nothing is taken out of the element.
+type Kept = (&'static str, u16, MapFault);
+
+const KEPT: [Kept; 3] = [
+    ("the transport", 0, MapFault::BadAddress),
+    ("a drive", 0x101, MapFault::BadAddress),
+    ("an empty element", 0x400, MapFault::SourceEmpty),
+];
+
+#[test]
+fn takes_and_reads(rt: HostRuntime) -> Result<(), Fail> {
+    let mut elements = of_all_types(rt.alloc())?;
+    assert_eq!(rt; elements.drives(), 2);
+    for row in &HELD {
+        let (shows, address, tag) = *row;
+        assert_eq!(rt; read(&elements, address), tag, "{shows}");
+    }
+    for row in &KEPT {
+        let (shows, address, fault) = *row;
+        assert_eq!(rt; taken(&mut elements, address), Err(fault), "{shows}");
+    }
+    assert_eq!(rt; taken(&mut elements, 0x201), Ok(TAG));
+    assert_eq!(rt; read(&elements, 0x201), Ok(None));
+    assert_eq!(rt; elements.mark(0x100, Some(TAG)), Ok(()));
+    let marked = elements.mark(0x400, Some(TAG));
+    assert_eq!(rt; marked, Err(MapFault::BadAddress));
+    Ok(())
+}

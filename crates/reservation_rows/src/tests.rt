@@ -1,4 +1,0 @@
-mod acts;
-mod cells;
-mod charts;
-mod parameters;

@@ -1,3 +1,0 @@
-mod generated;
-mod rows;
-mod several;

@@ -1,0 +1,106 @@
+ghost use Rattle.command_line.specs.Tasks.{MakesLibrary};
+
+use crate::case_fault::CaseFault;
+use command_line::{Task, task_of};
+use command_line_fault::CommandLineFault;
+use program_options::LibraryOptions;
+use replay::{ReplayFault, replay};
+use replay_output::{Audit, Explanations};
+use std::alloc::{AllocError, Global};
+use std::io;
+use stocked_library::library;
+
+/// The most reads of a script.
+const TURNS: u64 = 0xFFFF_FFFF;
+
+/// A script and the heading that names it.
+#[derive(Drop)]
+pub(crate) struct Case {
+    /// The name, and behind it the options as `vtl replay` takes them.
+    heading: String,
+    /// Bytes, since a script may be no text.
+    script: Vec<u8>,
+}
+
+impl Case {
+    /// A case with no line yet.
+    pub(crate) fn new(alloc: Global, heading: Vec<u8>) -> Result<Case, CaseFault> {
+        match String::from_utf8(heading) {
+            Ok(heading) => Ok(Case {
+                heading,
+                script: Vec::new(alloc),
+            }),
+            Err(_) => Err(CaseFault::NotText),
+        }
+    }
+
+    /// Adds a line to the script.
+    pub(crate) fn push_line(&mut self, line: &[u8]) -> Result<(), AllocError> {
+        self.script.extend_from_slice(line)?;
+        self.script.push(b'\n')?;
+        Ok(())
+    }
+
+    /// Writes the heading as it stands, and then what a replay of the script writes, or the fault that it ends with.
+    pub(crate) fn tell(&self, rt: &(impl AllocGlobal + Print)) -> Result<(), CaseFault> {
+        println!(rt; "{}", self.heading)?;
+        match task_of(rt.alloc(), &words_of(rt.alloc(), &self.heading)?) {
+            Ok(Task::Replay(options, explanations, audit)) => {
+                let outcome = replay_script(rt, &self.script, options, explanations, audit);
+                Ok(tell_fault(rt, outcome)?)
+            }
+            Ok(_) => Err(CaseFault::NoReplay(self.heading.clone()?)),
+            // Each option is in its range, so a case can show that they make no library together.
+            Err(CommandLineFault::Options(fault)) => Ok(println!(rt; "{fault}")?),
+            Err(what) => Err(CaseFault::Options {
+                heading: self.heading.clone()?,
+                what,
+            }),
+        }
+    }
+}
+
+/// The words of the command line that replays what stands behind a heading.
+fn words_of(alloc: Global, heading: &str) -> Result<Vec<String>, AllocError> {
+    let command = match heading.split_once(" --") {
+        Some((_, options)) => format!(in alloc; "vtl replay --{options}")?,
+        None => String::from_str(alloc, "vtl replay")?,
+    };
+    let mut words = Vec::new(alloc);
+    for word in command.split_whitespace() {
+        words.push(String::from_str(alloc, word)?)?;
+    }
+    Ok(words)
+}
+
+/// Replays a script in a library of its own.
+fn replay_script(
+    rt: &(impl AllocGlobal + Print),
+    script: &[u8],
+    options: LibraryOptions,
+    explanations: Explanations,
+    audit: Audit,
+) -> Result<(), ReplayFault>
+    requires { MakesLibrary options }
+{
+    let mut core = library(rt.alloc(), &options)?;
+    let mut reader = script;
+    let mut writer = io::writer(rt);
+    replay(
+        rt.alloc(),
+        &mut core,
+        &mut reader,
+        &mut writer,
+        explanations,
+        audit,
+        TURNS,
+    )
+}
+
+/// Writes the fault that a replay ended with, if it did.
+fn tell_fault(rt: &impl Print, outcome: Result<(), ReplayFault>) -> io::Result<()> {
+    match outcome {
+        Ok(()) => Ok(()),
+        Err(fault) => println!(rt; "{fault}"),
+    }
+}

@@ -1,5 +1,0 @@
-mod options;
-mod records;
-mod replies;
-mod scripts;
-mod words;
