@@ -6,8 +6,7 @@
 set -eu
 bench=$(cd "$(dirname "$0")" && pwd)
 top=$(dirname "$bench")
-"$top/vtl" --version >/dev/null
-program="$top/crates/vtl/out/vtl"
+program=$("$top/vtl" build)
 work=$(mktemp -d)
 trap 'rm -rf "$work"' EXIT
 

@@ -7,8 +7,7 @@
 set -eu
 bench=$(cd "$(dirname "$0")" && pwd)
 top=$(dirname "$bench")
-"$top/vtl" --version >/dev/null
-program="$top/crates/vtl/out/vtl"
+program=$("$top/vtl" build)
 work=$(mktemp -d)
 trap 'rm -rf "$work"' EXIT
 cc -O2 -std=c11 -o "$work/least" "$bench/least.c"

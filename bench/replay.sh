@@ -4,7 +4,7 @@
 # of a command doesn't grow with the script where the three rates are alike. Words given to it, as --audit, are given to each `vtl replay`.
 set -eu
 top=$(cd "$(dirname "$0")/.." && pwd)
-"$top/vtl" --version >/dev/null
+program=$("$top/vtl" build)
 work=$(mktemp -d)
 trap 'rm -rf "$work"' EXIT
 
@@ -17,7 +17,7 @@ for commands in 250000 500000 1000000; do
         for (i = 150; i < commands; i++)
             printf "50000000000000%02x.1 0 %s\n", (i * 37) % 100, i % 2 ? "5e00000000000000ff00" : "000000000000"
     }' >"$work/script"
-    python3 - "$top/crates/vtl/out/vtl" "$work/script" "$commands" "$@" <<'END'
+    python3 - "$program" "$work/script" "$commands" "$@" <<'END'
 import resource, subprocess, sys, time
 program, script, commands, options = sys.argv[1], sys.argv[2], int(sys.argv[3]), sys.argv[4:]
 start = time.monotonic()

@@ -6,11 +6,11 @@
 set -eu
 bench=$(cd "$(dirname "$0")" && pwd)
 top=$(dirname "$bench")
-"$top/vtl" --version >/dev/null
+program=$("$top/vtl" build)
 work=$(mktemp -d)
 trap 'rm -rf "$work"' EXIT
 cc -O2 -std=gnu11 -pthread -o "$work/round_trips" "$bench/round_trips.c"
-"$top/crates/vtl/out/vtl" serve --socket "$work/vtl" --sessions 4 --drives 4 --volumes 4 >/dev/null &
+"$program" serve --socket "$work/vtl" --sessions 4 --drives 4 --volumes 4 >/dev/null &
 server=$!
 until [ -S "$work/vtl" ]; do sleep 0.1; kill -0 $server; done
 "$work/round_trips" "$work/vtl" "$work/plain"

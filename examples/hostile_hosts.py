@@ -15,7 +15,7 @@ import threading
 import time
 
 TOP = os.path.dirname(os.path.dirname(os.path.abspath(__file__)))
-VTL = os.path.join(TOP, "crates/vtl/out/vtl")
+VTL = subprocess.run([os.path.join(TOP, "vtl"), "build"], stdout=subprocess.PIPE, text=True, check=True).stdout.strip()
 READY = bytes([2, 0, 6]) + bytes(6)
 
 

@@ -17,7 +17,7 @@ import tempfile
 import time
 
 HERE = os.path.dirname(os.path.abspath(__file__))
-VTL = os.path.join(os.path.dirname(HERE), "crates/vtl/out/vtl")
+VTL = subprocess.run([os.path.join(os.path.dirname(HERE), "vtl"), "build"], stdout=subprocess.PIPE, text=True, check=True).stdout.strip()
 A, B, C = (f"500000000000000{it}.1" for it in "abc")
 READY, TO_DRIVE, FROM_DRIVE = "000000000000", "a50000000400010000000000", "a50000000100040000000000"
 
