@@ -1,26 +1,26 @@
 -- Records as lines of text (profile).
 use Rattle.std.specs.Prelude.{ℕ, List, ◌++◌, codes, Option, Some, None, if◌then◌else◌}
 use Rattle.std.specs.Fmt.{decimal}
-use Rattle.std.specs.Int.{w64, to_be_bytes}
 use Rattle.permit_tables.specs.Classes.{class_of_action}
 use Rattle.scsi_sense.specs.Status.{status_code}
 use Rattle.scsi_nexus.specs.declared.nexus.Nexus.{Nexus}
+use Rattle.scsi_nexus.specs.Text.{nexus_text}
 use Rattle.permit_tables.specs.declared.res_type.ResType.{ResType}
 use Rattle.permit_tables.specs.Types.{is_all_registrants}
 use Rattle.permit_tables.specs.Text.{class_name, type_name, cell_text}
 use Rattle.permit_tables.specs.declared.cell.Cell.{Cell}
 use Rattle.permit_tables.specs.declared.key_rule.KeyRule.{KeyRule}
 use Rattle.permit_tables.specs.declared.key_rule.KeyRule.TheVariants.{K1, K2, K3, K4, K5, K6}
-use Rattle.audit_log.specs.Hexadecimal.{hex_text, two_digits}
+use Rattle.audit_log.specs.Hexadecimal.{two_digits}
 use Rattle.audit_log.specs.Stages.{stage_number}
 use Rattle.audit_log.specs.declared.act.Act.{Act}
 use Rattle.audit_log.specs.declared.act.Act.TheVariants.{Command, ReserveOut, Invalid, Loss, Reset, MediumIn, MediumOut}
 use Rattle.audit_log.specs.declared.record.Record.{Record}
 
--- SAS.PORT: 16 hexadecimal digits, a dot, the port
-abbrev pub nexus_text : Option Nexus → List ℕ
-nexus_text None = codes "-"
-nexus_text (Some n) = hex_text (to_be_bytes w64 n.sas) ++ codes "." ++ decimal n.port
+-- SAS.PORT, or a dash where nobody asked
+abbrev pub sender_text : Option Nexus → List ℕ
+sender_text None = codes "-"
+sender_text (Some n) = nexus_text n
 
 abbrev pub act_text : Act → List ℕ
 act_text (Command class) = class_name class
@@ -49,13 +49,13 @@ abbrev pub reservation_text : Option (ResType × Nexus) → List ℕ
 reservation_text None = codes "-"
 reservation_text (Some r) =
     type_name r.0 ++ codes "/"
-    ++ (if is_all_registrants r.0 then codes "ALL" else nexus_text (Some r.1))
+    ++ (if is_all_registrants r.0 then codes "ALL" else nexus_text r.1)
 
 -- NUMBER NEXUS WHAT STAGE CELL RULE STATUS
 unfoldable pub line_of : Record → List ℕ
 line_of r =
     decimal r.number ++ codes " "
-    ++ nexus_text r.nexus ++ codes " "
+    ++ sender_text r.nexus ++ codes " "
     ++ act_text r.act ++ codes " "
     ++ decimal (stage_number r.stage) ++ codes " "
     ++ cell_text_or_dash r.cell ++ codes " "

@@ -10,7 +10,7 @@ use Rattle.permit_tables.specs.declared.res_type.ResType.TheVariants as type
 use Rattle.permit_tables.specs.declared.role.Role.TheVariants.{Holder, Registered, Other}
 use Rattle.permit_tables.specs.declared.out_params.OutParams.{OutParams}
 use Rattle.permit_tables.specs.declared.key_rule.KeyRule.TheVariants.{K1}
-use Rattle.audit_log.specs.declared.stage.Stage.TheVariants.{Spelling, ResetAttention, ReservationCheck, OtherAttention, Fields, Device}
+use Rattle.audit_log.specs.declared.stage.Stage.TheVariants.{Decoding, ResetAttention, ReservationCheck, OtherAttention, Fields, Device}
 use Rattle.audit_log.specs.declared.act.Act.TheVariants.{Command, ReserveOut, Invalid, Loss, Reset, MediumIn, MediumOut}
 use Rattle.audit_log.specs.declared.record.Record.{Record}
 
@@ -109,4 +109,4 @@ refused_field = record wrong_key {
 
 -- bytes of A that spell no command
 abbrev pub unknown_opcode : Record
-unknown_opcode = record first_contact { act = Invalid; stage = Spelling; sense = Some (sense_for InvalidCommandOperationCode) }
+unknown_opcode = record first_contact { act = Invalid; stage = Decoding; sense = Some (sense_for InvalidCommandOperationCode) }

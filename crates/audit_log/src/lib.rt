@@ -3,7 +3,6 @@
 #![tactic(auto)]
 
 mod act;
-mod hexadecimal;
 mod laws;
 mod lines;
 mod record;

@@ -1,11 +1,13 @@
 ghost use Rattle.std.specs.Prelude.{◌≡◌, ◌++◌, IfOk, OnOk, OnErr, string_bytes};
-ghost use Rattle.audit_log.specs.Lines.{line_of, nexus_text, cell_text_or_dash, rule_text, act_text, reservation_text};
+ghost use Rattle.scsi_sense.specs.Status.{status_code};
+ghost use Rattle.audit_log.specs.Hexadecimal.{two_digits};
+ghost use Rattle.audit_log.specs.Lines.{line_of, sender_text, cell_text_or_dash, rule_text, act_text, reservation_text};
 
 use crate::act::Act;
-use crate::hexadecimal::write_hex;
 use crate::record::Record;
 use permit_tables::{Cell, KeyRule, ResType, class_text};
 use scsi_nexus::Nexus;
+use scsi_sense::Status;
 use std::alloc::{AllocError, Global};
 use std::fmt::Write;
 
@@ -44,18 +46,23 @@ fn write_parts(text: &mut String, entry: &Record) -> Result<(), AllocError>
     write_cell(text, entry.cell)?;
     let rule = rule_text(entry.rule);
     write!(text, " {rule} ")?;
-    write_hex(text, [entry.status.code()].as_slice())
+    write_status(text, entry.status)
+}
+
+#[tactic(auto, using(crate::proofs::StatusDigits::status_digits))]
+fn write_status(text: &mut String, status: Status) -> Result<(), AllocError>
+    ensures { OnOk result (string_bytes text.new ≡ string_bytes text.old ++ two_digits (status_code status)) }
+{
+    let code = status.code();
+    write!(text, "{code:02x}")
 }
 
 fn write_nexus(text: &mut String, nexus: Option<Nexus>) -> Result<(), AllocError>
-    ensures { OnOk result (string_bytes text.new ≡ string_bytes text.old ++ nexus_text nexus) }
+    ensures { OnOk result (string_bytes text.new ≡ string_bytes text.old ++ sender_text nexus) }
 {
     match nexus {
         None => text.push_str("-"),
-        Some(Nexus { sas, port }) => {
-            write_hex(text, sas.to_be_bytes().as_slice())?;
-            write!(text, ".{port}")
-        }
+        Some(nexus) => write!(text, "{nexus}"),
     }
 }
 

@@ -6,7 +6,7 @@ ghost use Rattle.std.specs.Prelude.{◌≡◌};
 pub enum Stage {
     /// What the bytes spell: the operation code, the length of the CDB, the service action, NACA and
     /// the length of a parameter list of PERSISTENT RESERVE OUT.
-    Spelling,
+    Decoding,
     /// A unit attention condition of ADDITIONAL SENSE CODE 29h that waits for the sender.
     ResetAttention,
     /// The reservation: the cell of the permission table, and then the rules on keys.
@@ -28,7 +28,7 @@ impl Stage {
         ensures { result ≡ stage_number self }
     {
         match self {
-            Stage::Spelling => 1,
+            Stage::Decoding => 1,
             Stage::ResetAttention => 2,
             Stage::ReservationCheck => 3,
             Stage::OtherAttention => 4,

@@ -5,15 +5,14 @@ ghost use Rattle.device_server.specs.Changer.{assigned, changer_mode_data};
 ghost use Rattle.element_map.specs.Runs.{first_of, count_of};
 
 use device_server::Payload;
+use device_server::mode_layout::ELEMENT_ADDRESS_ASSIGNMENT_PAGE;
 use element_map::{ElementType, Elements};
 use std::alloc::{AllocError, Global};
 
 /// MODE DATA LENGTH: how many bytes follow it.
 const MODE_DATA_LENGTH: u8 = 0x17;
 
-/// The code and the length of the element address assignment page.
-const ELEMENT_ADDRESS_ASSIGNMENT: u8 = 0x1D;
-
+/// How many bytes of the element address assignment page follow its length.
 const PAGE_LENGTH: u8 = 0x12;
 
 /// The data of MODE SENSE, cut at the allocation length: a header without block descriptor, and the element address assignment page.
@@ -33,7 +32,7 @@ pub(crate) fn mode_data(
         0,
         0,
         0,
-        ELEMENT_ADDRESS_ASSIGNMENT,
+        ELEMENT_ADDRESS_ASSIGNMENT_PAGE,
         PAGE_LENGTH,
         t3,
         t2,

@@ -2,6 +2,7 @@
 
 use clap::{Arg, ArgAction, Command, value_parser};
 use program_options::LibraryOptions;
+use scsi_nexus::TARGET_PORTS;
 use std::alloc::{AllocError, Global};
 
 /// What the help of each command ends with.
@@ -53,7 +54,7 @@ fn serve_command<'a>(alloc: Global) -> Result<Command<'a>, AllocError> {
     let serve = Command::new(alloc, "serve")
         .about("Serves the library behind a Unix socket, and prints a line for each record")
         .after_help(SERVE_EXAMPLE);
-    with_place(alloc, with_library(alloc, serve)?)
+    with_serve_options(alloc, with_library(alloc, serve)?)
 }
 
 fn client_command<'a>(alloc: Global) -> Result<Command<'a>, AllocError> {
@@ -70,7 +71,7 @@ fn client_command<'a>(alloc: Global) -> Result<Command<'a>, AllocError> {
     let port = Arg::new(alloc, "port")
         .long("port")
         .value_name("P")
-        .value_parser(value_parser!(u16).range(1..=4))
+        .value_parser(value_parser!(u16).range(1..=i64::from(TARGET_PORTS)))
         .required(true)
         .help("The target port by which the host comes");
     let client = Command::new(alloc, "client")
@@ -97,7 +98,7 @@ fn cells_command<'a>(alloc: Global) -> Result<Command<'a>, AllocError> {
 
 /// The options that say what a library is made of.
 fn with_library<'a>(alloc: Global, command: Command<'a>) -> Result<Command<'a>, AllocError> {
-    let most = LibraryOptions::MOST;
+    let most = LibraryOptions::MAX;
     let drives = Arg::new(alloc, "drives")
         .long("drives")
         .value_name("D")
@@ -149,7 +150,7 @@ fn with_audit<'a>(alloc: Global, command: Command<'a>) -> Result<Command<'a>, Al
 }
 
 /// The options that say where a library is served, for how long, and what is printed of its records.
-fn with_place<'a>(alloc: Global, command: Command<'a>) -> Result<Command<'a>, AllocError> {
+fn with_serve_options<'a>(alloc: Global, command: Command<'a>) -> Result<Command<'a>, AllocError> {
     let socket = Arg::new(alloc, "socket")
         .long("socket")
         .value_name("PATH")

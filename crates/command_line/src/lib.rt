@@ -1,9 +1,13 @@
-//! The command lines of the program: its commands with their options, and the task that one names.
+//! The command lines of the program: its commands with their options, the task that one names, and why another names none.
 #![tactic(auto)]
 
 mod commands;
+mod fault;
+mod laws;
 mod reading;
 mod task;
 
+pub use fault::CommandLineFault;
+pub use laws::worked_rows;
 pub use reading::task_of;
-pub use task::{Contact, Place, Task};
+pub use task::{ClientOptions, ServeOptions, Task};

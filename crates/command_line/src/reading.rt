@@ -1,18 +1,19 @@
 ghost use Rattle.std.specs.Prelude.{IfOk};
-ghost use Rattle.command_line.specs.Tasks.{IsContact, IsDoable, IsPlace, MakesLibrary};
+ghost use Rattle.command_line.specs.Tasks.{IsClientOptions, IsDoable, IsServeOptions, MakesLibrary};
 
 use crate::commands::program;
-use crate::task::{Contact, Place, Task};
+use crate::fault::CommandLineFault;
+use crate::task::{ClientOptions, ServeOptions, Task};
 use clap::ArgMatches;
-use command_line_fault::CommandLineFault;
+use output_lines::{Audit, Explanations};
 use permission_chart::class_named;
 use permit_tables::Class;
-use program_options::{LibraryOptions, OptionFault, Term, nexus_of};
-use replay_output::{Audit, Explanations};
+use program_options::{LibraryOptions, OptionFault, ServeUntil, nexus_of};
+use scsi_nexus::TARGET_PORTS;
 use std::alloc::{AllocError, Global};
 
 /// How many workers serve sessions until standard input ends, where nothing else is asked for.
-const USUAL_WORKERS: u8 = 8;
+const DEFAULT_WORKERS: u8 = 8;
 
 /// The task that the words of a command line name, the first of them the program's own name.
 pub fn task_of(alloc: Global, words: &[String]) -> Result<Task, CommandLineFault>
@@ -22,10 +23,10 @@ pub fn task_of(alloc: Global, words: &[String]) -> Result<Task, CommandLineFault
     let matches = command.try_get_matches_from(words)?;
     if let Some(serve) = matches.subcommand_matches("serve") {
         let library = library_of(serve)?;
-        return Ok(Task::Serve(library, place_of(alloc, serve)?, records_of(serve)));
+        return Ok(Task::Serve(library, serve_options_of(alloc, serve)?, records_of(serve)));
     }
     if let Some(client) = matches.subcommand_matches("client") {
-        return Ok(Task::Client(contact_of(alloc, client)?, explanations_of(client)));
+        return Ok(Task::Client(client_options_of(alloc, client)?, explanations_of(client)));
     }
     if let Some(cells) = matches.subcommand_matches("cells") {
         return Ok(Task::Cells(class_of(alloc, cells)?));
@@ -36,7 +37,7 @@ pub fn task_of(alloc: Global, words: &[String]) -> Result<Task, CommandLineFault
             Ok(Task::Replay(library, explanations_of(replay), audit_of(replay)))
         }
         // `clap` asks for a subcommand, and there is no other.
-        None => Ok(Task::Replay(LibraryOptions::USUAL, Explanations::Off, Audit::Off)),
+        None => Ok(Task::Replay(LibraryOptions::DEFAULT, Explanations::Off, Audit::Off)),
     }
 }
 
@@ -44,8 +45,8 @@ pub fn task_of(alloc: Global, words: &[String]) -> Result<Task, CommandLineFault
 fn library_of(command: &ArgMatches) -> Result<LibraryOptions, OptionFault>
     ensures { IfOk result MakesLibrary }
 {
-    let usual = LibraryOptions::USUAL;
-    let most = LibraryOptions::MOST;
+    let usual = LibraryOptions::DEFAULT;
+    let most = LibraryOptions::MAX;
     // `clap` sees to it that no value is absent or out of its range: what stands behind each `get_one`
     // says that to the prover alone.
     let options = LibraryOptions {
@@ -100,36 +101,39 @@ fn records_of(command: &ArgMatches) -> Audit {
 }
 
 /// Where the library of a command is served, and for how long.
-fn place_of(alloc: Global, command: &ArgMatches) -> Result<Place, AllocError>
-    ensures { IfOk result IsPlace }
+fn serve_options_of(alloc: Global, command: &ArgMatches) -> Result<ServeOptions, AllocError>
+    ensures { IfOk result IsServeOptions }
 {
     // `clap` sees to it that no value is out of its range, nor the path absent: what stands behind each getter but that of
     // the workers says that to the prover alone.
     let socket = String::from_str(alloc, command.get_str("socket").unwrap_or(""))?;
-    let term = match command.get_one::<u8>("sessions") {
-        Some(sessions) => Term::Sessions(sessions.clamp(1, 64)),
+    let until = match command.get_one::<u8>("sessions") {
+        Some(sessions) => ServeUntil::Sessions(sessions.clamp(1, 64)),
         None => {
-            let workers = command.get_one::<u8>("workers").unwrap_or(USUAL_WORKERS);
-            Term::InputEnds(workers.clamp(1, 64))
+            let workers = command.get_one::<u8>("workers").unwrap_or(DEFAULT_WORKERS);
+            ServeUntil::InputEnds(workers.clamp(1, 64))
         }
     };
     let drain = command.get_flag("drain");
-    Ok(Place {
+    Ok(ServeOptions {
         socket,
-        term,
+        until,
         drain,
     })
 }
 
 /// Where the library of a client's command is met, and as which host.
-fn contact_of(alloc: Global, command: &ArgMatches) -> Result<Contact, CommandLineFault>
-    ensures { IfOk result IsContact }
+fn client_options_of(alloc: Global, command: &ArgMatches) -> Result<ClientOptions, CommandLineFault>
+    ensures { IfOk result IsClientOptions }
 {
     // As above, of all three.
-    let port = command.get_one::<u16>("port").unwrap_or(1).clamp(1, 4);
+    let port = command
+        .get_one::<u16>("port")
+        .unwrap_or(1)
+        .clamp(1, TARGET_PORTS);
     let nexus = nexus_of(command.get_str("sas").unwrap_or(""), port)?;
     let socket = String::from_str(alloc, command.get_str("socket").unwrap_or(""))?;
-    Ok(Contact { socket, nexus })
+    Ok(ClientOptions { socket, nexus })
 }
 
 /// The class of commands that is asked for by its name, if one is.

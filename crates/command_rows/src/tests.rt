@@ -1,9 +1,9 @@
 //! Words of command lines, and the tasks that they name.
 
 use command_line::{Task, task_of};
+use output_lines::{Audit, Explanations};
 use permit_tables::Class;
-use program_options::Term;
-use replay_output::{Audit, Explanations};
+use program_options::ServeUntil;
 use std::test::Fail;
 
 #[test]
@@ -207,24 +207,24 @@ fn reads_where_and_how_long_to_serve(rt: HostRuntime) -> Result<(), Fail> {
     let rows = [
         (
             "vtl serve --drives 2 --sessions 64 --spans --socket /run/vtl",
-            Term::Sessions(64),
+            ServeUntil::Sessions(64),
             false,
             Audit::Spans,
         ),
         (
             "vtl serve --socket /run/vtl --drives 2",
-            Term::InputEnds(8),
+            ServeUntil::InputEnds(8),
             false,
             Audit::Lines,
         ),
         (
             "vtl serve --workers 3 --drain --socket /run/vtl --drives 2",
-            Term::InputEnds(3),
+            ServeUntil::InputEnds(3),
             true,
             Audit::Lines,
         ),
     ];
-    for (line, term, drain, wanted) in rows {
+    for (line, until, drain, wanted) in rows {
         let mut words = Vec::new(rt.alloc());
         for word in line.split(' ') {
             words.push(String::from_str(rt.alloc(), word)?)?;
@@ -234,7 +234,7 @@ fn reads_where_and_how_long_to_serve(rt: HostRuntime) -> Result<(), Fail> {
         };
         assert_eq!(rt; (options.drives, options.slots), (2, 8), "{line}");
         assert_eq!(rt; place.socket.as_str(), "/run/vtl", "{line}");
-        assert_eq!(rt; place.term, term, "{line}");
+        assert_eq!(rt; place.until, until, "{line}");
         assert_eq!(rt; place.drain, drain, "{line}");
         assert_eq!(rt; audit, wanted, "{line}");
     }

@@ -3,15 +3,17 @@
 use Rattle.std.specs.Prelude.{◌≡◌, ℕ, ◌==◌, ◌&&◌, ◌||◌, not, Bool, true, false, List, Option, Some, None, is_none}
 use Rattle.scsi_cdb.specs.declared.request.Request.{Request}
 use Rattle.scsi_cdb.specs.declared.request.Request.TheVariants.{MoveMedium}
+use Rattle.scsi_sense.specs.Conditions.{has_codes_of}
+use Rattle.scsi_sense.specs.declared.condition.Condition.TheVariants.{InternalTargetFailure}
 use Rattle.scsi_sense.specs.declared.sense.Sense.{Sense}
 use Rattle.tape_medium.specs.Elements.{Elements, Element, DataTransfer, element_at, move_refusal}
 use Rattle.device_server.specs.Drive.{DriveView}
 use Rattle.device_server.specs.View.{Drive, Changer, performed}
 
--- whether sense data tells of one, by the additional sense code
+-- whether sense data tells of one
 abbrev pub is_failure : Option Sense → Bool
 is_failure None = false
-is_failure (Some sense) = sense.asc == 0x44
+is_failure (Some sense) = has_codes_of sense InternalTargetFailure
 
 -- whether an element is a drive's
 abbrev pub is_data_transfer : Element → Bool

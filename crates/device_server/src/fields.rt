@@ -2,33 +2,20 @@ ghost use Rattle.std.specs.Prelude.{◌≡◌};
 ghost use Rattle.device_server.specs.Fields.{field_fault_of, invalid_where, is_space_code, is_page_of, mode_sense_fault, write_fault, mode_select_fault};
 ghost use Rattle.device_server.specs.Mode.{list_fault};
 
+use crate::mode_layout::{
+    ALL_PAGES, BLOCK_DESCRIPTOR, BLOCK_LENGTH, DESCRIPTOR_LENGTH, ELEMENT_ADDRESS_ASSIGNMENT_PAGE,
+    MODE_HEADER, NO_PAGE,
+};
 use byteorder::{BigEndian, ByteOrder};
 use scsi_cdb::{Kind, Request};
 use scsi_sense::Condition;
-use tape_medium::BLOCK_LIMIT;
-
-/// The mode pages, by their codes.
-const NO_PAGE: u8 = 0x00;
-
-const ELEMENT_ADDRESS_ASSIGNMENT_PAGE: u8 = 0x1D;
-
-const ALL_PAGES: u8 = 0x3F;
+use tape_medium::MAX_BLOCK;
 
 /// PC of the saved values.
 const SAVED_VALUES: u8 = 3;
 
 /// The greatest element type code.
 const LAST_ELEMENT_TYPE: u8 = 4;
-
-/// A mode parameter header, a block descriptor, and its block length, in bytes.
-const MODE_HEADER: usize = 4;
-
-const BLOCK_DESCRIPTOR: usize = 8;
-
-/// The places of the BLOCK DESCRIPTOR LENGTH in the header and of the BLOCK LENGTH, of three bytes, in a list with a descriptor.
-const DESCRIPTOR_LENGTH: usize = 3;
-
-const BLOCK_LENGTH: usize = 9;
 
 /// What is refused of a device's command by the fields of its CDB and of the data sent with it alone, the first in order (SPC-4,
 /// SSC-4 and SMC-3, the clauses of the commands).
@@ -132,7 +119,7 @@ fn write_fault(fixed: bool, transfer_length: u32, bytes: &[u8]) -> Option<Condit
     if fixed {
         return None;
     }
-    invalid_where(transfer_length > BLOCK_LIMIT || bytes.len() != transfer_length as usize)
+    invalid_where(transfer_length > MAX_BLOCK || bytes.len() != transfer_length as usize)
 }
 
 fn mode_select_fault(save_pages: bool, list_length: u8, bytes: &[u8]) -> Option<Condition>
@@ -154,14 +141,14 @@ fn list_fault(told: usize, list: &[u8]) -> Option<Condition>
     if list.len() != told || told < MODE_HEADER {
         return Some(Condition::ParameterListLengthError);
     }
-    let descriptor = usize::from(list[DESCRIPTOR_LENGTH]);
+    let descriptor = list[DESCRIPTOR_LENGTH];
     if descriptor != 0 && descriptor != BLOCK_DESCRIPTOR {
         return Some(Condition::InvalidFieldInParameterList);
     }
-    if told != MODE_HEADER + descriptor {
+    if told != MODE_HEADER + usize::from(descriptor) {
         return Some(Condition::ParameterListLengthError);
     }
-    if descriptor == BLOCK_DESCRIPTOR && BigEndian::read_u24(&list[BLOCK_LENGTH..]) > BLOCK_LIMIT {
+    if descriptor == BLOCK_DESCRIPTOR && BigEndian::read_u24(&list[BLOCK_LENGTH..]) > MAX_BLOCK {
         return Some(Condition::InvalidFieldInParameterList);
     }
     None

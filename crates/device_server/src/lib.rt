@@ -4,6 +4,7 @@
 mod fault;
 mod fields;
 pub mod laws;
+pub mod mode_layout;
 mod outcome;
 mod payload;
 mod server;

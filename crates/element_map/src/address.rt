@@ -3,7 +3,7 @@ ghost use Rattle.tape_medium.specs.Elements.{element_at, is_among};
 ghost use Rattle.element_map.specs.Address.{named, IsWithin};
 
 use crate::elements::Elements;
-use crate::layout::{FIRST_DATA_TRANSFER, FIRST_IMPORT_EXPORT, FIRST_STORAGE, TRANSPORT};
+use tape_medium::{FIRST_DATA_TRANSFER, FIRST_IMPORT_EXPORT, FIRST_STORAGE, TRANSPORT};
 
 /// What an address names: an element by its number within its type, from 0.
 #[derive(Clone, Copy, Debug, PartialEq, Eq)]

@@ -1,10 +1,8 @@
 ghost use Rattle.std.specs.Prelude.{◌≡◌};
 ghost use Rattle.element_map.specs.Runs.{code_of, first_of, flags_in};
 
-use crate::layout::{
-    ACCESS, FIRST_DATA_TRANSFER, FIRST_IMPORT_EXPORT, FIRST_STORAGE, FULL, IMPORTS_AND_EXPORTS,
-    TRANSPORT,
-};
+use crate::layout::{ACCESS, FULL, IMPORTS_AND_EXPORTS};
+use tape_medium::{FIRST_DATA_TRANSFER, FIRST_IMPORT_EXPORT, FIRST_STORAGE, TRANSPORT};
 
 /// The type of an element (SMC-3, "READ ELEMENT STATUS command").
 #[derive(Clone, Copy, Debug, PartialEq, Eq)]

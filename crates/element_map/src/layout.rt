@@ -1,16 +1,4 @@
-//! The addresses of the elements.
-
-/// The address of the medium transport element (profile).
-pub(crate) const TRANSPORT: u16 = 0;
-
-/// The address of the first data transfer element (profile).
-pub(crate) const FIRST_DATA_TRANSFER: u16 = 0x100;
-
-/// The address of the first import/export element (profile).
-pub(crate) const FIRST_IMPORT_EXPORT: u16 = 0x200;
-
-/// The address of the first storage element (profile).
-pub(crate) const FIRST_STORAGE: u16 = 0x400;
+//! The bytes of element status data.
 
 /// The length of the header of the element status data (SMC-3, "READ ELEMENT STATUS command").
 pub(crate) const HEADER_LENGTH: usize = 8;

@@ -5,9 +5,8 @@ ghost use Rattle.tape_medium.specs.Elements.{element_at, held_in, tag_held, refu
 
 use crate::address::Element;
 use crate::elements::Elements;
-use crate::layout::TRANSPORT;
 use crate::place::tag_of;
-use tape_medium::{MapFault, VolumeTag};
+use tape_medium::{MapFault, TRANSPORT, VolumeTag};
 
 impl Elements {
     /// Moves a volume from one storage or import/export element to another (SMC-3, "MOVE MEDIUM command").

@@ -1,2 +1,3 @@
 pub mod CodeLemmas
 pub mod PieceLemmas
+pub mod HexLines

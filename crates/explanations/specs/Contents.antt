@@ -1,6 +1,6 @@
 -- What the data of a reply are, by the CDB of the command.
 use Rattle.std.specs.Prelude.{ℕ, true, false, List, Option, Some, None, Result, Ok, Err}
-use Rattle.scsi_cdb.specs.Commands.{reading}
+use Rattle.scsi_cdb.specs.Commands.{decoded}
 use Rattle.scsi_cdb.specs.declared.action.InServiceAction.{InServiceAction}
 use Rattle.scsi_cdb.specs.declared.action.InServiceAction.TheVariants.{ReadKeys, ReadReservation, ReportCapabilities, ReadFullStatus}
 use Rattle.scsi_cdb.specs.declared.fault.CdbFault.{CdbFault}
@@ -18,7 +18,7 @@ either (Err fault) (Ok request) = Some request
 either (Err fault) (Err other) = None
 
 unfoldable pub request_of : List ℕ → Option Request
-request_of cdb = either (reading Drive cdb) (reading Changer cdb)
+request_of cdb = either (decoded Drive cdb) (decoded Changer cdb)
 
 abbrev pub contents_of_action : InServiceAction → Contents
 contents_of_action ReadKeys = is.Reservations lists.Keys

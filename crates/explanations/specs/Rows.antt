@@ -1,7 +1,7 @@
 -- Worked rows: whole lines. What isn't said otherwise is from a library with one drive.
 use Rattle.std.specs.Prelude.{◌≡◌, ℕ, List, [], ◌∷◌, ◌++◌, replicate, take, codes, None, Some, Ok, Err}
 use Rattle.std.specs.Int.{bytes_high_first}
-use Rattle.scsi_sense.specs.FixedSense.{reading}
+use Rattle.scsi_sense.specs.FixedSense.{decoded_sense}
 use Rattle.scsi_sense.specs.declared.status.Status.{Status}
 use Rattle.scsi_sense.specs.declared.status.Status.TheVariants.{Good, CheckCondition, Busy, ReservationConflict}
 use Rattle.explanations.specs.Explanation.{explanation}
@@ -20,7 +20,7 @@ alone status = explanation (replicate 6 0) status None []
 
 -- the line of CHECK CONDITION with 18 bytes of sense data, and data
 abbrev pub checked : (sense payload : List ℕ) → List ℕ
-checked sense payload = elim (reading sense) [
+checked sense payload = elim (decoded_sense sense) [
   | Ok sense ↦ explanation (0x08 ∷ replicate 5 0) CheckCondition (Some sense) payload
   | Err fault ↦ []
 ]

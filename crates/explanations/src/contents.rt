@@ -49,22 +49,7 @@ fn contents_of_request(request: Request) -> Contents
         Request::ReadPosition => Contents::Position,
         Request::ReportLuns { .. } => Contents::LogicalUnits,
         Request::ReadElementStatus { .. } => Contents::Elements,
-        Request::TestUnitReady
-        | Request::Rewind
-        | Request::RequestSense { .. }
-        | Request::ReadBlockLimits
-        | Request::InitializeElementStatus
-        | Request::Read { .. }
-        | Request::Write { .. }
-        | Request::WriteFilemarks { .. }
-        | Request::Space { .. }
-        | Request::ModeSelect { .. }
-        | Request::Erase
-        | Request::LoadUnload { .. }
-        | Request::PreventAllowMediumRemoval { .. }
-        | Request::Locate { .. }
-        | Request::PersistentReserveOut { .. }
-        | Request::MoveMedium { .. } => Contents::Other,
+        _ => Contents::Other,
     }
 }
 

@@ -3,9 +3,10 @@ ghost use Rattle.std.specs.Prelude.{◌≡◌, ◌++◌, OnOk};
 ghost use Rattle.explanations.specs.ElementWords.{element_text, element_type_text, elements_in, elements_text, fullness_text, page_text, pages_in, tag_text};
 
 use crate::fields::{behind, bit_at, byte_at, part, u16_at, u24_at};
+use crate::hex_text::write_hex;
 use crate::layout::*;
 use crate::pieces::{Piece, write_pieces};
-use crate::words::{write_coded, write_cut, write_hex, write_quoted, write_words};
+use crate::words::{write_coded, write_cut, write_quoted, write_words};
 use std::alloc::AllocError;
 
 /// Adds what READ ELEMENT STATUS data say: the elements.

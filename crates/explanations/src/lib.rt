@@ -1,4 +1,4 @@
-//! What a reply says, in words for people: a line for each.
+//! What a reply says, in words for people: a line for each; and bytes in hexadecimal.
 #![tactic(auto)]
 
 mod codes;
@@ -7,6 +7,7 @@ mod drives;
 mod elements;
 mod explaining;
 mod fields;
+mod hex_text;
 mod laws;
 mod layout;
 mod pieces;
@@ -16,4 +17,5 @@ mod units;
 mod words;
 
 pub use explaining::explain;
+pub use hex_text::{digits_of, write_hex};
 pub use laws::worked_rows;

@@ -4,9 +4,10 @@ ghost use Rattle.explanations.specs.Reservations.{generation_text, held_in, held
 ghost use Rattle.permit_tables.specs.Types.{coded_type};
 
 use crate::fields::{bit_at, byte_at, part, u16_at, u32_at};
+use crate::hex_text::write_hex;
 use crate::layout::*;
 use crate::pieces::{Piece, write_pieces};
-use crate::words::{write_code, write_cut, write_decimal, write_hex, write_number, write_words};
+use crate::words::{write_code, write_cut, write_decimal, write_number, write_words};
 use permit_tables::ResType;
 use std::alloc::AllocError;
 

@@ -3,10 +3,11 @@ ghost use Rattle.std.specs.Prelude.{◌≡◌, ◌++◌, ◌+◌, ◌<◌, ◌^�
 ghost use Rattle.explanations.specs.Units.{device_text, field_text, inquiry_cut, inquiry_text, lun_text, luns_in, luns_text, page_code_text, page_length_text, page_text, peripheral_text, product_text, qualifier_text};
 
 use crate::fields::{byte_at, part, u16_at, u32_at};
+use crate::hex_text::write_hex;
 use crate::layout::*;
 use crate::pieces::{Piece, write_pieces};
 use crate::words::{
-    write_coded, write_cut, write_decimal, write_hex, write_number, write_quoted, write_words,
+    write_coded, write_cut, write_decimal, write_number, write_quoted, write_words,
 };
 use std::alloc::AllocError;
 

@@ -2,9 +2,9 @@
 ghost use Rattle.std.specs.Prelude.{◌≡◌, ◌++◌, length, map, OnOk};
 ghost use Rattle.std.specs.Char.{to_ascii_lowercase};
 ghost use Rattle.std.specs.Fmt.{decimal};
-ghost use Rattle.hex.specs.Hex.{encode_lower};
 ghost use Rattle.explanations.specs.Words.{code_text, coded_text, byte_count, count_text, cut, number_text, printable, quoted, trimmed};
 
+use crate::hex_text::write_hex;
 use itoa::Buffer;
 use std::alloc::AllocError;
 
@@ -30,25 +30,6 @@ pub fn write_decimal(line: &mut Vec<u8>, number: u64) -> Result<(), AllocError>
 {
     let mut buffer = Buffer::new();
     line.extend_from_slice(buffer.format(number).as_bytes())
-}
-
-/// Adds bytes in hexadecimal, with lower case letters.
-pub fn write_hex(line: &mut Vec<u8>, bytes: &[u8]) -> Result<(), AllocError>
-    ensures { OnOk result (line.new.items ≡ line.old.items ++ encode_lower bytes.now) }
-{
-    let start = line.len();
-    let Some(added) = bytes.len().checked_mul(2) else {
-        return Err(AllocError);
-    };
-    let Some(end) = start.checked_add(added) else {
-        return Err(AllocError);
-    };
-    line.resize(end, 0)?;
-    // The room is just theirs, so that no error comes of it.
-    match hex::encode_to_slice(bytes, &mut line[start..]) {
-        Ok(()) => Ok(()),
-        Err(_) => Err(AllocError),
-    }
 }
 
 /// Adds a byte that is a code, as `1ah`.

@@ -7,19 +7,19 @@ use Rattle.byteorder.specs.Numbers.{big_from-append}
 use Rattle.scsi_sense.specs.declared.fault.SenseFault.{SenseFault}
 use Rattle.scsi_sense.specs.declared.sense.Sense.{Sense}
 use Rattle.scsi_sense.specs.declared.status.Status.{Status}
-use Rattle.scsi_sense.specs.FixedSense.{reading}
-use Rattle.frames.specs.ReplyFronts.{ReplyFront, Partial, coded_status, login_reply_front, reset_reply_front, numbered_front, spelled_front, sense_front, counted_front, status_front, command_reply_front, reply_body_front, sized_reply_front, reply_front_in}
+use Rattle.scsi_sense.specs.FixedSense.{decoded_sense}
+use Rattle.frames.specs.ParsedReplies.{ParsedReplyValue, Partial, coded_status, parsed_login_reply, parsed_reset_reply, parsed_numbered, parsed_with_sense, parsed_sense, parsed_counted, parsed_status, parsed_command_reply, parsed_reply_body, parsed_sized_reply, parsed_reply}
 use Rattle.frames.proofs.Streams.{cut_stays}
-use Rattle.frames.proofs.WrittenReplies.{reply_front_is}
+use Rattle.frames.proofs.WrittenReplies.{parsed_reply_is}
 
 -- two ways through the same test
-either : (b : Bool) (x x' y y' : ReplyFront) → (b ≡ true → (x ≡ Partial → ⊥) → x' ≡ x) → (b ≡ false → (y ≡ Partial → ⊥) → y' ≡ y)
+either : (b : Bool) (x x' y y' : ParsedReplyValue) → (b ≡ true → (x ≡ Partial → ⊥) → x' ≡ x) → (b ≡ false → (y ≡ Partial → ⊥) → y' ≡ y)
     → (cond b x y ≡ Partial → ⊥) → cond b x' y' ≡ cond b x y
 either true x x' y y' h i known = h refl known
 either false x x' y y' h i known = i refl known
 
 numbered_stays : (status : Status) (sense : Option Sense) (before size : ℕ) (left more : List ℕ) → 8 ≤ size
-    → (numbered_front status sense before size left ≡ Partial → ⊥) → numbered_front status sense before size (left ++ more) ≡ numbered_front status sense before size left
+    → (parsed_numbered status sense before size left ≡ Partial → ⊥) → parsed_numbered status sense before size (left ++ more) ≡ parsed_numbered status sense before size left
 numbered_stays status sense before size left more least known =
     elim (cases_lt (length left) size) [
       | inl short ↦ (let here : ltb (length left) size ≡ true = lt-ltb _ _ short in absurd (known (rw here refl)))
@@ -31,29 +31,29 @@ numbered_stays status sense before size left more least known =
           rw (here, there, big_from-append 8 left more eight, cut_stays 8 (size - 8) left more within) refl)
     ]
 
-spelled_stays : (status : Status) (size : ℕ) (left more : List ℕ) (r : Result Sense SenseFault) → 29 ≤ size → 18 ≤ length left
-    → (spelled_front status size left r ≡ Partial → ⊥) → spelled_front status size (left ++ more) r ≡ spelled_front status size left r
-spelled_stays status size left more (Err fault) least long known = refl
-spelled_stays status size left more (Ok sense) least long known =
-    ap (λ (xs : List ℕ). numbered_front status (Some sense) 25 (size - 21) xs) (drop-append-le 18 left more long)
+with_sense_stays : (status : Status) (size : ℕ) (left more : List ℕ) (r : Result Sense SenseFault) → 29 ≤ size → 18 ≤ length left
+    → (parsed_with_sense status size left r ≡ Partial → ⊥) → parsed_with_sense status size (left ++ more) r ≡ parsed_with_sense status size left r
+with_sense_stays status size left more (Err fault) least long known = refl
+with_sense_stays status size left more (Ok sense) least long known =
+    ap (λ (xs : List ℕ). parsed_numbered status (Some sense) 25 (size - 21) xs) (drop-append-le 18 left more long)
     ∙ numbered_stays status (Some sense) 25 (size - 21) (drop 18 left) more (omega arith) known
 
 sense_there : (status : Status) (size : ℕ) (left : List ℕ) → 29 ≤ size → 18 ≤ length left
-    → sense_front status size left ≡ spelled_front status size left (reading (take 18 left))
+    → parsed_sense status size left ≡ parsed_with_sense status size left (decoded_sense (take 18 left))
 sense_there status size left least long =
     let enough : ltb size 29 ≡ false = le-ltb _ _ least in
     let there : ltb (length left) 18 ≡ false = le-ltb _ _ long in
     rw (enough, there) refl
 
 sense_long : (status : Status) (size : ℕ) (left more : List ℕ) → 29 ≤ size → 18 ≤ length left
-    → (sense_front status size left ≡ Partial → ⊥) → sense_front status size (left ++ more) ≡ sense_front status size left
+    → (parsed_sense status size left ≡ Partial → ⊥) → parsed_sense status size (left ++ more) ≡ parsed_sense status size left
 sense_long status size left more least long known =
     sense_there status size (left ++ more) least (omega (arith, length-append left more))
-    ∙ ap (λ (xs : List ℕ). spelled_front status size (left ++ more) (reading xs)) (take-append-le 18 left more long)
-    ∙ spelled_stays status size left more (reading (take 18 left)) least long (λ e. known (sense_there status size left least long ∙ e))
+    ∙ ap (λ (xs : List ℕ). parsed_with_sense status size (left ++ more) (decoded_sense xs)) (take-append-le 18 left more long)
+    ∙ with_sense_stays status size left more (decoded_sense (take 18 left)) least long (λ e. known (sense_there status size left least long ∙ e))
     ∙ sym (sense_there status size left least long)
 
-sense_stays : (status : Status) (size : ℕ) (left more : List ℕ) → (sense_front status size left ≡ Partial → ⊥) → sense_front status size (left ++ more) ≡ sense_front status size left
+sense_stays : (status : Status) (size : ℕ) (left more : List ℕ) → (parsed_sense status size left ≡ Partial → ⊥) → parsed_sense status size (left ++ more) ≡ parsed_sense status size left
 sense_stays status size left more known =
     elim (cases_lt size 29) [
       | inl few ↦ (let here : ltb size 29 ≡ true = lt-ltb _ _ few in rw here refl)
@@ -66,33 +66,33 @@ sense_stays status size left more known =
       ]
     ]
 
-counted_stays : (status : Status) (size : ℕ) (fields more : List ℕ) → 11 ≤ size → (counted_front status size fields ≡ Partial → ⊥)
-    → counted_front status size (fields ++ more) ≡ counted_front status size fields
+counted_stays : (status : Status) (size : ℕ) (fields more : List ℕ) → 11 ≤ size → (parsed_counted status size fields ≡ Partial → ⊥)
+    → parsed_counted status size (fields ++ more) ≡ parsed_counted status size fields
 counted_stays status size [] more least known = absurd (known refl)
 counted_stays status size (count ∷ left) more least known =
     either (eqb count 0) _ _ _ _ (λ zero. numbered_stays status None 7 (size - 3) left more (omega arith))
     (λ some. either (eqb count 0x12) _ _ _ _ (λ eighteen. sense_stays status size left more) (λ other here. refl)) known
 
-status_stays : (o : Option Status) (size : ℕ) (fields more : List ℕ) → 11 ≤ size → (status_front o size fields ≡ Partial → ⊥)
-    → status_front o size (fields ++ more) ≡ status_front o size fields
+status_stays : (o : Option Status) (size : ℕ) (fields more : List ℕ) → 11 ≤ size → (parsed_status o size fields ≡ Partial → ⊥)
+    → parsed_status o size (fields ++ more) ≡ parsed_status o size fields
 status_stays None size fields more least known = refl
 status_stays (Some status) size fields more least known = counted_stays status size fields more least known
 
-command_reply_stays : (size : ℕ) (fields more : List ℕ) → 11 ≤ size → (command_reply_front size fields ≡ Partial → ⊥)
-    → command_reply_front size (fields ++ more) ≡ command_reply_front size fields
+command_reply_stays : (size : ℕ) (fields more : List ℕ) → 11 ≤ size → (parsed_command_reply size fields ≡ Partial → ⊥)
+    → parsed_command_reply size (fields ++ more) ≡ parsed_command_reply size fields
 command_reply_stays size [] more least known = absurd (known refl)
 command_reply_stays size (code ∷ fields) more least known = status_stays (coded_status code) size fields more least known
 
-login_reply_stays : (fields more : List ℕ) → (login_reply_front fields ≡ Partial → ⊥) → login_reply_front (fields ++ more) ≡ login_reply_front fields
+login_reply_stays : (fields more : List ℕ) → (parsed_login_reply fields ≡ Partial → ⊥) → parsed_login_reply (fields ++ more) ≡ parsed_login_reply fields
 login_reply_stays [] more known = absurd (known refl)
 login_reply_stays (code ∷ fields) more known = refl
 
-reset_reply_stays : (fields more : List ℕ) → (reset_reply_front fields ≡ Partial → ⊥) → reset_reply_front (fields ++ more) ≡ reset_reply_front fields
+reset_reply_stays : (fields more : List ℕ) → (parsed_reset_reply fields ≡ Partial → ⊥) → parsed_reset_reply (fields ++ more) ≡ parsed_reset_reply fields
 reset_reply_stays [] more known = absurd (known refl)
 reset_reply_stays (code ∷ fields) more known = refl
 
-reply_body_stays : (size : ℕ) (body more : List ℕ) → (reply_body_front size body ≡ Partial → ⊥) → reply_body_front size (body ++ more) ≡ reply_body_front size body
-unfolding reply_body_front
+reply_body_stays : (size : ℕ) (body more : List ℕ) → (parsed_reply_body size body ≡ Partial → ⊥) → parsed_reply_body size (body ++ more) ≡ parsed_reply_body size body
+unfolding parsed_reply_body
 reply_body_stays size [] more known = absurd (known refl)
 reply_body_stays size (kind ∷ fields) more known =
     either (eqb kind 0x81) _ _ _ _ (λ is. either (eqb size 2) _ _ _ _ (λ two. login_reply_stays fields more) (λ other here. refl))
@@ -101,22 +101,22 @@ reply_body_stays size (kind ∷ fields) more known =
     (λ is here. refl)))
     known
 
-sized_reply_stays : (size : ℕ) (body more : List ℕ) → (sized_reply_front size body ≡ Partial → ⊥) → sized_reply_front size (body ++ more) ≡ sized_reply_front size body
+sized_reply_stays : (size : ℕ) (body more : List ℕ) → (parsed_sized_reply size body ≡ Partial → ⊥) → parsed_sized_reply size (body ++ more) ≡ parsed_sized_reply size body
 sized_reply_stays size body more known =
     either (eqb size 0) _ _ _ _ (λ none here. refl) (λ some. either (ltb 65565 size) _ _ _ _ (λ long here. refl) (λ fits. reply_body_stays size body more)) known
 
-short_is_partial : (b : List ℕ) → length b < 4 → reply_front_in b ≡ Partial
-unfolding reply_front_in
+short_is_partial : (b : List ℕ) → length b < 4 → parsed_reply b ≡ Partial
+unfolding parsed_reply
 short_is_partial b short = let here : ltb (length b) 4 ≡ true = lt-ltb _ _ short in rw here refl
 
-pub reply_stays : (b more : List ℕ) → (reply_front_in b ≡ Partial → ⊥) → reply_front_in (b ++ more) ≡ reply_front_in b
+pub reply_stays : (b more : List ℕ) → (parsed_reply b ≡ Partial → ⊥) → parsed_reply (b ++ more) ≡ parsed_reply b
 reply_stays b more known =
     elim (cases_lt (length b) 4) [
       | inl short ↦ absurd (known (short_is_partial b short))
       | inr four ↦ (
-          reply_front_is (b ++ more) (omega (arith, length-append b more))
-          ∙ ap (λ (n : ℕ). sized_reply_front n (drop 4 (b ++ more))) (big_from-append 4 b more four)
-          ∙ ap (λ (xs : List ℕ). sized_reply_front (big_number 4 b) xs) (drop-append-le 4 b more four)
-          ∙ sized_reply_stays (big_number 4 b) (drop 4 b) more (λ e. known (reply_front_is b four ∙ e))
-          ∙ sym (reply_front_is b four))
+          parsed_reply_is (b ++ more) (omega (arith, length-append b more))
+          ∙ ap (λ (n : ℕ). parsed_sized_reply n (drop 4 (b ++ more))) (big_from-append 4 b more four)
+          ∙ ap (λ (xs : List ℕ). parsed_sized_reply (big_number 4 b) xs) (drop-append-le 4 b more four)
+          ∙ sized_reply_stays (big_number 4 b) (drop 4 b) more (λ e. known (parsed_reply_is b four ∙ e))
+          ∙ sym (parsed_reply_is b four))
     ]

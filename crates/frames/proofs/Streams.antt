@@ -8,62 +8,62 @@ use Rattle.frames.specs.declared.fault.FrameFault.TheVariants.{BadFrame, TooLong
 use Rattle.byteorder.specs.Endian.{big_number}
 use Rattle.byteorder.specs.Numbers.{big_from-append}
 use Rattle.scsi_nexus.specs.declared.nexus.Nexus.{Nexus}
-use Rattle.frames.specs.Frames.{Sent, Login, Logout, Front, Partial, Whole, Faulty, named_login, login_front, whole_command, sized_command, command_front, reset_front, body_front, sized_front, front_in}
+use Rattle.frames.specs.Frames.{FrameValue, Login, Logout, ParsedFrameValue, Partial, Complete, Invalid, named_login, parsed_login, whole_command, sized_command, parsed_command, parsed_reset, parsed_body, parsed_sized, parsed_frame}
 use Rattle.frames.specs.Stream.{Stop, Waiting, Broken, Reads, partial, faulty, frame, Feeds}
 
 -- from frames read so far and the rest to all
-pub all_read : (l l' : Bool) (b rest : List ℕ) (front : List Sent) (stop : Stop)
-    → ((others : List Sent) (s : Stop) → Reads l' rest others s → Reads l b (front ++ others) s) → Reads l' rest [] stop → Reads l b front stop
+pub all_read : (l l' : Bool) (b rest : List ℕ) (front : List FrameValue) (stop : Stop)
+    → ((others : List FrameValue) (s : Stop) → Reads l' rest others s → Reads l b (front ++ others) s) → Reads l' rest [] stop → Reads l b front stop
 all_read l l' b rest front stop so_far here =
-    subst (λ (fs : List Sent). Reads l b fs stop) (append-nil front) (so_far [] stop here)
+    subst (λ (fs : List FrameValue). Reads l b fs stop) (append-nil front) (so_far [] stop here)
 
 -- one frame more
-pub one_more : (l l' : Bool) (b rest : List ℕ) (front front' : List Sent) (x : Sent) (n : ℕ)
-    → ((others : List Sent) (s : Stop) → Reads l' rest others s → Reads l b (front ++ others) s)
-    → front_in l' rest ≡ Whole x n → front' ≡ front ++ x ∷ []
-    → (others : List Sent) (s : Stop) → Reads true (drop n rest) others s → Reads l b (front' ++ others) s
+pub one_more : (l l' : Bool) (b rest : List ℕ) (front front' : List FrameValue) (x : FrameValue) (n : ℕ)
+    → ((others : List FrameValue) (s : Stop) → Reads l' rest others s → Reads l b (front ++ others) s)
+    → parsed_frame l' rest ≡ Complete x n → front' ≡ front ++ x ∷ []
+    → (others : List FrameValue) (s : Stop) → Reads true (drop n rest) others s → Reads l b (front' ++ others) s
 one_more l l' b rest front front' x n so_far e grown others s more =
     rw grown (rw append_assoc (so_far (x ∷ others) s (frame l' rest x n others s e more)))
 
 -- ---- one reading
 
-at_partial : (l : Bool) (b : List ℕ) (gs : List Sent) (t : Stop) → Reads l b gs t → front_in l b ≡ Partial → (gs ≡ []) × (t ≡ Waiting l b)
+at_partial : (l : Bool) (b : List ℕ) (gs : List FrameValue) (t : Stop) → Reads l b gs t → parsed_frame l b ≡ Partial → (gs ≡ []) × (t ≡ Waiting l b)
 at_partial _ _ _ _ (partial l b e) d = (refl, refl)
 at_partial _ _ _ _ (faulty l b f e) d = absurd cc
 at_partial _ _ _ _ (frame l b s n others stop e more) d = absurd cc
 
-at_faulty : (l : Bool) (b : List ℕ) (gs : List Sent) (t : Stop) (f : FrameFault) → Reads l b gs t → front_in l b ≡ Faulty f → (gs ≡ []) × (t ≡ Broken f)
+at_faulty : (l : Bool) (b : List ℕ) (gs : List FrameValue) (t : Stop) (f : FrameFault) → Reads l b gs t → parsed_frame l b ≡ Invalid f → (gs ≡ []) × (t ≡ Broken f)
 at_faulty _ _ _ _ f (partial l b e) d = absurd cc
 at_faulty _ _ _ _ f (faulty l b g e) d = (refl, cc)
 at_faulty _ _ _ _ f (frame l b s n others stop e more) d = absurd cc
 
-same_whole : (x y : Sent) (n m : ℕ) → Whole x n ≡ Whole y m → (x ≡ y) × (n ≡ m)
+same_whole : (x y : FrameValue) (n m : ℕ) → Complete x n ≡ Complete y m → (x ≡ y) × (n ≡ m)
 same_whole x y n m e = (cc, cc)
 
-at_whole : (l : Bool) (b : List ℕ) (gs : List Sent) (t : Stop) (s : Sent) (n : ℕ) → Reads l b gs t → front_in l b ≡ Whole s n
-    → (others : List Sent) × (gs ≡ s ∷ others) × Reads true (drop n b) others t
+at_whole : (l : Bool) (b : List ℕ) (gs : List FrameValue) (t : Stop) (s : FrameValue) (n : ℕ) → Reads l b gs t → parsed_frame l b ≡ Complete s n
+    → (others : List FrameValue) × (gs ≡ s ∷ others) × Reads true (drop n b) others t
 at_whole _ _ _ _ s n (partial l b e) d = absurd cc
 at_whole _ _ _ _ s n (faulty l b g e) d = absurd cc
 at_whole _ _ _ _ s n (frame l b x m others stop e more) d =
     let same = same_whole x s m n (sym e ∙ d) in
-    (others, ap (λ (y : Sent). y ∷ others) same.0, rw (← same.1) more)
+    (others, ap (λ (y : FrameValue). y ∷ others) same.0, rw (← same.1) more)
 
 -- the frames of a stream are these and no others
-pub one_reading : (l : Bool) (b : List ℕ) (fs : List Sent) (s : Stop) → Reads l b fs s → (gs : List Sent) (t : Stop) → Reads l b gs t → (fs ≡ gs) × (s ≡ t)
+pub one_reading : (l : Bool) (b : List ℕ) (fs : List FrameValue) (s : Stop) → Reads l b fs s → (gs : List FrameValue) (t : Stop) → Reads l b gs t → (fs ≡ gs) × (s ≡ t)
 one_reading _ _ _ _ (partial l b e) gs t r = let h = at_partial l b gs t r e in (sym h.0, sym h.1)
 one_reading _ _ _ _ (faulty l b f e) gs t r = let h = at_faulty l b gs t f r e in (sym h.0, sym h.1)
 one_reading _ _ _ _ (frame l b s n others stop e more) gs t r =
     let h = at_whole l b gs t s n r e in
     let k = one_reading true (drop n b) others stop more h.0 t h.2 in
-    (ap (λ (xs : List Sent). s ∷ xs) k.0 ∙ sym h.1, k.1)
+    (ap (λ (xs : List FrameValue). s ∷ xs) k.0 ∙ sym h.1, k.1)
 
 -- ---- pieces: what more than a part of a frame shows stays, whatever follows
 
 -- two ways through the same tests
-chosen : (a b c d : Bool) (w x y z : Front) → Front
-chosen a b c d w x y z = cond a w (cond b x (cond c y (cond d z (Faulty BadFrame))))
+chosen : (a b c d : Bool) (w x y z : ParsedFrameValue) → ParsedFrameValue
+chosen a b c d w x y z = cond a w (cond b x (cond c y (cond d z (Invalid BadFrame))))
 
-chosen_stays : (a b c d : Bool) (w w' x x' y y' z : Front) → ((w ≡ Partial → ⊥) → w' ≡ w) → ((x ≡ Partial → ⊥) → x' ≡ x) → ((y ≡ Partial → ⊥) → y' ≡ y)
+chosen_stays : (a b c d : Bool) (w w' x x' y y' z : ParsedFrameValue) → ((w ≡ Partial → ⊥) → w' ≡ w) → ((x ≡ Partial → ⊥) → x' ≡ x) → ((y ≡ Partial → ⊥) → y' ≡ y)
     → (chosen a b c d w x y z ≡ Partial → ⊥) → chosen a b c d w' x' y' z ≡ chosen a b c d w x y z
 unfolding chosen
 chosen_stays true b c d w w' x x' y y' z h i j known = h known
@@ -72,7 +72,7 @@ chosen_stays false false true d w w' x x' y y' z h i j known = j known
 chosen_stays false false false true w w' x x' y y' z h i j known = refl
 chosen_stays false false false false w w' x x' y y' z h i j known = refl
 
-login_stays : (fields more : List ℕ) → (login_front fields ≡ Partial → ⊥) → login_front (fields ++ more) ≡ login_front fields
+login_stays : (fields more : List ℕ) → (parsed_login fields ≡ Partial → ⊥) → parsed_login (fields ++ more) ≡ parsed_login fields
 login_stays fields more known =
     elim (cases_lt (length fields) 10) [
       | inl short ↦ (let here : ltb (length fields) 10 ≡ true = lt-ltb _ _ short in absurd (known (rw here refl)))
@@ -98,10 +98,10 @@ whole_stays size count fields more least within =
     let rest : 2 + count + (size - 3 - count) ≤ length fields = omega arith in
     rw (get_or-append fields more 0 0 first, cut_stays 2 count fields more cdb, cut_stays (2 + count) (size - 3 - count) fields more rest) refl
 
-sized : (bad short : Bool) (size : ℕ) (s : Sent) → Front
-sized bad short size s = cond bad (Faulty BadFrame) (cond short Partial (Whole s (4 + size)))
+sized : (bad short : Bool) (size : ℕ) (s : FrameValue) → ParsedFrameValue
+sized bad short size s = cond bad (Invalid BadFrame) (cond short Partial (Complete s (4 + size)))
 
-sized_stays : (bad short short' : Bool) (size : ℕ) (s s' : Sent) → (bad ≡ false → short ≡ false → (short' ≡ false) × (s' ≡ s))
+sized_stays : (bad short short' : Bool) (size : ℕ) (s s' : FrameValue) → (bad ≡ false → short ≡ false → (short' ≡ false) × (s' ≡ s))
     → (sized bad short size s ≡ Partial → ⊥) → sized bad short' size s' ≡ sized bad short size s
 unfolding sized
 sized_stays true short short' size s s' h known = refl
@@ -133,7 +133,7 @@ sized_command_stays size count fields more known =
     (le-ltb _ _ (omega (arith, long, length-append fields more)), whole_stays size count fields more least (omega (arith, long))))
     known
 
-command_stays : (size : ℕ) (fields more : List ℕ) → (command_front size fields ≡ Partial → ⊥) → command_front size (fields ++ more) ≡ command_front size fields
+command_stays : (size : ℕ) (fields more : List ℕ) → (parsed_command size fields ≡ Partial → ⊥) → parsed_command size (fields ++ more) ≡ parsed_command size fields
 command_stays size fields more known =
     elim (cases_lt (length fields) 2) [
       | inl short ↦ (let here : ltb (length fields) 2 ≡ true = lt-ltb _ _ short in absurd (known (rw here refl)))
@@ -141,12 +141,12 @@ command_stays size fields more known =
           let here : ltb (length fields) 2 ≡ false = le-ltb _ _ long in
           let there : ltb (length (fields ++ more)) 2 ≡ false = le-ltb _ _ (omega (arith, length-append fields more)) in
           let second : 1 < length fields = omega arith in
-          let same : command_front size fields ≡ sized_command size (slice_index fields 1) fields = rw here refl in
+          let same : parsed_command size fields ≡ sized_command size (slice_index fields 1) fields = rw here refl in
           rw (there, here, get_or-append fields more 0 1 second)
           (sized_command_stays size (slice_index fields 1) fields more (λ e. known (same ∙ e))))
     ]
 
-reset_stays : (fields more : List ℕ) → (reset_front fields ≡ Partial → ⊥) → reset_front (fields ++ more) ≡ reset_front fields
+reset_stays : (fields more : List ℕ) → (parsed_reset fields ≡ Partial → ⊥) → parsed_reset (fields ++ more) ≡ parsed_reset fields
 reset_stays [] more known = absurd (known refl)
 reset_stays (lun ∷ fields) more known = refl
 
@@ -163,104 +163,104 @@ reset_test l size kind = (kind == 0x03) && l && (size == 2)
 logout_test : (l : Bool) (size kind : ℕ) → Bool
 logout_test l size kind = (kind == 0x04) && l && (size == 1)
 
-body_stays : (l : Bool) (size : ℕ) (body more : List ℕ) → (body_front l size body ≡ Partial → ⊥) → body_front l size (body ++ more) ≡ body_front l size body
-unfolding body_front chosen login_test command_test reset_test logout_test
+body_stays : (l : Bool) (size : ℕ) (body more : List ℕ) → (parsed_body l size body ≡ Partial → ⊥) → parsed_body l size (body ++ more) ≡ parsed_body l size body
+unfolding parsed_body chosen login_test command_test reset_test logout_test
 body_stays l size [] more known = absurd (known refl)
 body_stays l size (kind ∷ fields) more known =
-    chosen_stays (login_test l size kind) (command_test l size kind) (reset_test l size kind) (logout_test l size kind) _ _ _ _ _ _ (Whole Logout 5) (login_stays fields more) (command_stays size fields more) (reset_stays fields more) known
+    chosen_stays (login_test l size kind) (command_test l size kind) (reset_test l size kind) (logout_test l size kind) _ _ _ _ _ _ (Complete Logout 5) (login_stays fields more) (command_stays size fields more) (reset_stays fields more) known
 
 -- the tests of the length
-measured : (none long : Bool) → Front → Front
-measured none long f = cond none (Faulty BadFrame) (cond long (Faulty TooLong) f)
+measured : (none long : Bool) → ParsedFrameValue → ParsedFrameValue
+measured none long f = cond none (Invalid BadFrame) (cond long (Invalid TooLong) f)
 
-measured_stays : (none long : Bool) (f f' : Front) → ((f ≡ Partial → ⊥) → f' ≡ f) → (measured none long f ≡ Partial → ⊥) → measured none long f' ≡ measured none long f
+measured_stays : (none long : Bool) (f f' : ParsedFrameValue) → ((f ≡ Partial → ⊥) → f' ≡ f) → (measured none long f ≡ Partial → ⊥) → measured none long f' ≡ measured none long f
 unfolding measured
 measured_stays true long f f' h known = refl
 measured_stays false true f f' h known = refl
 measured_stays false false f f' h known = h known
 
-sized_front_stays : (l : Bool) (size : ℕ) (body more : List ℕ) → (sized_front l size body ≡ Partial → ⊥) → sized_front l size (body ++ more) ≡ sized_front l size body
+parsed_sized_stays : (l : Bool) (size : ℕ) (body more : List ℕ) → (parsed_sized l size body ≡ Partial → ⊥) → parsed_sized l size (body ++ more) ≡ parsed_sized l size body
 unfolding measured
-sized_front_stays l size body more known = measured_stays _ _ _ _ (body_stays l size body more) known
+parsed_sized_stays l size body more known = measured_stays _ _ _ _ (body_stays l size body more) known
 
-pub front_is : (l : Bool) (b : List ℕ) → 4 ≤ length b → front_in l b ≡ sized_front l (big_number 4 b) (drop 4 b)
-unfolding front_in
-front_is l b four = let here : ltb (length b) 4 ≡ false = le-ltb _ _ four in rw here refl
+pub parsed_is : (l : Bool) (b : List ℕ) → 4 ≤ length b → parsed_frame l b ≡ parsed_sized l (big_number 4 b) (drop 4 b)
+unfolding parsed_frame
+parsed_is l b four = let here : ltb (length b) 4 ≡ false = le-ltb _ _ four in rw here refl
 
-short_is : (l : Bool) (b : List ℕ) → length b < 4 → front_in l b ≡ Partial
-unfolding front_in
+short_is : (l : Bool) (b : List ℕ) → length b < 4 → parsed_frame l b ≡ Partial
+unfolding parsed_frame
 short_is l b short = let here : ltb (length b) 4 ≡ true = lt-ltb _ _ short in rw here refl
 
-whole_front_stays : (l : Bool) (b more : List ℕ) → 4 ≤ length b → (front_in l b ≡ Partial → ⊥) → front_in l (b ++ more) ≡ front_in l b
-whole_front_stays l b more four known =
-    front_is l (b ++ more) (omega (arith, length-append b more))
-    ∙ ap (λ (n : ℕ). sized_front l n (drop 4 (b ++ more))) (big_from-append 4 b more four)
-    ∙ ap (λ (xs : List ℕ). sized_front l (big_number 4 b) xs) (drop-append-le 4 b more four)
-    ∙ sized_front_stays l (big_number 4 b) (drop 4 b) more (λ e. known (front_is l b four ∙ e))
-    ∙ sym (front_is l b four)
+complete_stays : (l : Bool) (b more : List ℕ) → 4 ≤ length b → (parsed_frame l b ≡ Partial → ⊥) → parsed_frame l (b ++ more) ≡ parsed_frame l b
+complete_stays l b more four known =
+    parsed_is l (b ++ more) (omega (arith, length-append b more))
+    ∙ ap (λ (n : ℕ). parsed_sized l n (drop 4 (b ++ more))) (big_from-append 4 b more four)
+    ∙ ap (λ (xs : List ℕ). parsed_sized l (big_number 4 b) xs) (drop-append-le 4 b more four)
+    ∙ parsed_sized_stays l (big_number 4 b) (drop 4 b) more (λ e. known (parsed_is l b four ∙ e))
+    ∙ sym (parsed_is l b four)
 
 -- a front that is more than a part of a frame stays, whatever follows
-pub stable : (l : Bool) (b more : List ℕ) (x : Front) → front_in l b ≡ x → (x ≡ Partial → ⊥) → front_in l (b ++ more) ≡ x
+pub stable : (l : Bool) (b more : List ℕ) (x : ParsedFrameValue) → parsed_frame l b ≡ x → (x ≡ Partial → ⊥) → parsed_frame l (b ++ more) ≡ x
 stable l b more x e known =
     elim (cases_lt (length b) 4) [
       | inl short ↦ absurd (known (sym e ∙ short_is l b short))
-      | inr four ↦ whole_front_stays l b more four (λ p. known (sym e ∙ p)) ∙ e
+      | inr four ↦ complete_stays l b more four (λ p. known (sym e ∙ p)) ∙ e
     ]
 
 -- ---- a frame is some of the bytes
 
-named_count : (ok : Bool) (nexus : Nexus) (s : Sent) (n : ℕ) → cond ok (Whole (Login nexus) 15) (Faulty BadFrame) ≡ Whole s n → n ≡ 15
+named_count : (ok : Bool) (nexus : Nexus) (s : FrameValue) (n : ℕ) → cond ok (Complete (Login nexus) 15) (Invalid BadFrame) ≡ Complete s n → n ≡ 15
 named_count true nexus s n e = cc
 named_count false nexus s n e = absurd cc
 
-login_within : (fields : List ℕ) (s : Sent) (n : ℕ) → login_front fields ≡ Whole s n → n ≤ 5 + length fields
+login_within : (fields : List ℕ) (s : FrameValue) (n : ℕ) → parsed_login fields ≡ Complete s n → n ≤ 5 + length fields
 login_within fields s n e =
     elim (cases_lt (length fields) 10) [
       | inl short ↦ (
           let here : ltb (length fields) 10 ≡ true = lt-ltb _ _ short in
-          let part : login_front fields ≡ Partial = rw here refl in
-          let clash : Partial ≡ Whole s n = sym part ∙ e in
+          let part : parsed_login fields ≡ Partial = rw here refl in
+          let clash : Partial ≡ Complete s n = sym part ∙ e in
           absurd cc)
       | inr long ↦ (
           let here : ltb (length fields) 10 ≡ false = le-ltb _ _ long in
-          let named : login_front fields ≡ named_login (record { sas = big_number 8 fields; port = big_number 2 (drop 8 fields) }) = rw here refl in
+          let named : parsed_login fields ≡ named_login (record { sas = big_number 8 fields; port = big_number 2 (drop 8 fields) }) = rw here refl in
           let count = named_count _ _ s n (sym named ∙ e) in
           omega (arith, count))
     ]
 
-sized_count : (bad short : Bool) (size : ℕ) (t s : Sent) (n : ℕ) → sized bad short size t ≡ Whole s n → (short ≡ false) × (n ≡ 4 + size)
+sized_count : (bad short : Bool) (size : ℕ) (t s : FrameValue) (n : ℕ) → sized bad short size t ≡ Complete s n → (short ≡ false) × (n ≡ 4 + size)
 unfolding sized
 sized_count true short size t s n e = absurd cc
 sized_count false true size t s n e = absurd cc
 sized_count false false size t s n e = (refl, cc)
 
-sized_within : (size count : ℕ) (fields : List ℕ) (s : Sent) (n : ℕ) → sized_command size count fields ≡ Whole s n → n ≤ 5 + length fields
+sized_within : (size count : ℕ) (fields : List ℕ) (s : FrameValue) (n : ℕ) → sized_command size count fields ≡ Complete s n → n ≤ 5 + length fields
 unfolding sized bad_of short_of
 sized_within size count fields s n e =
     let h = sized_count (bad_of size count) (short_of size fields) size _ s n e in
     let long : size - 1 ≤ length fields = ltb-false _ _ h.0 in
     omega (arith, long, h.1)
 
-command_within : (size : ℕ) (fields : List ℕ) (s : Sent) (n : ℕ) → command_front size fields ≡ Whole s n → n ≤ 5 + length fields
+command_within : (size : ℕ) (fields : List ℕ) (s : FrameValue) (n : ℕ) → parsed_command size fields ≡ Complete s n → n ≤ 5 + length fields
 command_within size fields s n e =
     elim (cases_lt (length fields) 2) [
       | inl short ↦ (
           let here : ltb (length fields) 2 ≡ true = lt-ltb _ _ short in
-          let part : command_front size fields ≡ Partial = rw here refl in
-          let clash : Partial ≡ Whole s n = sym part ∙ e in
+          let part : parsed_command size fields ≡ Partial = rw here refl in
+          let clash : Partial ≡ Complete s n = sym part ∙ e in
           absurd cc)
       | inr long ↦ (
           let here : ltb (length fields) 2 ≡ false = le-ltb _ _ long in
-          let same : command_front size fields ≡ sized_command size (slice_index fields 1) fields = rw here refl in
+          let same : parsed_command size fields ≡ sized_command size (slice_index fields 1) fields = rw here refl in
           sized_within size (slice_index fields 1) fields s n (sym same ∙ e))
     ]
 
-reset_within : (fields : List ℕ) (s : Sent) (n : ℕ) → reset_front fields ≡ Whole s n → n ≤ 5 + length fields
+reset_within : (fields : List ℕ) (s : FrameValue) (n : ℕ) → parsed_reset fields ≡ Complete s n → n ≤ 5 + length fields
 reset_within [] s n e = absurd cc
 reset_within (lun ∷ fields) s n e = let count : n ≡ 6 = cc in omega (arith, count)
 
-chosen_within : (a b c d : Bool) (w x y z : Front) (s : Sent) (n k : ℕ) → (w ≡ Whole s n → n ≤ k) → (x ≡ Whole s n → n ≤ k) → (y ≡ Whole s n → n ≤ k)
-    → (z ≡ Whole s n → n ≤ k) → chosen a b c d w x y z ≡ Whole s n → n ≤ k
+chosen_within : (a b c d : Bool) (w x y z : ParsedFrameValue) (s : FrameValue) (n k : ℕ) → (w ≡ Complete s n → n ≤ k) → (x ≡ Complete s n → n ≤ k) → (y ≡ Complete s n → n ≤ k)
+    → (z ≡ Complete s n → n ≤ k) → chosen a b c d w x y z ≡ Complete s n → n ≤ k
 unfolding chosen
 chosen_within true b c d w x y z s n k h i j m e = h e
 chosen_within false true c d w x y z s n k h i j m e = i e
@@ -268,49 +268,49 @@ chosen_within false false true d w x y z s n k h i j m e = j e
 chosen_within false false false true w x y z s n k h i j m e = m e
 chosen_within false false false false w x y z s n k h i j m e = absurd cc
 
-logout_within : (fields : List ℕ) (s : Sent) (n : ℕ) → Whole Logout 5 ≡ Whole s n → n ≤ 5 + length fields
+logout_within : (fields : List ℕ) (s : FrameValue) (n : ℕ) → Complete Logout 5 ≡ Complete s n → n ≤ 5 + length fields
 logout_within fields s n e = let count : n ≡ 5 = cc in omega (arith, count)
 
-body_within : (l : Bool) (size : ℕ) (body : List ℕ) (s : Sent) (n : ℕ) → body_front l size body ≡ Whole s n → n ≤ 4 + length body
-unfolding body_front chosen login_test command_test reset_test logout_test
+body_within : (l : Bool) (size : ℕ) (body : List ℕ) (s : FrameValue) (n : ℕ) → parsed_body l size body ≡ Complete s n → n ≤ 4 + length body
+unfolding parsed_body chosen login_test command_test reset_test logout_test
 body_within l size [] s n e = absurd cc
 body_within l size (kind ∷ fields) s n e =
     let bound : n ≤ 5 + length fields =
-    chosen_within (login_test l size kind) (command_test l size kind) (reset_test l size kind) (logout_test l size kind) _ _ _ (Whole Logout 5) s n (5 + length fields) (login_within fields s n) (command_within size fields s n) (reset_within fields s n)
+    chosen_within (login_test l size kind) (command_test l size kind) (reset_test l size kind) (logout_test l size kind) _ _ _ (Complete Logout 5) s n (5 + length fields) (login_within fields s n) (command_within size fields s n) (reset_within fields s n)
     (logout_within fields s n) e in
     let longer : length (kind ∷ fields) ≡ 1 + length fields = omega arith in
     omega (arith, bound, longer)
 
-measured_within : (none long : Bool) (f : Front) (s : Sent) (n k : ℕ) → (f ≡ Whole s n → n ≤ k) → measured none long f ≡ Whole s n → n ≤ k
+measured_within : (none long : Bool) (f : ParsedFrameValue) (s : FrameValue) (n k : ℕ) → (f ≡ Complete s n → n ≤ k) → measured none long f ≡ Complete s n → n ≤ k
 unfolding measured
 measured_within true long f s n k h e = absurd cc
 measured_within false true f s n k h e = absurd cc
 measured_within false false f s n k h e = h e
 
-sized_front_within : (l : Bool) (size : ℕ) (body : List ℕ) (s : Sent) (n : ℕ) → sized_front l size body ≡ Whole s n → n ≤ 4 + length body
+parsed_sized_within : (l : Bool) (size : ℕ) (body : List ℕ) (s : FrameValue) (n : ℕ) → parsed_sized l size body ≡ Complete s n → n ≤ 4 + length body
 unfolding measured
-sized_front_within l size body s n e = measured_within _ _ _ s n (4 + length body) (body_within l size body s n) e
+parsed_sized_within l size body s n e = measured_within _ _ _ s n (4 + length body) (body_within l size body s n) e
 
-pub frame_within : (l : Bool) (b : List ℕ) (s : Sent) (n : ℕ) → front_in l b ≡ Whole s n → n ≤ length b
+pub frame_within : (l : Bool) (b : List ℕ) (s : FrameValue) (n : ℕ) → parsed_frame l b ≡ Complete s n → n ≤ length b
 frame_within l b s n e =
     elim (cases_lt (length b) 4) [
-      | inl short ↦ (let clash : Partial ≡ Whole s n = sym (short_is l b short) ∙ e in absurd cc)
+      | inl short ↦ (let clash : Partial ≡ Complete s n = sym (short_is l b short) ∙ e in absurd cc)
       | inr four ↦ (
-          let bound = sized_front_within l (big_number 4 b) (drop 4 b) s n (sym (front_is l b four) ∙ e) in
+          let bound = parsed_sized_within l (big_number 4 b) (drop 4 b) s n (sym (parsed_is l b four) ∙ e) in
           omega (arith, bound, length-drop 4 b))
     ]
 
 -- what was read of a front of a stream is read of the whole, and then the rest
-joined : (l : Bool) (b : List ℕ) (fs : List Sent) (s : Stop) → Reads l b fs s → (more : List ℕ) (gs : List Sent) (t : Stop) → Feeds s more gs t → Reads l (b ++ more) (fs ++ gs) t
+joined : (l : Bool) (b : List ℕ) (fs : List FrameValue) (s : Stop) → Reads l b fs s → (more : List ℕ) (gs : List FrameValue) (t : Stop) → Feeds s more gs t → Reads l (b ++ more) (fs ++ gs) t
 joined _ _ _ _ (partial l b e) more gs t r = r
-joined _ _ _ _ (faulty l b f e) more gs t r = rw (r.0, r.1) (faulty l (b ++ more) f (stable l b more (Faulty f) e (λ h. absurd cc)))
+joined _ _ _ _ (faulty l b f e) more gs t r = rw (r.0, r.1) (faulty l (b ++ more) f (stable l b more (Invalid f) e (λ h. absurd cc)))
 joined _ _ _ _ (frame l b s n others stop e rest) more gs t r =
     let within : n ≤ length b = frame_within l b s n e in
-    frame l (b ++ more) s n (others ++ gs) t (stable l b more (Whole s n) e (λ h. absurd cc))
+    frame l (b ++ more) s n (others ++ gs) t (stable l b more (Complete s n) e (λ h. absurd cc))
     (rw (drop-append-le n b more within) (joined true (drop n b) others stop rest more gs t r))
 
 -- two pieces are fed as one
-pub pieces_join : (a : Stop) (p : List ℕ) (fs : List Sent) (s : Stop) (q : List ℕ) (gs : List Sent) (t : Stop) → Feeds a p fs s → Feeds s q gs t → Feeds a (p ++ q) (fs ++ gs) t
+pub pieces_join : (a : Stop) (p : List ℕ) (fs : List FrameValue) (s : Stop) (q : List ℕ) (gs : List FrameValue) (t : Stop) → Feeds a p fs s → Feeds s q gs t → Feeds a (p ++ q) (fs ++ gs) t
 pieces_join (Waiting l rest) p fs s q gs t x y = rw (← append_assoc rest p q) (joined l (rest ++ p) fs s x q gs t y)
 pieces_join (Broken f) p fs s q gs t x y =
     let z : Feeds (Broken f) q gs t = rw x.1 at y in

@@ -6,10 +6,10 @@ use Rattle.std.proofs.Math.Seq.{take-append_seam, drop-append_seam}
 use Rattle.byteorder.specs.Endian.{big_bytes, big_number}
 use Rattle.byteorder.specs.Numbers.{big_number-reads_back, length-bytes_high_first}
 use Rattle.scsi_nexus.specs.declared.nexus.Nexus.{Nexus}
-use Rattle.frames.specs.Frames.{Sent, Login, Command, Reset, Logout, Whole, named_login, login_front, whole_command, command_front, body_front, sized_front, front_in}
+use Rattle.frames.specs.Frames.{FrameValue, Login, Command, Reset, Logout, Complete, named_login, parsed_login, whole_command, parsed_command, parsed_body, parsed_sized, parsed_frame}
 use Rattle.frames.specs.Sending.{IsSendable, HasWidth, is_behind_login, frame_body, frame_bytes}
 use Rattle.frames.specs.Stream.{Stop, Reads, frame}
-use Rattle.frames.proofs.Streams.{front_is}
+use Rattle.frames.proofs.Streams.{parsed_is}
 
 -- what stands before a known seam, and behind it
 pub take_seam : (xs ys : List ℕ) (n : ℕ) → n ≡ length xs → take n (xs ++ ys) ≡ xs
@@ -32,36 +32,36 @@ pub long_enough : (body rest : List ℕ) → 4 ≤ length ((big_bytes 4 (length 
 long_enough body rest =
     omega (arith, length-append (big_bytes 4 (length body) ++ body) rest, length-append (big_bytes 4 (length body)) body, length-bytes_high_first 4 (length body))
 
-front_of_body : (l : Bool) (body rest : List ℕ) → length body < 2 ^ 32
-    → front_in l ((big_bytes 4 (length body) ++ body) ++ rest) ≡ sized_front l (length body) (body ++ rest)
-front_of_body l body rest h =
-    front_is l ((big_bytes 4 (length body) ++ body) ++ rest) (long_enough body rest)
-    ∙ ap (λ (n : ℕ). sized_front l n (drop 4 ((big_bytes 4 (length body) ++ body) ++ rest))) (length_read body rest h)
-    ∙ ap (λ (xs : List ℕ). sized_front l (length body) xs) (body_behind body rest)
+parsed_frame_of_body : (l : Bool) (body rest : List ℕ) → length body < 2 ^ 32
+    → parsed_frame l ((big_bytes 4 (length body) ++ body) ++ rest) ≡ parsed_sized l (length body) (body ++ rest)
+parsed_frame_of_body l body rest h =
+    parsed_is l ((big_bytes 4 (length body) ++ body) ++ rest) (long_enough body rest)
+    ∙ ap (λ (n : ℕ). parsed_sized l n (drop 4 ((big_bytes 4 (length body) ++ body) ++ rest))) (length_read body rest h)
+    ∙ ap (λ (xs : List ℕ). parsed_sized l (length body) xs) (body_behind body rest)
 
-login_named : (nexus : Nexus) → 1 ≤ nexus.port → nexus.port ≤ 4 → named_login nexus ≡ Whole (Login nexus) 15
+login_named : (nexus : Nexus) → 1 ≤ nexus.port → nexus.port ≤ 4 → named_login nexus ≡ Complete (Login nexus) 15
 login_named nexus least most = grind arith
 
 -- the fields of a LOGIN
 login_fields : (nexus : Nexus) (fields : List ℕ) → 10 ≤ length fields → big_number 8 fields ≡ nexus.sas → big_number 2 (drop 8 fields) ≡ nexus.port
-    → 1 ≤ nexus.port → nexus.port ≤ 4 → login_front fields ≡ Whole (Login nexus) 15
+    → 1 ≤ nexus.port → nexus.port ≤ 4 → parsed_login fields ≡ Complete (Login nexus) 15
 login_fields nexus fields long sas port least most =
     let here : ltb (length fields) 10 ≡ false = le-ltb _ _ long in
-    let found : login_front fields ≡ named_login (record { sas = big_number 8 fields; port = big_number 2 (drop 8 fields) }) = rw here refl in
+    let found : parsed_login fields ≡ named_login (record { sas = big_number 8 fields; port = big_number 2 (drop 8 fields) }) = rw here refl in
     found
     ∙ ap (λ (n : ℕ). named_login (record { sas = n; port = big_number 2 (drop 8 fields) })) sas
     ∙ ap (λ (n : ℕ). named_login (record { sas = nexus.sas; port = n })) port
     ∙ login_named nexus least most
 
 login_again : (nexus : Nexus) (rest : List ℕ) → nexus.sas < 2 ^ 64 → 1 ≤ nexus.port → nexus.port ≤ 4
-    → login_front ((big_bytes 8 nexus.sas ++ big_bytes 2 nexus.port) ++ rest) ≡ Whole (Login nexus) 15
+    → parsed_login ((big_bytes 8 nexus.sas ++ big_bytes 2 nexus.port) ++ rest) ≡ Complete (Login nexus) 15
 login_again nexus rest wide least most =
     login_fields nexus ((big_bytes 8 nexus.sas ++ big_bytes 2 nexus.port) ++ rest) (omega arith)
     (big_number-reads_back 8 nexus.sas (big_bytes 2 nexus.port ++ rest) wide) (big_number-reads_back 2 nexus.port rest (omega arith)) least most
 
 -- the fields of a COMMAND
 command_tests : (lun size count : ℕ) (more : List ℕ) → 1 ≤ count → count ≤ 16 → 3 + count ≤ size → size ≤ 3 + length more
-    → command_front size (lun ∷ count ∷ more) ≡ Whole (whole_command size count (lun ∷ count ∷ more)) (4 + size)
+    → parsed_command size (lun ∷ count ∷ more) ≡ Complete (whole_command size count (lun ∷ count ∷ more)) (4 + size)
 command_tests lun size count more least most fits long =
     let two : ltb (length (lun ∷ count ∷ more)) 2 ≡ false = le-ltb _ _ (omega arith) in
     let some : eqb count 0 ≡ false = ne_eqb _ _ (λ e. omega (arith, e)) in
@@ -84,14 +84,14 @@ command_cut lun size cdb bytes rest is =
     ∙ ap (λ (xs : List ℕ). Command lun cdb xs) sent
 
 command_again : (lun size : ℕ) (cdb bytes rest : List ℕ) → 1 ≤ length cdb → length cdb ≤ 16 → size ≡ 3 + length cdb + length bytes
-    → command_front size (lun ∷ length cdb ∷ ((cdb ++ bytes) ++ rest)) ≡ Whole (Command lun cdb bytes) (4 + size)
+    → parsed_command size (lun ∷ length cdb ∷ ((cdb ++ bytes) ++ rest)) ≡ Complete (Command lun cdb bytes) (4 + size)
 command_again lun size cdb bytes rest least most is =
     command_tests lun size (length cdb) ((cdb ++ bytes) ++ rest) least most (omega arith)
     (omega (arith, length-append (cdb ++ bytes) rest, length-append cdb bytes))
-    ∙ ap (λ (s : Sent). Whole s (4 + size)) (command_cut lun size cdb bytes rest is)
+    ∙ ap (λ (s : FrameValue). Complete s (4 + size)) (command_cut lun size cdb bytes rest is)
 
-sized_command_body : (size : ℕ) (fields : List ℕ) → 4 ≤ size → size ≤ 131072 → sized_front true size (0x02 ∷ fields) ≡ command_front size fields
-unfolding body_front
+sized_command_body : (size : ℕ) (fields : List ℕ) → 4 ≤ size → size ≤ 131072 → parsed_sized true size (0x02 ∷ fields) ≡ parsed_command size fields
+unfolding parsed_body
 sized_command_body size fields least most =
     let some : eqb size 0 ≡ false = ne_eqb _ _ (λ e. omega (arith, e)) in
     let short : ltb 131072 size ≡ false = le-ltb _ _ most in
@@ -99,9 +99,9 @@ sized_command_body size fields least most =
     rw (some, short, four) refl
 
 -- a whole body
-body_again : (f : Sent) (rest : List ℕ) → IsSendable f → HasWidth f
-    → sized_front (is_behind_login f) (length (frame_body f)) (frame_body f ++ rest) ≡ Whole f (4 + length (frame_body f))
-unfolding body_front
+body_again : (f : FrameValue) (rest : List ℕ) → IsSendable f → HasWidth f
+    → parsed_sized (is_behind_login f) (length (frame_body f)) (frame_body f ++ rest) ≡ Complete f (4 + length (frame_body f))
+unfolding parsed_body
 body_again (Login nexus) rest can wide = login_again nexus rest wide can.0 can.1
 body_again (Command lun cdb bytes) rest can wide =
     let size : length (frame_body (Command lun cdb bytes)) ≡ 3 + length cdb + length bytes = omega (arith, length-append cdb bytes) in
@@ -110,7 +110,7 @@ body_again (Command lun cdb bytes) rest can wide =
 body_again (Reset lun) rest can wide = refl
 body_again Logout rest can wide = refl
 
-body_fits : (f : Sent) → IsSendable f → length (frame_body f) < 2 ^ 32
+body_fits : (f : FrameValue) → IsSendable f → length (frame_body f) < 2 ^ 32
 body_fits (Login nexus) can = omega arith
 body_fits (Command lun cdb bytes) can = omega (arith, length-append cdb bytes, can.2)
 body_fits (Reset lun) can = omega arith
@@ -119,13 +119,13 @@ body_fits Logout can = omega arith
 pub length_whole : (body : List ℕ) → length (big_bytes 4 (length body) ++ body) ≡ 4 + length body
 length_whole body = omega (arith, length-append (big_bytes 4 (length body)) body, length-bytes_high_first 4 (length body))
 
-pub sent_again : (f : Sent) (rest : List ℕ) → IsSendable f → HasWidth f → front_in (is_behind_login f) (frame_bytes f ++ rest) ≡ Whole f (length (frame_bytes f))
-sent_again f rest can wide =
-    front_of_body (is_behind_login f) (frame_body f) rest (body_fits f can) ∙ body_again f rest can wide
-    ∙ ap (λ (n : ℕ). Whole f n) (sym (length_whole (frame_body f)))
+pub frame_again : (f : FrameValue) (rest : List ℕ) → IsSendable f → HasWidth f → parsed_frame (is_behind_login f) (frame_bytes f ++ rest) ≡ Complete f (length (frame_bytes f))
+frame_again f rest can wide =
+    parsed_frame_of_body (is_behind_login f) (frame_body f) rest (body_fits f can) ∙ body_again f rest can wide
+    ∙ ap (λ (n : ℕ). Complete f n) (sym (length_whole (frame_body f)))
 
-pub sent_in_stream : (f : Sent) (rest : List ℕ) (others : List Sent) (stop : Stop) → IsSendable f → HasWidth f
+pub sent_in_stream : (f : FrameValue) (rest : List ℕ) (others : List FrameValue) (stop : Stop) → IsSendable f → HasWidth f
     → Reads true rest others stop → Reads (is_behind_login f) (frame_bytes f ++ rest) (f ∷ others) stop
 sent_in_stream f rest others stop can wide more =
-    frame (is_behind_login f) (frame_bytes f ++ rest) f (length (frame_bytes f)) others stop (sent_again f rest can wide)
+    frame (is_behind_login f) (frame_bytes f ++ rest) f (length (frame_bytes f)) others stop (frame_again f rest can wide)
     (rw (drop-append_seam (frame_bytes f) rest) more)

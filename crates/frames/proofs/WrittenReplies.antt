@@ -8,23 +8,23 @@ use Rattle.scsi_sense.specs.declared.sense.Sense.{Sense}
 use Rattle.scsi_sense.specs.declared.status.Status.{Status}
 use Rattle.scsi_sense.specs.declared.status.Status.TheVariants.{Good, CheckCondition, Busy, ReservationConflict}
 use Rattle.scsi_sense.specs.Status.{status_code}
-use Rattle.scsi_sense.specs.FixedSense.{IsWritable, ReadsBack, fixed_sense, reading}
+use Rattle.scsi_sense.specs.FixedSense.{IsWritable, ReadsBack, fixed_sense, decoded_sense}
 use Rattle.frames.specs.declared.reply_frame.LoginAnswer.{LoginAnswer}
 use Rattle.frames.specs.declared.reply_frame.LoginAnswer.TheVariants.{Accepted, AlreadyConnected}
-use Rattle.frames.specs.Replies.{Told, LoginReply, CommandReply, ResetReply, LogoutReply, IsShort, reply_body, reply_bytes}
-use Rattle.frames.specs.ReplyFronts.{Whole, IsTellable, coded_status, reset_status_front, numbered_front, spelled_front, sense_front, status_front, reply_body_front, sized_reply_front, reply_front_in}
+use Rattle.frames.specs.Replies.{ReplyFrameValue, LoginReply, CommandReply, ResetReply, LogoutReply, IsShort, reply_body, reply_bytes}
+use Rattle.frames.specs.ParsedReplies.{Complete, IsTellable, coded_status, parsed_reset_status, parsed_numbered, parsed_with_sense, parsed_sense, parsed_status, parsed_reply_body, parsed_sized_reply, parsed_reply}
 use Rattle.frames.proofs.WrittenFrames.{take_seam, length_read, body_behind, long_enough, length_whole}
 
-pub reply_front_is : (b : List ℕ) → 4 ≤ length b → reply_front_in b ≡ sized_reply_front (big_number 4 b) (drop 4 b)
-unfolding reply_front_in
-reply_front_is b four = let here : ltb (length b) 4 ≡ false = le-ltb _ _ four in rw here refl
+pub parsed_reply_is : (b : List ℕ) → 4 ≤ length b → parsed_reply b ≡ parsed_sized_reply (big_number 4 b) (drop 4 b)
+unfolding parsed_reply
+parsed_reply_is b four = let here : ltb (length b) 4 ≡ false = le-ltb _ _ four in rw here refl
 
-reply_front_of_body : (body rest : List ℕ) → length body < 2 ^ 32
-    → reply_front_in ((big_bytes 4 (length body) ++ body) ++ rest) ≡ sized_reply_front (length body) (body ++ rest)
-reply_front_of_body body rest h =
-    reply_front_is ((big_bytes 4 (length body) ++ body) ++ rest) (long_enough body rest)
-    ∙ ap (λ (n : ℕ). sized_reply_front n (drop 4 ((big_bytes 4 (length body) ++ body) ++ rest))) (length_read body rest h)
-    ∙ ap (λ (xs : List ℕ). sized_reply_front (length body) xs) (body_behind body rest)
+parsed_reply_of_body : (body rest : List ℕ) → length body < 2 ^ 32
+    → parsed_reply ((big_bytes 4 (length body) ++ body) ++ rest) ≡ parsed_sized_reply (length body) (body ++ rest)
+parsed_reply_of_body body rest h =
+    parsed_reply_is ((big_bytes 4 (length body) ++ body) ++ rest) (long_enough body rest)
+    ∙ ap (λ (n : ℕ). parsed_sized_reply n (drop 4 ((big_bytes 4 (length body) ++ body) ++ rest))) (length_read body rest h)
+    ∙ ap (λ (xs : List ℕ). parsed_sized_reply (length body) xs) (body_behind body rest)
 
 coded_again : (status : Status) → coded_status (status_code status) ≡ Some status
 coded_again Good = refl
@@ -34,79 +34,79 @@ coded_again ReservationConflict = refl
 
 -- the number of the record and the data
 numbered_again : (status : Status) (sense : Option Sense) (before size number : ℕ) (payload rest : List ℕ) → number < 2 ^ 64 → size ≡ 8 + length payload
-    → numbered_front status sense before size (big_bytes 8 number ++ (payload ++ rest)) ≡ Whole (CommandReply status sense number payload) (before + size)
+    → parsed_numbered status sense before size (big_bytes 8 number ++ (payload ++ rest)) ≡ Complete (CommandReply status sense number payload) (before + size)
 numbered_again status sense before size number payload rest wide is =
     let whole : ltb (length (big_bytes 8 number ++ (payload ++ rest))) size ≡ false = le-ltb _ _ (omega (arith, length-append payload rest)) in
-    let found : numbered_front status sense before size (big_bytes 8 number ++ (payload ++ rest))
-    ≡ Whole (CommandReply status sense (big_number 8 (big_bytes 8 number ++ (payload ++ rest))) (take (size - 8) (payload ++ rest))) (before + size) = rw whole refl in
+    let found : parsed_numbered status sense before size (big_bytes 8 number ++ (payload ++ rest))
+    ≡ Complete (CommandReply status sense (big_number 8 (big_bytes 8 number ++ (payload ++ rest))) (take (size - 8) (payload ++ rest))) (before + size) = rw whole refl in
     found
-    ∙ ap (λ (n : ℕ). Whole (CommandReply status sense n (take (size - 8) (payload ++ rest))) (before + size)) (big_number-reads_back 8 number (payload ++ rest) wide)
-    ∙ ap (λ (xs : List ℕ). Whole (CommandReply status sense number xs) (before + size)) (take_seam payload rest (size - 8) (omega arith))
+    ∙ ap (λ (n : ℕ). Complete (CommandReply status sense n (take (size - 8) (payload ++ rest))) (before + size)) (big_number-reads_back 8 number (payload ++ rest) wide)
+    ∙ ap (λ (xs : List ℕ). Complete (CommandReply status sense number xs) (before + size)) (take_seam payload rest (size - 8) (omega arith))
 
 -- the sense data, and what follows them
 sensed_again : ReadsBack → (status : Status) (sense : Sense) (size : ℕ) (left : List ℕ) → IsWritable sense → 29 ≤ size
-    → sense_front status size (fixed_sense sense ++ left) ≡ numbered_front status (Some sense) 25 (size - 21) left
+    → parsed_sense status size (fixed_sense sense ++ left) ≡ parsed_numbered status (Some sense) 25 (size - 21) left
 sensed_again reads status sense size left can least =
     let long : ltb size 29 ≡ false = le-ltb _ _ least in
     let there : ltb (length (fixed_sense sense ++ left)) 18 ≡ false = le-ltb _ _ (omega arith) in
-    let found : sense_front status size (fixed_sense sense ++ left) ≡ spelled_front status size (fixed_sense sense ++ left) (reading (fixed_sense sense)) =
+    let found : parsed_sense status size (fixed_sense sense ++ left) ≡ parsed_with_sense status size (fixed_sense sense ++ left) (decoded_sense (fixed_sense sense)) =
     rw (long, there) refl in
-    found ∙ ap (λ (r : Result Sense SenseFault). spelled_front status size (fixed_sense sense ++ left) r) (reads sense can)
+    found ∙ ap (λ (r : Result Sense SenseFault). parsed_with_sense status size (fixed_sense sense ++ left) r) (reads sense can)
 
 sized_command_reply : (status : Status) (size : ℕ) (fields : List ℕ) → 11 ≤ size → size ≤ 65565
-    → sized_reply_front size (0x82 ∷ status_code status ∷ fields) ≡ status_front (Some status) size fields
-unfolding reply_body_front
+    → parsed_sized_reply size (0x82 ∷ status_code status ∷ fields) ≡ parsed_status (Some status) size fields
+unfolding parsed_reply_body
 sized_command_reply status size fields least most =
     let some : eqb size 0 ≡ false = ne_eqb _ _ (λ e. omega (arith, e)) in
     let short : ltb 65565 size ≡ false = le-ltb _ _ most in
     let enough : leb 11 size ≡ true = le-leb _ _ least in
-    let found : sized_reply_front size (0x82 ∷ status_code status ∷ fields) ≡ status_front (coded_status (status_code status)) size fields = rw (some, short, enough) refl in
-    found ∙ ap (λ (o : Option Status). status_front o size fields) (coded_again status)
+    let found : parsed_sized_reply size (0x82 ∷ status_code status ∷ fields) ≡ parsed_status (coded_status (status_code status)) size fields = rw (some, short, enough) refl in
+    found ∙ ap (λ (o : Option Status). parsed_status o size fields) (coded_again status)
 
 plain_again : (status : Status) (size number : ℕ) (payload rest : List ℕ) → number < 2 ^ 64 → size ≡ 11 + length payload → length payload ≤ 65536
-    → sized_reply_front size (0x82 ∷ status_code status ∷ 0 ∷ (big_bytes 8 number ++ (payload ++ rest))) ≡ Whole (CommandReply status None number payload) (4 + size)
+    → parsed_sized_reply size (0x82 ∷ status_code status ∷ 0 ∷ (big_bytes 8 number ++ (payload ++ rest))) ≡ Complete (CommandReply status None number payload) (4 + size)
 plain_again status size number payload rest wide is short =
     let count : 7 + (size - 3) ≡ 4 + size = omega arith in
     sized_command_reply status size _ (omega arith) (omega arith)
     ∙ numbered_again status None 7 (size - 3) number payload rest wide (omega arith)
-    ∙ ap (λ (n : ℕ). Whole (CommandReply status None number payload) n) count
+    ∙ ap (λ (n : ℕ). Complete (CommandReply status None number payload) n) count
 
 with_sense_again : ReadsBack → (status : Status) (sense : Sense) (size number : ℕ) (payload rest : List ℕ) → IsWritable sense → number < 2 ^ 64
     → size ≡ 29 + length payload → length payload ≤ 65536
-    → sized_reply_front size (0x82 ∷ status_code status ∷ 0x12 ∷ (fixed_sense sense ++ (big_bytes 8 number ++ (payload ++ rest))))
-    ≡ Whole (CommandReply status (Some sense) number payload) (4 + size)
+    → parsed_sized_reply size (0x82 ∷ status_code status ∷ 0x12 ∷ (fixed_sense sense ++ (big_bytes 8 number ++ (payload ++ rest))))
+    ≡ Complete (CommandReply status (Some sense) number payload) (4 + size)
 with_sense_again reads status sense size number payload rest can wide is short =
     let count : 25 + (size - 21) ≡ 4 + size = omega arith in
     sized_command_reply status size _ (omega arith) (omega arith)
     ∙ sensed_again reads status sense size (big_bytes 8 number ++ (payload ++ rest)) can (omega arith)
     ∙ numbered_again status (Some sense) 25 (size - 21) number payload rest wide (omega arith)
-    ∙ ap (λ (n : ℕ). Whole (CommandReply status (Some sense) number payload) n) count
+    ∙ ap (λ (n : ℕ). Complete (CommandReply status (Some sense) number payload) n) count
 
-login_reply_again : (answer : LoginAnswer) (rest : List ℕ) → sized_reply_front 2 (reply_body (LoginReply answer) ++ rest) ≡ Whole (LoginReply answer) 6
-unfolding reply_body_front
+login_reply_again : (answer : LoginAnswer) (rest : List ℕ) → parsed_sized_reply 2 (reply_body (LoginReply answer) ++ rest) ≡ Complete (LoginReply answer) 6
+unfolding parsed_reply_body
 login_reply_again Accepted rest = refl
 login_reply_again AlreadyConnected rest = refl
 
 -- a whole body
-reply_body_again : ReadsBack → (r : Told) (rest : List ℕ) → IsShort r → IsTellable r
-    → sized_reply_front (length (reply_body r)) (reply_body r ++ rest) ≡ Whole r (4 + length (reply_body r))
-unfolding reply_body_front
+reply_body_again : ReadsBack → (r : ReplyFrameValue) (rest : List ℕ) → IsShort r → IsTellable r
+    → parsed_sized_reply (length (reply_body r)) (reply_body r ++ rest) ≡ Complete r (4 + length (reply_body r))
+unfolding parsed_reply_body
 reply_body_again reads (LoginReply answer) rest short can = login_reply_again answer rest
 reply_body_again reads (CommandReply status None number payload) rest short can =
     plain_again status (length (reply_body (CommandReply status None number payload))) number payload rest can.0 (omega arith) short
 reply_body_again reads (CommandReply status (Some sense) number payload) rest short can =
     with_sense_again reads status sense (length (reply_body (CommandReply status (Some sense) number payload))) number payload rest can.1 can.0 (omega arith) short
-reply_body_again reads (ResetReply status) rest short can = ap reset_status_front (coded_again status)
+reply_body_again reads (ResetReply status) rest short can = ap parsed_reset_status (coded_again status)
 reply_body_again reads LogoutReply rest short can = refl
 
-reply_fits : (r : Told) → IsShort r → length (reply_body r) < 2 ^ 32
+reply_fits : (r : ReplyFrameValue) → IsShort r → length (reply_body r) < 2 ^ 32
 reply_fits (LoginReply answer) short = omega arith
 reply_fits (CommandReply status None number payload) short = omega arith
 reply_fits (CommandReply status (Some sense) number payload) short = omega arith
 reply_fits (ResetReply status) short = omega arith
 reply_fits LogoutReply short = omega arith
 
-pub told_again : ReadsBack → (r : Told) (rest : List ℕ) → IsShort r → IsTellable r → reply_front_in (reply_bytes r ++ rest) ≡ Whole r (length (reply_bytes r))
-told_again reads r rest short can =
-    reply_front_of_body (reply_body r) rest (reply_fits r short) ∙ reply_body_again reads r rest short can
-    ∙ ap (λ (n : ℕ). Whole r n) (sym (length_whole (reply_body r)))
+pub reply_again : ReadsBack → (r : ReplyFrameValue) (rest : List ℕ) → IsShort r → IsTellable r → parsed_reply (reply_bytes r ++ rest) ≡ Complete r (length (reply_bytes r))
+reply_again reads r rest short can =
+    parsed_reply_of_body (reply_body r) rest (reply_fits r short) ∙ reply_body_again reads r rest short can
+    ∙ ap (λ (n : ℕ). Complete r n) (sym (length_whole (reply_body r)))

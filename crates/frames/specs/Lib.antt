@@ -1,7 +1,7 @@
 pub mod Frames
 pub mod Replies
 pub mod Sending
-pub mod ReplyFronts
+pub mod ParsedReplies
 pub mod Views
 pub mod Stream
 pub mod Reading

@@ -9,11 +9,11 @@ use Rattle.frames.specs.declared.reply_frame.LoginAnswer.{LoginAnswer}
 use Rattle.frames.specs.declared.reply_frame.LoginAnswer.TheVariants.{Accepted, AlreadyConnected}
 
 -- what a session is answered
-pub data Told : Type 0 where
-  LoginReply : LoginAnswer → Told
-  CommandReply : Status → Option Sense → (number : ℕ) → (payload : List ℕ) → Told
-  ResetReply : Status → Told
-  LogoutReply : Told
+pub data ReplyFrameValue : Type 0 where
+  LoginReply : LoginAnswer → ReplyFrameValue
+  CommandReply : Status → Option Sense → (number : ℕ) → (payload : List ℕ) → ReplyFrameValue
+  ResetReply : Status → ReplyFrameValue
+  LogoutReply : ReplyFrameValue
 
 abbrev pub login_code : LoginAnswer → ℕ
 login_code Accepted = 0
@@ -24,17 +24,17 @@ sense_bytes None = []
 sense_bytes (Some sense) = fixed_sense sense
 
 -- a COMMAND's: its status, the length of the sense data and the sense data, the number of its record, and its data
-abbrev pub reply_body : Told → List ℕ
+abbrev pub reply_body : ReplyFrameValue → List ℕ
 reply_body (LoginReply answer) = 0x81 ∷ login_code answer ∷ []
 reply_body (CommandReply status sense number payload) =
     (0x82 ∷ status_code status ∷ length (sense_bytes sense) ∷ []) ++ sense_bytes sense ++ big_bytes 8 number ++ payload
 reply_body (ResetReply status) = 0x83 ∷ status_code status ∷ []
 reply_body LogoutReply = 0x84 ∷ []
 
-abbrev pub reply_bytes : Told → List ℕ
+abbrev pub reply_bytes : ReplyFrameValue → List ℕ
 reply_bytes reply = big_bytes 4 (length (reply_body reply)) ++ reply_body reply
 
 -- a command's data are those of a block at most
-abbrev pub IsShort : Told → Type 0
+abbrev pub IsShort : ReplyFrameValue → Type 0
 IsShort (CommandReply status sense number payload) = length payload ≤ 65536
 IsShort reply = Unit {0}

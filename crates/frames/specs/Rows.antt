@@ -1,7 +1,7 @@
 -- Streams and the frames in them, byte by byte.
 use Rattle.std.specs.Prelude.{ℕ, List, [], ◌∷◌, ◌++◌, replicate}
 use Rattle.scsi_nexus.specs.declared.nexus.Nexus.{Nexus}
-use Rattle.frames.specs.Frames.{Sent, Login, Command, Logout}
+use Rattle.frames.specs.Frames.{FrameValue, Login, Command, Logout}
 
 abbrev pub a : Nexus
 a = record { sas = 0x500000000000000A; port = 1 }
@@ -25,7 +25,7 @@ logout = 0 ∷ 0 ∷ 0 ∷ 1 ∷ 4 ∷ []
 abbrev pub one_session : List ℕ
 one_session = login_by 1 ++ test_unit_ready ++ logout
 
-abbrev pub one_session_frames : List Sent
+abbrev pub one_session_frames : List FrameValue
 one_session_frames = Login a ∷ Command 0 (replicate 6 0) [] ∷ Logout ∷ []
 
 abbrev pub cut_session : List ℕ

@@ -1,32 +1,51 @@
-ghost use Rattle.std.specs.Prelude.{◌≡◌, Ok, true, false};
+ghost use Rattle.std.specs.Prelude.{◌≡◌};
 ghost use Rattle.std.specs.Io.KnownBytes.{Keeps, IsAtEnd};
 ghost use Rattle.frames.specs.Reading.{Added};
-ghost use Rattle.frames.specs.ReplyFronts.{Partial, reply_front_in};
+ghost use Rattle.frames.specs.ParsedReplies.{Partial, parsed_reply};
 
-use crate::inbox::Inbox;
-use crate::reply_frame::ReplyFront;
-use crate::reply_front::reply_of;
-use std::io::{self, Read};
+use crate::read_buffer::ReadBuffer;
+use crate::reply_frame::ParsedReply;
+use crate::reply_parse::parse_reply;
+use std::io::Read;
 
-/// Reads until what is pending begins with more than a part of a reply, and answers whether it does; where it
-/// doesn't, the reader is at its end. Where it does already, nothing is read. An error of the reader, also an
-/// interrupted read, leaves what was read until then pending, and a client may wait again.
-pub fn await_reply<R: Read>(inbox: &mut Inbox, reader: &mut R) -> io::Result<bool>
-    ensures read { Added inbox.old inbox.new (R.remaining reader.old) (R.remaining reader.new) }
-    ensures arrived { result ≡ Ok true → reply_front_in inbox.new ≡ Partial → ⊥ }
-    ensures ended { result ≡ Ok false → (reply_front_in inbox.new ≡ Partial) × IsAtEnd (R.remaining reader.new) }
-    ensures ready { (reply_front_in inbox.old ≡ Partial → ⊥)
-        → (result ≡ Ok true) × (inbox.new ≡ inbox.old) × Keeps (R.remaining reader.old) (R.remaining reader.new) }
+/// What came of waiting for a reply.
+#[derive(Clone, Copy, Debug, PartialEq, Eq)]
+pub enum ReplyWait {
+    /// What is pending begins with a reply, or with what is none.
+    Arrived,
+    /// The reader is at its end, and less than a reply is pending.
+    Ended,
+    /// A read failed, also by an interruption, or one more was needed than was allowed; less than a reply is pending.
+    Failed,
+}
+
+/// Reads until what is pending begins with more than a part of a reply, and takes each read off `turns`. Where it does already,
+/// nothing is read. What was read is pending in any case, and a client may wait again.
+pub fn await_reply<R: Read>(
+    read_buffer: &mut ReadBuffer,
+    reader: &mut R,
+    turns: &mut u64,
+) -> ReplyWait
+    ensures read { Added read_buffer.old read_buffer.new (R.remaining reader.old) (R.remaining reader.new) }
+    ensures arrived { result ≡ ReplyWait.Arrived → parsed_reply read_buffer.new ≡ Partial → ⊥ }
+    ensures ended { result ≡ ReplyWait.Ended → (parsed_reply read_buffer.new ≡ Partial) × IsAtEnd (R.remaining reader.new) }
+    ensures failed { result ≡ ReplyWait.Failed → parsed_reply read_buffer.new ≡ Partial }
+    ensures ready { (parsed_reply read_buffer.old ≡ Partial → ⊥)
+        → (result ≡ ReplyWait.Arrived) × (read_buffer.new ≡ read_buffer.old) × Keeps (R.remaining reader.old) (R.remaining reader.new) }
 {
     'reads: loop {
-        match reply_of(inbox.pending()) {
-            ReplyFront::Partial => {}
-            _ => return Ok(true),
+        match parse_reply(read_buffer.pending()) {
+            ParsedReply::Partial => {}
+            _ => return ReplyWait::Arrived,
         }
-        match inbox.fill(reader) {
-            Ok(0) => return Ok(false),
+        if *turns == 0 {
+            return ReplyWait::Failed;
+        }
+        *turns -= 1;
+        match read_buffer.fill(reader) {
+            Ok(0) => return ReplyWait::Ended,
             Ok(_) => {}
-            Err(error) => return Err(error),
+            Err(_) => return ReplyWait::Failed,
         }
     }
 }

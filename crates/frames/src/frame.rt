@@ -1,6 +1,6 @@
 ghost use Rattle.std.specs.Prelude.{◌↔◌, IsTrue};
 ghost use Rattle.frames.specs.Sending.{IsSendable};
-ghost use Rattle.frames.specs.Views.{sent};
+ghost use Rattle.frames.specs.Views.{frame_value};
 
 use crate::fault::FrameFault;
 use crate::layout::*;
@@ -8,7 +8,7 @@ use scsi_nexus::Nexus;
 
 /// What a client sends, where it lies among the bytes of the stream.
 #[derive(Clone, Copy, Debug)]
-pub enum Frame<'a> {
+pub enum FrameRef<'a> {
     /// The session's nexus.
     Login {
         nexus: Nexus,
@@ -27,31 +27,31 @@ pub enum Frame<'a> {
     Logout,
 }
 
-impl Frame<'_> {
+impl FrameRef<'_> {
     /// Whether a client may send it: a target port of 1 to 4; a CDB of 1 to 16 bytes, with data that a body of
     /// 131,072 bytes has room for.
     pub fn is_sendable(&self) -> bool
-        ensures { IsTrue result ↔ IsSendable (sent self.now) }
+        ensures { IsTrue result ↔ IsSendable (frame_value self.now) }
     {
         match self {
-            Frame::Login { nexus } => nexus.port >= 1 && nexus.port <= PORTS,
-            Frame::Command { cdb, bytes, .. } => {
+            FrameRef::Login { nexus } => nexus.has_target_port(),
+            FrameRef::Command { cdb, bytes, .. } => {
                 !cdb.is_empty()
-                    && cdb.len() <= LONGEST_CDB
-                    && bytes.len() <= LONGEST_BODY - 1 - COMMAND_FIELDS - cdb.len()
+                    && cdb.len() <= MAX_CDB
+                    && bytes.len() <= MAX_BODY - 1 - COMMAND_FIELDS - cdb.len()
             }
-            Frame::Reset { .. } => true,
-            Frame::Logout => true,
+            FrameRef::Reset { .. } => true,
+            FrameRef::Logout => true,
         }
     }
 }
 
 /// What a stream begins with.
 #[derive(Clone, Copy, Debug)]
-pub enum Front<'a> {
+pub enum ParsedFrame<'a> {
     /// Less than a frame.
     Partial,
     /// A frame, and how many bytes it takes.
-    Whole(Frame<'a>, usize),
-    Faulty(FrameFault),
+    Complete(FrameRef<'a>, usize),
+    Invalid(FrameFault),
 }

@@ -1,10 +1,12 @@
 //! The bytes of a frame (profile).
 
+use scsi_sense::SENSE_LENGTH;
+
 /// How many bytes tell the length of the body that follows.
-pub(crate) const LENGTH_FIELD: usize = 4;
+pub const LENGTH_FIELD: usize = 4;
 
 /// The most bytes of a body.
-pub const LONGEST_BODY: usize = 131_072;
+pub const MAX_BODY: usize = 131_072;
 
 /// The kinds of frames: the first byte of a body.
 pub(crate) const LOGIN: u8 = 0x01;
@@ -21,14 +23,11 @@ pub(crate) const LOGIN_FIELDS: usize = 10;
 /// Where the port of a LOGIN begins, behind its kind.
 pub(crate) const PORT: usize = 8;
 
-/// The target ports are 1 to this one.
-pub(crate) const PORTS: u16 = 4;
-
 /// How many bytes a COMMAND has behind its kind before its CDB: the logical unit number and the length of the CDB.
 pub(crate) const COMMAND_FIELDS: usize = 2;
 
 /// The most bytes of a CDB.
-pub(crate) const LONGEST_CDB: usize = 16;
+pub(crate) const MAX_CDB: usize = 16;
 
 /// The kinds of reply frames.
 pub(crate) const LOGIN_REPLY: u8 = 0x81;
@@ -43,8 +42,8 @@ pub(crate) const LOGOUT_REPLY: u8 = 0x84;
 /// sense data, and the record's number.
 pub(crate) const COMMAND_REPLY_FIELDS: usize = 11;
 
-/// How many bytes fixed format sense data has (SPC-4, "Fixed format sense data").
-pub(crate) const SENSE_LENGTH: u8 = 18;
+/// How many bytes of sense data a COMMAND's reply has, where it has any.
+pub(crate) const SENSE_COUNT: u8 = SENSE_LENGTH as u8;
 
 /// How many bytes a LOGIN's reply and a RESET's have behind their kind: an answer or a status.
 pub(crate) const CODE_FIELD: usize = 1;
@@ -57,4 +56,4 @@ pub(crate) const NUMBER_FIELD: usize = 8;
 
 /// The most bytes of a reply's body: kind, status, the length of the sense data, 18 bytes of sense data, the
 /// record's number, and 65,536 bytes of data.
-pub const LONGEST_REPLY: usize = 65_565;
+pub const MAX_REPLY: usize = 65_565;

@@ -5,32 +5,32 @@
 mod awaiting;
 mod fault;
 mod frame;
-mod front;
-mod inbox;
 mod laws;
 mod layout;
+mod parse;
+mod read_buffer;
 mod reply_fault;
 mod reply_frame;
-mod reply_front;
 mod reply_laws;
+mod reply_parse;
 mod sending;
 mod sending_laws;
 
-pub use awaiting::await_reply;
+pub use awaiting::{ReplyWait, await_reply};
 pub use fault::FrameFault;
-pub use frame::{Frame, Front};
-pub use front::front_of;
-pub use inbox::Inbox;
+pub use frame::{FrameRef, ParsedFrame};
 pub use laws::{
     fault_rows, frame_rows, one_reading, partial_rows, pieces_join, reply_rows, stream_rows,
     taken_is_read,
 };
-pub use layout::{LONGEST_BODY, LONGEST_REPLY};
+pub use layout::{LENGTH_FIELD, MAX_BODY, MAX_REPLY};
+pub use parse::parse_frame;
+pub use read_buffer::ReadBuffer;
 pub use reply_fault::ReplyFault;
-pub use reply_frame::{LoginAnswer, ReplyFrame, ReplyFront, write_reply};
-pub use reply_front::reply_of;
+pub use reply_frame::{LoginAnswer, ParsedReply, ReplyFrame, write_reply};
 pub use reply_laws::{
-    reply_fault_rows, reply_front_rows, reply_partial_rows, reply_stays, told_is_read,
+    parsed_reply_rows, reply_fault_rows, reply_is_read, reply_partial_rows, reply_stays,
 };
+pub use reply_parse::parse_reply;
 pub use sending::write_frame;
-pub use sending_laws::{sent_is_read, sent_rows};
+pub use sending_laws::{frame_is_read, sent_rows};

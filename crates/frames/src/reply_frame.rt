@@ -1,6 +1,6 @@
 ghost use Rattle.std.specs.Prelude.{◌≡◌, ◌≤◌, ◌++◌, length, OnOk};
 ghost use Rattle.frames.specs.Replies.{IsShort, reply_bytes, sense_bytes, login_code, CommandReply};
-ghost use Rattle.frames.specs.Views.{told};
+ghost use Rattle.frames.specs.Views.{reply_value};
 
 use crate::layout::*;
 use crate::reply_fault::ReplyFault;
@@ -32,12 +32,12 @@ pub enum ReplyFrame<'a> {
 
 /// What a stream of replies begins with.
 #[derive(Clone, Copy, Debug)]
-pub enum ReplyFront<'a> {
+pub enum ParsedReply<'a> {
     /// Less than a reply.
     Partial,
     /// A reply, and how many bytes it takes.
-    Whole(ReplyFrame<'a>, usize),
-    Faulty(ReplyFault),
+    Complete(ReplyFrame<'a>, usize),
+    Invalid(ReplyFault),
 }
 
 fn code_of(answer: LoginAnswer) -> u8
@@ -52,8 +52,8 @@ fn code_of(answer: LoginAnswer) -> u8
 /// Adds a reply frame: four bytes of length, then a body whose first byte is its kind. Room for all of it is
 /// made first; where memory is refused, nothing that counts was added.
 pub fn write_reply(out: &mut Vec<u8>, reply: &ReplyFrame<'_>) -> Result<(), AllocError>
-    requires { IsShort (told reply.now) }
-    ensures { OnOk result (out.new.items ≡ out.old.items ++ reply_bytes (told reply.now)) }
+    requires { IsShort (reply_value reply.now) }
+    ensures { OnOk result (out.new.items ≡ out.old.items ++ reply_bytes (reply_value reply.now)) }
 {
     match reply {
         ReplyFrame::Login(answer) => {
@@ -99,6 +99,6 @@ fn sense_length(sense: &Option<Sense>) -> u8
 {
     match sense {
         None => 0,
-        Some(_) => SENSE_LENGTH,
+        Some(_) => SENSE_COUNT,
     }
 }

@@ -1,25 +1,25 @@
 ghost use Rattle.std.specs.Prelude.{◌≡◌, ◌≤◌, ◌+◌, ◌++◌, length, OnOk, OnErr};
 ghost use Rattle.frames.specs.Frames.{Login, Command};
 ghost use Rattle.frames.specs.Sending.{IsSendable, frame_bytes};
-ghost use Rattle.frames.specs.Views.{sent};
+ghost use Rattle.frames.specs.Views.{frame_value};
 
-use crate::frame::Frame;
+use crate::frame::FrameRef;
 use crate::layout::*;
 use scsi_nexus::Nexus;
 use std::alloc::AllocError;
 
 /// Adds a frame as a client sends it: four bytes of length, then a body whose first byte is its kind. Room for all of
 /// it is made first; where memory is refused, nothing was added.
-pub fn write_frame(out: &mut Vec<u8>, frame: &Frame<'_>) -> Result<(), AllocError>
-    requires { IsSendable (sent frame.now) }
-    ensures ok { OnOk result (out.new.items ≡ out.old.items ++ frame_bytes (sent frame.now)) }
+pub fn write_frame(out: &mut Vec<u8>, frame: &FrameRef<'_>) -> Result<(), AllocError>
+    requires { IsSendable (frame_value frame.now) }
+    ensures ok { OnOk result (out.new.items ≡ out.old.items ++ frame_bytes (frame_value frame.now)) }
     ensures err { OnErr result (out.new.items ≡ out.old.items) }
 {
     match frame {
-        Frame::Login { nexus } => write_login(out, *nexus),
-        Frame::Command { lun, cdb, bytes } => write_command(out, *lun, cdb, bytes),
-        Frame::Reset { lun } => out.extend_from_slice(&[0, 0, 0, 2, RESET, *lun]),
-        Frame::Logout => out.extend_from_slice(&[0, 0, 0, 1, LOGOUT]),
+        FrameRef::Login { nexus } => write_login(out, *nexus),
+        FrameRef::Command { lun, cdb, bytes } => write_command(out, *lun, cdb, bytes),
+        FrameRef::Reset { lun } => out.extend_from_slice(&[0, 0, 0, 2, RESET, *lun]),
+        FrameRef::Logout => out.extend_from_slice(&[0, 0, 0, 1, LOGOUT]),
     }
 }
 

@@ -1,5 +1,5 @@
 ghost use Rattle.std.specs.Prelude.{◌≡◌, ℕ, true, List, [], ◌∷◌, ◌++◌, length, drop, replicate};
-ghost use Rattle.frames.specs.Frames.{Sent, Login, Command, Reset, Logout, Whole, front_in};
+ghost use Rattle.frames.specs.Frames.{FrameValue, Login, Command, Reset, Logout, Complete, parsed_frame};
 ghost use Rattle.frames.specs.Rows.{a, login_by, test_unit_ready, write, logout};
 ghost use Rattle.frames.specs.Sending.{IsSendable, HasWidth, is_behind_login, frame_bytes};
 ghost use Rattle.frames.specs.Stream.{Stop, Reads};
@@ -15,10 +15,10 @@ pub fn sent_rows()
 
 /// Law: a stream that begins with what a client writes for a frame has that very frame at its front, and then the
 /// rest. So the server reads each frame of a client, in their order.
-pub fn sent_is_read()
-    ensures front { (f : Sent) (rest : List ℕ) → IsSendable f → HasWidth f
-        → front_in (is_behind_login f) (frame_bytes f ++ rest) ≡ Whole f (length (frame_bytes f)) }
-    ensures rest { (f : Sent) (rest : List ℕ) → drop (length (frame_bytes f)) (frame_bytes f ++ rest) ≡ rest }
-    ensures stream { (f : Sent) (rest : List ℕ) (others : List Sent) (stop : Stop) → IsSendable f → HasWidth f
+pub fn frame_is_read()
+    ensures parsed { (f : FrameValue) (rest : List ℕ) → IsSendable f → HasWidth f
+        → parsed_frame (is_behind_login f) (frame_bytes f ++ rest) ≡ Complete f (length (frame_bytes f)) }
+    ensures rest { (f : FrameValue) (rest : List ℕ) → drop (length (frame_bytes f)) (frame_bytes f ++ rest) ≡ rest }
+    ensures stream { (f : FrameValue) (rest : List ℕ) (others : List FrameValue) (stop : Stop) → IsSendable f → HasWidth f
         → Reads true rest others stop → Reads (is_behind_login f) (frame_bytes f ++ rest) (f ∷ others) stop }
 {}

@@ -22,13 +22,13 @@ use Rattle.judgement.specs.Conditions.{condition_of_refusal}
 use Rattle.judgement.specs.UnitData.{inquiry_data, selected_luns}
 use Rattle.judgement.specs.declared.reply.Reply.{Reply}
 use Rattle.judgement.specs.Replies.{check, good, data_reply, IsWhole}
-use Rattle.judgement.specs.KeptView.{KeptView}
-use Rattle.judgement.specs.Kept.{accepted, prevented, allowed, is_prevented, after_mode}
+use Rattle.judgement.specs.UnitStateView.{UnitStateView}
+use Rattle.judgement.specs.UnitState.{accepted, prevented, allowed, is_prevented, after_mode}
 use Rattle.judgement.specs.Readings.{pending_of}
-use Rattle.judgement.specs.declared.finding.Finding.{Finding}
-use Rattle.judgement.specs.Findings.{at_stage}
+use Rattle.judgement.specs.declared.decision.Decision.{Decision}
+use Rattle.judgement.specs.Decisions.{at_stage}
 use Rattle.judgement.specs.History.{accepted_as, after_history}
-use Rattle.judgement.specs.Present.{Present}
+use Rattle.judgement.specs.JudgedUnit.{JudgedUnit}
 use Rattle.judgement.specs.Judge.{cell_of, sensed, tells, steps, unloads, performs, at_cell, carried_out, let_through, judged_as}
 use Rattle.device_server.specs.Marks.{KeepsMarks}
 use Rattle.device_server.proofs.Outcomes.{performed_own}
@@ -36,30 +36,30 @@ use Rattle.device_server.proofs.MarkLemmas.{commands_keep_marks}
 use Rattle.judgement.proofs.Ways.{by_let_through, by_ways}
 
 -- a present with a device of the same kind and marks, its number and its target's units as they were
-pub record IsSame (u v : Present) : Type 0 where
+pub record IsSame (u v : JudgedUnit) : Type 0 where
   pub device : KeepsMarks u.device v.device
   pub lun : v.kept.lun ≡ u.kept.lun
   pub units : v.kept.units ≡ u.kept.units
 
 -- of a command, or of bytes that spell none: the unit stays the same one, and its reservations are what the history says
-pub record IsKept (u : Present) (n : Nexus) (c : Result Command Condition) (x : Present × Finding × Reply) : Type 0 where
+pub record IsKept (u : JudgedUnit) (n : Nexus) (c : Result Command Condition) (x : JudgedUnit × Decision × Reply) : Type 0 where
   pub same : IsSame u x.0
   pub reservations : x.0.kept.reservations ≡ after_history u.kept.reservations (accepted_as n x.2.status c)
 
 -- and of a command by its own rules: GOOD without sense data, or CHECK CONDITION with it
-pub record IsCarried (u : Present) (n : Nexus) (c : Command) (x : Present × Finding × Reply) : Type 0 where
+pub record IsCarried (u : JudgedUnit) (n : Nexus) (c : Command) (x : JudgedUnit × Decision × Reply) : Type 0 where
   pub kept : IsKept u n (Ok c) x
   pub whole : IsWhole x.2.status x.2.sense
 
 same_device : (d : DeviceView) → KeepsMarks d d
 same_device d = record { device = record { kind = refl; drives = refl }; marks = refl }
 
-same_as : (u : Present) → IsSame u u
+same_as : (u : JudgedUnit) → IsSame u u
 same_as u = record { device = same_device u.device; lun = refl; units = refl }
 
-module _ (u : Present) (n : Nexus) where
+module _ (u : JudgedUnit) (n : Nexus) where
   -- a refusal that changes nothing
-  checks : (at : Cell) (c : Command) (f : Finding) (condition : Condition) → after_history u.kept.reservations (accepted_as n CheckCondition (Ok c)) ≡ u.kept.reservations
+  checks : (at : Cell) (c : Command) (f : Decision) (condition : Condition) → after_history u.kept.reservations (accepted_as n CheckCondition (Ok c)) ≡ u.kept.reservations
       → IsCarried u n c (at_cell at (u, f, check condition))
   checks at c f condition h = record { kept = record { same = same_as u; reservations = sym h }; whole = inr (refl, refl) }
 
@@ -68,12 +68,12 @@ module _ (u : Present) (n : Nexus) where
   data_is at c (Some payload) l h = record { kept = record { same = same_as u; reservations = sym (h Good) }; whole = inl (refl, refl) }
   data_is at c None l h = record { kept = record { same = same_as u; reservations = sym (h CheckCondition) }; whole = inr (refl, refl) }
 
-  sensed_is : (at : Cell) (l : ℕ) (o : Option Kind) → let x : KeptView × Finding × Reply = sensed u.kept n l o in IsCarried u n (RequestSense false l) (at_cell at (record u { kept = x.0 }, x.1, x.2))
+  sensed_is : (at : Cell) (l : ℕ) (o : Option Kind) → let x : UnitStateView × Decision × Reply = sensed u.kept n l o in IsCarried u n (RequestSense false l) (at_cell at (record u { kept = x.0 }, x.1, x.2))
   sensed_is at l (Some kind) = record { kept = record { same = record { device = same_device u.device; lun = refl; units = refl }; reservations = refl }; whole = inl (refl, refl) }
   sensed_is at l None = record { kept = record { same = same_as u; reservations = refl }; whole = inl (refl, refl) }
 
   -- PREVENT ALLOW MEDIUM REMOVAL, by whether it says 0, and whether it says 1
-  abbrev pub prevents_by : (zero one : Bool) → Present × Finding × Reply
+  abbrev pub prevents_by : (zero one : Bool) → JudgedUnit × Decision × Reply
   prevents_by zero one =
       if zero then (record u { kept = allowed u.kept n }, at_stage stage.Device, good [])
       else if one then (record u { kept = prevented u.kept n }, at_stage stage.Device, good [])
@@ -130,11 +130,11 @@ nothing_added v n (RequestSense d l) s h = refl
 nothing_added v n (Prevent p) s h = refl
 nothing_added v n (Device r) s h = refl
 
-told_is : (u : Present) (n : Nexus) (c : Command) (kind : Kind) (f : Finding) → IsKept u n (Ok c) (tells u n kind f)
+told_is : (u : JudgedUnit) (n : Nexus) (c : Command) (kind : Kind) (f : Decision) → IsKept u n (Ok c) (tells u n kind f)
 told_is u n c kind f = record { same = record { device = same_device u.device; lun = refl; units = refl }; reservations = nothing_added u.kept.reservations n c CheckCondition (λ e. cc) }
 
 -- what is judged is the same unit, with what the history says of its reservations
-pub judged_is : (u : Present) (n : Nexus) (c : Result Command Condition) (bytes : List ℕ) → IsKept u n c (judged_as u n c bytes)
+pub judged_is : (u : JudgedUnit) (n : Nexus) (c : Result Command Condition) (bytes : List ℕ) → IsKept u n c (judged_as u n c bytes)
 judged_is u n (Err condition) bytes = record { same = same_as u; reservations = refl }
 judged_is u n (Ok c) bytes =
     by_ways (IsKept u n (Ok c)) u n c bytes (λ kind. told_is u n c kind _)
@@ -151,14 +151,14 @@ whole_allowed s o (inl w) e = cc
 whole_allowed s o (inr w) e = cc
 
 -- what is judged isn't answered BUSY
-pub judged_free : (u : Present) (n : Nexus) (c : Result Command Condition) (bytes : List ℕ) → (judged_as u n c bytes).2.status ≢ Busy
+pub judged_free : (u : JudgedUnit) (n : Nexus) (c : Result Command Condition) (bytes : List ℕ) → (judged_as u n c bytes).2.status ≢ Busy
 judged_free u n (Err condition) bytes = λ e. cc
 judged_free u n (Ok c) bytes =
     let carried = carried_is u n (cell_of u n c) c bytes in
     by_ways (λ x. x.2.status ≢ Busy) u n c bytes (λ kind e. cc) (λ v barred e. cc) (λ kind e. cc) (whole_free _ _ carried.whole)
 
 -- what the reservation check lets through doesn't end in a conflict
-pub let_through_allowed : (u : Present) (n : Nexus) (c : Command) (bytes : List ℕ) → (let_through u n c bytes).2.status ≢ ReservationConflict
+pub let_through_allowed : (u : JudgedUnit) (n : Nexus) (c : Command) (bytes : List ℕ) → (let_through u n c bytes).2.status ≢ ReservationConflict
 let_through_allowed u n c bytes =
     let carried = carried_is u n (cell_of u n c) c bytes in
     by_let_through (λ x. x.2.status ≢ ReservationConflict) u n c bytes (λ kind e. cc) (whole_allowed _ _ carried.whole)

@@ -14,7 +14,7 @@ use Rattle.unit_attention.specs.Queues.{Slots, slot_of, has_slot, slot_limit, co
 use Rattle.unit_attention.proofs.SlotOf.{has_slot-contacted, has_slot-raised, has_slot-cleared, has_slot-lost}
 use Rattle.permit_tables.specs.declared.pr_fault.PrFault.{PrFault}
 use Rattle.pr_core.specs.Targets.{is_among}
-use Rattle.judgement.specs.Kept.{are_distinct, HaveSlots, with_slots, all_told, others_told}
+use Rattle.judgement.specs.UnitState.{are_distinct, HaveSlots, with_slots, raised_for_all, raised_for_others}
 
 -- both parts of a test that holds
 both : (a b : Bool) → (a && b) ≡ true → (a ≡ true) × (b ≡ true)
@@ -82,11 +82,11 @@ pub told_have : (r : Result (Unit {0}) PrFault) (q after : Slots) (l : List (Nex
 told_have (Ok u) q after l ps told silent h = subst (λ (s : Slots). HaveSlots s ps) (sym told) (all_raised_have q l ps h)
 told_have (Err e) q after l ps told silent h = subst (λ (s : Slots). HaveSlots s ps) (sym silent) h
 
-pub all_told_have : (q : Slots) (kind : Kind) (ps : List Nexus) → HaveSlots q ps → HaveSlots (all_told q kind) ps
-all_told_have q kind ps h = kept_by_same q (all_told q kind) ps (told-has kind (with_slots q) q) h
+pub all_told_have : (q : Slots) (kind : Kind) (ps : List Nexus) → HaveSlots q ps → HaveSlots (raised_for_all q kind) ps
+all_told_have q kind ps h = kept_by_same q (raised_for_all q kind) ps (told-has kind (with_slots q) q) h
 
-pub others_told_have : (q : Slots) (sender : Nexus) (kind : Kind) (ps : List Nexus) → HaveSlots q ps → HaveSlots (others_told q sender kind) ps
-others_told_have q sender kind ps h = kept_by_same q (others_told q sender kind) ps (others-has sender kind (with_slots q) q) h
+pub others_told_have : (q : Slots) (sender : Nexus) (kind : Kind) (ps : List Nexus) → HaveSlots q ps → HaveSlots (raised_for_others q sender kind) ps
+others_told_have q sender kind ps h = kept_by_same q (raised_for_others q sender kind) ps (others-has sender kind (with_slots q) q) h
 
 -- fewer preventers
 all-filter : (p f : Nexus → Bool) (ps : List Nexus) → list_all p ps ≡ true → list_all p (filter f ps) ≡ true

@@ -12,41 +12,41 @@ use Rattle.judgement.specs.Commands.{class_of_command}
 use Rattle.judgement.specs.declared.reply.Reply.{Reply}
 use Rattle.judgement.specs.Replies.{conflict}
 use Rattle.judgement.specs.Readings.{verdict_of}
-use Rattle.judgement.specs.declared.finding.Finding.{Finding}
-use Rattle.judgement.specs.Findings.{at_stage, let_in, in_conflict, rule_of}
-use Rattle.judgement.specs.Present.{Present}
+use Rattle.judgement.specs.declared.decision.Decision.{Decision}
+use Rattle.judgement.specs.Decisions.{at_stage, let_in, in_conflict, rule_of}
+use Rattle.judgement.specs.JudgedUnit.{JudgedUnit}
 use Rattle.judgement.specs.Judge.{cell_of, waiting, tells, at_cell, carried_out, let_through, checked, commanded}
 
 -- a conflict by a verdict
-abbrev pub refuses : Present → Nexus → Command → Verdict → Present × Finding × Reply
+abbrev pub refuses : JudgedUnit → Nexus → Command → Verdict → JudgedUnit × Decision × Reply
 refuses u n c v = (u, in_conflict (cell_of u n c) (rule_of v), conflict)
 
 -- the judgement by a verdict
-abbrev pub by_verdict : (u : Present) (n : Nexus) (c : Command) (bytes : List ℕ) → Verdict → Present × Finding × Reply
+abbrev pub by_verdict : (u : JudgedUnit) (n : Nexus) (c : Command) (bytes : List ℕ) → Verdict → JudgedUnit × Decision × Reply
 by_verdict u n c bytes Allowed = let_through u n c bytes
 by_verdict u n c bytes (Denied cell) = refuses u n c (Denied cell)
 by_verdict u n c bytes (Rule rule) = refuses u n c (Rule rule)
 
-by_checked : (u : Present) (n : Nexus) (c : Command) (bytes : List ℕ) → checked u n c bytes ≡ by_verdict u n c bytes (verdict_of u.kept.reservations n c)
+by_checked : (u : JudgedUnit) (n : Nexus) (c : Command) (bytes : List ℕ) → checked u n c bytes ≡ by_verdict u n c bytes (verdict_of u.kept.reservations n c)
 by_checked u n c bytes =
     let at = cell_of u n c in
-    elim (verdict_of u.kept.reservations n c) as (λ (v : Verdict). ◌≡◌ {A = Present × Finding × Reply} (elim v [ Allowed ↦ let_through u n c bytes | Denied cell ↦ (u, in_conflict at None, conflict) | Rule rule ↦ (u, in_conflict at (Some rule), conflict) ]) (by_verdict u n c bytes v)) [ Allowed ↦ refl | Denied cell ↦ refl | Rule rule ↦ refl ]
+    elim (verdict_of u.kept.reservations n c) as (λ (v : Verdict). ◌≡◌ {A = JudgedUnit × Decision × Reply} (elim v [ Allowed ↦ let_through u n c bytes | Denied cell ↦ (u, in_conflict at None, conflict) | Rule rule ↦ (u, in_conflict at (Some rule), conflict) ]) (by_verdict u n c bytes v)) [ Allowed ↦ refl | Denied cell ↦ refl | Rule rule ↦ refl ]
 
-refused_by_verdict : (u : Present) (n : Nexus) (c : Command) (bytes : List ℕ) (v : Verdict) → v ≢ Allowed → by_verdict u n c bytes v ≡ refuses u n c v
+refused_by_verdict : (u : JudgedUnit) (n : Nexus) (c : Command) (bytes : List ℕ) (v : Verdict) → v ≢ Allowed → by_verdict u n c bytes v ≡ refuses u n c v
 refused_by_verdict u n c bytes Allowed barred = absurd (barred refl)
 refused_by_verdict u n c bytes (Denied cell) barred = refl
 refused_by_verdict u n c bytes (Rule rule) barred = refl
 
 -- what the reservation check doesn't allow is refused there
-pub refused_by : (u : Present) (n : Nexus) (c : Command) (bytes : List ℕ) → verdict_of u.kept.reservations n c ≢ Allowed
+pub refused_by : (u : JudgedUnit) (n : Nexus) (c : Command) (bytes : List ℕ) → verdict_of u.kept.reservations n c ≢ Allowed
     → checked u n c bytes ≡ refuses u n c (verdict_of u.kept.reservations n c)
 refused_by u n c bytes barred = by_checked u n c bytes ∙ refused_by_verdict u n c bytes (verdict_of u.kept.reservations n c) barred
 
 -- and what it allows goes on
-pub let_by : (u : Present) (n : Nexus) (c : Command) (bytes : List ℕ) → verdict_of u.kept.reservations n c ≡ Allowed → checked u n c bytes ≡ let_through u n c bytes
+pub let_by : (u : JudgedUnit) (n : Nexus) (c : Command) (bytes : List ℕ) → verdict_of u.kept.reservations n c ≡ Allowed → checked u n c bytes ≡ let_through u n c bytes
 let_by u n c bytes h = by_checked u n c bytes ∙ ap (by_verdict u n c bytes) h
 
-module _ (P : Present × Finding × Reply → Type 0) (u : Present) (n : Nexus) (c : Command) (bytes : List ℕ) where
+module _ (P : JudgedUnit × Decision × Reply → Type 0) (u : JudgedUnit) (n : Nexus) (c : Command) (bytes : List ℕ) where
   -- what holds of an attention of another ASC that is told, and of a command by its own rules, holds behind the check
   pub by_let_through : ((kind : Kind) → P (tells u n kind (let_in (cell_of u n c) OtherAttention))) → P (at_cell (cell_of u n c) (carried_out u n c bytes)) → P (let_through u n c bytes)
   by_let_through told carried =

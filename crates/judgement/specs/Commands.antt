@@ -7,7 +7,7 @@ use Rattle.scsi_cdb.specs.declared.request.Request.{Request}
 use Rattle.scsi_cdb.specs.declared.request.Request.TheVariants.{PreventAllowMediumRemoval, PersistentReserveIn, PersistentReserveOut, Inquiry, ReportLuns, RequestSense}
 use Rattle.permit_tables.specs.Classes.{class_of_action}
 use Rattle.scsi_cdb.specs.Classes.{class_of}
-use Rattle.scsi_cdb.specs.Commands.{reading}
+use Rattle.scsi_cdb.specs.Commands.{decoded}
 use Rattle.scsi_sense.specs.declared.condition.Condition.{Condition}
 use Rattle.scsi_sense.specs.declared.condition.Condition.TheVariants.{ParameterListLengthError}
 use Rattle.pr_params.specs.Lists as lists
@@ -22,7 +22,7 @@ use Rattle.judgement.specs.Conditions.{condition_of_fault}
 -- a request with the data sent with it: only PERSISTENT RESERVE OUT's are looked at here, and only their length is a fault
 abbrev pub command_of : Request → List ℕ → Result Command Condition
 command_of (PersistentReserveOut action scope_type list_length) bytes =
-    elim (lists.reading action scope_type list_length bytes) [ Ok params ↦ Ok (ReserveOut params) | Err fault ↦ Err ParameterListLengthError ]
+    elim (lists.decoded_list action scope_type list_length bytes) [ Ok params ↦ Ok (ReserveOut params) | Err fault ↦ Err ParameterListLengthError ]
 command_of (PersistentReserveIn action allocation_length) bytes = Ok (ReserveIn action allocation_length)
 command_of (Inquiry evpd page allocation_length) bytes = Ok (command.Inquiry evpd page allocation_length)
 command_of (ReportLuns select allocation_length) bytes = Ok (command.ReportLuns select allocation_length)
@@ -31,8 +31,8 @@ command_of (PreventAllowMediumRemoval prevent) bytes = Ok (command.Prevent preve
 command_of request bytes = Ok (Device request)
 
 -- the command, or what is reported of bytes that spell none
-abbrev pub spelled : Kind → (cdb bytes : List ℕ) → Result Command Condition
-spelled kind cdb bytes = elim (reading kind cdb) [ Ok request ↦ command_of request bytes | Err fault ↦ Err (condition_of_fault fault) ]
+abbrev pub decoded_command : Kind → (cdb bytes : List ℕ) → Result Command Condition
+decoded_command kind cdb bytes = elim (decoded kind cdb) [ Ok request ↦ command_of request bytes | Err fault ↦ Err (condition_of_fault fault) ]
 
 abbrev pub class_of_command : Command → Class
 class_of_command (ReserveOut params) = class_of_action params.act
@@ -58,16 +58,16 @@ list_of command = None
 -- whether bytes spell PERSISTENT RESERVE OUT
 abbrev pub is_reserve_out : Result Command Condition → Bool
 is_reserve_out (Ok (ReserveOut params)) = true
-is_reserve_out spelled = false
+is_reserve_out decoded_command = false
 
 -- what a record says was asked: a class, and for PERSISTENT RESERVE OUT its list; INVALID of bytes that spell no command
 abbrev pub act_of_command : Command → Act
 act_of_command (ReserveOut params) = act.ReserveOut params
 act_of_command command = act.Command (class_of_command command)
 
-abbrev pub act_of_spelled : Result Command Condition → Act
-act_of_spelled (Ok command) = act_of_command command
-act_of_spelled (Err condition) = act.Invalid
+abbrev pub act_of_decoded : Result Command Condition → Act
+act_of_decoded (Ok command) = act_of_command command
+act_of_decoded (Err condition) = act.Invalid
 
 abbrev pub act_of : Kind → (cdb bytes : List ℕ) → Act
-act_of kind cdb bytes = act_of_spelled (spelled kind cdb bytes)
+act_of kind cdb bytes = act_of_decoded (decoded_command kind cdb bytes)

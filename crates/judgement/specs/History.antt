@@ -12,7 +12,7 @@ use Rattle.pr_core.specs.State.{State}
 use Rattle.pr_core.specs.Outcome.{applied}
 use Rattle.judgement.specs.declared.command.Command.{Command}
 use Rattle.judgement.specs.declared.command.Command.TheVariants.{ReserveOut}
-use Rattle.judgement.specs.Commands.{spelled}
+use Rattle.judgement.specs.Commands.{decoded_command}
 
 abbrev pub is_good : Status → Bool
 is_good Good = true
@@ -28,7 +28,7 @@ accepted_as n status (Ok (ReserveOut params)) = if is_good status then (n, param
 accepted_as n status command = []
 
 abbrev pub accepted_by : Kind → Nexus → (cdb bytes : List ℕ) → Status → List Accepted
-accepted_by kind n cdb bytes status = accepted_as n status (spelled kind cdb bytes)
+accepted_by kind n cdb bytes status = accepted_as n status (decoded_command kind cdb bytes)
 
 -- what a history leaves of what stood at first
 abbrev pub after_history : State → List Accepted → State

@@ -17,7 +17,7 @@ use Rattle.pr_core.specs.Outcome.{refusal}
 use Rattle.pr_core.specs.declared.verdict.Verdict.{Verdict}
 use Rattle.pr_core.specs.declared.verdict.Verdict.TheVariants.{Allowed, Denied, Rule}
 use Rattle.audit_log.specs.declared.stage.Stage.{Stage}
-use Rattle.audit_log.specs.declared.stage.Stage.TheVariants.{Spelling, ResetAttention, OtherAttention, Fields, Device}
+use Rattle.audit_log.specs.declared.stage.Stage.TheVariants.{Decoding, ResetAttention, OtherAttention, Fields, Device}
 use Rattle.device_server.specs.View.{DeviceView, kind_of, field_fault, performed}
 use Rattle.device_server.specs.Volumes.{is_move}
 use Rattle.device_server.specs.declared.outcome.Outcome.{Outcome}
@@ -26,33 +26,33 @@ use Rattle.judgement.specs.declared.command.Command.TheVariants as command
 use Rattle.judgement.specs.declared.command.Command.TheVariants.{ReserveOut, ReserveIn, Inquiry, ReportLuns, RequestSense, Prevent}
 use Rattle.judgement.specs.declared.reply.Reply.{Reply}
 use Rattle.judgement.specs.Conditions.{condition_of_attention, condition_of_refusal}
-use Rattle.judgement.specs.Commands.{spelled, class_of_command, passes_over}
-use Rattle.judgement.specs.declared.finding.Finding.{Finding}
-use Rattle.judgement.specs.Findings.{at_stage, at_device, in_cell, let_in, in_conflict}
+use Rattle.judgement.specs.Commands.{decoded_command, class_of_command, passes_over}
+use Rattle.judgement.specs.declared.decision.Decision.{Decision}
+use Rattle.judgement.specs.Decisions.{at_stage, at_device, in_cell, let_in, in_conflict}
 use Rattle.judgement.specs.UnitData.{inquiry_data, selected_luns, sense_data}
 use Rattle.judgement.specs.Replies.{good, check, conflict, replied, data_reply}
-use Rattle.judgement.specs.KeptView.{KeptView}
-use Rattle.judgement.specs.Present.{Present}
-use Rattle.judgement.specs.Kept.{reported, accepted, prevented, allowed, is_prevented, after_mode}
+use Rattle.judgement.specs.UnitStateView.{UnitStateView}
+use Rattle.judgement.specs.JudgedUnit.{JudgedUnit}
+use Rattle.judgement.specs.UnitState.{reported, accepted, prevented, allowed, is_prevented, after_mode}
 use Rattle.judgement.specs.Readings.{verdict_of, status_data, pending_of}
 
 -- the cell of the permission table that a command of a sender stands in
-abbrev pub cell_of : Present → Nexus → Command → Cell
+abbrev pub cell_of : JudgedUnit → Nexus → Command → Cell
 cell_of u n command = cell u.kept.reservations n (class_of_command command)
 
 -- an attention is reported, and waits no more
-abbrev pub tells : Present → Nexus → Kind → Finding → Present × Finding × Reply
-tells u n kind finding = (record u { kept = reported u.kept n kind }, finding, check (condition_of_attention kind))
+abbrev pub tells : JudgedUnit → Nexus → Kind → Decision → JudgedUnit × Decision × Reply
+tells u n kind decision = (record u { kept = reported u.kept n kind }, decision, check (condition_of_attention kind))
 
 -- an allowed PERSISTENT RESERVE OUT command is refused, or accepted
-abbrev pub reserves : Present → Nexus → OutParams → Present × Finding × Reply
+abbrev pub reserves : JudgedUnit → Nexus → OutParams → JudgedUnit × Decision × Reply
 reserves u n params = elim (refusal u.kept.reservations n params) [
   | Some fault ↦ (u, at_stage Fields, check (condition_of_refusal fault))
   | None ↦ (record u { kept = accepted u.kept n params }, at_stage Device, good [])
 ]
 
 -- the device's step; every other slot is told of mode parameters that it changed
-abbrev pub steps : Present → Nexus → DeviceView × Outcome → Present × Finding × Reply
+abbrev pub steps : JudgedUnit → Nexus → DeviceView × Outcome → JudgedUnit × Decision × Reply
 steps u n step = (
   record { device = step.0; kept = after_mode u.kept n step.1.mode_changed },
   at_device step.1.mode_changed,
@@ -65,7 +65,7 @@ unloads (LoadUnload hold eot load) = not load
 unloads request = false
 
 -- a command of the device: by its fields, then (SSC-4, "LOAD UNLOAD command") by who prevents removal, then by the device
-abbrev pub performs : Present → Nexus → Request → List ℕ → Present × Finding × Reply
+abbrev pub performs : JudgedUnit → Nexus → Request → List ℕ → JudgedUnit × Decision × Reply
 performs u n request bytes = elim (field_fault u.device request bytes) [
   | Some condition ↦ (u, at_stage Fields, check condition)
   | None ↦
@@ -74,33 +74,33 @@ performs u n request bytes = elim (field_fault u.device request bytes) [
 ]
 
 -- REQUEST SENSE (SPC-4, "REQUEST SENSE command") tells the attention that waits as data, and it waits no more
-abbrev pub sensed : KeptView → Nexus → (allocation_length : ℕ) → Option Kind → KeptView × Finding × Reply
+abbrev pub sensed : UnitStateView → Nexus → (allocation_length : ℕ) → Option Kind → UnitStateView × Decision × Reply
 sensed k n allocation_length (Some kind) =
     (reported k n kind, at_stage Device, good (take allocation_length (sense_data (condition_of_attention kind))))
 sensed k n allocation_length None = (k, at_stage Device, good (take allocation_length (sense_data NoAdditionalSenseInformation)))
 
 -- descriptor format sense data isn't offered
-abbrev pub requests_sense : KeptView → Nexus → (desc : Bool) → (allocation_length : ℕ) → KeptView × Finding × Reply
+abbrev pub requests_sense : UnitStateView → Nexus → (desc : Bool) → (allocation_length : ℕ) → UnitStateView × Decision × Reply
 requests_sense k n true allocation_length = (k, at_stage Fields, check InvalidFieldInCdb)
 requests_sense k n false allocation_length = sensed k n allocation_length (pending_of k.slots n)
 
-abbrev pub senses : Present → KeptView × Finding × Reply → Present × Finding × Reply
+abbrev pub senses : JudgedUnit → UnitStateView × Decision × Reply → JudgedUnit × Decision × Reply
 senses u answer = (record u { kept = answer.0 }, answer.1, answer.2)
 
 -- PREVENT ALLOW MEDIUM REMOVAL (SPC-4, "PREVENT ALLOW MEDIUM REMOVAL command"): 0 allows, 1 prevents, and the obsolete 2 and 3 aren't
 -- offered
-abbrev pub prevents : Present → Nexus → (prevent : ℕ) → Present × Finding × Reply
+abbrev pub prevents : JudgedUnit → Nexus → (prevent : ℕ) → JudgedUnit × Decision × Reply
 prevents u n prevent =
     if prevent == 0 then (record u { kept = allowed u.kept n }, at_stage Device, good [])
     else if prevent == 1 then (record u { kept = prevented u.kept n }, at_stage Device, good [])
     else (u, at_stage Fields, check InvalidFieldInCdb)
 
 -- an answer that changes nothing
-abbrev pub answers : Present → Stage × Reply → Present × Finding × Reply
+abbrev pub answers : JudgedUnit → Stage × Reply → JudgedUnit × Decision × Reply
 answers u answer = (u, at_stage answer.0, answer.1)
 
 -- stages 5 and 6: the command by its own rules; an allocation length cuts data, and changes nothing in it
-abbrev pub carried_out : Present → Nexus → Command → List ℕ → Present × Finding × Reply
+abbrev pub carried_out : JudgedUnit → Nexus → Command → List ℕ → JudgedUnit × Decision × Reply
 carried_out u n (ReserveOut params) bytes = reserves u n params
 carried_out u n (ReserveIn action allocation_length) bytes =
     (u, at_stage Device, good (take allocation_length (status_data u.kept.reservations action)))
@@ -112,7 +112,7 @@ carried_out u n (Prevent prevent) bytes = prevents u n prevent
 carried_out u n (command.Device request) bytes = performs u n request bytes
 
 -- the cell of a command that came through the reservation check
-abbrev pub at_cell : Cell → Present × Finding × Reply → Present × Finding × Reply
+abbrev pub at_cell : Cell → JudgedUnit × Decision × Reply → JudgedUnit × Decision × Reply
 at_cell cell answer = (answer.0, in_cell cell answer.1, answer.2)
 
 -- an attention that waits, unless the class passes over it
@@ -120,14 +120,14 @@ abbrev pub waiting : Class → Option Kind → Option Kind
 waiting class pending = if passes_over class then None else pending
 
 -- stage 4: an attention of another ASC waits, or the command is carried out
-abbrev pub let_through : Present → Nexus → Command → List ℕ → Present × Finding × Reply
+abbrev pub let_through : JudgedUnit → Nexus → Command → List ℕ → JudgedUnit × Decision × Reply
 let_through u n command bytes = elim (waiting (class_of_command command) (first_other_of u.kept.slots n)) [
   | Some kind ↦ tells u n kind (let_in (cell_of u n command) OtherAttention)
   | None ↦ at_cell (cell_of u n command) (carried_out u n command bytes)
 ]
 
 -- stage 3: the reservation check
-abbrev pub checked : Present → Nexus → Command → List ℕ → Present × Finding × Reply
+abbrev pub checked : JudgedUnit → Nexus → Command → List ℕ → JudgedUnit × Decision × Reply
 checked u n command bytes = elim (verdict_of u.kept.reservations n command) [
   | Allowed ↦ let_through u n command bytes
   | Denied cell ↦ (u, in_conflict (cell_of u n command) None, conflict)
@@ -135,19 +135,19 @@ checked u n command bytes = elim (verdict_of u.kept.reservations n command) [
 ]
 
 -- stage 2: an attention of ASC 29h waits, or the command comes to the reservation check
-abbrev pub commanded : Present → Nexus → Command → List ℕ → Present × Finding × Reply
+abbrev pub commanded : JudgedUnit → Nexus → Command → List ℕ → JudgedUnit × Decision × Reply
 commanded u n command bytes = elim (waiting (class_of_command command) (first_reset_of u.kept.slots n)) [
   | Some kind ↦ tells u n kind (at_stage ResetAttention)
   | None ↦ checked u n command bytes
 ]
 
 -- stage 1: the bytes spell no command, or one
-abbrev pub judged_as : Present → Nexus → Result Command Condition → (bytes : List ℕ) → Present × Finding × Reply
-judged_as u n (Err condition) bytes = (u, at_stage Spelling, check condition)
+abbrev pub judged_as : JudgedUnit → Nexus → Result Command Condition → (bytes : List ℕ) → JudgedUnit × Decision × Reply
+judged_as u n (Err condition) bytes = (u, at_stage Decoding, check condition)
 judged_as u n (Ok command) bytes = commanded u n command bytes
 
-abbrev pub judged : Present → Nexus → (cdb bytes : List ℕ) → Present × Finding × Reply
-judged u n cdb bytes = judged_as u n (spelled (kind_of u.device) cdb bytes) bytes
+abbrev pub judged : JudgedUnit → Nexus → (cdb bytes : List ℕ) → JudgedUnit × Decision × Reply
+judged u n cdb bytes = judged_as u n (decoded_command (kind_of u.device) cdb bytes) bytes
 
 -- whether a verdict allows
 abbrev pub is_allowed_by : Verdict → Bool
@@ -155,7 +155,7 @@ is_allowed_by Allowed = true
 is_allowed_by verdict = false
 
 -- whether a command comes to its own rules: no attention waits that it doesn't pass over, and the reservation check allows it
-abbrev pub is_carried_out : Present → Nexus → Command → Bool
+abbrev pub is_carried_out : JudgedUnit → Nexus → Command → Bool
 is_carried_out u n command =
     is_none (waiting (class_of_command command) (first_reset_of u.kept.slots n))
     && (is_allowed_by (verdict_of u.kept.reservations n command) && is_none (waiting (class_of_command command) (first_other_of u.kept.slots n)))
@@ -169,7 +169,7 @@ asks_memory command = true
 
 -- whether a command that is judged may take memory beside the room for its record: a parameter list of PERSISTENT RESERVE OUT is kept, and
 -- others take some where they come to their own rules alone
-abbrev pub takes_memory : Present → Nexus → Result Command Condition → Bool
+abbrev pub takes_memory : JudgedUnit → Nexus → Result Command Condition → Bool
 takes_memory u n (Err condition) = false
 takes_memory u n (Ok (ReserveOut params)) = true
 takes_memory u n (Ok command) = asks_memory command && is_carried_out u n command

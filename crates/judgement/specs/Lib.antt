@@ -3,10 +3,10 @@ pub mod UnitData
 pub mod Replies
 pub mod Rows
 pub mod Commands
-pub mod KeptView
-pub mod Kept
+pub mod UnitStateView
+pub mod UnitState
 pub mod Readings
-pub mod Findings
-pub mod Present
+pub mod Decisions
+pub mod JudgedUnit
 pub mod Judge
 pub mod History

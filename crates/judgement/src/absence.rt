@@ -1,10 +1,10 @@
 ghost use Rattle.std.specs.Prelude.{◌≡◌, IfOk};
 ghost use Rattle.judgement.specs.Replies.{absent_answer, AnswersAbsent};
 
-use crate::layout::{INQUIRY, REQUEST_SENSE};
 use crate::reply::Reply;
 use crate::unit_data::sense_data;
 use device_server::Payload;
+use scsi_cdb::{INQUIRY, REQUEST_SENSE};
 use scsi_sense::Condition;
 use std::alloc::{AllocError, Global};
 

@@ -1,5 +1,5 @@
 ghost use Rattle.std.specs.Prelude.{◌≡◌, true, IfOk, OnErr};
-ghost use Rattle.judgement.specs.Commands.{spelled, command_of, class_of_command, passes_over, act_of_spelled, is_reserve_out};
+ghost use Rattle.judgement.specs.Commands.{decoded_command, command_of, class_of_command, passes_over, act_of_decoded, is_reserve_out};
 
 use crate::conditions::condition_of_fault;
 use crate::reserve_params::ReserveParams;
@@ -32,14 +32,14 @@ pub enum Command {
 impl Command {
     /// The command that a CDB spells for a kind of unit, with the data sent with it, or what is
     /// reported of bytes that spell none. PERSISTENT RESERVE OUT alone takes memory, for its list.
-    pub fn spelled(
+    pub fn decode(
         alloc: Global,
         kind: Kind,
         cdb: &[u8],
         bytes: &[u8],
     ) -> Result<Result<Command, Condition>, AllocError>
-        ensures ok { IfOk result (λ it. it ≡ spelled kind cdb.now bytes.now) }
-        ensures want { OnErr result (is_reserve_out (spelled kind cdb.now bytes.now) ≡ true) }
+        ensures ok { IfOk result (λ it. it ≡ decoded_command kind cdb.now bytes.now) }
+        ensures want { OnErr result (is_reserve_out (decoded_command kind cdb.now bytes.now) ≡ true) }
     {
         match decode(kind, cdb) {
             Ok(request) => Command::of(alloc, request, bytes),
@@ -82,22 +82,7 @@ impl Command {
                 allocation_length,
             } => Ok(Ok(Command::RequestSense(descriptor_format, allocation_length))),
             Request::PreventAllowMediumRemoval { prevent } => Ok(Ok(Command::Prevent(prevent))),
-            device_command @ (Request::TestUnitReady
-            | Request::Rewind
-            | Request::ReadBlockLimits
-            | Request::InitializeElementStatus
-            | Request::Read { .. }
-            | Request::Write { .. }
-            | Request::WriteFilemarks { .. }
-            | Request::Space { .. }
-            | Request::ModeSelect { .. }
-            | Request::Erase
-            | Request::ModeSense { .. }
-            | Request::LoadUnload { .. }
-            | Request::Locate { .. }
-            | Request::ReadPosition
-            | Request::MoveMedium { .. }
-            | Request::ReadElementStatus { .. }) => Ok(Ok(Command::Device(device_command))),
+            device_command => Ok(Ok(Command::Device(device_command))),
         }
     }
 
@@ -123,45 +108,18 @@ impl Command {
 pub fn passes_over(class: Class) -> bool
     ensures { result ≡ passes_over class }
 {
-    match class {
-        Class::Inquiry | Class::ReportLuns | Class::RequestSense => true,
-        Class::TestUnitReady
-        | Class::PersistentReserveIn
-        | Class::AllowRemoval
-        | Class::ReadBlockLimits
-        | Class::ReadPosition
-        | Class::ReadElementStatusCurdata
-        | Class::ModeSense
-        | Class::Read
-        | Class::Space
-        | Class::Locate
-        | Class::Rewind
-        | Class::ReadElementStatus
-        | Class::ModeSelect
-        | Class::PreventRemoval
-        | Class::Write
-        | Class::WriteFilemarks
-        | Class::Erase
-        | Class::LoadUnload
-        | Class::MoveMedium
-        | Class::InitializeElementStatus
-        | Class::Register
-        | Class::RegisterAndIgnoreExistingKey
-        | Class::Clear
-        | Class::Preempt
-        | Class::PreemptAndAbort
-        | Class::Release
-        | Class::Reserve
-        | Class::RegisterAndMove => false,
-    }
+    matches!(
+        class,
+        Class::Inquiry | Class::ReportLuns | Class::RequestSense
+    )
 }
 
 /// What a record says was asked by bytes. PERSISTENT RESERVE OUT alone takes memory, for its list.
-pub fn act_of(alloc: Global, spelled: &Result<Command, Condition>) -> Result<Act, AllocError>
-    ensures ok { IfOk result (λ act. act ≡ act_of_spelled spelled.now) }
-    ensures want { OnErr result (is_reserve_out spelled.now ≡ true) }
+pub fn act_of(alloc: Global, decoded: &Result<Command, Condition>) -> Result<Act, AllocError>
+    ensures ok { IfOk result (λ act. act ≡ act_of_decoded decoded.now) }
+    ensures want { OnErr result (is_reserve_out decoded.now ≡ true) }
 {
-    match spelled {
+    match decoded {
         Ok(Command::ReserveOut(list)) => Ok(Act::ReserveOut(list.params().keep(alloc)?)),
         Ok(command) => Ok(Act::Command(command.class())),
         Err(_) => Ok(Act::Invalid),

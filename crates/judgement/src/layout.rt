@@ -23,9 +23,3 @@ pub(crate) const SELECT_WELL_KNOWN: u8 = 0x01;
 
 /// SELECT REPORT that lists all logical units, the largest that is defined.
 pub(crate) const SELECT_ALL: u8 = 0x02;
-
-/// Operation code of REQUEST SENSE.
-pub(crate) const REQUEST_SENSE: u8 = 0x03;
-
-/// Operation code of INQUIRY.
-pub(crate) const INQUIRY: u8 = 0x12;

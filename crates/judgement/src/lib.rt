@@ -6,8 +6,7 @@
 mod absence;
 mod command;
 mod conditions;
-mod finding;
-mod kept;
+mod decision;
 pub mod laws;
 mod layout;
 mod preventers;
@@ -15,13 +14,14 @@ mod reply;
 mod reserve_params;
 mod stages;
 mod unit_data;
+mod unit_state;
 
 pub use absence::absent;
 pub use command::{Command, act_of, passes_over};
 pub use conditions::{condition_of_attention, condition_of_fault, condition_of_refusal};
-pub use finding::Finding;
-pub use kept::Kept;
+pub use decision::Decision;
 pub use reply::Reply;
 pub use reserve_params::ReserveParams;
 pub use stages::judge;
 pub use unit_data::{inquiry, report_luns, sense_data};
+pub use unit_state::UnitState;

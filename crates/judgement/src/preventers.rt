@@ -1,9 +1,10 @@
 use arrayvec::ArrayVec;
 use scsi_nexus::Nexus;
 use std::marker::Model;
+use unit_attention::SLOTS;
 
 /// How many nexuses may prevent removal at once: as many as have slots (profile).
-pub(crate) const PREVENTERS: usize = 128;
+pub(crate) const PREVENTERS: usize = SLOTS;
 
 /// The nexuses that prevent the removal of media, in the order in which they began to (SPC-4,
 /// "PREVENT ALLOW MEDIUM REMOVAL command"). It takes no memory.

@@ -3,10 +3,10 @@ ghost use Rattle.unit_attention.specs.Queues.{first_reset_of, first_other_of};
 ghost use Rattle.pr_core.specs.declared.verdict.Verdict.TheVariants.{Allowed};
 ghost use Rattle.device_server.specs.View.{kind_of};
 ghost use Rattle.device_server.specs.Volumes.{is_move};
-ghost use Rattle.judgement.specs.Kept.{has_room, met};
+ghost use Rattle.judgement.specs.UnitState.{has_room, after_contact};
 ghost use Rattle.pr_core.specs.Judge.{verdict};
 ghost use Rattle.pr_core.specs.State.{cell};
-ghost use Rattle.judgement.specs.Findings.{at_stage};
+ghost use Rattle.judgement.specs.Decisions.{at_stage};
 ghost use Rattle.judgement.specs.Replies.{data_reply};
 ghost use Rattle.judgement.specs.Readings.{verdict_of};
 ghost use Rattle.judgement.specs.Judge.{waiting, carried_out, reserves, unloads, performs, let_through, checked, commanded, judged_as, requests_sense, prevents, is_allowed_by, is_carried_out, asks_memory, takes_memory};
@@ -15,10 +15,10 @@ ghost use Rattle.judgement.specs.Commands.{class_of_command};
 
 use crate::command::{Command, passes_over};
 use crate::conditions::{condition_of_attention, condition_of_refusal};
-use crate::finding::Finding;
-use crate::kept::Kept;
+use crate::decision::Decision;
 use crate::reply::Reply;
 use crate::unit_data::{inquiry, report_luns, sense_data};
+use crate::unit_state::UnitState;
 use audit_log::Stage;
 use device_server::{DeviceServer, Payload, field_fault};
 use permit_tables::{Cell, Class, OutParams};
@@ -40,14 +40,14 @@ fn waiting(class: Class, pending: Option<Kind>) -> Option<Kind>
 fn carry_out<D: DeviceServer>(
     alloc: Global,
     server: &mut Box<D>,
-    kept: &mut Kept,
+    kept: &mut UnitState,
     nexus: Nexus,
     command: &Command,
     bytes: &[u8],
-) -> Result<(Finding, Reply), AllocError>
+) -> Result<(Decision, Reply), AllocError>
     requires room { has_room kept.old nexus ≡ true }
     requires allowed { verdict_of kept.old.reservations nexus command.now ≡ Allowed }
-    ensures ok { IfOk result (λ it. carried_out (record { device = D.shown server.old.value; kept = met kept.old nexus }) nexus command.now bytes.now ≡ (record { device = D.shown server.new.value; kept = kept.new }, it.0, it.1)) }
+    ensures ok { IfOk result (λ it. carried_out (record { device = D.shown server.old.value; kept = after_contact kept.old nexus }) nexus command.now bytes.now ≡ (record { device = D.shown server.new.value; kept = kept.new }, it.0, it.1)) }
     ensures err { OnErr result ((D.shown server.new.value ≡ D.shown server.old.value) × (kept.new ≡ kept.old)) }
     ensures want { OnErr result (asks_memory command.now ≡ true) }
 {
@@ -55,18 +55,18 @@ fn carry_out<D: DeviceServer>(
         Command::ReserveOut(list) => Ok(reserve(alloc, kept, nexus, list.params())),
         Command::ReserveIn(service_action, allocation_length) => {
             let payload = kept.read_status(alloc, *service_action, *allocation_length)?;
-            kept.meet(nexus);
-            Ok((Finding::at_stage(Stage::Device), Reply::good(payload)))
+            kept.make_contact(nexus);
+            Ok((Decision::at_stage(Stage::Device), Reply::good(payload)))
         }
         Command::Inquiry(vital_product_data, page_code, allocation_length) => {
             let kind = server.kind();
             let payload = inquiry(alloc, kind, kept.lun(), *vital_product_data, *page_code)?;
-            kept.meet(nexus);
+            kept.make_contact(nexus);
             Ok(answer(alloc, payload, usize::from(*allocation_length)))
         }
         Command::ReportLuns(select_report, allocation_length) => {
             let payload = report_luns(alloc, kept.units(), *select_report)?;
-            kept.meet(nexus);
+            kept.make_contact(nexus);
             Ok(answer(alloc, payload, *allocation_length as usize))
         }
         Command::RequestSense(descriptor_format, allocation_length) => {
@@ -78,138 +78,128 @@ fn carry_out<D: DeviceServer>(
 }
 
 /// An allowed PERSISTENT RESERVE OUT command.
-fn reserve(alloc: Global, kept: &mut Kept, nexus: Nexus, params: &OutParams) -> (Finding, Reply)
+fn reserve(
+    alloc: Global,
+    kept: &mut UnitState,
+    nexus: Nexus,
+    params: &OutParams,
+) -> (Decision, Reply)
     requires room { has_room kept.old nexus ≡ true }
     requires allowed { verdict kept.old.reservations nexus params.now ≡ Allowed }
-    ensures { (device : DeviceView) → reserves (record { device = device; kept = met kept.old nexus }) nexus params.now ≡ (record { device = device; kept = kept.new }, result.0, result.1) }
+    ensures { (device : DeviceView) → reserves (record { device = device; kept = after_contact kept.old nexus }) nexus params.now ≡ (record { device = device; kept = kept.new }, result.0, result.1) }
 {
     match kept.reserve(nexus, params) {
         Ok(()) => (
-            Finding::at_stage(Stage::Device),
+            Decision::at_stage(Stage::Device),
             Reply::good(Payload::none(alloc)),
         ),
         Err(fault) => (
-            Finding::at_stage(Stage::Fields),
+            Decision::at_stage(Stage::Fields),
             Reply::check(alloc, condition_of_refusal(fault)),
         ),
     }
 }
 
 /// Data cut at an allocation length, or a field that isn't right.
-fn answer(alloc: Global, payload: Option<Payload>, allocation_length: usize) -> (Finding, Reply)
+fn answer(alloc: Global, payload: Option<Payload>, allocation_length: usize) -> (Decision, Reply)
     ensures { result ≡ (at_stage (data_reply payload allocation_length).0, (data_reply payload allocation_length).1) }
 {
     let (stage, reply) = Reply::data(alloc, payload, allocation_length);
-    (Finding::at_stage(stage), reply)
+    (Decision::at_stage(stage), reply)
 }
 
 /// Whether a command would have a volume unloaded.
 fn unloads(request: &Request) -> bool
     ensures { result ≡ unloads request.now }
 {
-    match request {
-        Request::LoadUnload { load, .. } => !*load,
-        Request::TestUnitReady
-        | Request::Rewind
-        | Request::RequestSense { .. }
-        | Request::ReadBlockLimits
-        | Request::InitializeElementStatus
-        | Request::Read { .. }
-        | Request::Write { .. }
-        | Request::WriteFilemarks { .. }
-        | Request::Space { .. }
-        | Request::Inquiry { .. }
-        | Request::ModeSelect { .. }
-        | Request::Erase
-        | Request::ModeSense { .. }
-        | Request::PreventAllowMediumRemoval { .. }
-        | Request::Locate { .. }
-        | Request::ReadPosition
-        | Request::PersistentReserveIn { .. }
-        | Request::PersistentReserveOut { .. }
-        | Request::ReportLuns { .. }
-        | Request::MoveMedium { .. }
-        | Request::ReadElementStatus { .. } => false,
-    }
+    matches!(request, Request::LoadUnload { load: false, .. })
 }
 
 /// A command of the device. Want of memory changes nothing.
 fn perform<D: DeviceServer>(
     alloc: Global,
     server: &mut Box<D>,
-    kept: &mut Kept,
+    kept: &mut UnitState,
     nexus: Nexus,
     request: &Request,
     bytes: &[u8],
-) -> Result<(Finding, Reply), AllocError>
+) -> Result<(Decision, Reply), AllocError>
     requires { has_room kept.old nexus ≡ true }
-    ensures ok { IfOk result (λ it. performs (record { device = D.shown server.old.value; kept = met kept.old nexus }) nexus request.now bytes.now ≡ (record { device = D.shown server.new.value; kept = kept.new }, it.0, it.1)) }
+    ensures ok { IfOk result (λ it. performs (record { device = D.shown server.old.value; kept = after_contact kept.old nexus }) nexus request.now bytes.now ≡ (record { device = D.shown server.new.value; kept = kept.new }, it.0, it.1)) }
     ensures err { OnErr result ((D.shown server.new.value ≡ D.shown server.old.value) × (kept.new ≡ kept.old)) }
     ensures want { OnErr result (is_move request.now ≡ false) }
 {
     if let Some(condition) = field_fault(server.kind(), request, bytes) {
-        kept.meet(nexus);
+        kept.make_contact(nexus);
         let reply = Reply::check(alloc, condition);
-        return Ok((Finding::at_stage(Stage::Fields), reply));
+        return Ok((Decision::at_stage(Stage::Fields), reply));
     }
     if unloads(request) && kept.is_prevented() {
-        kept.meet(nexus);
+        kept.make_contact(nexus);
         let reply = Reply::check(alloc, Condition::MediumRemovalPrevented);
-        return Ok((Finding::at_stage(Stage::Device), reply));
+        return Ok((Decision::at_stage(Stage::Device), reply));
     }
     let outcome = server.perform(alloc, request, bytes)?;
-    kept.meet(nexus);
+    kept.make_contact(nexus);
     kept.note_mode(nexus, outcome.mode_changed);
-    Ok((Finding::at_device(outcome.mode_changed), Reply::of(outcome)))
+    Ok((
+        Decision::at_device(outcome.mode_changed),
+        Reply::of(outcome),
+    ))
 }
 
 /// PREVENT ALLOW MEDIUM REMOVAL (SPC-4, "PREVENT ALLOW MEDIUM REMOVAL command"), which takes no memory.
-fn prevent_or_allow(alloc: Global, kept: &mut Kept, nexus: Nexus, prevent: u8) -> (Finding, Reply)
+fn prevent_or_allow(
+    alloc: Global,
+    kept: &mut UnitState,
+    nexus: Nexus,
+    prevent: u8,
+) -> (Decision, Reply)
     requires { has_room kept.old nexus ≡ true }
-    ensures { (device : DeviceView) → prevents (record { device = device; kept = met kept.old nexus }) nexus prevent ≡ (record { device = device; kept = kept.new }, result.0, result.1) }
+    ensures { (device : DeviceView) → prevents (record { device = device; kept = after_contact kept.old nexus }) nexus prevent ≡ (record { device = device; kept = kept.new }, result.0, result.1) }
 {
     match prevent {
         0 => kept.allow(nexus),
         1 => kept.prevent(nexus),
         _ => {
-            kept.meet(nexus);
+            kept.make_contact(nexus);
             let reply = Reply::check(alloc, Condition::InvalidFieldInCdb);
-            return (Finding::at_stage(Stage::Fields), reply);
+            return (Decision::at_stage(Stage::Fields), reply);
         }
     }
     let reply = Reply::good(Payload::none(alloc));
-    (Finding::at_stage(Stage::Device), reply)
+    (Decision::at_stage(Stage::Device), reply)
 }
 
 /// REQUEST SENSE. Want of memory changes nothing.
 fn request_sense(
     alloc: Global,
-    kept: &mut Kept,
+    kept: &mut UnitState,
     nexus: Nexus,
     descriptor_format: bool,
     allocation_length: u8,
-) -> Result<(Finding, Reply), AllocError>
+) -> Result<(Decision, Reply), AllocError>
     requires { has_room kept.old nexus ≡ true }
-    ensures ok { IfOk result (λ it. requests_sense (met kept.old nexus) nexus descriptor_format allocation_length ≡ (kept.new, it.0, it.1)) }
+    ensures ok { IfOk result (λ it. requests_sense (after_contact kept.old nexus) nexus descriptor_format allocation_length ≡ (kept.new, it.0, it.1)) }
     ensures err { OnErr result (kept.new ≡ kept.old) }
 {
     if descriptor_format {
-        kept.meet(nexus);
+        kept.make_contact(nexus);
         let reply = Reply::check(alloc, Condition::InvalidFieldInCdb);
-        return Ok((Finding::at_stage(Stage::Fields), reply));
+        return Ok((Decision::at_stage(Stage::Fields), reply));
     }
     let length = usize::from(allocation_length);
-    let finding = Finding::at_stage(Stage::Device);
+    let decision = Decision::at_stage(Stage::Device);
     match kept.pending(nexus) {
         Some(kind) => {
             let payload = sense_data(alloc, condition_of_attention(kind))?;
-            let _ = kept.tell(alloc, nexus, kind);
-            Ok((finding, Reply::good(payload.cut(length))))
+            let _ = kept.report_attention(alloc, nexus, kind);
+            Ok((decision, Reply::good(payload.cut(length))))
         }
         None => {
             let payload = sense_data(alloc, Condition::NoAdditionalSenseInformation)?;
-            kept.meet(nexus);
-            Ok((finding, Reply::good(payload.cut(length))))
+            kept.make_contact(nexus);
+            Ok((decision, Reply::good(payload.cut(length))))
         }
     }
 }
@@ -218,27 +208,27 @@ fn request_sense(
 fn let_through<D: DeviceServer>(
     alloc: Global,
     server: &mut Box<D>,
-    kept: &mut Kept,
+    kept: &mut UnitState,
     nexus: Nexus,
     command: &Command,
     in_cell: Cell,
     bytes: &[u8],
-) -> Result<(Finding, Reply), AllocError>
+) -> Result<(Decision, Reply), AllocError>
     requires room { has_room kept.old nexus ≡ true }
     requires known { in_cell ≡ cell kept.old.reservations nexus (class_of_command command.now) }
     requires allowed { verdict_of kept.old.reservations nexus command.now ≡ Allowed }
-    ensures ok { IfOk result (λ it. let_through (record { device = D.shown server.old.value; kept = met kept.old nexus }) nexus command.now bytes.now ≡ (record { device = D.shown server.new.value; kept = kept.new }, it.0, it.1)) }
+    ensures ok { IfOk result (λ it. let_through (record { device = D.shown server.old.value; kept = after_contact kept.old nexus }) nexus command.now bytes.now ≡ (record { device = D.shown server.new.value; kept = kept.new }, it.0, it.1)) }
     ensures err { OnErr result ((D.shown server.new.value ≡ D.shown server.old.value) × (kept.new ≡ kept.old)) }
-    ensures want { OnErr result ((asks_memory command.now && is_none (waiting (class_of_command command.now) (first_other_of (met kept.old nexus).slots nexus))) ≡ true) }
+    ensures want { OnErr result ((asks_memory command.now && is_none (waiting (class_of_command command.now) (first_other_of (after_contact kept.old nexus).slots nexus))) ≡ true) }
 {
     match waiting(command.class(), kept.first_other(nexus)) {
         Some(kind) => Ok((
-            Finding::let_in(in_cell, Stage::OtherAttention),
-            kept.tell(alloc, nexus, kind),
+            Decision::let_in(in_cell, Stage::OtherAttention),
+            kept.report_attention(alloc, nexus, kind),
         )),
         None => {
-            let (finding, reply) = carry_out(alloc, server, kept, nexus, command, bytes)?;
-            Ok((finding.in_cell(in_cell), reply))
+            let (decision, reply) = carry_out(alloc, server, kept, nexus, command, bytes)?;
+            Ok((decision.in_cell(in_cell), reply))
         }
     }
 }
@@ -247,15 +237,15 @@ fn let_through<D: DeviceServer>(
 fn check<D: DeviceServer>(
     alloc: Global,
     server: &mut Box<D>,
-    kept: &mut Kept,
+    kept: &mut UnitState,
     nexus: Nexus,
     command: &Command,
     bytes: &[u8],
-) -> Result<(Finding, Reply), AllocError>
+) -> Result<(Decision, Reply), AllocError>
     requires { has_room kept.old nexus ≡ true }
-    ensures ok { IfOk result (λ it. checked (record { device = D.shown server.old.value; kept = met kept.old nexus }) nexus command.now bytes.now ≡ (record { device = D.shown server.new.value; kept = kept.new }, it.0, it.1)) }
+    ensures ok { IfOk result (λ it. checked (record { device = D.shown server.old.value; kept = after_contact kept.old nexus }) nexus command.now bytes.now ≡ (record { device = D.shown server.new.value; kept = kept.new }, it.0, it.1)) }
     ensures err { OnErr result ((D.shown server.new.value ≡ D.shown server.old.value) × (kept.new ≡ kept.old)) }
-    ensures want { OnErr result ((asks_memory command.now && (is_allowed_by (verdict_of kept.old.reservations nexus command.now) && is_none (waiting (class_of_command command.now) (first_other_of (met kept.old nexus).slots nexus)))) ≡ true) }
+    ensures want { OnErr result ((asks_memory command.now && (is_allowed_by (verdict_of kept.old.reservations nexus command.now) && is_none (waiting (class_of_command command.now) (first_other_of (after_contact kept.old nexus).slots nexus)))) ≡ true) }
 {
     let in_cell = kept.cell(nexus, command);
     let rule = match kept.verdict(nexus, command, in_cell) {
@@ -265,28 +255,28 @@ fn check<D: DeviceServer>(
         Verdict::Denied(_) => None,
         Verdict::Rule(rule) => Some(rule),
     };
-    kept.meet(nexus);
-    Ok((Finding::in_conflict(in_cell, rule), Reply::conflict(alloc)))
+    kept.make_contact(nexus);
+    Ok((Decision::in_conflict(in_cell, rule), Reply::conflict(alloc)))
 }
 
 /// A command that the bytes spell: an attention of ASC 29h, or the reservation check.
 fn judge_command<D: DeviceServer>(
     alloc: Global,
     server: &mut Box<D>,
-    kept: &mut Kept,
+    kept: &mut UnitState,
     nexus: Nexus,
     command: &Command,
     bytes: &[u8],
-) -> Result<(Finding, Reply), AllocError>
+) -> Result<(Decision, Reply), AllocError>
     requires { has_room kept.old nexus ≡ true }
-    ensures ok { IfOk result (λ it. commanded (record { device = D.shown server.old.value; kept = met kept.old nexus }) nexus command.now bytes.now ≡ (record { device = D.shown server.new.value; kept = kept.new }, it.0, it.1)) }
+    ensures ok { IfOk result (λ it. commanded (record { device = D.shown server.old.value; kept = after_contact kept.old nexus }) nexus command.now bytes.now ≡ (record { device = D.shown server.new.value; kept = kept.new }, it.0, it.1)) }
     ensures err { OnErr result ((D.shown server.new.value ≡ D.shown server.old.value) × (kept.new ≡ kept.old)) }
-    ensures want { OnErr result ((asks_memory command.now && is_carried_out (record { device = D.shown server.old.value; kept = met kept.old nexus }) nexus command.now) ≡ true) }
+    ensures want { OnErr result ((asks_memory command.now && is_carried_out (record { device = D.shown server.old.value; kept = after_contact kept.old nexus }) nexus command.now) ≡ true) }
 {
     match waiting(command.class(), kept.first_reset(nexus)) {
         Some(kind) => Ok((
-            Finding::at_stage(Stage::ResetAttention),
-            kept.tell(alloc, nexus, kind),
+            Decision::at_stage(Stage::ResetAttention),
+            kept.report_attention(alloc, nexus, kind),
         )),
         None => check(alloc, server, kept, nexus, command, bytes),
     }
@@ -296,22 +286,22 @@ fn judge_command<D: DeviceServer>(
 pub fn judge<D: DeviceServer>(
     alloc: Global,
     server: &mut Box<D>,
-    kept: &mut Kept,
+    kept: &mut UnitState,
     nexus: Nexus,
-    spelled: &Result<Command, Condition>,
+    decoded: &Result<Command, Condition>,
     bytes: &[u8],
-) -> Result<(Finding, Reply), AllocError>
+) -> Result<(Decision, Reply), AllocError>
     requires { has_room kept.old nexus ≡ true }
-    ensures ok { IfOk result (λ it. judged_as (record { device = D.shown server.old.value; kept = met kept.old nexus }) nexus spelled.now bytes.now ≡ (record { device = D.shown server.new.value; kept = kept.new }, it.0, it.1)) }
+    ensures ok { IfOk result (λ it. judged_as (record { device = D.shown server.old.value; kept = after_contact kept.old nexus }) nexus decoded.now bytes.now ≡ (record { device = D.shown server.new.value; kept = kept.new }, it.0, it.1)) }
     ensures err { OnErr result ((D.shown server.new.value ≡ D.shown server.old.value) × (kept.new ≡ kept.old)) }
-    ensures want { OnErr result (takes_memory (record { device = D.shown server.old.value; kept = met kept.old nexus }) nexus spelled.now ≡ true) }
+    ensures want { OnErr result (takes_memory (record { device = D.shown server.old.value; kept = after_contact kept.old nexus }) nexus decoded.now ≡ true) }
 {
-    match spelled {
+    match decoded {
         Ok(command) => judge_command(alloc, server, kept, nexus, command, bytes),
         Err(condition) => {
-            kept.meet(nexus);
+            kept.make_contact(nexus);
             Ok((
-                Finding::at_stage(Stage::Spelling),
+                Decision::at_stage(Stage::Decoding),
                 Reply::check(alloc, *condition),
             ))
         }

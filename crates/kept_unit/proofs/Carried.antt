@@ -16,8 +16,8 @@ use Rattle.logical_unit.specs.declared.route.Route.{Route}
 use Rattle.logical_unit.proofs.Halves.{is_unloaded, is_loaded, is_passed}
 use Rattle.logical_unit.proofs.Moved.{Ends, Became, one_became, two_became}
 use Rattle.logical_unit.proofs.Numbers.{none_more, one_more, out_last, in_last}
-use Rattle.kept_unit.specs.declared.deed.Deed.{Deed}
-use Rattle.kept_unit.specs.Deeds.{deed_of, deed_if}
+use Rattle.kept_unit.specs.declared.act_kind.ActKind.{ActKind}
+use Rattle.kept_unit.specs.ActKinds.{act_kind_of, act_kind_if}
 use Rattle.kept_unit.proofs.Counting.{Recorded, recorded_one, executed, NoneOrOne}
 
 -- what the changer and the drives have: nothing and BUSY, or a record of the command at the changer, and the drives as they were or after
@@ -31,7 +31,7 @@ Settled c v act r drives after carried =
 
 ends_recorded : (c v : UnitView) (n : Nexus) (cdb bytes : List ℕ) (r : Reply) (device : DeviceView) (reply : Reply) → Ends c v n cdb bytes r device reply → Recorded c v (act_of (kind_of c.device) cdb bytes)
 ends_recorded c v n cdb bytes r device reply ends =
-    recorded_one c v n (act_of (kind_of c.device) cdb bytes) (record { device = device; kept = c.kept }) ends.finding reply r ends.unit
+    recorded_one c v n (act_of (kind_of c.device) cdb bytes) (record { device = device; kept = c.kept }) ends.decision reply r ends.unit
 
 pub settled : {A : Type 0} (c v : UnitView) (n : Nexus) (cdb bytes : List ℕ) (r : Reply) (drives after : A) (carried : Result (DeviceView × A) Condition) → Became c v n cdb bytes r drives after carried
     → Settled c v (act_of (kind_of c.device) cdb bytes) r drives after carried
@@ -123,10 +123,10 @@ two_settled c v ds es n cdb bytes r l more names moves =
 abbrev pub Told : (items : List (ℕ × ℕ)) → (c v : UnitView) → Act → Reply → Type 0
 Told items c v act r = ((items ≡ []) × (r ≡ busy)) ⊎ Recorded c v act
 
-pub told_deed : (items : List (ℕ × ℕ)) (c v : UnitView) (act : Act) (r : Reply) (records : List Record) (deed : Option Deed) → Told items c v act r → records ≡ v.records
-    → (items ≡ [] → deed ≡ None) → ((before : List Record) (last : Record) → records ≡ before ++ last ∷ [] → deed ≡ deed_if items (deed_of last.act)) → deed ≡ deed_if items (deed_of act)
-told_deed items c v act r records deed (inl nothing) is none last = none nothing.0 ∙ ap (λ (ns : List (ℕ × ℕ)). deed_if ns (deed_of act)) (sym nothing.0)
-told_deed items c v act r records deed (inr one) is none last = last c.records one.entry (is ∙ one.records) ∙ ap (λ (a : Act). deed_if items (deed_of a)) one.act
+pub recorded_kind : (items : List (ℕ × ℕ)) (c v : UnitView) (act : Act) (r : Reply) (records : List Record) (kind : Option ActKind) → Told items c v act r → records ≡ v.records
+    → (items ≡ [] → kind ≡ None) → ((before : List Record) (last : Record) → records ≡ before ++ last ∷ [] → kind ≡ act_kind_if items (act_kind_of last.act)) → kind ≡ act_kind_if items (act_kind_of act)
+recorded_kind items c v act r records kind (inl nothing) is none last = none nothing.0 ∙ ap (λ (ns : List (ℕ × ℕ)). act_kind_if ns (act_kind_of act)) (sym nothing.0)
+recorded_kind items c v act r records kind (inr one) is none last = last c.records one.entry (is ∙ one.records) ∙ ap (λ (a : Act). act_kind_if items (act_kind_of a)) one.act
 
 has_number : (c v : UnitView) (items others : List (ℕ × ℕ)) → last_number v ≡ last_number c + 1 → items ≡ numbers_of c v ++ others → items ≡ [] → ⊥
 has_number c v items others more is none =

@@ -8,13 +8,13 @@ use Rattle.unit_attention.specs.Queues.{has_slot}
 use Rattle.audit_log.specs.declared.act.Act.{Act}
 use Rattle.audit_log.specs.declared.record.Record.{Record}
 use Rattle.device_server.specs.View.{kind_of, drives_of}
-use Rattle.judgement.specs.Present.{Present}
-use Rattle.judgement.specs.declared.finding.Finding.{Finding}
+use Rattle.judgement.specs.JudgedUnit.{JudgedUnit}
+use Rattle.judgement.specs.declared.decision.Decision.{Decision}
 use Rattle.judgement.specs.declared.reply.Reply.{Reply}
 use Rattle.judgement.specs.Replies.{busy}
 use Rattle.judgement.specs.Commands.{act_of}
 use Rattle.logical_unit.specs.Move.{numbers_of, IsSameUnit, judged_at}
-use Rattle.logical_unit.specs.Step.{Executes, LosesAs, loses, IsLost, number_or_0, recorded, entry_of}
+use Rattle.logical_unit.specs.Step.{Executes, LosesAs, loses, IsLost, number_or_0, recorded, record_of}
 use Rattle.logical_unit.specs.UnitView.{UnitView, last_number}
 use Rattle.logical_unit.proofs.History.{executes_stays}
 use Rattle.logical_unit.proofs.Numbers.{none_more, one_more}
@@ -32,12 +32,12 @@ pub record Recorded (u v : UnitView) (asked : Act) : Type 0 where
   pub act : entry.act ≡ asked
   pub last : last_number v ≡ last_number u + 1
 
-pub recorded_one : (u v : UnitView) (n : Nexus) (act : Act) (p : Present) (f : Finding) (given r : Reply) → (v, r) ≡ recorded u n act (p, f, given) → Recorded u v act
+pub recorded_one : (u v : UnitView) (n : Nexus) (act : Act) (p : JudgedUnit) (f : Decision) (given r : Reply) → (v, r) ≡ recorded u n act (p, f, given) → Recorded u v act
 recorded_one u v n act p f given r e =
-    let more : v.records ≡ u.records ++ entry_of (last_number u + 1) (Some n) act f given.status given.sense ∷ [] = ap (λ (x : UnitView × Reply). x.0.records) e in
+    let more : v.records ≡ u.records ++ record_of (last_number u + 1) (Some n) act f given.status given.sense ∷ [] = ap (λ (x : UnitView × Reply). x.0.records) e in
     let base : v.base.last ≡ u.base.last = ap (λ (x : UnitView × Reply). x.0.base.last) e in
     let longer : length v.records ≡ length u.records + 1 = ap length more ∙ length-append u.records _ in
-    record { entry = entry_of (last_number u + 1) (Some n) act f given.status given.sense; records = more; act = refl; last = omega (arith, base, longer) }
+    record { entry = record_of (last_number u + 1) (Some n) act f given.status given.sense; records = more; act = refl; last = omega (arith, base, longer) }
 
 -- a command is BUSY with nothing changed, or it has a record
 pub executed : (u v : UnitView) (n : Nexus) (cdb bytes : List ℕ) (r : Reply) → Executes u n cdb bytes (v, r)

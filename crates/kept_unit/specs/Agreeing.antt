@@ -3,9 +3,9 @@
 use Rattle.std.specs.Prelude.{◌≡◌, ◌⊎◌, ℕ, zero, suc, ◌+◌, ◌-◌, ◌≤◌, List, [], ◌∷◌, length, Some, None, Bool, true, ◌&&◌, ◌==◌, nat_lt, MatchBool, All, slice_get, IsPermutation}
 use Rattle.std.specs.List.{flat_map}
 use Rattle.audit_log.specs.declared.record.Record.{Record}
-use Rattle.kept_unit.specs.declared.deed.Deed.TheVariants.{Medium}
+use Rattle.kept_unit.specs.declared.act_kind.ActKind.TheVariants.{Medium}
 use Rattle.kept_unit.specs.declared.entry.Entry.{Entry}
-use Rattle.kept_unit.specs.Deeds.{deed_of}
+use Rattle.kept_unit.specs.ActKinds.{act_kind_of}
 use Rattle.kept_unit.specs.Answers.{at}
 
 -- the numbers at one unit that a seat was told, in order
@@ -33,11 +33,11 @@ is_span first (n ∷ ns) = (n == first + 1) && is_span (first + 1) ns
 
 -- the record of a call at the unit that it was for
 abbrev pub IsOwn : Entry → Record → Type 0
-IsOwn e r = (r.nexus ≡ e.nexus) × (e.deed ≡ Some (deed_of r.act)) × (r.status ≡ e.status) × (r.sense ≡ e.sense)
+IsOwn e r = (r.nexus ≡ e.nexus) × (e.act ≡ Some (act_kind_of r.act)) × (r.status ≡ e.status) × (r.sense ≡ e.sense)
 
 -- the record of a drive, of a move at the changer: a volume that came in or was taken out, without a nexus
 abbrev pub IsOfMove : Entry → Record → Type 0
-IsOfMove e r = (e.lun ≡ 0) × (r.nexus ≡ None) × (deed_of r.act ≡ Medium)
+IsOfMove e r = (e.lun ≡ 0) × (r.nexus ≡ None) × (act_kind_of r.act ≡ Medium)
 
 -- the record at a unit is that of the call
 abbrev pub Fits : (lun : ℕ) → Entry → Record → Type 0

@@ -8,7 +8,7 @@ use Rattle.scsi_sense.specs.declared.status.Status.TheVariants.{Good, Reservatio
 use Rattle.audit_log.specs.declared.act.Act.TheVariants as act
 use Rattle.audit_log.specs.declared.record.Record.{Record}
 use Rattle.audit_log.specs.declared.stage.Stage.TheVariants.{Device}
-use Rattle.kept_unit.specs.declared.deed.Deed.TheVariants as deed
+use Rattle.kept_unit.specs.declared.act_kind.ActKind.TheVariants as kind
 use Rattle.kept_unit.specs.declared.entry.Entry.{Entry}
 use Rattle.kept_unit.specs.Agreeing.{Agrees}
 
@@ -29,10 +29,10 @@ trail = ready Good ∷ came_in ∷ []
 
 -- what A and B were told; the move is also record 9 of the changer
 abbrev pub asked : Entry
-asked = record { nexus = Some a; lun = 1; deed = Some (deed.Command class.TestUnitReady); status = Good; sense = None; numbers = (1, 6) ∷ [] }
+asked = record { nexus = Some a; lun = 1; act = Some (kind.Command class.TestUnitReady); status = Good; sense = None; numbers = (1, 6) ∷ [] }
 
 abbrev pub moved : Entry
-moved = record { nexus = Some b; lun = 0; deed = Some (deed.Command class.MoveMedium); status = Good; sense = None; numbers = (0, 9) ∷ (1, 7) ∷ [] }
+moved = record { nexus = Some b; lun = 0; act = Some (kind.Command class.MoveMedium); status = Good; sense = None; numbers = (0, 9) ∷ (1, 7) ∷ [] }
 
 -- the entries of each seat agree with the records of drive 1 behind a base
 abbrev pub AgreesBehind : (base : ℕ) → List Record → List (List Entry) → Type 0

@@ -2,20 +2,20 @@
 use Rattle.std.specs.Prelude.{◌≡◌, ◌≢◌, ℕ, List, [], ◌∷◌, count_by, map, filter, Option, None, ◌==◌, if◌then◌else◌}
 use Rattle.scsi_nexus.specs.declared.nexus.Nexus.{Nexus}
 use Rattle.judgement.specs.declared.reply.Reply.{Reply}
-use Rattle.kept_unit.specs.declared.deed.Deed.{Deed}
+use Rattle.kept_unit.specs.declared.act_kind.ActKind.{ActKind}
 use Rattle.kept_unit.specs.declared.entry.Entry.{Entry}
 
 -- an I_T nexus loss, a reset, or a command, by its CDB and the data sent with it
-pub data Question : Type 0 where
-  lost : Question
-  was_reset : Question
-  ran : List ℕ → List ℕ → Question
+pub data EventValue : Type 0 where
+  Loss : EventValue
+  Reset : EventValue
+  Command : (cdb bytes : List ℕ) → EventValue
 
 pub record DoneValue : Type 0 where
   pub nexus : Option Nexus
   pub lun : ℕ
-  pub asked : Question
-  pub deed : Option Deed
+  pub asked : EventValue
+  pub act : Option ActKind
   pub reply : Reply
   -- of each record that the call left the unit's logical unit number, and the record's number
   pub numbers : List (ℕ × ℕ)
@@ -37,13 +37,13 @@ abbrev pub OnlyAt : (lun : ℕ) → List (ℕ × ℕ) → Type 0
 OnlyAt lun ns = (k : ℕ) → k ≢ lun → count_at k ns ≡ 0
 
 -- the answer is that of this call
-abbrev pub IsAnswer : DoneValue → Option Nexus → (lun : ℕ) → Question → Type 0
+abbrev pub IsAnswer : DoneValue → Option Nexus → (lun : ℕ) → EventValue → Type 0
 IsAnswer d nexus lun asked = (d.nexus ≡ nexus) × (d.lun ≡ lun) × (d.asked ≡ asked)
 
 -- the call left no record
 abbrev pub LeavesNothing : DoneValue → Type 0
-LeavesNothing d = (d.numbers ≡ []) × (d.deed ≡ None)
+LeavesNothing d = (d.numbers ≡ []) × (d.act ≡ None)
 
 -- what a seat keeps of a call
 abbrev pub entry_of : DoneValue → Entry
-entry_of d = record { nexus = d.nexus; lun = d.lun; deed = d.deed; status = d.reply.status; sense = d.reply.sense; numbers = d.numbers }
+entry_of d = record { nexus = d.nexus; lun = d.lun; act = d.act; status = d.reply.status; sense = d.reply.sense; numbers = d.numbers }

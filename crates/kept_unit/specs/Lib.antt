@@ -1,6 +1,6 @@
-pub mod Deeds
+pub mod ActKinds
 pub mod Answers
-pub mod Questions
+pub mod EventValue
 pub mod Keeping
 pub mod Agreeing
 pub mod Rows

@@ -5,28 +5,28 @@ use Rattle.permit_tables.specs.declared.classes.Class.TheVariants as class
 use Rattle.scsi_cdb.specs.declared.kind.Kind.TheVariants.{Drive, Changer}
 use Rattle.permit_tables.specs.declared.out_params.OutParams.{OutParams}
 use Rattle.audit_log.specs.declared.act.Act.TheVariants as act
-use Rattle.kept_unit.specs.declared.deed.Deed.TheVariants as deed
+use Rattle.kept_unit.specs.declared.act_kind.ActKind.TheVariants as kind
 use Rattle.kept_unit.specs.Answers.{own_number, at, count_at, OnlyAt}
-use Rattle.kept_unit.specs.Deeds.{deed_of, deed_if}
+use Rattle.kept_unit.specs.ActKinds.{act_kind_of, act_kind_if}
 use Rattle.kept_unit.specs.Keeping.{kind_at}
 
 -- a PREEMPT
 abbrev pub preempt : OutParams
 preempt = record { rk = 5; sark = 2; dest = None; act = out.Preempt; scope_type = 3; unreg = false; defect = None; all_ports = false; listed = false; targets = record { items = [] } }
 
-pub record DeedRows : Type 0 where
+pub record ActKindRows : Type 0 where
   -- a command by its class, PERSISTENT RESERVE OUT by that of its service action
-  pub write : deed_of (act.Command class.Write) ≡ deed.Command class.Write
-  pub reserve_out : deed_of (act.ReserveOut preempt) ≡ deed.Command class.Preempt
-  pub invalid : deed_of act.Invalid ≡ deed.Invalid
-  pub loss : deed_of act.Loss ≡ deed.Loss
-  pub was_reset : deed_of act.Reset ≡ deed.Reset
+  pub write : act_kind_of (act.Command class.Write) ≡ kind.Command class.Write
+  pub reserve_out : act_kind_of (act.ReserveOut preempt) ≡ kind.Command class.Preempt
+  pub invalid : act_kind_of act.Invalid ≡ kind.Invalid
+  pub loss : act_kind_of act.Loss ≡ kind.Loss
+  pub was_reset : act_kind_of act.Reset ≡ kind.Reset
   -- a volume, whichever way it goes
-  pub came_in : deed_of act.MediumIn ≡ deed.Medium
-  pub taken_out : deed_of act.MediumOut ≡ deed.Medium
+  pub came_in : act_kind_of act.MediumIn ≡ kind.Medium
+  pub taken_out : act_kind_of act.MediumOut ≡ kind.Medium
   -- where there is no record, nothing
-  pub recorded : deed_if ((1, 7) ∷ []) deed.Loss ≡ Some deed.Loss
-  pub unrecorded : deed_if [] deed.Loss ≡ None
+  pub recorded : act_kind_if ((1, 7) ∷ []) kind.Loss ≡ Some kind.Loss
+  pub unrecorded : act_kind_if [] kind.Loss ≡ None
 
 -- the numbers of a move from drive 2 to drive 4: record 9 of the changer, 3 and 9 of the drives
 abbrev pub of_a_move : List (ℕ × ℕ)

@@ -5,12 +5,13 @@ ghost use Rattle.judgement.specs.Replies.{busy};
 ghost use Rattle.judgement.specs.Commands.{act_of};
 ghost use Rattle.logical_unit.specs.Move.{MovesOne, MovesTwo, numbers_of};
 ghost use Rattle.logical_unit.specs.Route.{named};
-ghost use Rattle.kept_unit.specs.Answers.{IsAnswer, ran, count_at};
-ghost use Rattle.kept_unit.specs.Deeds.{deed_of, deed_if};
+ghost use Rattle.kept_unit.specs.Answers as event;
+ghost use Rattle.kept_unit.specs.Answers.{IsAnswer, count_at};
+ghost use Rattle.kept_unit.specs.ActKinds.{act_kind_of, act_kind_if};
 
-use crate::deed::last_deed;
-use crate::done::{Asked, Done, done_with};
-use crate::kept::{Kept, Site};
+use crate::act_kind::last_act_kind;
+use crate::done::{Done, EventKind, done_with};
+use crate::kept::{Kept, UnitLedger};
 use crate::numbers::count_at;
 use device_server::DeviceServer;
 use logical_unit::{move_one, move_two};
@@ -21,7 +22,7 @@ use std::sync::ledger::Share;
 /// A MOVE MEDIUM at the changer (SMC-3, "MOVE MEDIUM command"), which names the drive of this logical unit number, as
 /// `named` says. Each record that it leaves is counted in its unit's book and in the part of that ledger. Without a number
 /// it is BUSY, and nothing has changed.
-pub fn move_kept_one<'a, const LUN: u8, C: Site, L: Site, D: DeviceServer>(
+pub fn move_kept_one<'a, const LUN: u8, C: UnitLedger, L: UnitLedger, D: DeviceServer>(
     alloc: Global,
     changer: &mut Kept<0, C, D>,
     drive: &mut Kept<LUN, L, D>,
@@ -35,11 +36,11 @@ pub fn move_kept_one<'a, const LUN: u8, C: Site, L: Site, D: DeviceServer>(
     requires drive_part { 0 < drive_part.old.parts }
     requires drive { 0 < LUN }
     requires named { named (drives_of changer.old.unit.device) cdb.now ≡ LUN ∷ [] }
-    ensures answer { IsAnswer result (Some nexus) 0 (ran cdb.now bytes.now) }
+    ensures answer { IsAnswer result (Some nexus) 0 (event.Command cdb.now bytes.now) }
     ensures step { MovesOne changer.old.unit drive.old.unit nexus cdb.now bytes.now ((changer.new.unit, result.reply), drive.new.unit) }
     ensures numbers { result.numbers ≡ numbers_of changer.old.unit changer.new.unit ++ numbers_of drive.old.unit drive.new.unit }
     ensures only { (k : ℕ) → k ≢ 0 → k ≢ LUN → count_at k result.numbers ≡ 0 }
-    ensures deed { result.deed ≡ deed_if result.numbers (deed_of (act_of Changer cdb.now bytes.now)) }
+    ensures act { result.act ≡ act_kind_if result.numbers (act_kind_of (act_of Changer cdb.now bytes.now)) }
     ensures unnumbered { result.numbers ≡ [] → result.reply ≡ busy }
     ensures book { changer.new.total ≡ changer.old.total + count_at 0 result.numbers }
     ensures drive_book { drive.new.total ≡ drive.old.total + count_at LUN result.numbers }
@@ -51,13 +52,21 @@ pub fn move_kept_one<'a, const LUN: u8, C: Site, L: Site, D: DeviceServer>(
     let numbers = receipt.numbers.as_slice();
     changer.book.add(part, count_at(0, numbers));
     drive.book.add(drive_part, count_at(LUN, numbers));
-    let deed = last_deed(changer.unit.records(), numbers);
-    let asked = Asked::Command { cdb, bytes };
-    done_with(Some(nexus), 0, asked, deed, receipt)
+    let act = last_act_kind(changer.unit.records(), numbers);
+    let asked = EventKind::Command { cdb, bytes };
+    done_with(Some(nexus), 0, asked, act, receipt)
 }
 
 /// The same for one that names two drives, the lower first.
-pub fn move_kept_two<'a, const LOW: u8, const HIGH: u8, C: Site, L: Site, H: Site, D: DeviceServer>(
+pub fn move_kept_two<
+    'a,
+    const LOW: u8,
+    const HIGH: u8,
+    C: UnitLedger,
+    L: UnitLedger,
+    H: UnitLedger,
+    D: DeviceServer,
+>(
     alloc: Global,
     changer: &mut Kept<0, C, D>,
     low: &mut Kept<LOW, L, D>,
@@ -74,11 +83,11 @@ pub fn move_kept_two<'a, const LOW: u8, const HIGH: u8, C: Site, L: Site, H: Sit
     requires high_part { 0 < high_part.old.parts }
     requires drives { (0 < LOW) × (LOW < HIGH) }
     requires named { named (drives_of changer.old.unit.device) cdb.now ≡ LOW ∷ HIGH ∷ [] }
-    ensures answer { IsAnswer result (Some nexus) 0 (ran cdb.now bytes.now) }
+    ensures answer { IsAnswer result (Some nexus) 0 (event.Command cdb.now bytes.now) }
     ensures step { MovesTwo changer.old.unit (record { low = low.old.unit; high = high.old.unit }) nexus cdb.now bytes.now ((changer.new.unit, result.reply), record { low = low.new.unit; high = high.new.unit }) }
     ensures numbers { result.numbers ≡ numbers_of changer.old.unit changer.new.unit ++ numbers_of low.old.unit low.new.unit ++ numbers_of high.old.unit high.new.unit }
     ensures only { (k : ℕ) → k ≢ 0 → k ≢ LOW → k ≢ HIGH → count_at k result.numbers ≡ 0 }
-    ensures deed { result.deed ≡ deed_if result.numbers (deed_of (act_of Changer cdb.now bytes.now)) }
+    ensures act { result.act ≡ act_kind_if result.numbers (act_kind_of (act_of Changer cdb.now bytes.now)) }
     ensures unnumbered { result.numbers ≡ [] → result.reply ≡ busy }
     ensures book { changer.new.total ≡ changer.old.total + count_at 0 result.numbers }
     ensures low_book { low.new.total ≡ low.old.total + count_at LOW result.numbers }
@@ -101,7 +110,7 @@ pub fn move_kept_two<'a, const LOW: u8, const HIGH: u8, C: Site, L: Site, H: Sit
     changer.book.add(part, count_at(0, numbers));
     low.book.add(low_part, count_at(LOW, numbers));
     high.book.add(high_part, count_at(HIGH, numbers));
-    let deed = last_deed(changer.unit.records(), numbers);
-    let asked = Asked::Command { cdb, bytes };
-    done_with(Some(nexus), 0, asked, deed, receipt)
+    let act = last_act_kind(changer.unit.records(), numbers);
+    let asked = EventKind::Command { cdb, bytes };
+    done_with(Some(nexus), 0, asked, act, receipt)
 }

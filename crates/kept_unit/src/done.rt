@@ -1,10 +1,11 @@
 ghost use Rattle.std.specs.Prelude.{◌≡◌, [], None, Some};
 ghost use Rattle.scsi_sense.specs.declared.condition.Condition.TheVariants.{LogicalUnitNotSupported};
 ghost use Rattle.judgement.specs.Replies.{AnswersAbsent, busy, check};
-ghost use Rattle.kept_unit.specs.Answers.{entry_of, IsAnswer, LeavesNothing, lost, was_reset, ran};
-ghost use Rattle.kept_unit.specs.Questions.{question_of};
+ghost use Rattle.kept_unit.specs.Answers as event;
+ghost use Rattle.kept_unit.specs.Answers.{entry_of, IsAnswer, LeavesNothing};
+ghost use Rattle.kept_unit.specs.EventValue.{event_value};
 
-use crate::deed::Deed;
+use crate::act_kind::ActKind;
 use crate::entry::Entry;
 use crate::numbers::Numbers;
 use arrayvec::ArrayVec;
@@ -16,7 +17,7 @@ use std::marker::Model;
 
 /// What was asked: a command is the very slices that were lent to the call.
 #[derive(Clone, Copy, Debug)]
-pub enum Asked<'a> {
+pub enum EventKind<'a> {
     /// That an I_T nexus is lost.
     Loss,
     /// A reset of the unit.
@@ -30,8 +31,8 @@ pub enum Asked<'a> {
 pub struct Done<'a> {
     nexus: Option<Nexus>,
     lun: u8,
-    asked: Asked<'a>,
-    deed: Option<Deed>,
+    asked: EventKind<'a>,
+    act: Option<ActKind>,
     receipt: Receipt,
 }
 
@@ -40,36 +41,36 @@ impl<'a> Model for Done<'a> {
 
     ghost Value = { DoneValue };
 
-    ghost use Rattle.kept_unit.specs.Questions.{question_of};
+    ghost use Rattle.kept_unit.specs.EventValue.{event_value};
 
-    ghost view = { λ d. record { nexus = d.nexus; lun = d.lun; asked = question_of d.asked; deed = d.deed; reply = d.receipt.reply; numbers = d.receipt.numbers.items } };
+    ghost view = { λ d. record { nexus = d.nexus; lun = d.lun; asked = event_value d.asked; act = d.act; reply = d.receipt.reply; numbers = d.receipt.numbers.items } };
 }
 
 /// The answer to a call, with its receipt.
 pub(crate) fn done_with<'a>(
     nexus: Option<Nexus>,
     lun: u8,
-    asked: Asked<'a>,
-    deed: Option<Deed>,
+    asked: EventKind<'a>,
+    act: Option<ActKind>,
     receipt: Receipt,
 ) -> Done<'a>
-    ensures answer { IsAnswer result nexus lun (question_of asked.entry) }
+    ensures answer { IsAnswer result nexus lun (event_value asked.entry) }
     ensures reply { result.reply ≡ receipt.reply }
     ensures numbers { result.numbers ≡ receipt.numbers.items }
-    ensures deed { result.deed ≡ deed }
+    ensures act { result.act ≡ act }
 {
     Done {
         nexus,
         lun,
         asked,
-        deed,
+        act,
         receipt,
     }
 }
 
 /// An answer that leaves no record.
-fn plain<'a>(nexus: Option<Nexus>, lun: u8, asked: Asked<'a>, reply: Reply) -> Done<'a>
-    ensures answer { IsAnswer result nexus lun (question_of asked.entry) }
+fn plain<'a>(nexus: Option<Nexus>, lun: u8, asked: EventKind<'a>, reply: Reply) -> Done<'a>
+    ensures answer { IsAnswer result nexus lun (event_value asked.entry) }
     ensures reply { result.reply ≡ reply }
     ensures none { LeavesNothing result }
 {
@@ -80,37 +81,37 @@ fn plain<'a>(nexus: Option<Nexus>, lun: u8, asked: Asked<'a>, reply: Reply) -> D
 impl<'a> Done<'a> {
     /// The answer to a command at a logical unit that doesn't exist, or BUSY for want of memory.
     pub fn absent(alloc: Global, nexus: Nexus, lun: u8, cdb: &'a [u8], bytes: &'a [u8]) -> Done<'a>
-        ensures answer { IsAnswer result (Some nexus) lun (ran cdb.now bytes.now) }
+        ensures answer { IsAnswer result (Some nexus) lun (event.Command cdb.now bytes.now) }
         ensures reply { AnswersAbsent cdb.now result.reply }
         ensures none { LeavesNothing result }
     {
         let reply = absent(alloc, cdb);
-        plain(Some(nexus), lun, Asked::Command { cdb, bytes }, reply)
+        plain(Some(nexus), lun, EventKind::Command { cdb, bytes }, reply)
     }
 
     /// The answer to the loss of a nexus at a logical unit that doesn't exist.
     pub fn absent_loss(alloc: Global, nexus: Nexus, lun: u8) -> Done<'a>
-        ensures answer { IsAnswer result (Some nexus) lun lost }
+        ensures answer { IsAnswer result (Some nexus) lun event.Loss }
         ensures reply { result.reply ≡ check LogicalUnitNotSupported }
         ensures none { LeavesNothing result }
     {
         let reply = Reply::check(alloc, Condition::LogicalUnitNotSupported);
-        plain(Some(nexus), lun, Asked::Loss, reply)
+        plain(Some(nexus), lun, EventKind::Loss, reply)
     }
 
     /// The answer to a reset of a logical unit that doesn't exist.
     pub fn absent_reset(alloc: Global, lun: u8) -> Done<'a>
-        ensures answer { IsAnswer result None lun was_reset }
+        ensures answer { IsAnswer result None lun event.Reset }
         ensures reply { result.reply ≡ check LogicalUnitNotSupported }
         ensures none { LeavesNothing result }
     {
         let reply = Reply::check(alloc, Condition::LogicalUnitNotSupported);
-        plain(None, lun, Asked::Reset, reply)
+        plain(None, lun, EventKind::Reset, reply)
     }
 
     /// BUSY: nothing has changed.
-    pub fn busy(alloc: Global, nexus: Option<Nexus>, lun: u8, asked: Asked<'a>) -> Done<'a>
-        ensures answer { IsAnswer result nexus lun (question_of asked.entry) }
+    pub fn busy(alloc: Global, nexus: Option<Nexus>, lun: u8, asked: EventKind<'a>) -> Done<'a>
+        ensures answer { IsAnswer result nexus lun (event_value asked.entry) }
         ensures reply { result.reply ≡ busy }
         ensures none { LeavesNothing result }
     {
@@ -132,8 +133,8 @@ impl<'a> Done<'a> {
     }
 
     /// What was asked.
-    pub fn asked(&self) -> Asked<'a>
-        ensures { question_of result ≡ self.now.asked }
+    pub fn asked(&self) -> EventKind<'a>
+        ensures { event_value result ≡ self.now.asked }
     {
         self.asked
     }
@@ -153,7 +154,7 @@ impl<'a> Done<'a> {
         Entry {
             nexus: self.nexus,
             lun: self.lun,
-            deed: self.deed,
+            act: self.act,
             status: self.receipt.reply.status,
             sense: self.receipt.reply.sense,
             numbers: Numbers::of(&self.receipt.numbers),

@@ -1,4 +1,4 @@
-use crate::deed::Deed;
+use crate::act_kind::ActKind;
 use crate::numbers::Numbers;
 use scsi_nexus::Nexus;
 use scsi_sense::{Sense, Status};
@@ -11,7 +11,7 @@ pub struct Entry {
     /// The logical unit number that the call was for.
     pub lun: u8,
     /// What was asked, where the call left a record.
-    pub deed: Option<Deed>,
+    pub act: Option<ActKind>,
     pub status: Status,
     pub sense: Option<Sense>,
     /// For each record that the call left the unit that has it, and its number there.

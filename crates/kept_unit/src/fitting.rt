@@ -1,7 +1,7 @@
 ghost use Rattle.std.specs.Prelude.{◌≡◌, ◌↔◌, All, IsTrue};
 ghost use Rattle.kept_unit.specs.Agreeing.{IsOwn, IsOfMove, Fits, Stands, IsTold};
 
-use crate::deed::{Deed, deed_of};
+use crate::act_kind::{ActKind, act_kind_of};
 use crate::entry::Entry;
 use audit_log::Record;
 use scsi_sense::Sense;
@@ -30,15 +30,15 @@ fn is_same_answer(entry: &Entry, told: &Record) -> bool
 fn is_own(entry: &Entry, told: &Record) -> bool
     ensures { IsTrue result ↔ IsOwn entry.now told.now }
 {
-    let deed = deed_of(&told.act);
-    told.nexus == entry.nexus && entry.deed == Some(deed) && is_same_answer(entry, told)
+    let act = act_kind_of(&told.act);
+    told.nexus == entry.nexus && entry.act == Some(act) && is_same_answer(entry, told)
 }
 
 /// Whether a record of a drive is of a move at the changer.
 fn is_of_move(entry: &Entry, told: &Record) -> bool
     ensures { IsTrue result ↔ IsOfMove entry.now told.now }
 {
-    entry.lun == 0 && told.nexus.is_none() && deed_of(&told.act) == Deed::Medium
+    entry.lun == 0 && told.nexus.is_none() && act_kind_of(&told.act) == ActKind::Medium
 }
 
 /// Whether a record at a unit is that of the call.

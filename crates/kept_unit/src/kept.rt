@@ -3,46 +3,47 @@ ghost use Rattle.device_server.specs.View.{kind_of, drives_of};
 ghost use Rattle.judgement.specs.Replies.{busy};
 ghost use Rattle.judgement.specs.Commands.{act_of};
 ghost use Rattle.logical_unit.specs.Legal.{IsTrail};
-ghost use Rattle.logical_unit.specs.Step.{Executes, IsLost, IsReset, done, drained};
+ghost use Rattle.logical_unit.specs.Step.{Executes, IsLost, IsReset, drained};
 ghost use Rattle.logical_unit.specs.UnitView.{last_number};
 ghost use Rattle.kept_unit.specs.Agreeing.{Agrees};
-ghost use Rattle.kept_unit.specs.Answers.{IsAnswer, lost, was_reset, ran, count_at, own_number, OnlyAt};
-ghost use Rattle.kept_unit.specs.Deeds.{deed_of, deed_if};
+ghost use Rattle.kept_unit.specs.Answers as event;
+ghost use Rattle.kept_unit.specs.Answers.{IsAnswer, count_at, own_number, OnlyAt};
+ghost use Rattle.kept_unit.specs.ActKinds.{act_kind_of, act_kind_if};
 ghost use Rattle.kept_unit.specs.Keeping.{kind_at};
 
+use crate::act_kind::{ActKind, last_act_kind};
 use crate::agree::agree;
-use crate::deed::{Deed, last_deed};
-use crate::done::{Asked, Done, done_with};
+use crate::done::{Done, EventKind, done_with};
 use crate::entry::Entry;
 use crate::numbers::{count_at, own_number};
 use audit_log::Record;
-use device_server::{DeviceServer, Payload};
-use logical_unit::{Busy, LogicalUnit, Receipt, Reply};
+use device_server::DeviceServer;
+use logical_unit::{LogicalUnit, Receipt, Reply};
 use scsi_nexus::Nexus;
 use std::alloc::{AllocError, Global};
 use std::marker::{Brand, Model};
 use std::sync::ledger::{Book, Ledger, Share};
 
 /// The ledger of one unit since it was kept.
-pub trait Site: Ledger {
+pub trait UnitLedger: Ledger {
     /// The last record number that the unit had used then.
     ghost since: { ℕ };
 }
 
-impl Site for Brand {
+impl UnitLedger for Brand {
     ghost since = { 0 };
 }
 
 /// The unit of a logical unit number, of which 0 is the changer's, with the book of its ledger and the last record number
 /// that it had used when it was kept. The book's total is the count of the numbers that it has used since.
 #[derive(Drop)]
-pub struct Kept<const LUN: u8, L: Site, D: DeviceServer> {
+pub struct Kept<const LUN: u8, L: UnitLedger, D: DeviceServer> {
     pub(crate) unit: LogicalUnit<D>,
     pub(crate) book: Book<L>,
     first: u64,
 }
 
-impl<const LUN: u8, L: Site, D: DeviceServer> Model for Kept<LUN, L, D> {
+impl<const LUN: u8, L: UnitLedger, D: DeviceServer> Model for Kept<LUN, L, D> {
     ghost use Rattle.kept_unit.specs.Keeping.{KeptValue, IsKept};
 
     ghost Value = { KeptValue };
@@ -50,33 +51,6 @@ impl<const LUN: u8, L: Site, D: DeviceServer> Model for Kept<LUN, L, D> {
     ghost view = { λ k. record { unit = k.unit.unit; total = k.book.total } };
 
     ghost invariant = { λ k. IsKept LUN k.unit.unit k.book.total k.first L.since };
-}
-
-/// GOOD for an event that isn't a command, with the number of its record, 0 where it has none.
-fn done(alloc: Global, number: u64) -> Reply
-    ensures { result ≡ done number }
-{
-    Reply::good(Payload::none(alloc)).numbered(number)
-}
-
-/// An I_T nexus loss at a unit.
-fn lose_nexus<D: DeviceServer>(alloc: Global, unit: &mut LogicalUnit<D>, nexus: Nexus) -> Reply
-    ensures { IsLost unit.old.unit nexus (unit.new.unit, result) }
-{
-    match unit.lose(nexus) {
-        Ok(number) => done(alloc, number.unwrap_or(0)),
-        Err(Busy) => Reply::busy(alloc),
-    }
-}
-
-/// A reset of a unit.
-fn reset_unit<D: DeviceServer>(alloc: Global, unit: &mut LogicalUnit<D>) -> Reply
-    ensures { IsReset unit.old.unit (unit.new.unit, result) }
-{
-    match unit.reset() {
-        Ok(number) => done(alloc, number),
-        Err(Busy) => Reply::busy(alloc),
-    }
 }
 
 /// The receipt of an event at one unit.
@@ -89,7 +63,7 @@ fn own_receipt(lun: u8, reply: Reply) -> Receipt
     Receipt { reply, numbers }
 }
 
-impl<const LUN: u8, L: Site, D: DeviceServer> Kept<LUN, L, D> {
+impl<const LUN: u8, L: UnitLedger, D: DeviceServer> Kept<LUN, L, D> {
     /// Keeps a unit, with a book that counts nothing yet.
     pub fn new(unit: LogicalUnit<D>, book: Book<L>) -> Kept<LUN, L, D>
         requires kind { kind_of unit.unit.device ≡ kind_at LUN }
@@ -181,11 +155,11 @@ impl<const LUN: u8, L: Site, D: DeviceServer> Kept<LUN, L, D> {
         bytes: &'a [u8],
     ) -> Done<'a>
         requires { 0 < part.old.parts }
-        ensures answer { IsAnswer result (Some nexus) LUN (ran cdb.now bytes.now) }
+        ensures answer { IsAnswer result (Some nexus) LUN (event.Command cdb.now bytes.now) }
         ensures step { Executes self.old.unit nexus cdb.now bytes.now (self.new.unit, result.reply) }
         ensures numbers { result.numbers ≡ own_number LUN result.reply.number }
         ensures only { OnlyAt LUN result.numbers }
-        ensures deed { result.deed ≡ deed_if result.numbers (deed_of (act_of (kind_at LUN) cdb.now bytes.now)) }
+        ensures act { result.act ≡ act_kind_if result.numbers (act_kind_of (act_of (kind_at LUN) cdb.now bytes.now)) }
         ensures unnumbered { result.numbers ≡ [] → result.reply ≡ busy }
         ensures book { self.new.total ≡ self.old.total + count_at LUN result.numbers }
         ensures part { part.new.amount ≡ part.old.amount + count_at LUN result.numbers }
@@ -195,58 +169,58 @@ impl<const LUN: u8, L: Site, D: DeviceServer> Kept<LUN, L, D> {
         let receipt = own_receipt(LUN, reply);
         let numbers = receipt.numbers.as_slice();
         self.book.add(part, count_at(LUN, numbers));
-        let deed = last_deed(self.unit.records(), numbers);
-        let asked = Asked::Command { cdb, bytes };
-        done_with(Some(nexus), LUN, asked, deed, receipt)
+        let act = last_act_kind(self.unit.records(), numbers);
+        let asked = EventKind::Command { cdb, bytes };
+        done_with(Some(nexus), LUN, asked, act, receipt)
     }
 
     /// An I_T nexus loss at the unit, its record counted in the book and in the part. Without a number it is BUSY with
     /// nothing changed, or the nexus has no slot.
     pub fn lose(&mut self, alloc: Global, part: &mut Share<L>, nexus: Nexus) -> Done<'static>
         requires { 0 < part.old.parts }
-        ensures answer { IsAnswer result (Some nexus) LUN lost }
+        ensures answer { IsAnswer result (Some nexus) LUN event.Loss }
         ensures step { IsLost self.old.unit nexus (self.new.unit, result.reply) }
         ensures numbers { result.numbers ≡ own_number LUN result.reply.number }
         ensures only { OnlyAt LUN result.numbers }
-        ensures deed { result.deed ≡ deed_if result.numbers Deed.Loss }
+        ensures act { result.act ≡ act_kind_if result.numbers ActKind.Loss }
         ensures book { self.new.total ≡ self.old.total + count_at LUN result.numbers }
         ensures part { part.new.amount ≡ part.old.amount + count_at LUN result.numbers }
         ensures parts { part.new.parts ≡ part.old.parts }
     {
-        let reply = lose_nexus(alloc, &mut self.unit, nexus);
+        let reply = self.unit.lose_reply(alloc, nexus);
         let receipt = own_receipt(LUN, reply);
         let numbers = receipt.numbers.as_slice();
         self.book.add(part, count_at(LUN, numbers));
-        let deed = told_deed(Deed::Loss, numbers);
-        done_with(Some(nexus), LUN, Asked::Loss, deed, receipt)
+        let act = recorded_kind(ActKind::Loss, numbers);
+        done_with(Some(nexus), LUN, EventKind::Loss, act, receipt)
     }
 
     /// A reset of the unit, its record counted in the book and in the part. Without a number it is BUSY, and nothing has
     /// changed.
     pub fn reset(&mut self, alloc: Global, part: &mut Share<L>) -> Done<'static>
         requires { 0 < part.old.parts }
-        ensures answer { IsAnswer result None LUN was_reset }
+        ensures answer { IsAnswer result None LUN event.Reset }
         ensures step { IsReset self.old.unit (self.new.unit, result.reply) }
         ensures numbers { result.numbers ≡ own_number LUN result.reply.number }
         ensures only { OnlyAt LUN result.numbers }
-        ensures deed { result.deed ≡ deed_if result.numbers Deed.Reset }
+        ensures act { result.act ≡ act_kind_if result.numbers ActKind.Reset }
         ensures unnumbered { result.numbers ≡ [] → result.reply ≡ busy }
         ensures book { self.new.total ≡ self.old.total + count_at LUN result.numbers }
         ensures part { part.new.amount ≡ part.old.amount + count_at LUN result.numbers }
         ensures parts { part.new.parts ≡ part.old.parts }
     {
-        let reply = reset_unit(alloc, &mut self.unit);
+        let reply = self.unit.reset_reply(alloc);
         let receipt = own_receipt(LUN, reply);
         let numbers = receipt.numbers.as_slice();
         self.book.add(part, count_at(LUN, numbers));
-        let deed = told_deed(Deed::Reset, numbers);
-        done_with(None, LUN, Asked::Reset, deed, receipt)
+        let act = recorded_kind(ActKind::Reset, numbers);
+        done_with(None, LUN, EventKind::Reset, act, receipt)
     }
 }
 
-/// A deed, where the call left a record.
-fn told_deed(deed: Deed, numbers: &[(u8, u64)]) -> Option<Deed>
-    ensures { result ≡ deed_if numbers.now deed }
+/// The kind of an act, where the call left a record.
+fn recorded_kind(act: ActKind, numbers: &[(u8, u64)]) -> Option<ActKind>
+    ensures { result ≡ act_kind_if numbers.now act }
 {
-    if numbers.is_empty() { None } else { Some(deed) }
+    if numbers.is_empty() { None } else { Some(act) }
 }

@@ -1,8 +1,8 @@
-ghost use Rattle.kept_unit.specs.Rows.{DeedRows, NumberRows};
+ghost use Rattle.kept_unit.specs.Rows.{ActKindRows, NumberRows};
 
 /// Worked rows: what is kept of an act, and where.
-pub fn deed_rows()
-    ensures { DeedRows }
+pub fn act_kind_rows()
+    ensures { ActKindRows }
 {}
 
 /// Worked rows: the numbers of records by unit, and the kinds of units.

@@ -2,9 +2,9 @@
 //! whether all that was answered agrees with the unit's trail.
 #![tactic(auto)]
 
+mod act_kind;
 mod agree;
 mod carrying;
-mod deed;
 mod done;
 mod entry;
 mod fitting;
@@ -12,10 +12,10 @@ mod kept;
 mod laws;
 mod numbers;
 
+pub use act_kind::ActKind;
 pub use carrying::{move_kept_one, move_kept_two};
-pub use deed::Deed;
-pub use done::{Asked, Done};
+pub use done::{Done, EventKind};
 pub use entry::Entry;
-pub use kept::{Kept, Site};
-pub use laws::{agreement_rows, deed_rows, number_rows};
+pub use kept::{Kept, UnitLedger};
+pub use laws::{act_kind_rows, agreement_rows, number_rows};
 pub use numbers::Numbers;

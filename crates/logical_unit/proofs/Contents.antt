@@ -32,19 +32,19 @@ use Rattle.device_server.specs.Volumes.{SameVolume, SameAt}
 use Rattle.device_server.proofs.TapeLemmas.{same_volume}
 use Rattle.logical_unit.specs.Contents.{SameContents, MayNotChange, OutsiderChangesNothing}
 use Rattle.logical_unit.proofs.EndsOf.{by_ends}
-use Rattle.logical_unit.proofs.Quiet.{barred, changer_quiet}
+use Rattle.logical_unit.proofs.OutsiderLeavesContents.{barred, changer_quiet}
 use Rattle.judgement.specs.declared.command.Command.{Command}
 use Rattle.judgement.specs.declared.command.Command.TheVariants.{ReserveOut, ReserveIn, Inquiry, ReportLuns, RequestSense, Prevent, Device}
-use Rattle.judgement.specs.declared.finding.Finding.{Finding}
+use Rattle.judgement.specs.declared.decision.Decision.{Decision}
 use Rattle.judgement.specs.declared.reply.Reply.{Reply}
 use Rattle.judgement.specs.Conditions.{condition_of_refusal}
-use Rattle.judgement.specs.Findings.{at_stage}
+use Rattle.judgement.specs.Decisions.{at_stage}
 use Rattle.judgement.specs.Replies.{check}
 use Rattle.judgement.specs.Replies.{good}
-use Rattle.judgement.specs.Commands.{spelled}
-use Rattle.judgement.specs.Present.{Present}
+use Rattle.judgement.specs.Commands.{decoded_command}
+use Rattle.judgement.specs.JudgedUnit.{JudgedUnit}
 use Rattle.logical_unit.specs.UnitView.{UnitView}
-use Rattle.judgement.specs.Kept.{accepted, is_prevented}
+use Rattle.judgement.specs.UnitState.{accepted, is_prevented}
 use Rattle.judgement.specs.Judge.{cell_of, carried_out}
 use Rattle.judgement.specs.Readings.{verdict_of}
 use Rattle.judgement.specs.Judge.{steps, unloads, performs, at_cell, judged_as}
@@ -179,8 +179,8 @@ module _ (ty : ResType) (ro : Role) (closed : row_allows Changing ty ro ≡ fals
         | None ↦ stepped_same d r bytes h
       ]
 
-module _ (u : Present) (n : Nexus) (closed : MayNotChange u.kept.reservations n) where
-  abbrev Keeps : Present × Finding × Reply → Type 0
+module _ (u : JudgedUnit) (n : Nexus) (closed : MayNotChange u.kept.reservations n) where
+  abbrev Keeps : JudgedUnit × Decision × Reply → Type 0
   Keeps x = SameContents u.device x.0.device
 
   self : SameContents u.device u.device
@@ -221,10 +221,10 @@ module _ (u : Present) (n : Nexus) (closed : MayNotChange u.kept.reservations n)
 
   pub judged_keeps : (c : Result Command Condition) (bytes : List ℕ) → Keeps (judged_as u n c bytes)
   judged_keeps (Err condition) bytes = self
-  judged_keeps (Ok c) bytes = by_ends (λ (v : Present). SameContents u.device v.device) u n c bytes self (λ kind. self) (carried_keeps (cell_of u n c) c bytes)
+  judged_keeps (Ok c) bytes = by_ends (λ (v : JudgedUnit). SameContents u.device v.device) u n c bytes self (λ kind. self) (carried_keeps (cell_of u n c) c bytes)
 
 pub changes_nothing : OutsiderChangesNothing
 changes_nothing u v n cdb bytes r closed (inl e) =
     subst (λ (x : UnitView × Reply). SameContents u.device x.0.device) (sym e) (self (contacted_present u n) n closed)
 changes_nothing u v n cdb bytes r closed (inr e) =
-    subst (λ (x : UnitView × Reply). SameContents u.device x.0.device) (sym e.2) (judged_keeps (contacted_present u n) n closed (spelled (kind_of u.device) cdb bytes) bytes)
+    subst (λ (x : UnitView × Reply). SameContents u.device x.0.device) (sym e.2) (judged_keeps (contacted_present u n) n closed (decoded_command (kind_of u.device) cdb bytes) bytes)

@@ -8,25 +8,25 @@ use Rattle.pr_core.specs.declared.verdict.Verdict.{Verdict}
 use Rattle.pr_core.specs.declared.verdict.Verdict.TheVariants.{Allowed, Denied, Rule}
 use Rattle.audit_log.specs.declared.stage.Stage.TheVariants.{ResetAttention, OtherAttention}
 use Rattle.judgement.specs.declared.command.Command.{Command}
-use Rattle.judgement.specs.declared.finding.Finding.{Finding}
+use Rattle.judgement.specs.declared.decision.Decision.{Decision}
 use Rattle.judgement.specs.declared.reply.Reply.{Reply}
-use Rattle.judgement.specs.Findings.{at_stage, in_conflict}
-use Rattle.judgement.specs.Findings.{let_in}
+use Rattle.judgement.specs.Decisions.{at_stage, in_conflict}
+use Rattle.judgement.specs.Decisions.{let_in}
 use Rattle.judgement.specs.Replies.{conflict}
 use Rattle.judgement.specs.Commands.{class_of_command}
-use Rattle.judgement.specs.Present.{Present}
-use Rattle.judgement.specs.Kept.{reported}
+use Rattle.judgement.specs.JudgedUnit.{JudgedUnit}
+use Rattle.judgement.specs.UnitState.{reported}
 use Rattle.judgement.specs.Judge.{cell_of, tells, carried_out, commanded}
 use Rattle.judgement.specs.Readings.{verdict_of}
 use Rattle.judgement.specs.Judge.{waiting, at_cell, let_through, checked}
 
-abbrev pub IsEnd : Present → Nexus → Command → List ℕ → Present → Type 0
+abbrev pub IsEnd : JudgedUnit → Nexus → Command → List ℕ → JudgedUnit → Type 0
 IsEnd u n c bytes v =
     (v ≡ u) ⊎ (((kind : Kind) × (v ≡ record u { kept = reported u.kept n kind }))
     ⊎ ((verdict_of u.kept.reservations n c ≡ Allowed) × (v ≡ (carried_out u n c bytes).0)))
 
-module _ (u : Present) (n : Nexus) (c : Command) (bytes : List ℕ) where
-  abbrev Ends : Present × Finding × Reply → Type 0
+module _ (u : JudgedUnit) (n : Nexus) (c : Command) (bytes : List ℕ) where
+  abbrev Ends : JudgedUnit × Decision × Reply → Type 0
   Ends x = IsEnd u n c bytes x.0
 
   let_through_ends : verdict_of u.kept.reservations n c ≡ Allowed → Ends (let_through u n c bytes)
@@ -52,11 +52,11 @@ module _ (u : Present) (n : Nexus) (c : Command) (bytes : List ℕ) where
       ]
 
 -- what holds of the unit, of it with an attention less, and of it after an allowed command by its own rules, holds after a command
-pub by_ends : (P : Present → Type 0) (u : Present) (n : Nexus) (c : Command) (bytes : List ℕ) → P u → ((kind : Kind) → P (record u { kept = reported u.kept n kind }))
+pub by_ends : (P : JudgedUnit → Type 0) (u : JudgedUnit) (n : Nexus) (c : Command) (bytes : List ℕ) → P u → ((kind : Kind) → P (record u { kept = reported u.kept n kind }))
     → (verdict_of u.kept.reservations n c ≡ Allowed → P (carried_out u n c bytes).0) → P (commanded u n c bytes).0
 by_ends P u n c bytes same told carried = go (commanded u n c bytes).0 (commanded_ends u n c bytes)
   where
-    go : (v : Present) → IsEnd u n c bytes v → P v
+    go : (v : JudgedUnit) → IsEnd u n c bytes v → P v
     go v (inl e) = subst P (sym e) same
     go v (inr (inl e)) = subst P (sym e.1) (told e.0)
     go v (inr (inr e)) = subst P (sym e.1) (carried e.0)

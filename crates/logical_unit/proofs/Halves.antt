@@ -11,7 +11,7 @@ use Rattle.audit_log.specs.declared.act.Act.TheVariants.{MediumIn, MediumOut}
 use Rattle.device_server.specs.View.{DeviceView, kind_of, held_in, taken, put}
 use Rattle.device_server.specs.declared.fault.PutFault.{PutFault}
 use Rattle.device_server.specs.declared.fault.TakeFault.{TakeFault}
-use Rattle.judgement.specs.Kept.{is_prevented, with_medium}
+use Rattle.judgement.specs.UnitState.{is_prevented, with_medium}
 use Rattle.logical_unit.specs.declared.medium_fault.MediumFault.{MediumFault}
 use Rattle.logical_unit.specs.declared.medium_fault.MediumFault.TheVariants.{NotADrive, Prevented}
 use Rattle.logical_unit.specs.declared.route.Route.{Route}

@@ -8,7 +8,7 @@ use Rattle.device_server.specs.Ends.{IsSameDevice}
 use Rattle.device_server.specs.Marks.{KeepsMarks}
 use Rattle.judgement.specs.declared.command.Command.{Command}
 use Rattle.judgement.specs.declared.command.Command.TheVariants.{ReserveOut, ReserveIn, Inquiry, ReportLuns, RequestSense, Prevent, Device}
-use Rattle.judgement.specs.Commands.{spelled}
+use Rattle.judgement.specs.Commands.{decoded_command}
 use Rattle.judgement.specs.declared.reply.Reply.{Reply}
 use Rattle.judgement.specs.Replies.{busy}
 use Rattle.judgement.specs.History.{accepted_as, accepted_by, after_history}
@@ -35,12 +35,12 @@ pub record Stays (u : UnitView) (n : Nexus) (c : Result Command Condition) (x : 
   pub units : x.0.kept.units ≡ u.kept.units
   pub reservations : x.0.kept.reservations ≡ after_history u.kept.reservations (accepted_as n x.1.status c)
 
-pub executes_stays : (u v : UnitView) (n : Nexus) (cdb bytes : List ℕ) (r : Reply) → Executes u n cdb bytes (v, r) → Stays u n (spelled (kind_of u.device) cdb bytes) (v, r)
+pub executes_stays : (u v : UnitView) (n : Nexus) (cdb bytes : List ℕ) (r : Reply) → Executes u n cdb bytes (v, r) → Stays u n (decoded_command (kind_of u.device) cdb bytes) (v, r)
 executes_stays u v n cdb bytes r (inl e) =
-    let c = spelled (kind_of u.device) cdb bytes in
+    let c = decoded_command (kind_of u.device) cdb bytes in
     subst (Stays u n c) (sym e) (record { device = record { kind = refl; drives = refl }; lun = refl; units = refl; reservations = busy_keeps u.kept.reservations n c })
 executes_stays u v n cdb bytes r (inr e) =
-    let c = spelled (kind_of u.device) cdb bytes in
+    let c = decoded_command (kind_of u.device) cdb bytes in
     let judged = judged_is (contacted_present u n) n c bytes in
     subst (Stays u n c) (sym e.2) (record { device = judged.same.device.device; lun = judged.same.lun; units = judged.same.units; reservations = judged.reservations })
 
@@ -49,11 +49,11 @@ pub executes_marks : (u v : UnitView) (n : Nexus) (cdb bytes : List ℕ) (r : Re
 executes_marks u v n cdb bytes r (inl e) =
     subst (λ (x : UnitView × Reply). KeepsMarks u.device x.0.device) (sym e) (record { device = record { kind = refl; drives = refl }; marks = refl })
 executes_marks u v n cdb bytes r (inr e) =
-    subst (λ (x : UnitView × Reply). KeepsMarks u.device x.0.device) (sym e.2) (judged_is (contacted_present u n) n (spelled (kind_of u.device) cdb bytes) bytes).same.device
+    subst (λ (x : UnitView × Reply). KeepsMarks u.device x.0.device) (sym e.2) (judged_is (contacted_present u n) n (decoded_command (kind_of u.device) cdb bytes) bytes).same.device
 
 pub executes_keeps : (u v : UnitView) (n : Nexus) (cdb bytes : List ℕ) (r : Reply) → Executes u n cdb bytes (v, r)
     → v.kept.reservations ≡ after_history u.kept.reservations (accepted_by (kind_of u.device) n cdb bytes r.status)
 executes_keeps u v n cdb bytes r e = (executes_stays u v n cdb bytes r e).reservations
 
 pub answers_no_busy : AnswersNoBusy
-answers_no_busy u n cdb bytes = judged_free (contacted_present u n) n (spelled (kind_of u.device) cdb bytes) bytes
+answers_no_busy u n cdb bytes = judged_free (contacted_present u n) n (decoded_command (kind_of u.device) cdb bytes) bytes

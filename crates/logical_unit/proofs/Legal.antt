@@ -25,40 +25,40 @@ use Rattle.scsi_cdb.specs.declared.request.Request.{Request}
 use Rattle.scsi_cdb.specs.Classes.{class_of}
 use Rattle.judgement.specs.declared.command.Command.{Command}
 use Rattle.judgement.specs.declared.command.Command.TheVariants.{ReserveOut, ReserveIn, Inquiry, ReportLuns, RequestSense, Prevent, Device}
-use Rattle.judgement.specs.declared.finding.Finding.{Finding}
+use Rattle.judgement.specs.declared.decision.Decision.{Decision}
 use Rattle.judgement.specs.declared.reply.Reply.{Reply}
-use Rattle.judgement.specs.Commands.{class_of_command, list_of, act_of_spelled}
+use Rattle.judgement.specs.Commands.{class_of_command, list_of, act_of_decoded}
 use Rattle.judgement.specs.Conditions.{condition_of_attention, condition_of_refusal}
-use Rattle.judgement.specs.Findings.{at_stage, let_in, in_conflict}
+use Rattle.judgement.specs.Decisions.{at_stage, let_in, in_conflict}
 use Rattle.judgement.specs.UnitData.{inquiry_data, selected_luns}
 use Rattle.judgement.specs.Replies.{conflict, check, good, data_reply, IsWhole}
-use Rattle.judgement.specs.KeptView.{KeptView}
-use Rattle.judgement.specs.Present.{Present}
-use Rattle.judgement.specs.Kept.{has_room, met, accepted, is_prevented, with_medium}
+use Rattle.judgement.specs.UnitStateView.{UnitStateView}
+use Rattle.judgement.specs.JudgedUnit.{JudgedUnit}
+use Rattle.judgement.specs.UnitState.{has_room, after_contact, accepted, is_prevented, with_medium}
 use Rattle.judgement.specs.Judge.{cell_of, waiting, sensed, senses, tells, steps, unloads, performs, at_cell, carried_out, let_through, checked, commanded, judged_as}
 use Rattle.judgement.specs.Readings.{verdict_of, pending_of}
-use Rattle.logical_unit.specs.Begun.{AwaitsEnd}
-use Rattle.logical_unit.specs.Step.{entry_of, event_of}
-use Rattle.judgement.specs.Kept.{kept_after_loss, kept_after_reset}
+use Rattle.logical_unit.specs.MoveJudgement.{AwaitsEnd}
+use Rattle.logical_unit.specs.Step.{record_of, event_of}
+use Rattle.judgement.specs.UnitState.{kept_after_loss, kept_after_reset}
 use Rattle.logical_unit.specs.Legal.{is_reserve_out, is_field_fault, reported_if, left_by_class, left_at, kept_by, kept_after, Says, SaysItsOwn, IsCarriedOut, IsLetThrough, IsChecked, IsCommand, IsJudged, AreJudged}
 use Rattle.judgement.proofs.Carried.{prevents_by}
 use Rattle.device_server.proofs.Outcomes.{performed_own}
-use Rattle.logical_unit.proofs.Plain.{IsPlain, IsPlainIf}
+use Rattle.logical_unit.proofs.DeviceCommands.{IsPlain, IsPlainIf}
 use Rattle.logical_unit.proofs.FieldFaults.{IsFaultIf, fields_fit}
 
 -- the record of a judgement
-abbrev pub entry : ℕ → Nexus → Act → Present × Finding × Reply → Record
-entry m n a x = entry_of m (Some n) a x.1 x.2.status x.2.sense
+abbrev pub entry : ℕ → Nexus → Act → JudgedUnit × Decision × Reply → Record
+entry m n a x = record_of m (Some n) a x.1 x.2.status x.2.sense
 
 -- a judgement's record says the right thing, and what is kept is what it leaves
-abbrev pub Fits : (Record → Type 0) → KeptView → Nexus → Command → ℕ → Act → Present × Finding × Reply → Type 0
+abbrev pub Fits : (Record → Type 0) → UnitStateView → Nexus → Command → ℕ → Act → JudgedUnit × Decision × Reply → Type 0
 Fits J k n c m a x = J (entry m n a x) × (x.0.kept ≡ left_at x.1.stage k n (list_of c) (class_of_command c) x.2.status x.1.mode_changed)
 
-says : (m : ℕ) (n : Nexus) (a : Act) (f : Finding) (r : Reply) → Says (entry_of m (Some n) a f r.status r.sense) f r
+says : (m : ℕ) (n : Nexus) (a : Act) (f : Decision) (r : Reply) → Says (record_of m (Some n) a f r.status r.sense) f r
 says m n a f r = record { stage = refl; cell = refl; rule = refl; mode_changed = refl; status = refl; sense = refl }
 
 -- GOOD at the device's stage, and fields that are refused
-good_says : (m : ℕ) (n : Nexus) (a : Act) (at : Cell) (payload : List ℕ) → SaysItsOwn (entry_of m (Some n) a (let_in at stage.Device) (good payload).status (good payload).sense) at
+good_says : (m : ℕ) (n : Nexus) (a : Act) (at : Cell) (payload : List ℕ) → SaysItsOwn (record_of m (Some n) a (let_in at stage.Device) (good payload).status (good payload).sense) at
 good_says m n a at payload = record {
   stage = inr refl;
   cell = refl;
@@ -70,7 +70,7 @@ good_says m n a at payload = record {
 }
 
 field_says : (m : ℕ) (n : Nexus) (a : Act) (at : Cell) (condition : Condition) → is_field_fault at.class condition ≡ true
-    → SaysItsOwn (entry_of m (Some n) a (let_in at Fields) (check condition).status (check condition).sense) at
+    → SaysItsOwn (record_of m (Some n) a (let_in at Fields) (check condition).status (check condition).sense) at
 field_says m n a at condition h = record {
   stage = inl refl;
   cell = refl;
@@ -82,27 +82,27 @@ field_says m n a at condition h = record {
 }
 
 data_says : (m : ℕ) (n : Nexus) (a : Act) (at : Cell) (o : Option (List ℕ)) (l : ℕ) → is_field_fault at.class InvalidFieldInCdb ≡ true
-    → SaysItsOwn (entry_of m (Some n) a (let_in at (data_reply o l).0) (data_reply o l).1.status (data_reply o l).1.sense) at
+    → SaysItsOwn (record_of m (Some n) a (let_in at (data_reply o l).0) (data_reply o l).1.status (data_reply o l).1.sense) at
 data_says m n a at (Some payload) l h = good_says m n a at payload
 data_says m n a at None l h = field_says m n a at InvalidFieldInCdb h
 
-data_left : (k : KeptView) (n : Nexus) (class : Class) (s : Status) (o : Option (List ℕ)) (l : ℕ) → k ≡ left_by_class k n class false → k ≡ left_at (data_reply o l).0 k n None class s false
+data_left : (k : UnitStateView) (n : Nexus) (class : Class) (s : Status) (o : Option (List ℕ)) (l : ℕ) → k ≡ left_by_class k n class false → k ≡ left_at (data_reply o l).0 k n None class s false
 data_left k n class s (Some payload) l h = h
 data_left k n class s None l h = refl
 
-sensed_fits : (u : Present) (n : Nexus) (at : Cell) (l : ℕ) (m : ℕ) (a : Act) (o : Option Kind) → pending_of u.kept.slots n ≡ o
+sensed_fits : (u : JudgedUnit) (n : Nexus) (at : Cell) (l : ℕ) (m : ℕ) (a : Act) (o : Option Kind) → pending_of u.kept.slots n ≡ o
     → Fits (λ e. SaysItsOwn e at) u.kept n (RequestSense false l) m a (at_cell at (senses u (sensed u.kept n l o)))
 sensed_fits u n at l m a (Some kind) h = (good_says m n a at [], sym (ap (reported_if u.kept n) h))
 sensed_fits u n at l m a None h = (good_says m n a at [], sym (ap (reported_if u.kept n) h))
 
-prevent_fits : (u : Present) (n : Nexus) (at : Cell) (m : ℕ) (a : Act) (zero one : Bool) → at.class ≡ (if zero then class.AllowRemoval else class.PreventRemoval)
+prevent_fits : (u : JudgedUnit) (n : Nexus) (at : Cell) (m : ℕ) (a : Act) (zero one : Bool) → at.class ≡ (if zero then class.AllowRemoval else class.PreventRemoval)
     → SaysItsOwn (entry m n a (at_cell at (prevents_by u n zero one))) at
     × ((prevents_by u n zero one).0.kept ≡ left_at (prevents_by u n zero one).1.stage u.kept n None (if zero then class.AllowRemoval else class.PreventRemoval) (prevents_by u n zero one).2.status (prevents_by u n zero one).1.mode_changed)
 prevent_fits u n at m a true one h = (good_says m n a at [], refl)
 prevent_fits u n at m a false true h = (good_says m n a at [], refl)
 prevent_fits u n at m a false false h = (field_says m n a at InvalidFieldInCdb (ap (λ k. is_field_fault k InvalidFieldInCdb) h), refl)
 
-steps_fits : (u : Present) (n : Nexus) (r : Request) (bytes : List ℕ) (m : ℕ) (a : Act) → IsPlain (Device r) → (prevented : Bool)
+steps_fits : (u : JudgedUnit) (n : Nexus) (r : Request) (bytes : List ℕ) (m : ℕ) (a : Act) → IsPlain (Device r) → (prevented : Bool)
     → Fits (IsCarriedOut u.kept n None (class_of r)) u.kept n (Device r) m a (at_cell (cell_of u n (Device r)) (cond prevented (u, at_stage stage.Device, check MediumRemovalPrevented) (steps u n (performed u.device r bytes))))
 steps_fits u n r bytes m a plain true = (
   record {
@@ -130,7 +130,7 @@ steps_fits u n r bytes m a plain false =
       plain.tells u.kept n (performed u.device r bytes).1.mode_changed,
     )
 
-performs_fits : (u : Present) (n : Nexus) (r : Request) (bytes : List ℕ) (m : ℕ) (a : Act) → IsPlain (Device r)
+performs_fits : (u : JudgedUnit) (n : Nexus) (r : Request) (bytes : List ℕ) (m : ℕ) (a : Act) → IsPlain (Device r)
     → Fits (IsCarriedOut u.kept n None (class_of r)) u.kept n (Device r) m a (at_cell (cell_of u n (Device r)) (performs u n r bytes))
 performs_fits u n r bytes m a plain =
     elim (field_fault u.device r bytes) as (λ (o : Option Condition). IsFaultIf (class_of r) o → Fits (IsCarriedOut u.kept n None (class_of r)) u.kept n (Device r) m a (at_cell (cell_of u n (Device r)) (elim o [ Some condition ↦ (u, at_stage Fields, check condition) | None ↦ cond (unloads r && is_prevented u.kept) (u, at_stage stage.Device, check MediumRemovalPrevented) (steps u n (performed u.device r bytes)) ]))) [
@@ -138,7 +138,7 @@ performs_fits u n r bytes m a plain =
       | None ↦ λ nothing. steps_fits u n r bytes m a plain (unloads r && is_prevented u.kept)
     ] (fields_fit (kind_of u.device) r bytes)
 
-carried_fits : (u : Present) (n : Nexus) (c : Command) (bytes : List ℕ) (m : ℕ) (a : Act) → IsPlain c
+carried_fits : (u : JudgedUnit) (n : Nexus) (c : Command) (bytes : List ℕ) (m : ℕ) (a : Act) → IsPlain c
     → Fits (IsCarriedOut u.kept n (list_of c) (class_of_command c)) u.kept n c m a (at_cell (cell_of u n c) (carried_out u n c bytes))
 carried_fits u n (ReserveOut p) bytes m a plain =
     let at = cell_of u n (ReserveOut p) in
@@ -158,17 +158,17 @@ carried_fits u n (RequestSense false l) bytes m a plain = sensed_fits u n (cell_
 carried_fits u n (Prevent p) bytes m a plain = prevent_fits u n (cell_of u n (Prevent p)) m a (p == 0) (p == 1) refl
 carried_fits u n (Device r) bytes m a plain = performs_fits u n r bytes m a plain
 
-let_through_as : (u : Present) (n : Nexus) (c : Command) (bytes : List ℕ) (m : ℕ) (a : Act) → IsPlain c → (o : Option Kind) → waiting (class_of_command c) (first_other_of u.kept.slots n) ≡ o
+let_through_as : (u : JudgedUnit) (n : Nexus) (c : Command) (bytes : List ℕ) (m : ℕ) (a : Act) → IsPlain c → (o : Option Kind) → waiting (class_of_command c) (first_other_of u.kept.slots n) ≡ o
     → Fits (λ e. elim o [ Some kind ↦ Says e (let_in (cell_of u n c) OtherAttention) (check (condition_of_attention kind)) | None ↦ IsCarriedOut u.kept n (list_of c) (class_of_command c) e ]) u.kept n c m a
     (elim o [ Some kind ↦ tells u n kind (let_in (cell_of u n c) OtherAttention) | None ↦ at_cell (cell_of u n c) (carried_out u n c bytes) ])
 let_through_as u n c bytes m a plain (Some kind) h = (says m n a (let_in (cell_of u n c) OtherAttention) (check (condition_of_attention kind)), sym (ap (reported_if u.kept n) h))
 let_through_as u n c bytes m a plain None h = carried_fits u n c bytes m a plain
 
-let_through_fits : (u : Present) (n : Nexus) (c : Command) (bytes : List ℕ) (m : ℕ) (a : Act) → IsPlain c
+let_through_fits : (u : JudgedUnit) (n : Nexus) (c : Command) (bytes : List ℕ) (m : ℕ) (a : Act) → IsPlain c
     → Fits (IsLetThrough u.kept n (list_of c) (class_of_command c)) u.kept n c m a (let_through u n c bytes)
 let_through_fits u n c bytes m a plain = let_through_as u n c bytes m a plain (waiting (class_of_command c) (first_other_of u.kept.slots n)) refl
 
-checked_fits : (u : Present) (n : Nexus) (c : Command) (bytes : List ℕ) (m : ℕ) (a : Act) → IsPlain c
+checked_fits : (u : JudgedUnit) (n : Nexus) (c : Command) (bytes : List ℕ) (m : ℕ) (a : Act) → IsPlain c
     → Fits (IsChecked u.kept n (list_of c) (class_of_command c)) u.kept n c m a (checked u n c bytes)
 checked_fits u n c bytes m a plain =
     let at = cell_of u n c in
@@ -179,18 +179,18 @@ checked_fits u n c bytes m a plain =
       | Rule rule ↦ (says m n a (in_conflict at (Some rule)) conflict, refl)
     ]
 
-commanded_as : (u : Present) (n : Nexus) (c : Command) (bytes : List ℕ) (m : ℕ) (a : Act) → IsPlain c → (o : Option Kind) → waiting (class_of_command c) (first_reset_of u.kept.slots n) ≡ o
+commanded_as : (u : JudgedUnit) (n : Nexus) (c : Command) (bytes : List ℕ) (m : ℕ) (a : Act) → IsPlain c → (o : Option Kind) → waiting (class_of_command c) (first_reset_of u.kept.slots n) ≡ o
     → Fits (λ e. elim o [ Some kind ↦ Says e (at_stage ResetAttention) (check (condition_of_attention kind)) | None ↦ IsChecked u.kept n (list_of c) (class_of_command c) e ]) u.kept n c m a
     (elim o [ Some kind ↦ tells u n kind (at_stage ResetAttention) | None ↦ checked u n c bytes ])
 commanded_as u n c bytes m a plain (Some kind) h = (says m n a (at_stage ResetAttention) (check (condition_of_attention kind)), sym (ap (reported_if u.kept n) h))
 commanded_as u n c bytes m a plain None h = checked_fits u n c bytes m a plain
 
-commanded_fits : (u : Present) (n : Nexus) (c : Command) (bytes : List ℕ) (m : ℕ) (a : Act) → IsPlain c
+commanded_fits : (u : JudgedUnit) (n : Nexus) (c : Command) (bytes : List ℕ) (m : ℕ) (a : Act) → IsPlain c
     → Fits (IsCommand u.kept n (list_of c) (class_of_command c)) u.kept n c m a (commanded u n c bytes)
 commanded_fits u n c bytes m a plain = commanded_as u n c bytes m a plain (waiting (class_of_command c) (first_reset_of u.kept.slots n)) refl
 
 -- a record that may stand after what was kept, with what is kept then
-pub record IsNext (k : KeptView) (e : Record) (now : KeptView) : Type 0 where
+pub record IsNext (k : UnitStateView) (e : Record) (now : UnitStateView) : Type 0 where
   pub judged : IsJudged k e
   pub kept : now ≡ kept_by k e
 
@@ -199,78 +199,78 @@ listless_either : (b : Bool) → is_reserve_out (if b then class.AllowRemoval el
 listless_either true = refl
 listless_either false = refl
 
-judged_next : (k : KeptView) (d : DeviceView) (n : Nexus) (s : Result Command Condition) (bytes : List ℕ) (m : ℕ) → has_room k n ≡ true → IsPlainIf s
-    → IsNext k (entry m n (act_of_spelled s) (judged_as (record { device = d; kept = met k n }) n s bytes)) (judged_as (record { device = d; kept = met k n }) n s bytes).0.kept
+judged_next : (k : UnitStateView) (d : DeviceView) (n : Nexus) (s : Result Command Condition) (bytes : List ℕ) (m : ℕ) → has_room k n ≡ true → IsPlainIf s
+    → IsNext k (entry m n (act_of_decoded s) (judged_as (record { device = d; kept = after_contact k n }) n s bytes)) (judged_as (record { device = d; kept = after_contact k n }) n s bytes).0.kept
 judged_next k d n (Err condition) bytes m room plain =
-    record { judged = record { room = room; condition = condition; spelling = plain; says = says m n act.Invalid (at_stage stage.Spelling) (check condition) }; kept = refl }
+    record { judged = record { room = room; condition = condition; decoding = plain; says = says m n act.Invalid (at_stage stage.Decoding) (check condition) }; kept = refl }
 judged_next k d n (Ok (ReserveOut p)) bytes m room plain =
-    let f = commanded_fits (record { device = d; kept = met k n }) n (ReserveOut p) bytes m (act_of_spelled (Ok (ReserveOut p))) plain in
+    let f = commanded_fits (record { device = d; kept = after_contact k n }) n (ReserveOut p) bytes m (act_of_decoded (Ok (ReserveOut p))) plain in
     record { judged = record { room = room; judged = f.0 }; kept = f.1 }
 judged_next k d n (Ok (ReserveIn a l)) bytes m room plain =
-    let f = commanded_fits (record { device = d; kept = met k n }) n (ReserveIn a l) bytes m (act_of_spelled (Ok (ReserveIn a l))) plain in
+    let f = commanded_fits (record { device = d; kept = after_contact k n }) n (ReserveIn a l) bytes m (act_of_decoded (Ok (ReserveIn a l))) plain in
     record { judged = record { room = room; listless = refl; judged = f.0 }; kept = f.1 }
 judged_next k d n (Ok (Inquiry e p l)) bytes m room plain =
-    let f = commanded_fits (record { device = d; kept = met k n }) n (Inquiry e p l) bytes m (act_of_spelled (Ok (Inquiry e p l))) plain in
+    let f = commanded_fits (record { device = d; kept = after_contact k n }) n (Inquiry e p l) bytes m (act_of_decoded (Ok (Inquiry e p l))) plain in
     record { judged = record { room = room; listless = refl; judged = f.0 }; kept = f.1 }
 judged_next k d n (Ok (ReportLuns s l)) bytes m room plain =
-    let f = commanded_fits (record { device = d; kept = met k n }) n (ReportLuns s l) bytes m (act_of_spelled (Ok (ReportLuns s l))) plain in
+    let f = commanded_fits (record { device = d; kept = after_contact k n }) n (ReportLuns s l) bytes m (act_of_decoded (Ok (ReportLuns s l))) plain in
     record { judged = record { room = room; listless = refl; judged = f.0 }; kept = f.1 }
 judged_next k d n (Ok (RequestSense e l)) bytes m room plain =
-    let f = commanded_fits (record { device = d; kept = met k n }) n (RequestSense e l) bytes m (act_of_spelled (Ok (RequestSense e l))) plain in
+    let f = commanded_fits (record { device = d; kept = after_contact k n }) n (RequestSense e l) bytes m (act_of_decoded (Ok (RequestSense e l))) plain in
     record { judged = record { room = room; listless = refl; judged = f.0 }; kept = f.1 }
 judged_next k d n (Ok (Prevent p)) bytes m room plain =
-    let f = commanded_fits (record { device = d; kept = met k n }) n (Prevent p) bytes m (act_of_spelled (Ok (Prevent p))) plain in
+    let f = commanded_fits (record { device = d; kept = after_contact k n }) n (Prevent p) bytes m (act_of_decoded (Ok (Prevent p))) plain in
     record { judged = record { room = room; listless = listless_either (p == 0); judged = f.0 }; kept = f.1 }
 judged_next k d n (Ok (Device r)) bytes m room plain =
-    let f = commanded_fits (record { device = d; kept = met k n }) n (Device r) bytes m (act_of_spelled (Ok (Device r))) plain in
+    let f = commanded_fits (record { device = d; kept = after_contact k n }) n (Device r) bytes m (act_of_decoded (Ok (Device r))) plain in
     record { judged = record { room = room; listless = plain.listless; judged = f.0 }; kept = f.1 }
 
-AreJudged-push : (k : KeptView) (es : List Record) (e : Record) → AreJudged k es → IsJudged (kept_after k es) e → AreJudged k (es ++ e ∷ [])
+AreJudged-push : (k : UnitStateView) (es : List Record) (e : Record) → AreJudged k es → IsJudged (kept_after k es) e → AreJudged k (es ++ e ∷ [])
 AreJudged-push k [] e all last = (last, tt)
 AreJudged-push k (x ∷ xs) e all last = (all.0, AreJudged-push (kept_by k x) xs e all.1 last)
 
-kept_after-push : (k : KeptView) (es : List Record) (e : Record) → kept_after k (es ++ e ∷ []) ≡ kept_by (kept_after k es) e
+kept_after-push : (k : UnitStateView) (es : List Record) (e : Record) → kept_after k (es ++ e ∷ []) ≡ kept_by (kept_after k es) e
 kept_after-push k [] e = refl
 kept_after-push k (x ∷ xs) e = kept_after-push (kept_by k x) xs e
 
 -- what a unit's state promises of its records, with one more at the end
-abbrev pub Stands : (base : KeptView) → List Record → KeptView → Type 0
+abbrev pub Stands : (base : UnitStateView) → List Record → UnitStateView → Type 0
 Stands base es now = AreJudged base es × (now ≡ kept_after base es)
 
-next_stands : (base kept now : KeptView) (es : List Record) (e : Record) → Stands base es kept → IsNext kept e now → Stands base (es ++ e ∷ []) now
+next_stands : (base kept now : UnitStateView) (es : List Record) (e : Record) → Stands base es kept → IsNext kept e now → Stands base (es ++ e ∷ []) now
 next_stands base kept now es e old next =
     let there : IsNext (kept_after base es) e now = subst (λ k. IsNext k e now) old.1 next in
     (AreJudged-push base es e old.0 there.judged, there.kept ∙ sym (kept_after-push base es e))
 
 -- a command's record
-pub answered_stands : (base kept now : KeptView) (es : List Record) (d after : DeviceView) (n : Nexus) (s : Result Command Condition) (bytes : List ℕ) (m : ℕ) (a : Act) (f : Finding) (r : Reply)
-    → Stands base es kept → has_room kept n ≡ true → IsPlainIf s → a ≡ act_of_spelled s
-    → judged_as (record { device = d; kept = met kept n }) n s bytes ≡ (record { device = after; kept = now }, f, r)
-    → Stands base (es ++ entry_of m (Some n) a f r.status r.sense ∷ []) now
+pub answered_stands : (base kept now : UnitStateView) (es : List Record) (d after : DeviceView) (n : Nexus) (s : Result Command Condition) (bytes : List ℕ) (m : ℕ) (a : Act) (f : Decision) (r : Reply)
+    → Stands base es kept → has_room kept n ≡ true → IsPlainIf s → a ≡ act_of_decoded s
+    → judged_as (record { device = d; kept = after_contact kept n }) n s bytes ≡ (record { device = after; kept = now }, f, r)
+    → Stands base (es ++ record_of m (Some n) a f r.status r.sense ∷ []) now
 answered_stands base kept now es d after n s bytes m a f r old room plain asked judged =
-    let next : IsNext kept (entry_of m (Some n) (act_of_spelled s) f r.status r.sense) now = subst (λ (x : Present × Finding × Reply). IsNext kept (entry m n (act_of_spelled s) x) x.0.kept) judged (judged_next kept d n s bytes m room plain) in
-    next_stands base kept now es _ old (subst (λ (x : Act). IsNext kept (entry_of m (Some n) x f r.status r.sense) now) (sym asked) next)
+    let next : IsNext kept (record_of m (Some n) (act_of_decoded s) f r.status r.sense) now = subst (λ (x : JudgedUnit × Decision × Reply). IsNext kept (entry m n (act_of_decoded s) x) x.0.kept) judged (judged_next kept d n s bytes m room plain) in
+    next_stands base kept now es _ old (subst (λ (x : Act). IsNext kept (record_of m (Some n) x f r.status r.sense) now) (sym asked) next)
 
 -- the record of a command that judgement left open, ended by a whole answer
-pub ended_stands : (base kept : KeptView) (es : List Record) (n : Nexus) (status : Status) (sense : Option Sense) (a : Act) (f : Finding) (m : ℕ) → Stands base es kept → AwaitsEnd kept n a f → IsWhole status sense
-    → Stands base (es ++ entry_of m (Some n) a f status sense ∷ []) kept
+pub ended_stands : (base kept : UnitStateView) (es : List Record) (n : Nexus) (status : Status) (sense : Option Sense) (a : Act) (f : Decision) (m : ℕ) → Stands base es kept → AwaitsEnd kept n a f → IsWhole status sense
+    → Stands base (es ++ record_of m (Some n) a f status sense ∷ []) kept
 ended_stands base kept es n status sense a f m old awaits whole =
-    next_stands base kept kept es (entry_of m (Some n) a f status sense) old (record { judged = awaits.judged m status sense whole; kept = sym (awaits.kept m status sense) })
+    next_stands base kept kept es (record_of m (Some n) a f status sense) old (record { judged = awaits.judged m status sense whole; kept = sym (awaits.kept m status sense) })
 
 -- the record of a loss, and of a reset
-pub lost_stands : (base kept : KeptView) (es : List Record) (n : Nexus) (m : ℕ) → has_slot kept.slots n ≡ true → Stands base es kept → Stands base (es ++ event_of m (Some n) act.Loss ∷ []) (kept_after_loss kept n)
+pub lost_stands : (base kept : UnitStateView) (es : List Record) (n : Nexus) (m : ℕ) → has_slot kept.slots n ≡ true → Stands base es kept → Stands base (es ++ event_of m (Some n) act.Loss ∷ []) (kept_after_loss kept n)
 lost_stands base kept es n m slot old =
     next_stands base kept (kept_after_loss kept n) es (event_of m (Some n) act.Loss) old (record { judged = record { slot = slot; says = record { stage = refl; cell = refl; rule = refl; mode_changed = refl; status = refl; sense = refl } }; kept = refl })
 
-pub reset_stands : (base kept : KeptView) (es : List Record) (m : ℕ) → Stands base es kept → Stands base (es ++ event_of m None act.Reset ∷ []) (kept_after_reset kept)
+pub reset_stands : (base kept : UnitStateView) (es : List Record) (m : ℕ) → Stands base es kept → Stands base (es ++ event_of m None act.Reset ∷ []) (kept_after_reset kept)
 reset_stands base kept es m old =
     next_stands base kept (kept_after_reset kept) es (event_of m None act.Reset) old (record { judged = record { stage = refl; cell = refl; rule = refl; mode_changed = refl; status = refl; sense = refl }; kept = refl })
 
 -- the record of a volume that came in, and of one that was taken out
-pub medium_in_stands : (base kept : KeptView) (es : List Record) (m : ℕ) → Stands base es kept → Stands base (es ++ event_of m None act.MediumIn ∷ []) (with_medium kept)
+pub medium_in_stands : (base kept : UnitStateView) (es : List Record) (m : ℕ) → Stands base es kept → Stands base (es ++ event_of m None act.MediumIn ∷ []) (with_medium kept)
 medium_in_stands base kept es m old =
     next_stands base kept (with_medium kept) es (event_of m None act.MediumIn) old (record { judged = record { stage = refl; cell = refl; rule = refl; mode_changed = refl; status = refl; sense = refl }; kept = refl })
 
-pub medium_out_stands : (base kept : KeptView) (es : List Record) (m : ℕ) → is_prevented kept ≡ false → Stands base es kept → Stands base (es ++ event_of m None act.MediumOut ∷ []) kept
+pub medium_out_stands : (base kept : UnitStateView) (es : List Record) (m : ℕ) → is_prevented kept ≡ false → Stands base es kept → Stands base (es ++ event_of m None act.MediumOut ∷ []) kept
 medium_out_stands base kept es m free old =
     next_stands base kept kept es (event_of m None act.MediumOut) old (record { judged = record { free = free; says = record { stage = refl; cell = refl; rule = refl; mode_changed = refl; status = refl; sense = refl } }; kept = refl })

@@ -6,22 +6,22 @@ use Rattle.scsi_sense.specs.declared.condition.Condition.{Condition}
 use Rattle.scsi_sense.specs.declared.status.Status.TheVariants.{Busy}
 use Rattle.device_server.specs.View.{kind_of, drives_of}
 use Rattle.judgement.specs.declared.reply.Reply.{Reply}
-use Rattle.judgement.specs.Commands.{spelled}
+use Rattle.judgement.specs.Commands.{decoded_command}
 use Rattle.judgement.specs.declared.command.Command.{Command}
 use Rattle.judgement.specs.Judge.{takes_memory}
-use Rattle.logical_unit.specs.Begun.{IsPutOff, IsEnded}
+use Rattle.logical_unit.specs.MoveJudgement.{IsPutOff, IsEnded}
 use Rattle.logical_unit.specs.Move.{LacksAtChanger}
 use Rattle.logical_unit.specs.Route.{named}
 use Rattle.logical_unit.specs.Step.{contacted_present}
 use Rattle.logical_unit.specs.UnitView.{UnitView, UnitWithRoom}
 use Rattle.logical_unit.proofs.History.{answers_no_busy}
 use Rattle.logical_unit.proofs.NamedDrives.{has_route}
-use Rattle.logical_unit.proofs.SameUnits.{spells_move}
+use Rattle.logical_unit.proofs.SameUnits.{decodes_move}
 
 -- it takes no memory beside the room for records
-no_memory : (u : UnitView) (n : Nexus) (cdb bytes : List ℕ) (l : ℕ) (more : List ℕ) → named (drives_of u.device) cdb ≡ l ∷ more → takes_memory (contacted_present u n) n (spelled (kind_of u.device) cdb bytes) ≡ true → ⊥
+no_memory : (u : UnitView) (n : Nexus) (cdb bytes : List ℕ) (l : ℕ) (more : List ℕ) → named (drives_of u.device) cdb ≡ l ∷ more → takes_memory (contacted_present u n) n (decoded_command (kind_of u.device) cdb bytes) ≡ true → ⊥
 no_memory u n cdb bytes l more names h =
-    let is = spells_move u.device cdb bytes l more (has_route u.device cdb l more names) in
+    let is = decodes_move u.device cdb bytes l more (has_route u.device cdb l more names) in
     let none : false ≡ true = subst (λ (s : Result Command Condition). takes_memory (contacted_present u n) n s ≡ true) is h in
     cc
 

@@ -5,19 +5,19 @@ use Rattle.std.specs.Prelude.{◌⊎◌, cond}
 use Rattle.scsi_nexus.specs.declared.nexus.Nexus.{Nexus}
 use Rattle.scsi_sense.specs.declared.condition.Condition.{Condition}
 use Rattle.device_server.specs.View.{DeviceView, kind_of, drives_of}
-use Rattle.judgement.specs.Present.{Present}
-use Rattle.judgement.specs.declared.finding.Finding.{Finding}
+use Rattle.judgement.specs.JudgedUnit.{JudgedUnit}
+use Rattle.judgement.specs.declared.decision.Decision.{Decision}
 use Rattle.judgement.specs.declared.reply.Reply.{Reply}
 use Rattle.judgement.specs.Replies.{busy, good, check}
-use Rattle.judgement.specs.Commands.{spelled, act_of}
-use Rattle.judgement.specs.Kept.{has_room}
-use Rattle.logical_unit.specs.Begun.{HasWays}
+use Rattle.judgement.specs.Commands.{decoded_command, act_of}
+use Rattle.judgement.specs.UnitState.{has_room}
+use Rattle.logical_unit.specs.MoveJudgement.{HasWays}
 use Rattle.logical_unit.specs.Move.{TwoDrives, is_left, judged_at, route_at, ended, concluded, carried_one, carried_two, MovesOne, MovesTwo}
 use Rattle.logical_unit.specs.Route.{named}
 use Rattle.logical_unit.specs.Step.{recorded, HasNumber, Executes}
 use Rattle.logical_unit.specs.UnitView.{UnitView}
 use Rattle.logical_unit.specs.declared.route.Route.{Route}
-use Rattle.logical_unit.proofs.Left.{opens}
+use Rattle.logical_unit.proofs.LeftToDrives.{opens}
 use Rattle.logical_unit.proofs.NamedDrives.{HasRoute, has_route}
 
 -- the changer ends a move that was left to the drives by a reply, with this device
@@ -25,17 +25,17 @@ pub record Ends (c v : UnitView) (n : Nexus) (cdb bytes : List ℕ) (r : Reply) 
   pub room : has_room c.kept n ≡ true
   pub number : HasNumber c
   pub left : is_left (judged_at c n cdb bytes).2.sense ≡ true
-  pub finding : Finding
-  pub found : (judged_at c n cdb bytes).1 ≡ finding
+  pub decision : Decision
+  pub found : (judged_at c n cdb bytes).1 ≡ decision
   pub present : (judged_at c n cdb bytes).0 ≡ record { device = c.device; kept = c.kept }
   pub ways : (route : Route) → route_at c cdb ≡ Some route → HasWays c.device route
-  pub unit : (v, r) ≡ recorded c n (act_of (kind_of c.device) cdb bytes) (record { device = device; kept = c.kept }, finding, reply)
+  pub unit : (v, r) ≡ recorded c n (act_of (kind_of c.device) cdb bytes) (record { device = device; kept = c.kept }, decision, reply)
 
 -- the three ways, with the drives before and after
 abbrev pub IsAlone : {A : Type 0} → UnitView → UnitView → Nexus → (cdb bytes : List ℕ) → Reply → (drives after : A) → Type 0
 IsAlone c v n cdb bytes r drives after = Executes c n cdb bytes (v, r) × (after ≡ drives)
 
-pub record IsHalted {A : Type 0} (c v : UnitView) (n : Nexus) (cdb bytes : List ℕ) (r : Reply) (drives after : A) (carried : Result (DeviceView × A) Condition) : Type 0 where
+pub record IsStopped {A : Type 0} (c v : UnitView) (n : Nexus) (cdb bytes : List ℕ) (r : Reply) (drives after : A) (carried : Result (DeviceView × A) Condition) : Type 0 where
   pub condition : Condition
   pub refused : carried ≡ Err condition
   pub ends : Ends c v n cdb bytes r c.device (check condition)
@@ -48,7 +48,7 @@ pub record IsMoved {A : Type 0} (c v : UnitView) (n : Nexus) (cdb bytes : List �
 
 abbrev pub Became : {A : Type 0} → UnitView → UnitView → Nexus → (cdb bytes : List ℕ) → Reply → (drives after : A) → Result (DeviceView × A) Condition → Type 0
 Became c v n cdb bytes r drives after carried =
-    IsAlone c v n cdb bytes r drives after ⊎ (IsHalted c v n cdb bytes r drives after carried ⊎ IsMoved c v n cdb bytes r drives after carried)
+    IsAlone c v n cdb bytes r drives after ⊎ (IsStopped c v n cdb bytes r drives after carried ⊎ IsMoved c v n cdb bytes r drives after carried)
 
 some_is : (a b : Route) → ◌≡◌ {A = Option Route} (Some a) (Some b) → a ≡ b
 some_is a b h = cc
@@ -65,16 +65,16 @@ module _ {A : Type 0} (c v : UnitView) (n : Nexus) (cdb bytes : List ℕ) (r : R
       → (v, r) ≡ recorded c n (act_of (kind_of c.device) cdb bytes) (record (judged_at c n cdb bytes).0 { device = device }, (judged_at c n cdb bytes).1, reply) → Ends c v n cdb bytes r device reply
   ends_by l more device reply route room number left unit =
       let j = judged_at c n cdb bytes in
-      let o = opens c.device c.kept n cdb bytes route.route (spelled (kind_of c.device) cdb bytes) (act_of (kind_of c.device) cdb bytes) j.0 j.1 j.2 route.changer route.spells room refl refl refl left in
+      let o = opens c.device c.kept n cdb bytes route.route (decoded_command (kind_of c.device) cdb bytes) (act_of (kind_of c.device) cdb bytes) j.0 j.1 j.2 route.changer route.decodes room refl refl refl left in
       record {
         room = room;
         number = number;
         left = left;
-        finding = j.1;
+        decision = j.1;
         found = refl;
         present = o.present;
         ways = λ other is. subst (HasWays c.device) (some_is route.route other (sym route.is ∙ is)) o.ways;
-        unit = unit ∙ ap (λ (p : Present). recorded c n (act_of (kind_of c.device) cdb bytes) (record p { device = device }, j.1, reply)) o.present;
+        unit = unit ∙ ap (λ (p : JudgedUnit). recorded c n (act_of (kind_of c.device) cdb bytes) (record p { device = device }, j.1, reply)) o.present;
       }
 
   became_left : (l : ℕ) (more : List ℕ) (carried now : Result (DeviceView × A) Condition) → carried ≡ now → HasRoute c.device cdb l more → has_room c.kept n ≡ true → HasNumber c → is_left (judged_at c n cdb bytes).2.sense ≡ true
@@ -87,12 +87,12 @@ module _ {A : Type 0} (c v : UnitView) (n : Nexus) (cdb bytes : List ℕ) (r : R
       }))
   became_left l more carried (Err condition) is route room number left e =
       let j = judged_at c n cdb bytes in
-      let o = opens c.device c.kept n cdb bytes route.route (spelled (kind_of c.device) cdb bytes) (act_of (kind_of c.device) cdb bytes) j.0 j.1 j.2 route.changer route.spells room refl refl refl left in
+      let o = opens c.device c.kept n cdb bytes route.route (decoded_command (kind_of c.device) cdb bytes) (act_of (kind_of c.device) cdb bytes) j.0 j.1 j.2 route.changer route.decodes room refl refl refl left in
       inr (inl (record {
         condition = condition;
         refused = is;
         ends = ends_by l more c.device (check condition) route room number left
-            (ap (λ (x : (UnitView × Reply) × A). x.0) e ∙ ap (λ (d : DeviceView). recorded c n (act_of (kind_of c.device) cdb bytes) (record j.0 { device = d }, j.1, check condition)) (ap (λ (p : Present). p.device) o.present));
+            (ap (λ (x : (UnitView × Reply) × A). x.0) e ∙ ap (λ (d : DeviceView). recorded c n (act_of (kind_of c.device) cdb bytes) (record j.0 { device = d }, j.1, check condition)) (ap (λ (p : JudgedUnit). p.device) o.present));
         drives_stay = ap (λ (x : (UnitView × Reply) × A). x.1) e;
       }))
 

@@ -9,23 +9,23 @@ use Rattle.audit_log.specs.declared.act.Act.{Act}
 use Rattle.audit_log.specs.declared.act.Act.TheVariants.{MediumIn, MediumOut}
 use Rattle.audit_log.specs.declared.record.Record.{Record}
 use Rattle.device_server.specs.View.{kind_of}
-use Rattle.judgement.specs.Present.{Present}
+use Rattle.judgement.specs.JudgedUnit.{JudgedUnit}
 use Rattle.judgement.specs.declared.reply.Reply.{Reply}
 use Rattle.judgement.specs.Replies.{good, check}
-use Rattle.judgement.specs.declared.finding.Finding.{Finding}
+use Rattle.judgement.specs.declared.decision.Decision.{Decision}
 use Rattle.judgement.specs.Commands.{act_of}
-use Rattle.judgement.specs.Kept.{with_medium}
-use Rattle.logical_unit.specs.Begun.{IsPutOff, IsEnded, Finishes}
-use Rattle.logical_unit.specs.declared.begun.Halt.{Halt}
-use Rattle.logical_unit.specs.declared.begun.Halt.TheVariants.{Refused, Busy}
+use Rattle.judgement.specs.UnitState.{with_medium}
+use Rattle.logical_unit.specs.MoveJudgement.{IsPutOff, IsEnded, Finishes}
+use Rattle.logical_unit.specs.declared.move_judgement.MoveStop.{MoveStop}
+use Rattle.logical_unit.specs.declared.move_judgement.MoveStop.TheVariants.{Refused, Busy}
 use Rattle.logical_unit.specs.Medium.{taken_out, put_in}
 use Rattle.logical_unit.specs.Move.{numbers_of, judged_at}
-use Rattle.logical_unit.specs.Step.{recorded, entry_of, event_of, with_entry}
+use Rattle.logical_unit.specs.Step.{recorded, record_of, event_of, with_entry}
 use Rattle.logical_unit.specs.UnitView.{UnitView, UnitWithRoom, last_number}
 use Rattle.logical_unit.proofs.Halves.{is_out, is_in}
 
 -- a record more
-entry_last : (u : UnitView) (now : Present) (e : Record) → last_number (with_entry u now e) ≡ last_number u + 1
+entry_last : (u : UnitView) (now : JudgedUnit) (e : Record) → last_number (with_entry u now e) ≡ last_number u + 1
 entry_last u now e = grind (arith, common_steps)
 
 -- a volume that went out, or came in, has a record
@@ -62,18 +62,18 @@ answered_noted x y n cdb bytes reply (inr ended) =
     let j = judged_at x.unit n cdb bytes in
     let answer = ended.answer.answer in
     recorded_noted x.unit y.unit reply (sym (ap (λ (z : UnitView × Reply). z.1.number) answer))
-    (sym (ap (λ (z : UnitView × Reply). last_number z.0) answer) ∙ entry_last x.unit j.0 (entry_of (last_number x.unit + 1) (Some n) (act_of (kind_of x.unit.device) cdb bytes) j.1 j.2.status j.2.sense))
+    (sym (ap (λ (z : UnitView × Reply). last_number z.0) answer) ∙ entry_last x.unit j.0 (record_of (last_number x.unit + 1) (Some n) (act_of (kind_of x.unit.device) cdb bytes) j.1 j.2.status j.2.sense))
 
 -- a command that judgement left open, ended
-abbrev pub recorded_in : UnitView → Nexus → Act → Finding → Reply → UnitView × Reply
+abbrev pub recorded_in : UnitView → Nexus → Act → Decision → Reply → UnitView × Reply
 recorded_in u n act f reply = recorded u n act (record { device = u.device; kept = u.kept }, f, reply)
 
-ends_recorded : (u w v : UnitView) (n : Nexus) (act : Act) (f : Finding) (given reply : Reply) → last_number w ≡ last_number u → (v, reply) ≡ recorded_in w n act f given → noted u.kept.lun reply ≡ numbers_of u v
+ends_recorded : (u w v : UnitView) (n : Nexus) (act : Act) (f : Decision) (given reply : Reply) → last_number w ≡ last_number u → (v, reply) ≡ recorded_in w n act f given → noted u.kept.lun reply ≡ numbers_of u v
 ends_recorded u w v n act f given reply same h =
     recorded_noted u v reply (ap (λ (z : UnitView × Reply). z.1.number) h ∙ ap (λ m. m + 1) same)
-    (ap (λ (z : UnitView × Reply). last_number z.0) h ∙ entry_last w (record { device = w.device; kept = w.kept }) (entry_of (last_number w + 1) (Some n) act f given.status given.sense) ∙ ap (λ m. m + 1) same)
+    (ap (λ (z : UnitView × Reply). last_number z.0) h ∙ entry_last w (record { device = w.device; kept = w.kept }) (record_of (last_number w + 1) (Some n) act f given.status given.sense) ∙ ap (λ m. m + 1) same)
 
-pub ends_noted : (u : UnitView) (x y : UnitWithRoom) (n : Nexus) (act : Act) (f : Finding) (halt : Option Halt) (reply : Reply) → last_number x.unit ≡ last_number u → Finishes x y n act f halt reply
+pub ends_noted : (u : UnitView) (x y : UnitWithRoom) (n : Nexus) (act : Act) (f : Decision) (stop : Option MoveStop) (reply : Reply) → last_number x.unit ≡ last_number u → Finishes x y n act f stop reply
     → noted u.kept.lun reply ≡ numbers_of u y.unit
 ends_noted u x y n act f None reply same h = ends_recorded u x.unit y.unit n act f (good []) reply same h
 ends_noted u x y n act f (Some (Refused condition)) reply same h = ends_recorded u x.unit y.unit n act f (check condition) reply same h

@@ -16,11 +16,11 @@ use Rattle.logical_unit.specs.Route.{named}
 use Rattle.logical_unit.specs.Step.{Executes, contacted_present}
 use Rattle.logical_unit.specs.UnitView.{UnitView}
 use Rattle.logical_unit.proofs.Contents.{changes_nothing}
-use Rattle.logical_unit.proofs.Left.{left_is_own}
+use Rattle.logical_unit.proofs.LeftToDrives.{left_is_own}
 use Rattle.logical_unit.proofs.Moved.{one_became, two_became}
 use Rattle.logical_unit.proofs.NamedDrives.{has_route}
-use Rattle.logical_unit.proofs.Quiet.{barred}
-use Rattle.logical_unit.proofs.SameUnits.{spells_move}
+use Rattle.logical_unit.proofs.OutsiderLeavesContents.{barred}
+use Rattle.logical_unit.proofs.SameUnits.{decodes_move}
 
 allowed_class : (b : Bool) (c : Cell) → cond b Allowed (Denied c) ≡ Allowed → b ≡ true
 allowed_class true c h = refl
@@ -31,8 +31,8 @@ pub never_left : (c : UnitView) (n : Nexus) (cdb bytes : List ℕ) (l : ℕ) (mo
 never_left c n cdb bytes l more names closed left =
     let route = has_route c.device cdb l more names in
     let u = contacted_present c n in
-    let move = Device (MoveMedium route.spells.transport route.route.source route.route.destination route.spells.invert) in
-    let is = spells_move c.device cdb bytes l more route in
+    let move = Device (MoveMedium route.decodes.transport route.route.source route.route.destination route.decodes.invert) in
+    let is = decodes_move c.device cdb bytes l more route in
     let own = left_is_own u n move bytes (sym (ap (λ x. is_left (judged_as u n x bytes).2.sense) is) ∙ left) in
     barred (row_allows Changing (res_type c.kept.reservations) (role c.kept.reservations n)) (allowed_class _ _ own.goes_on.allowed) closed
 

@@ -21,16 +21,16 @@ use Rattle.audit_log.specs.declared.record.Record.{Record}
 use Rattle.audit_log.specs.declared.stage.Stage.TheVariants.{ResetAttention, OtherAttention, Fields, Device}
 use Rattle.judgement.specs.Conditions.{condition_of_attention, condition_of_refusal}
 use Rattle.judgement.specs.Replies.{conflict, check, good}
-use Rattle.judgement.specs.KeptView.{KeptView}
-use Rattle.judgement.specs.Kept.{met}
-use Rattle.judgement.specs.Findings.{at_stage, let_in, in_conflict}
+use Rattle.judgement.specs.UnitStateView.{UnitStateView}
+use Rattle.judgement.specs.UnitState.{after_contact}
+use Rattle.judgement.specs.Decisions.{at_stage, let_in, in_conflict}
 use Rattle.judgement.specs.Judge.{waiting}
 use Rattle.logical_unit.specs.Audit.{span_line, span_lines, ShowsReservations, IsReplayable, AreReplayable, TrailsReplay}
 use Rattle.logical_unit.specs.Legal.{Says, IsCarriedOut, IsLetThrough, IsChecked, IsCommand, IsJudgedAs, AreJudged, accepted_of, kept_by, kept_after}
-use Rattle.logical_unit.proofs.Shown.{one_shows}
+use Rattle.logical_unit.proofs.HistoryOfRecords.{one_shows}
 
 -- a PERSISTENT RESERVE OUT that is GOOD was allowed and not refused
-module _ (k : KeptView) (n : Nexus) (p : OutParams) (class : Class) (e : Record) (is : e.status ≡ Good) where
+module _ (k : UnitStateView) (n : Nexus) (p : OutParams) (class : Class) (e : Record) (is : e.status ≡ Good) where
   by_refusal : IsCarriedOut k n (Some p) class e → refusal k.reservations n p ≡ None
   by_refusal =
       let at = cell k.reservations n class in
@@ -65,13 +65,13 @@ module _ (k : KeptView) (n : Nexus) (p : OutParams) (class : Class) (e : Record)
         | None ↦ by_check
       ]
 
-replay_out : (k : KeptView) (e : Record) (n : Nexus) (p : OutParams) (status : Status) → e.status ≡ status → IsCommand (met k n) n (Some p) (class_of_action p.act) e → IsReplayable k.reservations (accepted_of (Some n) (ReserveOut p) status)
-replay_out k e n p Good is h = by_command (met k n) n p (class_of_action p.act) e is h
+replay_out : (k : UnitStateView) (e : Record) (n : Nexus) (p : OutParams) (status : Status) → e.status ≡ status → IsCommand (after_contact k n) n (Some p) (class_of_action p.act) e → IsReplayable k.reservations (accepted_of (Some n) (ReserveOut p) status)
+replay_out k e n p Good is h = by_command (after_contact k n) n p (class_of_action p.act) e is h
 replay_out k e n p CheckCondition is h = tt
 replay_out k e n p Busy is h = tt
 replay_out k e n p ReservationConflict is h = tt
 
-replay_as : (k : KeptView) (e : Record) (n : Option Nexus) (a : Act) → IsJudgedAs k n a e → IsReplayable k.reservations (accepted_of n a e.status)
+replay_as : (k : UnitStateView) (e : Record) (n : Option Nexus) (a : Act) → IsJudgedAs k n a e → IsReplayable k.reservations (accepted_of n a e.status)
 replay_as k e (Some n) (Command class) h = tt
 replay_as k e (Some n) (ReserveOut p) h = replay_out k e n p e.status refl h.judged
 replay_as k e (Some n) Invalid h = tt
@@ -81,7 +81,7 @@ replay_as k e (Some n) MediumIn h = tt
 replay_as k e (Some n) MediumOut h = tt
 replay_as k e None a h = tt
 
-judged_replay : (k : KeptView) (es : List Record) → AreJudged k es → AreReplayable k.reservations es
+judged_replay : (k : UnitStateView) (es : List Record) → AreJudged k es → AreReplayable k.reservations es
 judged_replay k [] h = tt
 judged_replay k (e ∷ es) h = (replay_as k e e.nexus e.act h.0, subst (λ (v : State). AreReplayable v es) (one_shows k e.nexus e.act e h.0) (judged_replay (kept_by k e) es h.1))
 
@@ -89,7 +89,7 @@ pub trails_replay : TrailsReplay
 trails_replay base es now trail = judged_replay base.kept es trail.judged
 
 -- the walk's step is that of the trail
-judged_show : (k : KeptView) (es : List Record) (place : ℕ) (e : Record) → AreJudged k es → slice_get es place ≡ Some e → slice_get (span_lines k.reservations es) place ≡ Some (span_line (kept_after k (take place es)).reservations e)
+judged_show : (k : UnitStateView) (es : List Record) (place : ℕ) (e : Record) → AreJudged k es → slice_get es place ≡ Some e → slice_get (span_lines k.reservations es) place ≡ Some (span_line (kept_after k (take place es)).reservations e)
 judged_show k [] place e j h = cc
 judged_show k (x ∷ es) zero e j h = ap (λ (o : Option Record). elim o [ None ↦ None | Some r ↦ Some (span_line k.reservations r) ]) h
 judged_show k (x ∷ es) (suc place) e j h =

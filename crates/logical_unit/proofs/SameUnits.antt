@@ -17,7 +17,7 @@ use Rattle.judgement.specs.History.{accepted_as, after_history}
 use Rattle.judgement.specs.Conditions.{condition_of_fault}
 use Rattle.judgement.specs.Replies.{good, check}
 use Rattle.judgement.specs.declared.reply.Reply.{Reply}
-use Rattle.judgement.specs.Commands.{command_of, spelled}
+use Rattle.judgement.specs.Commands.{command_of, decoded_command}
 use Rattle.judgement.specs.declared.command.Command.{Command}
 use Rattle.judgement.specs.declared.command.Command.TheVariants.{Device}
 use Rattle.logical_unit.specs.Medium.{taken_out, put_in}
@@ -134,9 +134,9 @@ carried_two_same c ds None device es h = absurd cc
 carried_two_same c ds (Some r) device es h = by_way_same c ds r (is_upward r.from r.to) device es h
 
 -- THE UNITS. A MOVE MEDIUM accepts nothing
-pub spells_move : (device : DeviceView) (cdb bytes : List ℕ) (l : ℕ) (more : List ℕ) (route : HasRoute device cdb l more) → spelled (kind_of device) cdb bytes ≡ Ok (Device (MoveMedium route.spells.transport route.route.source route.route.destination route.spells.invert))
-spells_move device cdb bytes l more route =
-    ap (λ k. spelled k cdb bytes) route.changer ∙ ap (λ (o : Result Request CdbFault). elim o [ Ok q ↦ command_of q bytes | Err fault ↦ Err (condition_of_fault fault) ]) route.spells.reads
+pub decodes_move : (device : DeviceView) (cdb bytes : List ℕ) (l : ℕ) (more : List ℕ) (route : HasRoute device cdb l more) → decoded_command (kind_of device) cdb bytes ≡ Ok (Device (MoveMedium route.decodes.transport route.route.source route.route.destination route.decodes.invert))
+decodes_move device cdb bytes l more route =
+    ap (λ k. decoded_command k cdb bytes) route.changer ∙ ap (λ (o : Result Request CdbFault). elim o [ Ok q ↦ command_of q bytes | Err fault ↦ Err (condition_of_fault fault) ]) route.decodes.reads
 
 alone_same : (c v : UnitView) (n : Nexus) (cdb bytes : List ℕ) (r : Reply) (l : ℕ) (more : List ℕ) → HasRoute c.device cdb l more → Executes c n cdb bytes (v, r) → IsSameUnit c v
 alone_same c v n cdb bytes r l more route e =
@@ -145,7 +145,7 @@ alone_same c v n cdb bytes r l more route e =
       device = s.device;
       lun = s.lun;
       units = s.units;
-      reservations = s.reservations ∙ ap (λ (x : Result Command Condition). after_history c.kept.reservations (accepted_as n r.status x)) (spells_move c.device cdb bytes l more route);
+      reservations = s.reservations ∙ ap (λ (x : Result Command Condition). after_history c.kept.reservations (accepted_as n r.status x)) (decodes_move c.device cdb bytes l more route);
     }
 
 ends_same : (c v : UnitView) (n : Nexus) (cdb bytes : List ℕ) (r : Reply) (device : DeviceView) (reply : Reply) → Ends c v n cdb bytes r device reply → IsSameDevice c.device device → IsSameUnit c v

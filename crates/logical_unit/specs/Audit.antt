@@ -7,7 +7,7 @@ use Rattle.pr_core.specs.Judge.{verdict}
 use Rattle.pr_core.specs.Outcome.{refusal}
 use Rattle.pr_core.specs.declared.verdict.Verdict.TheVariants.{Allowed}
 use Rattle.judgement.specs.History.{Accepted, after_history}
-use Rattle.judgement.specs.KeptView.{KeptView}
+use Rattle.judgement.specs.UnitStateView.{UnitStateView}
 use Rattle.logical_unit.specs.Legal.{IsTrail, accepted_in, kept_after}
 use Rattle.logical_unit.specs.UnitView.{Base, UnitView}
 
@@ -27,7 +27,7 @@ audit_of u = span_lines u.base.kept.reservations u.records
 -- in a legal trail the line at each place has the reservation that the records before it leave of what was kept before the first
 abbrev pub ShowsReservations : Type 0
 ShowsReservations =
-    (base : Base) (es : List Record) (now : KeptView) (place : ℕ) (e : Record) → IsTrail base es now → slice_get es place ≡ Some e
+    (base : Base) (es : List Record) (now : UnitStateView) (place : ℕ) (e : Record) → IsTrail base es now → slice_get es place ≡ Some e
     → slice_get (span_lines base.kept.reservations es) place ≡ Some (span_line (kept_after base.kept (take place es)).reservations e)
 
 -- what a record accepted is allowed and not refused where it stands, so that it may be carried out again
@@ -41,4 +41,4 @@ AreReplayable v (e ∷ es) = IsReplayable v (accepted_in e) × AreReplayable (af
 
 -- in a legal trail it is so of each record
 abbrev pub TrailsReplay : Type 0
-TrailsReplay = (base : Base) (es : List Record) (now : KeptView) → IsTrail base es now → AreReplayable base.kept.reservations es
+TrailsReplay = (base : Base) (es : List Record) (now : UnitStateView) → IsTrail base es now → AreReplayable base.kept.reservations es

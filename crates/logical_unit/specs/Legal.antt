@@ -21,70 +21,70 @@ use Rattle.audit_log.specs.declared.act.Act.{Act}
 use Rattle.audit_log.specs.declared.act.Act.TheVariants.{Command, ReserveOut, Invalid, Loss, Reset, MediumIn, MediumOut}
 use Rattle.audit_log.specs.declared.record.Record.{Record}
 use Rattle.audit_log.specs.declared.stage.Stage.{Stage}
-use Rattle.audit_log.specs.declared.stage.Stage.TheVariants.{Spelling, ResetAttention, ReservationCheck, OtherAttention, Fields, Device}
+use Rattle.audit_log.specs.declared.stage.Stage.TheVariants.{Decoding, ResetAttention, ReservationCheck, OtherAttention, Fields, Device}
 use Rattle.audit_log.specs.TrailView.{IsNumbered}
-use Rattle.judgement.specs.declared.finding.Finding.{Finding}
+use Rattle.judgement.specs.declared.decision.Decision.{Decision}
 use Rattle.judgement.specs.declared.reply.Reply.{Reply}
 use Rattle.judgement.specs.Conditions.{condition_of_attention, condition_of_refusal}
 use Rattle.judgement.specs.History.{Accepted, is_good, after_history}
-use Rattle.judgement.specs.Findings.{at_stage, let_in, in_conflict}
+use Rattle.judgement.specs.Decisions.{at_stage, let_in, in_conflict}
 use Rattle.judgement.specs.Replies.{good, check, conflict, IsWhole}
-use Rattle.judgement.specs.KeptView.{KeptView}
+use Rattle.judgement.specs.UnitStateView.{UnitStateView}
 use Rattle.logical_unit.specs.UnitView.{Base}
-use Rattle.judgement.specs.Kept.{has_room, met, reported, accepted, prevented, allowed, is_prevented, after_mode, with_medium}
+use Rattle.judgement.specs.UnitState.{has_room, after_contact, reported, accepted, prevented, allowed, is_prevented, after_mode, with_medium}
 use Rattle.judgement.specs.Readings.{verdict_by, pending_of}
 use Rattle.judgement.specs.Judge.{waiting}
-use Rattle.judgement.specs.Kept.{kept_after_loss, kept_after_reset}
+use Rattle.judgement.specs.UnitState.{kept_after_loss, kept_after_reset}
 
 -- after the report of an attention, where one waits
-abbrev pub reported_if : KeptView → Nexus → Option Kind → KeptView
+abbrev pub reported_if : UnitStateView → Nexus → Option Kind → UnitStateView
 reported_if k n None = k
 reported_if k n (Some kind) = reported k n kind
 
 -- REQUEST SENSE reports as data the attention that waits; PREVENT ALLOW MEDIUM REMOVAL prevents or allows; MODE SELECT may have changed
 -- the mode parameters, which is told to the others
-abbrev pub left_by_class : KeptView → Nexus → Class → (mode_changed : Bool) → KeptView
+abbrev pub left_by_class : UnitStateView → Nexus → Class → (mode_changed : Bool) → UnitStateView
 left_by_class k n RequestSense mode_changed = reported_if k n (pending_of k.slots n)
 left_by_class k n PreventRemoval mode_changed = prevented k n
 left_by_class k n AllowRemoval mode_changed = allowed k n
 left_by_class k n class mode_changed = after_mode k n mode_changed
 
 -- what a command leaves that came to stage 6: PERSISTENT RESERVE OUT that is GOOD was accepted
-abbrev pub left_by : KeptView → Nexus → Option OutParams → Class → Status → (mode_changed : Bool) → KeptView
+abbrev pub left_by : UnitStateView → Nexus → Option OutParams → Class → Status → (mode_changed : Bool) → UnitStateView
 left_by k n (Some params) class status mode_changed = if is_good status then accepted k n params else k
 left_by k n None class status mode_changed = left_by_class k n class mode_changed
 
 -- what a command leaves of what is kept after its contact, by the stage that answered it
-abbrev pub left_at : Stage → KeptView → Nexus → Option OutParams → Class → Status → (mode_changed : Bool) → KeptView
+abbrev pub left_at : Stage → UnitStateView → Nexus → Option OutParams → Class → Status → (mode_changed : Bool) → UnitStateView
 left_at ResetAttention k n list class status mode_changed = reported_if k n (waiting class (first_reset_of k.slots n))
 left_at OtherAttention k n list class status mode_changed = reported_if k n (waiting class (first_other_of k.slots n))
 left_at Device k n list class status mode_changed = left_by k n list class status mode_changed
 left_at stage k n list class status mode_changed = k
 
-abbrev pub left_as : KeptView → Option Nexus → Act → Stage → Status → (mode_changed : Bool) → KeptView
-left_as k (Some n) (Command class) stage status mode_changed = left_at stage (met k n) n None class status mode_changed
+abbrev pub left_as : UnitStateView → Option Nexus → Act → Stage → Status → (mode_changed : Bool) → UnitStateView
+left_as k (Some n) (Command class) stage status mode_changed = left_at stage (after_contact k n) n None class status mode_changed
 left_as k (Some n) (ReserveOut params) stage status mode_changed =
-    left_at stage (met k n) n (Some params) (class_of_action params.act) status mode_changed
-left_as k (Some n) Invalid stage status mode_changed = met k n
+    left_at stage (after_contact k n) n (Some params) (class_of_action params.act) status mode_changed
+left_as k (Some n) Invalid stage status mode_changed = after_contact k n
 left_as k (Some n) Loss stage status mode_changed = kept_after_loss k n
 left_as k None Reset stage status mode_changed = kept_after_reset k
 left_as k None MediumIn stage status mode_changed = with_medium k
 left_as k nexus act stage status mode_changed = k
 
 -- what is kept after a record, and after records one after another
-abbrev pub kept_by : KeptView → Record → KeptView
+abbrev pub kept_by : UnitStateView → Record → UnitStateView
 kept_by k e = left_as k e.nexus e.act e.stage e.status e.mode_changed
 
-abbrev pub kept_after : KeptView → List Record → KeptView
+abbrev pub kept_after : UnitStateView → List Record → UnitStateView
 kept_after k [] = k
 kept_after k (e ∷ es) = kept_after (kept_by k e) es
 
 -- a record of this finding and this answer
-pub record Says (e : Record) (finding : Finding) (reply : Reply) : Type 0 where
-  pub stage : e.stage ≡ finding.stage
-  pub cell : e.cell ≡ finding.cell
-  pub rule : e.rule ≡ finding.rule
-  pub mode_changed : e.mode_changed ≡ finding.mode_changed
+pub record Says (e : Record) (decision : Decision) (reply : Reply) : Type 0 where
+  pub stage : e.stage ≡ decision.stage
+  pub cell : e.cell ≡ decision.cell
+  pub rule : e.rule ≡ decision.rule
+  pub mode_changed : e.mode_changed ≡ decision.mode_changed
   pub status : e.status ≡ reply.status
   pub sense : e.sense ≡ reply.sense
 
@@ -153,7 +153,7 @@ pub record SaysItsOwn (e : Record) (at : Cell) : Type 0 where
   pub mode : e.mode_changed ≡ true → ChangedTheMode e at.class
 
 -- stages 5 and 6
-abbrev pub IsCarriedOut : KeptView → Nexus → Option OutParams → Class → Record → Type 0
+abbrev pub IsCarriedOut : UnitStateView → Nexus → Option OutParams → Class → Record → Type 0
 IsCarriedOut k n (Some params) class e = elim (refusal k.reservations n params) [
   | Some fault ↦ Says e (let_in (cell k.reservations n class) Fields) (check (condition_of_refusal fault))
   | None ↦ Says e (let_in (cell k.reservations n class) Device) (good [])
@@ -161,14 +161,14 @@ IsCarriedOut k n (Some params) class e = elim (refusal k.reservations n params) 
 IsCarriedOut k n None class e = SaysItsOwn e (cell k.reservations n class)
 
 -- stage 4
-abbrev pub IsLetThrough : KeptView → Nexus → Option OutParams → Class → Record → Type 0
+abbrev pub IsLetThrough : UnitStateView → Nexus → Option OutParams → Class → Record → Type 0
 IsLetThrough k n list class e = elim (waiting class (first_other_of k.slots n)) [
   | Some kind ↦ Says e (let_in (cell k.reservations n class) OtherAttention) (check (condition_of_attention kind))
   | None ↦ IsCarriedOut k n list class e
 ]
 
 -- stage 3
-abbrev pub IsChecked : KeptView → Nexus → Option OutParams → Class → Record → Type 0
+abbrev pub IsChecked : UnitStateView → Nexus → Option OutParams → Class → Record → Type 0
 IsChecked k n list class e = elim (verdict_by k.reservations n list class) [
   | Allowed ↦ IsLetThrough k n list class e
   | Denied at ↦ Says e (in_conflict (cell k.reservations n class) None) conflict
@@ -176,7 +176,7 @@ IsChecked k n list class e = elim (verdict_by k.reservations n list class) [
 ]
 
 -- stage 2, from what is kept after the contact
-abbrev pub IsCommand : KeptView → Nexus → Option OutParams → Class → Record → Type 0
+abbrev pub IsCommand : UnitStateView → Nexus → Option OutParams → Class → Record → Type 0
 IsCommand k n list class e = elim (waiting class (first_reset_of k.slots n)) [
   | Some kind ↦ Says e (at_stage ResetAttention) (check (condition_of_attention kind))
   | None ↦ IsChecked k n list class e
@@ -195,42 +195,42 @@ is_reserve_out RegisterAndMove = true
 is_reserve_out class = false
 
 -- what is reported of bytes that spell no command: 20h/00h, 24h/00h, or 1Ah/00h
-abbrev pub is_of_spelling : Condition → Bool
-is_of_spelling InvalidCommandOperationCode = true
-is_of_spelling InvalidFieldInCdb = true
-is_of_spelling ParameterListLengthError = true
-is_of_spelling condition = false
+abbrev pub is_of_decoding : Condition → Bool
+is_of_decoding InvalidCommandOperationCode = true
+is_of_decoding InvalidFieldInCdb = true
+is_of_decoding ParameterListLengthError = true
+is_of_decoding condition = false
 
 -- a command of a sender that has a slot or finds one, of a class other than those of PERSISTENT RESERVE OUT
-pub record IsOfClass (k : KeptView) (n : Nexus) (class : Class) (e : Record) : Type 0 where
+pub record IsOfClass (k : UnitStateView) (n : Nexus) (class : Class) (e : Record) : Type 0 where
   pub room : has_room k n ≡ true
   pub listless : is_reserve_out class ≡ false
-  pub judged : IsCommand (met k n) n None class e
+  pub judged : IsCommand (after_contact k n) n None class e
 
 -- PERSISTENT RESERVE OUT with its list
-pub record IsOfList (k : KeptView) (n : Nexus) (params : OutParams) (e : Record) : Type 0 where
+pub record IsOfList (k : UnitStateView) (n : Nexus) (params : OutParams) (e : Record) : Type 0 where
   pub room : has_room k n ≡ true
-  pub judged : IsCommand (met k n) n (Some params) (class_of_action params.act) e
+  pub judged : IsCommand (after_contact k n) n (Some params) (class_of_action params.act) e
 
 -- stage 1: bytes that spell no command
-pub record IsInvalid (k : KeptView) (n : Nexus) (e : Record) : Type 0 where
+pub record IsInvalid (k : UnitStateView) (n : Nexus) (e : Record) : Type 0 where
   pub room : has_room k n ≡ true
   pub condition : Condition
-  pub spelling : is_of_spelling condition ≡ true
-  pub says : Says e (at_stage Spelling) (check condition)
+  pub decoding : is_of_decoding condition ≡ true
+  pub says : Says e (at_stage Decoding) (check condition)
 
 -- the loss of a nexus that has a slot
-pub record IsLoss (k : KeptView) (n : Nexus) (e : Record) : Type 0 where
+pub record IsLoss (k : UnitStateView) (n : Nexus) (e : Record) : Type 0 where
   pub slot : has_slot k.slots n ≡ true
   pub says : Says e (at_stage Device) (good [])
 
 -- a volume taken out, which nobody prevents
-pub record IsTakenOut (k : KeptView) (e : Record) : Type 0 where
+pub record IsTakenOut (k : UnitStateView) (e : Record) : Type 0 where
   pub free : is_prevented k ≡ false
   pub says : Says e (at_stage Device) (good [])
 
 -- by what was asked; what isn't a command is GOOD at stage 6
-abbrev pub IsJudgedAs : KeptView → Option Nexus → Act → Record → Type 0
+abbrev pub IsJudgedAs : UnitStateView → Option Nexus → Act → Record → Type 0
 IsJudgedAs k (Some n) (Command class) e = IsOfClass k n class e
 IsJudgedAs k (Some n) (ReserveOut params) e = IsOfList k n params e
 IsJudgedAs k (Some n) Invalid e = IsInvalid k n e
@@ -241,22 +241,22 @@ IsJudgedAs k None MediumOut e = IsTakenOut k e
 IsJudgedAs k nexus act e = ⊥
 
 -- a record is what judgement gives of what was kept before it
-abbrev pub IsJudged : KeptView → Record → Type 0
+abbrev pub IsJudged : UnitStateView → Record → Type 0
 IsJudged k e = IsJudgedAs k e.nexus e.act e
 
-abbrev pub AreJudged : KeptView → List Record → Type 0
+abbrev pub AreJudged : UnitStateView → List Record → Type 0
 AreJudged k [] = Unit {0}
 AreJudged k (e ∷ es) = IsJudged k e × AreJudged (kept_by k e) es
 
 -- a legal trail: the records from a base, with what is kept after them
-pub record IsTrail (base : Base) (es : List Record) (now : KeptView) : Type 0 where
+pub record IsTrail (base : Base) (es : List Record) (now : UnitStateView) : Type 0 where
   pub numbered : IsNumbered base.last es
   pub judged : AreJudged base.kept es
   pub present : now ≡ kept_after base.kept es
 
 -- in a legal trail RESERVATION CONFLICT stands exactly at stage 3
 abbrev pub ConflictsAtTheCheck : Type 0
-ConflictsAtTheCheck = (base : Base) (es : List Record) (now : KeptView) → IsTrail base es now
+ConflictsAtTheCheck = (base : Base) (es : List Record) (now : UnitStateView) → IsTrail base es now
     → All (λ e. (e.status ≡ ReservationConflict) ↔ (e.stage ≡ ReservationCheck)) es
 
 -- a PERSISTENT RESERVE OUT command that ended GOOD, of its sender
@@ -274,5 +274,5 @@ shown_history es = flat_map accepted_in es
 
 -- in a legal trail the registrations, the reservation and the generation now are those of the base and that history
 abbrev pub TrailHistory : Type 0
-TrailHistory = (base : Base) (es : List Record) (now : KeptView) → IsTrail base es now
+TrailHistory = (base : Base) (es : List Record) (now : UnitStateView) → IsTrail base es now
     → now.reservations ≡ after_history base.kept.reservations (shown_history es)

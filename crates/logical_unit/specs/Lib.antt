@@ -6,5 +6,5 @@ pub mod Contents
 pub mod Medium
 pub mod Route
 pub mod Move
-pub mod Begun
+pub mod MoveJudgement
 pub mod History

@@ -9,7 +9,7 @@ use Rattle.device_server.specs.declared.fault.PutFault.{PutFault}
 use Rattle.logical_unit.specs.declared.medium_fault.MediumFault.{MediumFault}
 use Rattle.logical_unit.specs.declared.medium_fault.MediumFault.TheVariants.{NotADrive, Prevented, Empty, Full, Busy}
 use Rattle.logical_unit.specs.UnitView.{UnitView}
-use Rattle.judgement.specs.Kept.{is_prevented, with_medium}
+use Rattle.judgement.specs.UnitState.{is_prevented, with_medium}
 use Rattle.logical_unit.specs.Step.{with_event}
 
 -- the volume and the unit without it, or why it isn't taken out, in the order of the tests

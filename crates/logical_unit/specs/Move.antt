@@ -4,6 +4,7 @@
 use Rattle.std.specs.Prelude.{◌≡◌, ℕ, ◌==◌, ◌&&◌, Bool, true, false, List, [], ◌∷◌, Option, Some, None, Result, Ok, Err, is_ok, nat_eq, if◌then◌else◌, ◌⊎◌}
 use Rattle.std.specs.Cmp.Lexicographic.{pointwise}
 use Rattle.scsi_nexus.specs.declared.nexus.Nexus.{Nexus}
+use Rattle.scsi_sense.specs.Conditions.{has_codes_of}
 use Rattle.scsi_sense.specs.declared.condition.Condition.{Condition}
 use Rattle.scsi_sense.specs.declared.condition.Condition.TheVariants.{InternalTargetFailure, MediumRemovalPrevented}
 use Rattle.scsi_sense.specs.declared.sense.Sense.{Sense}
@@ -13,12 +14,12 @@ use Rattle.tape_medium.specs.declared.volume.VolumeTag.{VolumeTag}
 use Rattle.device_server.specs.Ends.{IsSameDevice}
 use Rattle.device_server.specs.View.{DeviceView, kind_of, drives_of, held_in, taken, put, marked}
 use Rattle.judgement.specs.Judge.{judged}
-use Rattle.judgement.specs.Present.{Present}
-use Rattle.judgement.specs.declared.finding.Finding.{Finding}
+use Rattle.judgement.specs.JudgedUnit.{JudgedUnit}
+use Rattle.judgement.specs.declared.decision.Decision.{Decision}
 use Rattle.judgement.specs.declared.reply.Reply.{Reply}
 use Rattle.judgement.specs.Replies.{busy, good, check}
 use Rattle.judgement.specs.Commands.{act_of}
-use Rattle.judgement.specs.Kept.{has_room}
+use Rattle.judgement.specs.UnitState.{has_room}
 use Rattle.logical_unit.specs.declared.medium_fault.MediumFault.{MediumFault}
 use Rattle.logical_unit.specs.declared.medium_fault.MediumFault.TheVariants.{NotADrive, Prevented, Empty, Full, Busy}
 use Rattle.logical_unit.specs.declared.route.Route.{Route}
@@ -30,7 +31,7 @@ use Rattle.logical_unit.specs.UnitView.{UnitView, UnitWithRoom, last_number}
 -- whether the changer leaves its command to the drives: it reports INTERNAL TARGET FAILURE, which it does of nothing else
 abbrev pub is_left : Option Sense → Bool
 is_left None = false
-is_left (Some sense) = sense.asc == 0x44
+is_left (Some sense) = has_codes_of sense InternalTargetFailure
 
 -- THE DRIVES
 
@@ -123,12 +124,12 @@ carried_two changer ds (Some r) = if is_upward r.from r.to then upward (passed c
 -- THE MOVE
 
 -- what the changer's record and its answer say, by what is carried; a device is the changer's then
-abbrev pub ended : {A : Type 0} → UnitView → Nexus → (cdb bytes : List ℕ) → A → Present × Finding × Reply → Result (DeviceView × A) Condition → (UnitView × Reply) × A
+abbrev pub ended : {A : Type 0} → UnitView → Nexus → (cdb bytes : List ℕ) → A → JudgedUnit × Decision × Reply → Result (DeviceView × A) Condition → (UnitView × Reply) × A
 ended c n cdb bytes drives answer (Ok it) = (recorded c n (act_of (kind_of c.device) cdb bytes) (record answer.0 { device = it.0 }, answer.1, good []), it.1)
 ended c n cdb bytes drives answer (Err condition) = (recorded c n (act_of (kind_of c.device) cdb bytes) (answer.0, answer.1, check condition), drives)
 
 -- judged at the changer, and left to the drives or ended there
-abbrev pub concluded : {A : Type 0} → UnitView → Nexus → (cdb bytes : List ℕ) → A → Present × Finding × Reply → Result (DeviceView × A) Condition → (UnitView × Reply) × A
+abbrev pub concluded : {A : Type 0} → UnitView → Nexus → (cdb bytes : List ℕ) → A → JudgedUnit × Decision × Reply → Result (DeviceView × A) Condition → (UnitView × Reply) × A
 concluded c n cdb bytes drives answer carried =
     if is_left answer.2.sense then ended c n cdb bytes drives answer carried
     else (recorded c n (act_of (kind_of c.device) cdb bytes) answer, drives)
@@ -136,7 +137,7 @@ concluded c n cdb bytes drives answer carried =
 abbrev pub route_at : UnitView → (cdb : List ℕ) → Option Route
 route_at c cdb = route_of (drives_of c.device) cdb
 
-abbrev pub judged_at : UnitView → Nexus → (cdb bytes : List ℕ) → Present × Finding × Reply
+abbrev pub judged_at : UnitView → Nexus → (cdb bytes : List ℕ) → JudgedUnit × Decision × Reply
 judged_at c n cdb bytes = judged (contacted_present c n) n cdb bytes
 
 abbrev pub moved_one : (c d : UnitView) → Nexus → (cdb bytes : List ℕ) → (UnitView × Reply) × UnitView
@@ -146,7 +147,7 @@ abbrev pub moved_two : UnitView → TwoDrives → Nexus → (cdb bytes : List �
 moved_two c ds n cdb bytes = concluded c n cdb bytes ds (judged_at c n cdb bytes) (carried_two c.device ds (route_at c cdb))
 
 -- whether the volume is carried, and the drives then have records too
-abbrev pub is_carried : {A : Type 0} → Present × Finding × Reply → Result A Condition → Bool
+abbrev pub is_carried : {A : Type 0} → JudgedUnit × Decision × Reply → Result A Condition → Bool
 is_carried answer carried = is_left answer.2.sense && is_ok carried
 
 -- BUSY with nothing changed, which must come where there is no slot for the sender or a last record number is used, that of a drive only

@@ -1,7 +1,7 @@
 -- Which drives a MOVE MEDIUM names (SMC-3, "MOVE MEDIUM command"): the data transfer element of logical unit n has the address 00FFh + n
 -- (profile).
 use Rattle.std.specs.Prelude.{ℕ, ◌-◌, ◌==◌, nat_lt, Bool, true, List, [], ◌∷◌, Option, Some, None, Ok, Err, if◌then◌else◌}
-use Rattle.scsi_cdb.specs.Commands.{reading}
+use Rattle.scsi_cdb.specs.Commands.{decoded}
 use Rattle.scsi_cdb.specs.declared.kind.Kind.TheVariants.{Changer}
 use Rattle.scsi_cdb.specs.declared.request.Request.{Request}
 use Rattle.scsi_cdb.specs.declared.request.Request.TheVariants.{MoveMedium}
@@ -19,7 +19,7 @@ route_in drives request = None
 
 -- the route that a CDB spells; other commands have none
 abbrev pub route_of : (drives : ℕ) → (cdb : List ℕ) → Option Route
-route_of drives cdb = elim (reading Changer cdb) [ Ok request ↦ route_in drives request | Err fault ↦ None ]
+route_of drives cdb = elim (decoded Changer cdb) [ Ok request ↦ route_in drives request | Err fault ↦ None ]
 
 -- whether a volume goes from a drive to one of a higher number
 abbrev pub is_upward : Option ℕ → Option ℕ → Bool

@@ -10,14 +10,14 @@ use Rattle.audit_log.specs.declared.act.Act.TheVariants.{Loss, Reset}
 use Rattle.audit_log.specs.declared.record.Record.{Record}
 use Rattle.audit_log.specs.declared.stage.Stage.TheVariants.{Device}
 use Rattle.device_server.specs.View.{DeviceView, kind_of, reset_of}
-use Rattle.judgement.specs.declared.finding.Finding.{Finding}
+use Rattle.judgement.specs.declared.decision.Decision.{Decision}
 use Rattle.judgement.specs.declared.reply.Reply.{Reply}
-use Rattle.judgement.specs.Commands.{spelled, act_of}
-use Rattle.judgement.specs.Findings.{at_stage}
+use Rattle.judgement.specs.Commands.{decoded_command, act_of}
+use Rattle.judgement.specs.Decisions.{at_stage}
 use Rattle.judgement.specs.Replies.{busy, good, numbered}
-use Rattle.judgement.specs.Present.{Present}
+use Rattle.judgement.specs.JudgedUnit.{JudgedUnit}
 use Rattle.logical_unit.specs.UnitView.{UnitView, UnitWithRoom, last_number}
-use Rattle.judgement.specs.Kept.{at_power_on, has_room, met, kept_after_loss, kept_after_reset}
+use Rattle.judgement.specs.UnitState.{at_power_on, has_room, after_contact, kept_after_loss, kept_after_reset}
 use Rattle.judgement.specs.Judge.{judged, takes_memory}
 
 -- a unit whose records will be numbered from one past a last number
@@ -30,31 +30,31 @@ made device lun units last = record {
 }
 
 -- the record of an event
-abbrev pub entry_of : (number : ℕ) → Option Nexus → Act → Finding → Status → Option Sense → Record
-entry_of number nexus act finding status sense = record {
+abbrev pub record_of : (number : ℕ) → Option Nexus → Act → Decision → Status → Option Sense → Record
+record_of number nexus act decision status sense = record {
   number = number;
   nexus = nexus;
   act = act;
-  stage = finding.stage;
-  cell = finding.cell;
-  rule = finding.rule;
+  stage = decision.stage;
+  cell = decision.cell;
+  rule = decision.rule;
   status = status;
   sense = sense;
-  mode_changed = finding.mode_changed;
+  mode_changed = decision.mode_changed;
 }
 
 -- a unit after an event: its present, and one record more
-abbrev pub with_entry : UnitView → Present → Record → UnitView
+abbrev pub with_entry : UnitView → JudgedUnit → Record → UnitView
 with_entry u now e = record { device = now.device; kept = now.kept; base = u.base; records = u.records ++ e ∷ [] }
 
 -- what a unit's commands are judged by, once the sender made contact
-abbrev pub contacted_present : UnitView → Nexus → Present
-contacted_present u n = record { device = u.device; kept = met u.kept n }
+abbrev pub contacted_present : UnitView → Nexus → JudgedUnit
+contacted_present u n = record { device = u.device; kept = after_contact u.kept n }
 
 -- a judged command has a record with the next number, and so has its reply
-abbrev pub recorded : UnitView → Nexus → Act → Present × Finding × Reply → UnitView × Reply
+abbrev pub recorded : UnitView → Nexus → Act → JudgedUnit × Decision × Reply → UnitView × Reply
 recorded u n act answer = (
-  with_entry u answer.0 (entry_of (last_number u + 1) (Some n) act answer.1 answer.2.status answer.2.sense),
+  with_entry u answer.0 (record_of (last_number u + 1) (Some n) act answer.1 answer.2.status answer.2.sense),
   numbered answer.2 (last_number u + 1),
 )
 
@@ -78,14 +78,14 @@ LacksRecord x = (x.room ≡ 0) ⊎ (last_number x.unit + 1 ≡ 2 ^ 64)
 -- a command is BUSY only where it may take memory beside the room for its record, or there is no slot for the sender, no room or no number
 abbrev pub IsBusyOnlyFor : UnitWithRoom → Nexus → (cdb bytes : List ℕ) → Reply → Type 0
 IsBusyOnlyFor x n cdb bytes reply = reply.status ≡ Busy
-    → (takes_memory (contacted_present x.unit n) n (spelled (kind_of x.unit.device) cdb bytes) ≡ true)
+    → (takes_memory (contacted_present x.unit n) n (decoded_command (kind_of x.unit.device) cdb bytes) ≡ true)
     ⊎ ((has_room x.unit.kept n ≡ false) ⊎ LacksRecord x)
 
 -- the record of an event that isn't a command
 abbrev pub event_of : (number : ℕ) → Option Nexus → Act → Record
-event_of number nexus act = entry_of number nexus act (at_stage Device) Good None
+event_of number nexus act = record_of number nexus act (at_stage Device) Good None
 
-abbrev pub with_event : UnitView → Option Nexus → Act → Present → UnitView
+abbrev pub with_event : UnitView → Option Nexus → Act → JudgedUnit → UnitView
 with_event u nexus act now = with_entry u now (event_of (last_number u + 1) nexus act)
 
 -- the unit after the loss of a nexus that has a slot, and after a reset, by which the device is reset too
@@ -108,8 +108,8 @@ abbrev pub Resets : UnitView → UnitView × ℕ → Type 0
 Resets u new = HasNumber u × (new ≡ (resets u, last_number u + 1))
 
 -- GOOD for an event that isn't a command, with the number of its record, 0 where it has none
-abbrev pub done : ℕ → Reply
-done number = numbered (good []) number
+abbrev pub event_reply : ℕ → Reply
+event_reply number = numbered (good []) number
 
 abbrev pub number_or_0 : Option ℕ → ℕ
 number_or_0 None = 0
@@ -119,11 +119,11 @@ number_or_0 (Some number) = number
 abbrev pub IsLost : UnitView → Nexus → UnitView × Reply → Type 0
 IsLost u n new =
     ((new ≡ (u, busy)) × (has_slot u.kept.slots n ≡ true))
-    ⊎ ((number : Option ℕ) × Loses u n (new.0, number) × (new.1 ≡ done (number_or_0 number)))
+    ⊎ ((number : Option ℕ) × Loses u n (new.0, number) × (new.1 ≡ event_reply (number_or_0 number)))
 
 -- a reset of a unit: BUSY with nothing changed, or the reset
 abbrev pub IsReset : UnitView → UnitView × Reply → Type 0
-IsReset u new = (new ≡ (u, busy)) ⊎ ((number : ℕ) × Resets u (new.0, number) × (new.1 ≡ done number))
+IsReset u new = (new ≡ (u, busy)) ⊎ ((number : ℕ) × Resets u (new.0, number) × (new.1 ≡ event_reply number))
 
 -- once its records are handed out: the present is the base
 abbrev pub drained : UnitView → UnitView

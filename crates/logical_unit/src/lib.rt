@@ -2,8 +2,8 @@
 #![tactic(auto)]
 
 mod audit;
-mod begun;
 mod medium_fault;
+mod move_judgement;
 mod moves;
 mod receipt;
 mod route;

@@ -1,7 +1,7 @@
 ghost use Rattle.std.specs.Prelude.{◌≡◌, ◌≢◌, ◌⊎◌, ◌<◌, ◌+◌, [], ◌∷◌, ◌++◌, true, Ok, Err, IsOk, Some, None, IfOk, OnOk, IfErr, OnErr};
 ghost use Rattle.scsi_cdb.specs.declared.kind.Kind.TheVariants.{Changer};
 ghost use Rattle.device_server.specs.View.{kind_of, drives_of, held_in};
-ghost use Rattle.logical_unit.specs.Begun.{Spells, HasWays, Halts, AwaitsEnd, Finishes};
+ghost use Rattle.logical_unit.specs.MoveJudgement.{DecodesTo, HasWays, StopsMove, AwaitsEnd, Finishes};
 ghost use Rattle.logical_unit.specs.Contents.{SameContents, MayNotChange};
 ghost use Rattle.logical_unit.specs.Medium.{taken_out, put_in};
 ghost use Rattle.logical_unit.specs.Move.{TwoDrives, given, unloaded, loaded, passed, carried_one, carried_two, MovesOne, MovesTwo, OneIsBusyOnlyFor, TwoAreBusyOnlyFor, numbers_of};
@@ -9,13 +9,13 @@ ghost use Rattle.logical_unit.specs.Route.{named, route_of};
 ghost use Rattle.logical_unit.specs.Step.{HasNumber, LacksRecord};
 ghost use Rattle.logical_unit.specs.UnitView.{last_number, with_device};
 
-use crate::begun::{Begun, Halt};
+use crate::move_judgement::{MoveJudgement, MoveStop};
 use crate::receipt::Receipt;
 use crate::route::{Route, route_of};
 use crate::unit::LogicalUnit;
 use audit_log::Act;
 use device_server::{DeviceServer, Payload};
-use judgement::{Finding, Reply};
+use judgement::{Decision, Reply};
 use scsi_nexus::Nexus;
 use scsi_sense::Condition;
 use std::alloc::Global;
@@ -57,22 +57,22 @@ fn unload<D: DeviceServer>(
     changer: &mut LogicalUnit<D>,
     drive: &mut LogicalUnit<D>,
     route: Route,
-) -> Result<u64, Halt>
+) -> Result<u64, MoveStop>
     requires ways { HasWays changer.old.unit.device route }
     requires to { route.to ≡ None }
     ensures ok { OnOk result (unloaded changer.old.unit.device drive.old.unit route ≡ Ok (changer.new.unit.device, drive.new.unit)) }
     ensures number { IfOk result (λ number. HasNumber drive.old.unit × (number ≡ last_number drive.old.unit + 1)) }
     ensures last { OnOk result (last_number drive.new.unit ≡ last_number drive.old.unit + 1) }
     ensures changer { changer.new ≡ with_device changer.old changer.new.unit.device }
-    ensures err { IfErr result (Halts (unloaded changer.old.unit.device drive.old.unit route) (LacksRecord drive.old)) }
+    ensures err { IfErr result (StopsMove (unloaded changer.old.unit.device drive.old.unit route) (LacksRecord drive.old)) }
     ensures same { OnErr result ((changer.new ≡ changer.old) × (drive.new.unit ≡ drive.old.unit)) }
 {
     let mark = changer.held(route.source);
     if let Err(condition) = drive.gives(mark) {
-        return Err(Halt::Refused(condition));
+        return Err(MoveStop::Refused(condition));
     }
     if !drive.reserve() {
-        return Err(Halt::Busy);
+        return Err(MoveStop::Busy);
     }
     let (volume, number) = take_out(drive);
     changer.put_at(route.destination, volume);
@@ -85,21 +85,21 @@ fn load<D: DeviceServer>(
     changer: &mut LogicalUnit<D>,
     drive: &mut LogicalUnit<D>,
     route: Route,
-) -> Result<u64, Halt>
+) -> Result<u64, MoveStop>
     requires ways { HasWays changer.old.unit.device route }
     requires from { route.from ≡ None }
     ensures ok { OnOk result (loaded changer.old.unit.device drive.old.unit route ≡ Ok (changer.new.unit.device, drive.new.unit)) }
     ensures number { IfOk result (λ number. HasNumber drive.old.unit × (number ≡ last_number drive.old.unit + 1)) }
     ensures last { OnOk result (last_number drive.new.unit ≡ last_number drive.old.unit + 1) }
     ensures changer { changer.new ≡ with_device changer.old changer.new.unit.device }
-    ensures err { IfErr result (Halts (loaded changer.old.unit.device drive.old.unit route) (LacksRecord drive.old)) }
+    ensures err { IfErr result (StopsMove (loaded changer.old.unit.device drive.old.unit route) (LacksRecord drive.old)) }
     ensures same { OnErr result ((changer.new ≡ changer.old) × (drive.new.unit ≡ drive.old.unit)) }
 {
     if !drive.takes() {
-        return Err(Halt::Refused(Condition::InternalTargetFailure));
+        return Err(MoveStop::Refused(Condition::InternalTargetFailure));
     }
     if !drive.reserve() {
-        return Err(Halt::Busy);
+        return Err(MoveStop::Busy);
     }
     let volume = changer.take_at(route.source);
     let tag = volume.tag;
@@ -114,28 +114,28 @@ fn pass<D: DeviceServer>(
     giver: &mut LogicalUnit<D>,
     taker: &mut LogicalUnit<D>,
     route: Route,
-) -> Result<(u64, u64), Halt>
+) -> Result<(u64, u64), MoveStop>
     ensures ok { OnOk result (passed changer.old.unit.device giver.old.unit taker.old.unit route ≡ Ok (changer.new.unit.device, giver.new.unit, taker.new.unit)) }
     ensures giver { IfOk result (λ it. HasNumber giver.old.unit × (it.0 ≡ last_number giver.old.unit + 1)) }
     ensures last_giver { OnOk result (last_number giver.new.unit ≡ last_number giver.old.unit + 1) }
     ensures taker { IfOk result (λ it. HasNumber taker.old.unit × (it.1 ≡ last_number taker.old.unit + 1)) }
     ensures last_taker { OnOk result (last_number taker.new.unit ≡ last_number taker.old.unit + 1) }
     ensures changer { changer.new ≡ with_device changer.old changer.new.unit.device }
-    ensures err { IfErr result (Halts (passed changer.old.unit.device giver.old.unit taker.old.unit route) (LacksRecord giver.old ⊎ LacksRecord taker.old)) }
+    ensures err { IfErr result (StopsMove (passed changer.old.unit.device giver.old.unit taker.old.unit route) (LacksRecord giver.old ⊎ LacksRecord taker.old)) }
     ensures same { OnErr result ((changer.new ≡ changer.old) × (giver.new.unit ≡ giver.old.unit) × (taker.new.unit ≡ taker.old.unit)) }
 {
     let mark = changer.held(route.source);
     if let Err(condition) = giver.gives(mark) {
-        return Err(Halt::Refused(condition));
+        return Err(MoveStop::Refused(condition));
     }
     if !taker.takes() {
-        return Err(Halt::Refused(Condition::InternalTargetFailure));
+        return Err(MoveStop::Refused(Condition::InternalTargetFailure));
     }
     if !giver.reserve() {
-        return Err(Halt::Busy);
+        return Err(MoveStop::Busy);
     }
     if !taker.reserve() {
-        return Err(Halt::Busy);
+        return Err(MoveStop::Busy);
     }
     let (volume, given) = take_out(giver);
     let tag = volume.tag;
@@ -150,20 +150,20 @@ fn carry_one<D: DeviceServer>(
     changer: &mut LogicalUnit<D>,
     drive: &mut LogicalUnit<D>,
     route: Route,
-) -> Result<u64, Halt>
+) -> Result<u64, MoveStop>
     requires ways { HasWays changer.old.unit.device route }
     ensures ok { OnOk result (carried_one changer.old.unit.device drive.old.unit (Some route) ≡ Ok (changer.new.unit.device, drive.new.unit)) }
     ensures number { IfOk result (λ number. HasNumber drive.old.unit × (number ≡ last_number drive.old.unit + 1)) }
     ensures last { OnOk result (last_number drive.new.unit ≡ last_number drive.old.unit + 1) }
     ensures changer { changer.new ≡ with_device changer.old changer.new.unit.device }
-    ensures err { IfErr result (Halts (carried_one changer.old.unit.device drive.old.unit (Some route)) (LacksRecord drive.old)) }
+    ensures err { IfErr result (StopsMove (carried_one changer.old.unit.device drive.old.unit (Some route)) (LacksRecord drive.old)) }
     ensures same { OnErr result ((changer.new ≡ changer.old) × (drive.new.unit ≡ drive.old.unit)) }
 {
     match (route.from, route.to) {
         (Some(_), None) => unload(changer, drive, route),
         (None, Some(_)) => load(changer, drive, route),
         (None, None) | (Some(_), Some(_)) => {
-            Err(Halt::Refused(Condition::InternalTargetFailure))
+            Err(MoveStop::Refused(Condition::InternalTargetFailure))
         }
     }
 }
@@ -174,14 +174,14 @@ fn carry_two<D: DeviceServer>(
     low: &mut LogicalUnit<D>,
     high: &mut LogicalUnit<D>,
     route: Route,
-) -> Result<(u64, u64), Halt>
+) -> Result<(u64, u64), MoveStop>
     ensures ok { OnOk result (carried_two changer.old.unit.device (record { low = low.old.unit; high = high.old.unit }) (Some route) ≡ Ok (changer.new.unit.device, record { low = low.new.unit; high = high.new.unit })) }
     ensures low { IfOk result (λ it. HasNumber low.old.unit × (it.0 ≡ last_number low.old.unit + 1)) }
     ensures last_low { OnOk result (last_number low.new.unit ≡ last_number low.old.unit + 1) }
     ensures high { IfOk result (λ it. HasNumber high.old.unit × (it.1 ≡ last_number high.old.unit + 1)) }
     ensures last_high { OnOk result (last_number high.new.unit ≡ last_number high.old.unit + 1) }
     ensures changer { changer.new ≡ with_device changer.old changer.new.unit.device }
-    ensures err { IfErr result (Halts (carried_two changer.old.unit.device (record { low = low.old.unit; high = high.old.unit }) (Some route)) (LacksRecord low.old ⊎ LacksRecord high.old)) }
+    ensures err { IfErr result (StopsMove (carried_two changer.old.unit.device (record { low = low.old.unit; high = high.old.unit }) (Some route)) (LacksRecord low.old ⊎ LacksRecord high.old)) }
     ensures same { OnErr result ((changer.new ≡ changer.old) × (low.new.unit ≡ low.old.unit) × (high.new.unit ≡ high.old.unit)) }
 {
     if route.is_upward() {
@@ -189,7 +189,7 @@ fn carry_two<D: DeviceServer>(
     }
     match pass(changer, high, low, route) {
         Ok((high, low)) => Ok((low, high)),
-        Err(halt) => Err(halt),
+        Err(stop) => Err(stop),
     }
 }
 
@@ -199,20 +199,20 @@ fn finish<D: DeviceServer>(
     changer: &mut LogicalUnit<D>,
     nexus: Nexus,
     act: Act,
-    finding: Finding,
-    halt: Option<Halt>,
+    decision: Decision,
+    stop: Option<MoveStop>,
 ) -> Reply
-    requires awaits { AwaitsEnd changer.old.unit.kept nexus act finding }
+    requires awaits { AwaitsEnd changer.old.unit.kept nexus act decision }
     requires room { 0 < changer.old.room }
     requires number { HasNumber changer.old.unit }
-    ensures { Finishes changer.old changer.new nexus act finding halt result }
+    ensures { Finishes changer.old changer.new nexus act decision stop result }
 {
-    match halt {
-        None => changer.end(nexus, act, finding, Reply::good(Payload::none(alloc))),
-        Some(Halt::Refused(condition)) => {
-            changer.end(nexus, act, finding, Reply::check(alloc, condition))
+    match stop {
+        None => changer.end(nexus, act, decision, Reply::good(Payload::none(alloc))),
+        Some(MoveStop::Refused(condition)) => {
+            changer.end(nexus, act, decision, Reply::check(alloc, condition))
         }
-        Some(Halt::Busy) => Reply::busy(alloc),
+        Some(MoveStop::Busy) => Reply::busy(alloc),
     }
 }
 
@@ -240,18 +240,18 @@ pub fn move_one<D: DeviceServer>(
 {
     let lun = changer.lun();
     let drive_lun = drive.lun();
-    let route = spelled_route(changer, cdb);
-    let (act, finding) = match changer.begin(alloc, nexus, cdb, bytes, route) {
-        Begun::Answered(reply) => return Receipt::of(lun, reply),
-        Begun::Left(act, finding) => (act, finding),
+    let route = decoded_route(changer, cdb);
+    let (act, decision) = match changer.begin(alloc, nexus, cdb, bytes, route) {
+        MoveJudgement::Answered(reply) => return Receipt::of(lun, reply),
+        MoveJudgement::Left(act, decision) => (act, decision),
     };
     match carry_one(changer, drive, route) {
         Ok(number) => {
-            let reply = finish(alloc, changer, nexus, act, finding, None);
+            let reply = finish(alloc, changer, nexus, act, decision, None);
             Receipt::of(lun, reply).with(drive_lun, number)
         }
-        Err(halt) => {
-            let reply = finish(alloc, changer, nexus, act, finding, Some(halt));
+        Err(stop) => {
+            let reply = finish(alloc, changer, nexus, act, decision, Some(stop));
             Receipt::of(lun, reply)
         }
     }
@@ -277,28 +277,28 @@ pub fn move_two<D: DeviceServer>(
     let lun = changer.lun();
     let low_lun = low.lun();
     let high_lun = high.lun();
-    let route = spelled_route(changer, cdb);
-    let (act, finding) = match changer.begin(alloc, nexus, cdb, bytes, route) {
-        Begun::Answered(reply) => return Receipt::of(lun, reply),
-        Begun::Left(act, finding) => (act, finding),
+    let route = decoded_route(changer, cdb);
+    let (act, decision) = match changer.begin(alloc, nexus, cdb, bytes, route) {
+        MoveJudgement::Answered(reply) => return Receipt::of(lun, reply),
+        MoveJudgement::Left(act, decision) => (act, decision),
     };
     match carry_two(changer, low, high, route) {
         Ok(numbers) => {
-            let reply = finish(alloc, changer, nexus, act, finding, None);
+            let reply = finish(alloc, changer, nexus, act, decision, None);
             let receipt = Receipt::of(lun, reply).with(low_lun, numbers.0);
             receipt.with(high_lun, numbers.1)
         }
-        Err(halt) => {
-            let reply = finish(alloc, changer, nexus, act, finding, Some(halt));
+        Err(stop) => {
+            let reply = finish(alloc, changer, nexus, act, decision, Some(stop));
             Receipt::of(lun, reply)
         }
     }
 }
 
 /// The route that a CDB spells that names a drive.
-fn spelled_route<D: DeviceServer>(changer: &LogicalUnit<D>, cdb: &[u8]) -> Route
+fn decoded_route<D: DeviceServer>(changer: &LogicalUnit<D>, cdb: &[u8]) -> Route
     requires { named (drives_of changer.now.unit.device) cdb.now ≢ [] }
-    ensures spells { Spells (drives_of changer.now.unit.device) cdb.now result }
+    ensures decodes { DecodesTo (drives_of changer.now.unit.device) cdb.now result }
     ensures route { route_of (drives_of changer.now.unit.device) cdb.now ≡ Some result }
     ensures changer { kind_of changer.now.unit.device ≡ Changer }
 {

@@ -1,12 +1,10 @@
 ghost use Rattle.std.specs.Prelude.{◌≡◌, IfSome};
-ghost use Rattle.logical_unit.specs.Begun.{Spells};
+ghost use Rattle.logical_unit.specs.MoveJudgement.{DecodesTo};
 ghost use Rattle.logical_unit.specs.Route.{drive_at, route_of, named};
 
 use arrayvec::ArrayVec;
 use scsi_cdb::{Kind, Request, decode};
-
-/// The address of the first data transfer element, the drive's at logical unit 1.
-const FIRST_DATA_TRANSFER: u16 = 0x0100;
+use tape_medium::FIRST_DATA_TRANSFER;
 
 /// The ends of a MOVE MEDIUM by their element addresses, and the drives among them by logical unit number.
 #[derive(Clone, Copy, Debug, PartialEq, Eq)]
@@ -48,7 +46,7 @@ fn drive_at(drives: u16, address: u16) -> Option<u16>
 /// The route that a CDB spells, at a changer with so many drives; other commands have none.
 pub(crate) fn route_of(drives: u16, cdb: &[u8]) -> Option<Route>
     ensures route { result ≡ route_of drives cdb.now }
-    ensures spells { IfSome result (Spells drives cdb.now) }
+    ensures decodes { IfSome result (DecodesTo drives cdb.now) }
 {
     let Ok(
         Request::MoveMedium {

@@ -1,11 +1,11 @@
 use crate::audit::span_lines;
-use crate::begun::Begun;
+use crate::move_judgement::MoveJudgement;
 use crate::route::Route;
 use audit_log::{Act, Record, Stage, Trail};
 use device_server::DeviceServer;
-use judgement::{Command, Finding, Kept, Reply, act_of, judge};
+use judgement::{Command, Decision, Reply, UnitState, act_of, judge};
 use scsi_nexus::Nexus;
-use scsi_sense::{Sense, Status};
+use scsi_sense::{Condition, Sense, Status};
 use std::alloc::{AllocError, Global};
 use std::marker::Model;
 
@@ -14,18 +14,18 @@ use std::marker::Model;
 // The trail, which each command writes, lies first: at the end it would share a cache line with what stands behind the unit in
 // memory, which another thread may be writing.
 #[derive(Drop)]
-pub(crate) struct UnitState {
+pub(crate) struct RecordedUnit {
     trail: Trail,
-    kept: Kept,
-    base: Kept,
+    kept: UnitState,
+    base: UnitState,
 }
 
-impl Model for UnitState {
+impl Model for RecordedUnit {
     ghost use Rattle.std.specs.Prelude.{◌≡◌};
-    ghost use Rattle.logical_unit.specs.UnitView.{Base, StateView};
+    ghost use Rattle.logical_unit.specs.UnitView.{Base, RecordedUnitView};
     ghost use Rattle.logical_unit.specs.Legal.{AreJudged, kept_after};
 
-    ghost Value = { StateView };
+    ghost Value = { RecordedUnitView };
 
     ghost view = { λ s. record {
       kept = s.kept;
@@ -37,22 +37,22 @@ impl Model for UnitState {
     ghost invariant = { λ s. AreJudged s.base s.trail.records × (s.kept ≡ kept_after s.base s.trail.records) };
 }
 
-impl UnitState {
+impl RecordedUnit {
     ghost use Rattle.std.specs.Prelude.{◌≡◌, ◌<◌, ◌+◌, ◌^◌, ◌⊎◌, ℕ, true, false, [], map, string_bytes, IfOk, IsTrue};
     ghost use Rattle.unit_attention.specs.Queues.{has_slot};
-    ghost use Rattle.logical_unit.specs.UnitView.{Base, StateView, last_in};
-    ghost use Rattle.judgement.specs.Kept.{at_power_on, has_room, is_prevented, HaveSlots};
+    ghost use Rattle.logical_unit.specs.UnitView.{Base, RecordedUnitView, last_in};
+    ghost use Rattle.judgement.specs.UnitState.{at_power_on, has_room, is_prevented, HaveSlots};
     ghost use Rattle.logical_unit.specs.Audit.{span_lines};
     ghost use Rattle.logical_unit.specs.Legal.{IsTrail};
 
     /// At power on, for a unit of this number among so many. The first record will have the number
     /// after `last`.
-    pub(crate) fn new(alloc: Global, lun: u8, units: u8, last: u64) -> UnitState
+    pub(crate) fn new(alloc: Global, lun: u8, units: u8, last: u64) -> RecordedUnit
         ensures { result ≡ record { kept = at_power_on lun units; base = record { kept = at_power_on lun units; last = last }; records = []; room = 0 } }
     {
-        UnitState {
-            kept: Kept::new(lun, units),
-            base: Kept::new(lun, units),
+        RecordedUnit {
+            kept: UnitState::new(lun, units),
+            base: UnitState::new(lun, units),
             trail: Trail::new(alloc, last),
         }
     }
@@ -85,10 +85,10 @@ impl UnitState {
     }
 
     /// Whether a nexus has a slot.
-    pub(crate) fn knows(&self, nexus: Nexus) -> bool
+    pub(crate) fn has_slot(&self, nexus: Nexus) -> bool
         ensures { result ≡ has_slot self.now.kept.slots nexus }
     {
-        self.kept.knows(nexus)
+        self.kept.has_slot(nexus)
     }
 
     /// Whether somebody prevents the removal of media. Each nexus that does has a slot, and is among them once.
@@ -130,23 +130,23 @@ impl UnitState {
     }
 }
 
-impl UnitState {
+impl RecordedUnit {
     ghost use Rattle.std.specs.Prelude.{◌≡◌, ◌<◌, ◌+◌, ◌^◌, ℕ, true, false, [], ◌∷◌, ◌++◌, Some, None, IfOk, OnErr, length, vec_capacity};
     ghost use Rattle.device_server.specs.View.{DeviceView, kind_of};
-    ghost use Rattle.judgement.specs.Commands.{spelled};
+    ghost use Rattle.judgement.specs.Commands.{decoded_command};
     ghost use Rattle.judgement.specs.Judge.{takes_memory};
     ghost use Rattle.unit_attention.specs.Queues.{has_slot};
     ghost use Rattle.audit_log.specs.declared.act.Act.TheVariants.{Loss, Reset, MediumIn, MediumOut};
-    ghost use Rattle.logical_unit.specs.UnitView.{Base, StateView, unit_of, last_in};
-    ghost use Rattle.judgement.specs.Kept.{has_room, is_prevented, with_medium};
+    ghost use Rattle.logical_unit.specs.UnitView.{Base, RecordedUnitView, unit_of, last_in};
+    ghost use Rattle.judgement.specs.UnitState.{has_room, is_prevented, with_medium};
     ghost use Rattle.logical_unit.specs.Step.{answered, contacted_present, event_of};
-    ghost use Rattle.judgement.specs.Kept.{kept_after_loss, kept_after_reset};
+    ghost use Rattle.judgement.specs.UnitState.{kept_after_loss, kept_after_reset};
     ghost use Rattle.logical_unit.specs.Legal.{IsTrail};
     ghost use Rattle.scsi_cdb.specs.declared.kind.Kind.TheVariants.{Changer};
     ghost use Rattle.device_server.specs.View.{drives_of};
     ghost use Rattle.judgement.specs.Replies.{IsWhole, numbered};
-    ghost use Rattle.logical_unit.specs.Begun.{Spells, Begins, StaysIf, IsLeftOpen, AwaitsEnd};
-    ghost use Rattle.logical_unit.specs.Step.{entry_of};
+    ghost use Rattle.logical_unit.specs.MoveJudgement.{DecodesTo, Begins, StaysIf, IsLeftOpen, AwaitsEnd};
+    ghost use Rattle.logical_unit.specs.Step.{record_of};
 
     /// One command, with its record. Want of memory changes nothing.
     pub(crate) fn answer<D: DeviceServer>(
@@ -162,13 +162,13 @@ impl UnitState {
         requires number { last_in self.old + 1 < 2 ^ 64 }
         ensures ok { IfOk result (λ reply. answered (unit_of (D.shown server.old.value) self.old) nexus cdb.now bytes.now ≡ (unit_of (D.shown server.new.value) self.new, reply)) }
         ensures err { OnErr result ((D.shown server.new.value ≡ D.shown server.old.value) × (self.new ≡ self.old)) }
-        ensures want { OnErr result (takes_memory (contacted_present (unit_of (D.shown server.old.value) self.old) nexus) nexus (spelled (kind_of (D.shown server.old.value)) cdb.now bytes.now) ≡ true) }
+        ensures want { OnErr result (takes_memory (contacted_present (unit_of (D.shown server.old.value) self.old) nexus) nexus (decoded_command (kind_of (D.shown server.old.value)) cdb.now bytes.now) ≡ true) }
     {
-        let spelled = Command::spelled(alloc, server.kind(), cdb, bytes)?;
-        let act = act_of(alloc, &spelled)?;
-        let (finding, reply) = judge(alloc, server, &mut self.kept, nexus, &spelled, bytes)?;
+        let decoded = Command::decode(alloc, server.kind(), cdb, bytes)?;
+        let act = act_of(alloc, &decoded)?;
+        let (decision, reply) = judge(alloc, server, &mut self.kept, nexus, &decoded, bytes)?;
         let trail = &mut self.trail;
-        let number = note(trail, Some(nexus), act, finding, reply.status, reply.sense);
+        let number = note(trail, Some(nexus), act, decision, reply.status, reply.sense);
         Ok(reply.numbered(number))
     }
 
@@ -182,9 +182,9 @@ impl UnitState {
         cdb: &[u8],
         bytes: &[u8],
         route: Route,
-    ) -> Result<Begun, AllocError>
+    ) -> Result<MoveJudgement, AllocError>
         requires kind { kind_of (D.shown server.old.value) ≡ Changer }
-        requires route { Spells (drives_of (D.shown server.old.value)) cdb.now route }
+        requires route { DecodesTo (drives_of (D.shown server.old.value)) cdb.now route }
         requires slot { has_room self.old.kept nexus ≡ true }
         requires room { 0 < self.old.room }
         requires number { last_in self.old + 1 < 2 ^ 64 }
@@ -192,32 +192,32 @@ impl UnitState {
         ensures stays { IfOk result (StaysIf self.old self.new) }
         ensures device { IfOk result (λ begun. IsLeftOpen begun → D.shown server.new.value ≡ D.shown server.old.value) }
         ensures err { OnErr result ((D.shown server.new.value ≡ D.shown server.old.value) × (self.new ≡ self.old)) }
-        ensures want { OnErr result (takes_memory (contacted_present (unit_of (D.shown server.old.value) self.old) nexus) nexus (spelled (kind_of (D.shown server.old.value)) cdb.now bytes.now) ≡ true) }
+        ensures want { OnErr result (takes_memory (contacted_present (unit_of (D.shown server.old.value) self.old) nexus) nexus (decoded_command (kind_of (D.shown server.old.value)) cdb.now bytes.now) ≡ true) }
     {
-        let spelled = Command::spelled(alloc, server.kind(), cdb, bytes)?;
-        let act = act_of(alloc, &spelled)?;
-        let (finding, reply) = judge(alloc, server, &mut self.kept, nexus, &spelled, bytes)?;
+        let decoded = Command::decode(alloc, server.kind(), cdb, bytes)?;
+        let act = act_of(alloc, &decoded)?;
+        let (decision, reply) = judge(alloc, server, &mut self.kept, nexus, &decoded, bytes)?;
         if is_left(reply.sense) {
-            return Ok(Begun::Left(act, finding));
+            return Ok(MoveJudgement::Left(act, decision));
         }
         let trail = &mut self.trail;
-        let number = note(trail, Some(nexus), act, finding, reply.status, reply.sense);
-        Ok(Begun::Answered(reply.numbered(number)))
+        let number = note(trail, Some(nexus), act, decision, reply.status, reply.sense);
+        Ok(MoveJudgement::Answered(reply.numbered(number)))
     }
 
     /// Ends a command that judgement left open by an answer, with its record.
-    pub(crate) fn end(&mut self, nexus: Nexus, act: Act, finding: Finding, reply: Reply) -> Reply
-        requires awaits { AwaitsEnd self.old.kept nexus act finding }
+    pub(crate) fn end(&mut self, nexus: Nexus, act: Act, decision: Decision, reply: Reply) -> Reply
+        requires awaits { AwaitsEnd self.old.kept nexus act decision }
         requires whole { IsWhole reply.status reply.sense }
         requires room { 0 < self.old.room }
         requires number { last_in self.old + 1 < 2 ^ 64 }
         ensures kept { self.new.kept ≡ self.old.kept }
         ensures base { self.new.base ≡ self.old.base }
-        ensures records { self.new.records ≡ self.old.records ++ entry_of (last_in self.old + 1) (Some nexus) act finding reply.status reply.sense ∷ [] }
+        ensures records { self.new.records ≡ self.old.records ++ record_of (last_in self.old + 1) (Some nexus) act decision reply.status reply.sense ∷ [] }
         ensures reply { result ≡ numbered reply (last_in self.old + 1) }
     {
         let trail = &mut self.trail;
-        let number = note(trail, Some(nexus), act, finding, reply.status, reply.sense);
+        let number = note(trail, Some(nexus), act, decision, reply.status, reply.sense);
         reply.numbered(number)
     }
 
@@ -290,18 +290,16 @@ impl UnitState {
 
 ghost use Rattle.std.specs.Prelude.{◌≡◌, ◌<◌, ◌+◌, ◌^◌, [], ◌∷◌, ◌++◌};
 ghost use Rattle.audit_log.specs.TrailView.{last_of};
-ghost use Rattle.logical_unit.specs.Step.{entry_of, event_of};
+ghost use Rattle.logical_unit.specs.Step.{record_of, event_of};
 ghost use Rattle.logical_unit.specs.Move.{is_left};
 
-/// The additional sense code of INTERNAL TARGET FAILURE.
-const INTERNAL_TARGET_FAILURE: u8 = 0x44;
-
-/// Whether the changer leaves its command to the drives.
+/// Whether the changer leaves its command to the drives: its device carries no move of theirs out, which it reports as a failure of its
+/// own.
 fn is_left(sense: Option<Sense>) -> bool
     ensures { result ≡ is_left sense }
 {
     match sense {
-        Some(sense) => sense.asc == INTERNAL_TARGET_FAILURE,
+        Some(sense) => sense.has_codes_of(Condition::InternalTargetFailure),
         None => false,
     }
 }
@@ -311,14 +309,14 @@ fn note(
     trail: &mut Trail,
     nexus: Option<Nexus>,
     act: Act,
-    finding: Finding,
+    decision: Decision,
     status: Status,
     sense: Option<Sense>,
 ) -> u64
     requires room { 0 < trail.old.room }
     requires number { last_of trail.old + 1 < 2 ^ 64 }
     ensures base { trail.new.base ≡ trail.old.base }
-    ensures records { trail.new.records ≡ trail.old.records ++ entry_of (last_of trail.old + 1) nexus act finding status sense ∷ [] }
+    ensures records { trail.new.records ≡ trail.old.records ++ record_of (last_of trail.old + 1) nexus act decision status sense ∷ [] }
     ensures number { result ≡ last_of trail.old + 1 }
 {
     let number = trail.last() + 1;
@@ -326,12 +324,12 @@ fn note(
         number,
         nexus,
         act,
-        stage: finding.stage,
-        cell: finding.cell,
-        rule: finding.rule,
+        stage: decision.stage,
+        cell: decision.cell,
+        rule: decision.rule,
         status,
         sense,
-        mode_changed: finding.mode_changed,
+        mode_changed: decision.mode_changed,
     });
     number
 }
@@ -344,6 +342,6 @@ fn note_event(trail: &mut Trail, nexus: Option<Nexus>, act: Act) -> u64
     ensures records { trail.new.records ≡ trail.old.records ++ event_of (last_of trail.old + 1) nexus act ∷ [] }
     ensures number { result ≡ last_of trail.old + 1 }
 {
-    let finding = Finding::at_stage(Stage::Device);
-    note(trail, nexus, act, finding, Status::Good, None)
+    let decision = Decision::at_stage(Stage::Device);
+    note(trail, nexus, act, decision, Status::Good, None)
 }

@@ -1,10 +1,10 @@
-use crate::begun::Begun;
 use crate::medium_fault::MediumFault;
+use crate::move_judgement::MoveJudgement;
 use crate::route::Route;
-use crate::state::UnitState;
+use crate::state::RecordedUnit;
 use audit_log::{Act, Record};
-use device_server::DeviceServer;
-use judgement::{Finding, Reply};
+use device_server::{DeviceServer, Payload};
+use judgement::{Decision, Reply};
 use scsi_cdb::Kind;
 use scsi_nexus::Nexus;
 use scsi_sense::Condition;
@@ -26,7 +26,7 @@ pub struct Busy;
 pub struct LogicalUnit<D: DeviceServer> {
     server: Box<D>,
     // the tables are some 25 KB: behind a pointer, a unit is small to move
-    state: Box<UnitState>,
+    state: Box<RecordedUnit>,
 }
 
 impl<D: DeviceServer> Model for LogicalUnit<D> {
@@ -41,7 +41,7 @@ impl<D: DeviceServer> LogicalUnit<D> {
     ghost use Rattle.std.specs.Prelude.{◌≡◌, map, string_bytes, IfOk, IfErr};
     ghost use Rattle.logical_unit.specs.Audit.{audit_of};
     ghost use Rattle.device_server.specs.View.{kind_of, drives_of, held_in};
-    ghost use Rattle.judgement.specs.Kept.{is_prevented, HaveSlots};
+    ghost use Rattle.judgement.specs.UnitState.{is_prevented, HaveSlots};
     ghost use Rattle.logical_unit.specs.Step.{made};
     ghost use Rattle.logical_unit.specs.Legal.{IsTrail};
     ghost use Rattle.logical_unit.specs.UnitView.{last_number};
@@ -71,7 +71,7 @@ impl<D: DeviceServer> LogicalUnit<D> {
         ensures ok { IfOk result (λ unit. unit ≡ record { unit = made (D.shown server.value) lun units last; room = 0 }) }
         ensures err { IfErr result (λ back. back.1.value ≡ server.value) }
     {
-        match Box::new(alloc, UnitState::new(alloc, lun, units, last)) {
+        match Box::new(alloc, RecordedUnit::new(alloc, lun, units, last)) {
             Ok(state) => Ok(LogicalUnit { server, state }),
             Err(refused) => Err((refused.into(), server)),
         }
@@ -150,7 +150,7 @@ impl<D: DeviceServer> LogicalUnit<D> {
     ghost use Rattle.std.specs.Prelude.{◌≡◌, ◌+◌, [], true, length, vec_capacity, Ok, IfOk, IfErr, OnOk, OnErr};
     ghost use Rattle.unit_attention.specs.Queues.{has_slot};
     ghost use Rattle.logical_unit.specs.UnitView.{UnitView, UnitWithRoom, last_number};
-    ghost use Rattle.logical_unit.specs.Step.{HasNumber, LacksRecord, IsBusyOnlyFor, Executes, Loses, Resets, drained};
+    ghost use Rattle.logical_unit.specs.Step.{HasNumber, LacksRecord, IsBusyOnlyFor, Executes, Loses, Resets, IsLost, IsReset, drained};
     ghost use Rattle.logical_unit.specs.Medium.{taken_out, put_in, IsRefusal};
     ghost use Rattle.logical_unit.specs.Contents.{SameContents, MayNotChange};
     ghost use Rattle.logical_unit.specs.Legal.{IsTrail};
@@ -187,7 +187,7 @@ impl<D: DeviceServer> LogicalUnit<D> {
         ensures known { OnErr result (has_slot self.old.unit.kept.slots nexus ≡ true) }
         ensures lacks { OnErr result (LacksRecord self.old) }
     {
-        if !self.state.knows(nexus) {
+        if !self.state.has_slot(nexus) {
             return Ok(None);
         }
         if !self.state.reserve() {
@@ -208,6 +208,26 @@ impl<D: DeviceServer> LogicalUnit<D> {
         }
         self.server.reset();
         Ok(self.state.reset())
+    }
+
+    /// An I_T nexus loss, and the reply to it: GOOD with the number of its record, 0 where it has none, or BUSY.
+    pub fn lose_reply(&mut self, alloc: Global, nexus: Nexus) -> Reply
+        ensures { IsLost self.old.unit nexus (self.new.unit, result) }
+    {
+        match self.lose(nexus) {
+            Ok(number) => event_reply(alloc, number.unwrap_or(0)),
+            Err(Busy) => Reply::busy(alloc),
+        }
+    }
+
+    /// A reset of this unit, and the reply to it: GOOD with the number of its record, or BUSY.
+    pub fn reset_reply(&mut self, alloc: Global) -> Reply
+        ensures { IsReset self.old.unit (self.new.unit, result) }
+    {
+        match self.reset() {
+            Ok(number) => event_reply(alloc, number),
+            Err(Busy) => Reply::busy(alloc),
+        }
     }
 
     /// Takes the volume out of a drive, with the number of its record. It is refused in the order of the
@@ -289,8 +309,8 @@ impl<D: DeviceServer> LogicalUnit<D> {
     ghost use Rattle.scsi_cdb.specs.declared.kind.Kind.TheVariants.{Changer};
     ghost use Rattle.device_server.specs.View.{kind_of, drives_of, taken, put};
     ghost use Rattle.judgement.specs.Replies.{IsWhole};
-    ghost use Rattle.judgement.specs.Present.{Present};
-    ghost use Rattle.logical_unit.specs.Begun.{Spells, BeginsAt, AwaitsEnd};
+    ghost use Rattle.judgement.specs.JudgedUnit.{JudgedUnit};
+    ghost use Rattle.logical_unit.specs.MoveJudgement.{DecodesTo, BeginsAt, AwaitsEnd};
     ghost use Rattle.logical_unit.specs.Medium.{taken_out, put_in};
     ghost use Rattle.logical_unit.specs.Move.{given, noting};
     ghost use Rattle.logical_unit.specs.Step.{HasNumber, LacksRecord, recorded};
@@ -315,33 +335,33 @@ impl<D: DeviceServer> LogicalUnit<D> {
         cdb: &[u8],
         bytes: &[u8],
         route: Route,
-    ) -> Begun
+    ) -> MoveJudgement
         requires kind { kind_of self.old.unit.device ≡ Changer }
-        requires route { Spells (drives_of self.old.unit.device) cdb.now route }
+        requires route { DecodesTo (drives_of self.old.unit.device) cdb.now route }
         ensures { BeginsAt self.old self.new nexus cdb.now bytes.now route result }
     {
         if !self.state.has_room(nexus) {
-            return Begun::Answered(Reply::busy(alloc));
+            return MoveJudgement::Answered(Reply::busy(alloc));
         }
         if !self.state.reserve() {
-            return Begun::Answered(Reply::busy(alloc));
+            return MoveJudgement::Answered(Reply::busy(alloc));
         }
         let server = &mut self.server;
         let Ok(begun) = self.state.begin(alloc, server, nexus, cdb, bytes, route) else {
-            return Begun::Answered(Reply::busy(alloc));
+            return MoveJudgement::Answered(Reply::busy(alloc));
         };
         begun
     }
 
     /// Ends a command that judgement left open by an answer, with its record.
-    pub(crate) fn end(&mut self, nexus: Nexus, act: Act, finding: Finding, reply: Reply) -> Reply
-        requires awaits { AwaitsEnd self.old.unit.kept nexus act finding }
+    pub(crate) fn end(&mut self, nexus: Nexus, act: Act, decision: Decision, reply: Reply) -> Reply
+        requires awaits { AwaitsEnd self.old.unit.kept nexus act decision }
         requires whole { IsWhole reply.status reply.sense }
         requires room { 0 < self.old.room }
         requires number { HasNumber self.old.unit }
-        ensures { (self.new.unit, result) ≡ recorded self.old.unit nexus act (record { device = self.old.unit.device; kept = self.old.unit.kept }, finding, reply) }
+        ensures { (self.new.unit, result) ≡ recorded self.old.unit nexus act (record { device = self.old.unit.device; kept = self.old.unit.kept }, decision, reply) }
     {
-        self.state.end(nexus, act, finding, reply)
+        self.state.end(nexus, act, decision, reply)
     }
 
     /// Takes a volume out of an element of a changer.
@@ -407,6 +427,14 @@ ghost use Rattle.std.specs.Prelude.{◌≡◌, ℕ, Ok, IsOk, is_ok, is_err};
 ghost use Rattle.scsi_cdb.specs.declared.kind.Kind.TheVariants.{Drive};
 ghost use Rattle.device_server.specs.View.{kind_of, taken, put};
 ghost use Rattle.logical_unit.specs.Move.{same_tag, names_held};
+ghost use Rattle.logical_unit.specs.Step.{event_reply};
+
+/// GOOD for an event that isn't a command, with the number of its record, 0 where it has none.
+fn event_reply(alloc: Global, number: u64) -> Reply
+    ensures { result ≡ event_reply number }
+{
+    Reply::good(Payload::none(alloc)).numbered(number)
+}
 
 fn is_same_tag(tag: VolumeTag, other: VolumeTag) -> bool
     ensures { result ≡ same_tag tag other }

@@ -1,3 +1,3 @@
 pub mod Rising
-pub mod Alike
+pub mod SameEntries
 pub mod Places

@@ -4,7 +4,7 @@ use Rattle.scsi_sense.specs.declared.condition.Condition.TheVariants.{LogicalUni
 use Rattle.audit_log.specs.declared.record.Record.{Record}
 use Rattle.judgement.specs.Replies.{AnswersAbsent, busy, check, good}
 use Rattle.judgement.specs.declared.reply.Reply.{Reply}
-use Rattle.judgement.specs.KeptView.{KeptView}
+use Rattle.judgement.specs.UnitStateView.{UnitStateView}
 use Rattle.logical_unit.specs.Legal.{IsTrail}
 use Rattle.logical_unit.specs.UnitView.{Base}
 
@@ -26,4 +26,4 @@ RefusesAsAbsent units lun reply = units ≤ lun → (reply ≡ busy) ⊎ (reply 
 
 -- the records lead as a legal trail from one base to what is kept after them
 abbrev pub IsSomeTrail : List Record → Type 0
-IsSomeTrail es = (base : Base) × (now : KeptView) × IsTrail base es now
+IsSomeTrail es = (base : Base) × (now : UnitStateView) × IsTrail base es now

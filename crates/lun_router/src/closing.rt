@@ -8,7 +8,7 @@ use crate::library::Library;
 use crate::locked::Locked;
 use crate::seat::Seat;
 use device_server::DeviceServer;
-use kept_unit::{Entry, Kept, Site};
+use kept_unit::{Entry, Kept, UnitLedger};
 use logical_unit::LogicalUnit;
 use std::alloc::{AllocError, Global};
 use thiserror::Error;
@@ -39,7 +39,14 @@ pub struct Histories<D: DeviceServer> {
 
 /// What lay under the locks.
 #[derive(Drop)]
-struct Opened<L0: Site, L1: Site, L2: Site, L3: Site, L4: Site, D: DeviceServer> {
+struct TakenUnits<
+    L0: UnitLedger,
+    L1: UnitLedger,
+    L2: UnitLedger,
+    L3: UnitLedger,
+    L4: UnitLedger,
+    D: DeviceServer,
+> {
     changer: Kept<0, L0, D>,
     first: Kept<1, L1, D>,
     second: Option<Kept<2, L2, D>>,
@@ -48,7 +55,7 @@ struct Opened<L0: Site, L1: Site, L2: Site, L3: Site, L4: Site, D: DeviceServer>
 }
 
 /// What lay under a lock, if there is one.
-fn taken_out<const LUN: u8, L: Site, D: DeviceServer>(
+fn taken_out<const LUN: u8, L: UnitLedger, D: DeviceServer>(
     lock: Option<Locked<LUN, L, D>>,
 ) -> Option<Kept<LUN, L, D>>
     ensures { is_some result ≡ is_some lock }
@@ -60,7 +67,7 @@ fn taken_out<const LUN: u8, L: Site, D: DeviceServer>(
 }
 
 /// Puts a unit under a lock again, if there is one.
-fn put_back<const LUN: u8, L: Site, D: DeviceServer>(
+fn put_back<const LUN: u8, L: UnitLedger, D: DeviceServer>(
     kept: Option<Kept<LUN, L, D>>,
 ) -> Option<Locked<LUN, L, D>>
     ensures { is_some result ≡ is_some kept }
@@ -72,7 +79,7 @@ fn put_back<const LUN: u8, L: Site, D: DeviceServer>(
 }
 
 /// Whether the entries of all seats agree with the trail of a unit, if there is one.
-fn agree_if_there<const LUN: u8, L: Site, D: DeviceServer>(
+fn agree_if_there<const LUN: u8, L: UnitLedger, D: DeviceServer>(
     alloc: Global,
     kept: &Option<Kept<LUN, L, D>>,
     seats: &[&[Entry]],
@@ -86,7 +93,7 @@ fn agree_if_there<const LUN: u8, L: Site, D: DeviceServer>(
 }
 
 /// The unit that was kept, if there is one.
-fn unit_if_there<const LUN: u8, L: Site, D: DeviceServer>(
+fn unit_if_there<const LUN: u8, L: UnitLedger, D: DeviceServer>(
     kept: Option<Kept<LUN, L, D>>,
 ) -> Option<LogicalUnit<D>>
     ensures unit { option_map (λ u. u.unit) result ≡ option_map (λ k. k.unit) kept }
@@ -98,14 +105,14 @@ fn unit_if_there<const LUN: u8, L: Site, D: DeviceServer>(
     }
 }
 
-impl<L0: Site, L1: Site, L2: Site, L3: Site, L4: Site, D: DeviceServer> Opened<
-    L0,
-    L1,
-    L2,
-    L3,
-    L4,
-    D,
-> {
+impl<
+    L0: UnitLedger,
+    L1: UnitLedger,
+    L2: UnitLedger,
+    L3: UnitLedger,
+    L4: UnitLedger,
+    D: DeviceServer,
+> TakenUnits<L0, L1, L2, L3, L4, D> {
     /// Whether the entries of all seats agree with each trail.
     fn agree(&self, alloc: Global, seats: &[&[Entry]]) -> Result<bool, AllocError>
         ensures changer { IfOk result (λ agreed. IsTrue agreed → Agrees (λ s. s.now) 0 L0.since self.now.changer.unit.base.last self.now.changer.unit.records seats.now) }
@@ -132,7 +139,7 @@ impl<L0: Site, L1: Site, L2: Site, L3: Site, L4: Site, D: DeviceServer> Opened<
         ensures fourth { option_map (λ u. u.unit) result.fourth ≡ option_map (λ k. k.unit) self.fourth }
         ensures there { (is_some result.second ≡ is_some self.second) × (is_some result.third ≡ is_some self.third) × (is_some result.fourth ≡ is_some self.fourth) }
     {
-        let Opened {
+        let TakenUnits {
             changer,
             first,
             second,
@@ -150,7 +157,7 @@ impl<L0: Site, L1: Site, L2: Site, L3: Site, L4: Site, D: DeviceServer> Opened<
 }
 
 /// The entries of each seat.
-fn told<'a, L0: Site, L1: Site, L2: Site, L3: Site, L4: Site>(
+fn told<'a, L0: UnitLedger, L1: UnitLedger, L2: UnitLedger, L3: UnitLedger, L4: UnitLedger>(
     alloc: Global,
     seats: &'a [Seat<L0, L1, L2, L3, L4>],
 ) -> Result<Vec<&'a [Entry]>, AllocError>
@@ -164,9 +171,16 @@ fn told<'a, L0: Site, L1: Site, L2: Site, L3: Site, L4: Site>(
 }
 
 /// Whether the seats agree with each trail.
-fn agreed<L0: Site, L1: Site, L2: Site, L3: Site, L4: Site, D: DeviceServer>(
+fn agreed<
+    L0: UnitLedger,
+    L1: UnitLedger,
+    L2: UnitLedger,
+    L3: UnitLedger,
+    L4: UnitLedger,
+    D: DeviceServer,
+>(
     alloc: Global,
-    units: &Opened<L0, L1, L2, L3, L4, D>,
+    units: &TakenUnits<L0, L1, L2, L3, L4, D>,
     seats: &[Seat<L0, L1, L2, L3, L4>],
 ) -> Result<bool, AllocError>
     ensures changer { IfOk result (λ agreed. IsTrue agreed → Agrees (λ s. s.entries) 0 L0.since units.now.changer.unit.base.last units.now.changer.unit.records seats.now) }
@@ -179,18 +193,18 @@ fn agreed<L0: Site, L1: Site, L2: Site, L3: Site, L4: Site, D: DeviceServer>(
     units.agree(alloc, slices.as_slice())
 }
 
-impl<L0: Site, L1: Site, L2: Site, L3: Site, L4: Site, D: DeviceServer, G: Gate> Library<
-    L0,
-    L1,
-    L2,
-    L3,
-    L4,
-    D,
-    G,
-> {
+impl<
+    L0: UnitLedger,
+    L1: UnitLedger,
+    L2: UnitLedger,
+    L3: UnitLedger,
+    L4: UnitLedger,
+    D: DeviceServer,
+    G: Gate,
+> Library<L0, L1, L2, L3, L4, D, G> {
     /// Ends the library, with all its seats. Where the answer is the units, each number that a unit has used since the
     /// library was opened stands in exactly one entry, and each entry's numbers were used; the record of an entry is that of
-    /// its call, with its nexus, deed, status and sense data, and a move's records at drives say that a volume was taken out
+    /// its call, with its nexus, kind of act, status and sense data, and a move's records at drives say that a volume was taken out
     /// or came in, without a nexus; along one seat the numbers of a unit rise. Records that were handed out are compared by
     /// number alone. A refusal hands library and seats back. Takes memory for the units' numbers.
     pub fn close(
@@ -229,7 +243,7 @@ impl<L0: Site, L1: Site, L2: Site, L3: Site, L4: Site, D: DeviceServer, G: Gate>
             fourth,
             gate,
         } = self;
-        let units = Opened {
+        let units = TakenUnits {
             changer: changer.into_inner(),
             first: first.into_inner(),
             second: taken_out(second),
@@ -247,17 +261,25 @@ impl<L0: Site, L1: Site, L2: Site, L3: Site, L4: Site, D: DeviceServer, G: Gate>
 }
 
 /// The library again, as it was.
-fn locked_again<L0: Site, L1: Site, L2: Site, L3: Site, L4: Site, D: DeviceServer, G: Gate>(
+fn locked_again<
+    L0: UnitLedger,
+    L1: UnitLedger,
+    L2: UnitLedger,
+    L3: UnitLedger,
+    L4: UnitLedger,
+    D: DeviceServer,
+    G: Gate,
+>(
     seats: usize,
     count: u8,
-    units: Opened<L0, L1, L2, L3, L4, D>,
+    units: TakenUnits<L0, L1, L2, L3, L4, D>,
     gate: G,
 ) -> Library<L0, L1, L2, L3, L4, D, G>
     requires { HasUnits count units.second units.third units.fourth }
     ensures seats { result.seats ≡ seats }
     ensures units { result.units ≡ count }
 {
-    let Opened {
+    let TakenUnits {
         changer,
         first,
         second,

@@ -1,7 +1,7 @@
-//! A library whose units lie under locks of their own, shared by many seats: each answer is that of its own call.
+//! A library whose units lie under locks of their own, shared by many seats: each answer is that of its own call. No input or
+//! output here; it waits for locks, and for nothing else.
 #![tactic(auto)]
 
-mod apart;
 mod closing;
 mod gate;
 mod library;
@@ -9,12 +9,13 @@ mod locked;
 mod locks;
 mod moves;
 mod opening;
+mod raw_command;
 mod routes;
 mod seat;
-mod sent;
+mod units_by_lun;
 
 pub use closing::{CloseFault, Histories};
 pub use gate::{Gate, Pass};
 pub use library::Library;
 pub use opening::Blanks;
-pub use seat::{Parts, Seat};
+pub use seat::{Seat, SeatShares};

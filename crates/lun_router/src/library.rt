@@ -1,13 +1,30 @@
 use crate::gate::Gate;
 use crate::locked::Locked;
 use device_server::DeviceServer;
-use kept_unit::Site;
+use kept_unit::UnitLedger;
 use std::marker::Model;
 
 /// The units of a library, each under a lock of its own: a changer as logical unit 0 and one to four drives. Contracts see
 /// how many seats were made, and how many units there are.
+///
+/// ```text
+/// let (library, mut seats) = Library::new(alloc, core, 8, blanks, Pass)?;
+/// // A thread each, with a seat of its own:
+/// let done = library.submit(rt, alloc, &mut seats[0], nexus, 1, cdb, bytes);
+/// let reply = &done.receipt().reply;
+/// // Once they have ended:
+/// let histories = library.close(alloc, seats)?;
+/// ```
 #[derive(Drop)]
-pub struct Library<L0: Site, L1: Site, L2: Site, L3: Site, L4: Site, D: DeviceServer, G: Gate> {
+pub struct Library<
+    L0: UnitLedger,
+    L1: UnitLedger,
+    L2: UnitLedger,
+    L3: UnitLedger,
+    L4: UnitLedger,
+    D: DeviceServer,
+    G: Gate,
+> {
     pub(crate) seats: usize,
     pub(crate) count: u8,
     pub(crate) changer: Locked<0, L0, D>,
@@ -18,8 +35,15 @@ pub struct Library<L0: Site, L1: Site, L2: Site, L3: Site, L4: Site, D: DeviceSe
     pub(crate) gate: G,
 }
 
-impl<L0: Site, L1: Site, L2: Site, L3: Site, L4: Site, D: DeviceServer, G: Gate> Model
-    for Library<L0, L1, L2, L3, L4, D, G> {
+impl<
+    L0: UnitLedger,
+    L1: UnitLedger,
+    L2: UnitLedger,
+    L3: UnitLedger,
+    L4: UnitLedger,
+    D: DeviceServer,
+    G: Gate,
+> Model for Library<L0, L1, L2, L3, L4, D, G> {
     ghost use Rattle.lun_router.specs.Opening.{LibraryValue, HasUnits};
 
     ghost Value = { LibraryValue };
@@ -29,15 +53,15 @@ impl<L0: Site, L1: Site, L2: Site, L3: Site, L4: Site, D: DeviceServer, G: Gate>
     ghost invariant = { λ l. HasUnits l.count l.second l.third l.fourth };
 }
 
-impl<L0: Site, L1: Site, L2: Site, L3: Site, L4: Site, D: DeviceServer, G: Gate> Library<
-    L0,
-    L1,
-    L2,
-    L3,
-    L4,
-    D,
-    G,
-> {
+impl<
+    L0: UnitLedger,
+    L1: UnitLedger,
+    L2: UnitLedger,
+    L3: UnitLedger,
+    L4: UnitLedger,
+    D: DeviceServer,
+    G: Gate,
+> Library<L0, L1, L2, L3, L4, D, G> {
     ghost use Rattle.std.specs.Prelude.{◌≡◌};
 
     /// How many units there are.

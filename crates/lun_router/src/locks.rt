@@ -7,72 +7,73 @@ ghost use Rattle.device_server.specs.View.{drives_of};
 ghost use Rattle.judgement.specs.Replies.{AnswersAbsent, busy, check};
 ghost use Rattle.judgement.specs.Commands.{act_of};
 ghost use Rattle.logical_unit.specs.Route.{named};
-ghost use Rattle.logical_unit.specs.Step.{done};
-ghost use Rattle.kept_unit.specs.declared.deed.Deed.TheVariants as Deed;
-ghost use Rattle.kept_unit.specs.Answers.{IsAnswer, ran, lost, was_reset, count_at, OnlyAt};
-ghost use Rattle.kept_unit.specs.Deeds.{deed_of, deed_if};
+ghost use Rattle.logical_unit.specs.Step.{event_reply};
+ghost use Rattle.kept_unit.specs.declared.act_kind.ActKind.TheVariants as kind;
+ghost use Rattle.kept_unit.specs.Answers as event;
+ghost use Rattle.kept_unit.specs.Answers.{IsAnswer, count_at, OnlyAt};
+ghost use Rattle.kept_unit.specs.ActKinds.{act_kind_of, act_kind_if};
 ghost use Rattle.kept_unit.specs.Keeping.{kind_at};
 ghost use Rattle.lun_router.specs.Answering.{IsSomeTrail};
 
 use crate::gate::Gate;
 use crate::locked::Locked;
-use crate::sent::Sent;
+use crate::raw_command::RawCommand;
 use audit_log::Record;
 use device_server::DeviceServer;
-use kept_unit::{Done, Kept, Site, move_kept_one, move_kept_two};
+use kept_unit::{Done, Kept, UnitLedger, move_kept_one, move_kept_two};
 use scsi_nexus::Nexus;
 use std::alloc::Global;
 use std::sync::Wait;
 use std::sync::ledger::Share;
 
 /// A command at the unit under this lock.
-pub(crate) fn step_at<'a, const LUN: u8, L: Site, D: DeviceServer, G: Gate, R: Wait>(
+pub(crate) fn step_at<'a, const LUN: u8, L: UnitLedger, D: DeviceServer, G: Gate, R: Wait>(
     rt: &R,
     alloc: Global,
     gate: &G,
     lock: &Locked<LUN, L, D>,
     part: &mut Share<L>,
-    sent: Sent<'a>,
+    raw: RawCommand<'a>,
 ) -> Done<'a>
     requires { part.old.parts ≡ 1 }
-    ensures answer { IsAnswer result (Some sent.entry.nexus) LUN (ran sent.entry.cdb.now sent.entry.bytes.now) }
-    ensures deed { result.deed ≡ deed_if result.numbers (deed_of (act_of (kind_at LUN) sent.entry.cdb.now sent.entry.bytes.now)) }
+    ensures answer { IsAnswer result (Some raw.entry.nexus) LUN (event.Command raw.entry.cdb.now raw.entry.bytes.now) }
+    ensures act { result.act ≡ act_kind_if result.numbers (act_kind_of (act_of (kind_at LUN) raw.entry.cdb.now raw.entry.bytes.now)) }
     ensures only { OnlyAt LUN result.numbers }
     ensures unnumbered { result.numbers ≡ [] → result.reply ≡ busy }
     ensures part { part.new.amount ≡ part.old.amount + count_at LUN result.numbers }
     ensures parts { part.new.parts ≡ 1 }
 {
-    let mut kept = lock.lock().lock(rt);
-    gate.inside(LUN, sent.nexus);
-    kept.step(alloc, part, sent.nexus, sent.cdb, sent.bytes)
+    let mut kept = lock.mutex().lock(rt);
+    gate.inside(LUN, raw.nexus);
+    kept.step(alloc, part, raw.nexus, raw.cdb, raw.bytes)
 }
 
 /// The same where the unit may be absent.
-pub(crate) fn step_if_there<'a, const LUN: u8, L: Site, D: DeviceServer, G: Gate, R: Wait>(
+pub(crate) fn step_if_there<'a, const LUN: u8, L: UnitLedger, D: DeviceServer, G: Gate, R: Wait>(
     rt: &R,
     alloc: Global,
     gate: &G,
     lock: &Option<Locked<LUN, L, D>>,
     part: &mut Share<L>,
-    sent: Sent<'a>,
+    raw: RawCommand<'a>,
 ) -> Done<'a>
     requires { part.old.parts ≡ 1 }
-    ensures answer { IsAnswer result (Some sent.entry.nexus) LUN (ran sent.entry.cdb.now sent.entry.bytes.now) }
-    ensures deed { result.deed ≡ deed_if result.numbers (deed_of (act_of (kind_at LUN) sent.entry.cdb.now sent.entry.bytes.now)) }
+    ensures answer { IsAnswer result (Some raw.entry.nexus) LUN (event.Command raw.entry.cdb.now raw.entry.bytes.now) }
+    ensures act { result.act ≡ act_kind_if result.numbers (act_kind_of (act_of (kind_at LUN) raw.entry.cdb.now raw.entry.bytes.now)) }
     ensures only { OnlyAt LUN result.numbers }
     ensures there { IsSome lock.now → result.numbers ≡ [] → result.reply ≡ busy }
-    ensures absent { IsNone lock.now → AnswersAbsent sent.entry.cdb.now result.reply }
+    ensures absent { IsNone lock.now → AnswersAbsent raw.entry.cdb.now result.reply }
     ensures part { part.new.amount ≡ part.old.amount + count_at LUN result.numbers }
     ensures parts { part.new.parts ≡ 1 }
 {
     match lock {
-        Some(lock) => step_at(rt, alloc, gate, lock, part, sent),
-        None => Done::absent(alloc, sent.nexus, LUN, sent.cdb, sent.bytes),
+        Some(lock) => step_at(rt, alloc, gate, lock, part, raw),
+        None => Done::absent(alloc, raw.nexus, LUN, raw.cdb, raw.bytes),
     }
 }
 
 /// The loss of a nexus at the unit under this lock.
-pub(crate) fn lose_at<const LUN: u8, L: Site, D: DeviceServer, R: Wait>(
+pub(crate) fn lose_at<const LUN: u8, L: UnitLedger, D: DeviceServer, R: Wait>(
     rt: &R,
     alloc: Global,
     lock: &Locked<LUN, L, D>,
@@ -80,19 +81,19 @@ pub(crate) fn lose_at<const LUN: u8, L: Site, D: DeviceServer, R: Wait>(
     nexus: Nexus,
 ) -> Done<'static>
     requires { part.old.parts ≡ 1 }
-    ensures answer { IsAnswer result (Some nexus) LUN lost }
-    ensures deed { result.deed ≡ deed_if result.numbers Deed.Loss }
+    ensures answer { IsAnswer result (Some nexus) LUN event.Loss }
+    ensures act { result.act ≡ act_kind_if result.numbers kind.Loss }
     ensures only { OnlyAt LUN result.numbers }
-    ensures unnumbered { result.numbers ≡ [] → (result.reply ≡ busy) ⊎ (result.reply ≡ done 0) }
+    ensures unnumbered { result.numbers ≡ [] → (result.reply ≡ busy) ⊎ (result.reply ≡ event_reply 0) }
     ensures part { part.new.amount ≡ part.old.amount + count_at LUN result.numbers }
     ensures parts { part.new.parts ≡ 1 }
 {
-    let mut kept = lock.lock().lock(rt);
+    let mut kept = lock.mutex().lock(rt);
     kept.lose(alloc, part, nexus)
 }
 
 /// The same where the unit may be absent.
-pub(crate) fn lose_if_there<const LUN: u8, L: Site, D: DeviceServer, R: Wait>(
+pub(crate) fn lose_if_there<const LUN: u8, L: UnitLedger, D: DeviceServer, R: Wait>(
     rt: &R,
     alloc: Global,
     lock: &Option<Locked<LUN, L, D>>,
@@ -100,10 +101,10 @@ pub(crate) fn lose_if_there<const LUN: u8, L: Site, D: DeviceServer, R: Wait>(
     nexus: Nexus,
 ) -> Done<'static>
     requires { part.old.parts ≡ 1 }
-    ensures answer { IsAnswer result (Some nexus) LUN lost }
-    ensures deed { result.deed ≡ deed_if result.numbers Deed.Loss }
+    ensures answer { IsAnswer result (Some nexus) LUN event.Loss }
+    ensures act { result.act ≡ act_kind_if result.numbers kind.Loss }
     ensures only { OnlyAt LUN result.numbers }
-    ensures there { IsSome lock.now → result.numbers ≡ [] → (result.reply ≡ busy) ⊎ (result.reply ≡ done 0) }
+    ensures there { IsSome lock.now → result.numbers ≡ [] → (result.reply ≡ busy) ⊎ (result.reply ≡ event_reply 0) }
     ensures absent { IsNone lock.now → result.reply ≡ check LogicalUnitNotSupported }
     ensures part { part.new.amount ≡ part.old.amount + count_at LUN result.numbers }
     ensures parts { part.new.parts ≡ 1 }
@@ -115,34 +116,34 @@ pub(crate) fn lose_if_there<const LUN: u8, L: Site, D: DeviceServer, R: Wait>(
 }
 
 /// A reset of the unit under this lock.
-pub(crate) fn reset_at<const LUN: u8, L: Site, D: DeviceServer, R: Wait>(
+pub(crate) fn reset_at<const LUN: u8, L: UnitLedger, D: DeviceServer, R: Wait>(
     rt: &R,
     alloc: Global,
     lock: &Locked<LUN, L, D>,
     part: &mut Share<L>,
 ) -> Done<'static>
     requires { part.old.parts ≡ 1 }
-    ensures answer { IsAnswer result None LUN was_reset }
-    ensures deed { result.deed ≡ deed_if result.numbers Deed.Reset }
+    ensures answer { IsAnswer result None LUN event.Reset }
+    ensures act { result.act ≡ act_kind_if result.numbers kind.Reset }
     ensures only { OnlyAt LUN result.numbers }
     ensures unnumbered { result.numbers ≡ [] → result.reply ≡ busy }
     ensures part { part.new.amount ≡ part.old.amount + count_at LUN result.numbers }
     ensures parts { part.new.parts ≡ 1 }
 {
-    let mut kept = lock.lock().lock(rt);
+    let mut kept = lock.mutex().lock(rt);
     kept.reset(alloc, part)
 }
 
 /// The same where the unit may be absent.
-pub(crate) fn reset_if_there<const LUN: u8, L: Site, D: DeviceServer, R: Wait>(
+pub(crate) fn reset_if_there<const LUN: u8, L: UnitLedger, D: DeviceServer, R: Wait>(
     rt: &R,
     alloc: Global,
     lock: &Option<Locked<LUN, L, D>>,
     part: &mut Share<L>,
 ) -> Done<'static>
     requires { part.old.parts ≡ 1 }
-    ensures answer { IsAnswer result None LUN was_reset }
-    ensures deed { result.deed ≡ deed_if result.numbers Deed.Reset }
+    ensures answer { IsAnswer result None LUN event.Reset }
+    ensures act { result.act ≡ act_kind_if result.numbers kind.Reset }
     ensures only { OnlyAt LUN result.numbers }
     ensures there { IsSome lock.now → result.numbers ≡ [] → result.reply ≡ busy }
     ensures absent { IsNone lock.now → result.reply ≡ check LogicalUnitNotSupported }
@@ -156,7 +157,7 @@ pub(crate) fn reset_if_there<const LUN: u8, L: Site, D: DeviceServer, R: Wait>(
 }
 
 /// The records of the unit under this lock, handed out. True, since the unit is there.
-pub(crate) fn drain_at<const LUN: u8, L: Site, D: DeviceServer, R: Wait>(
+pub(crate) fn drain_at<const LUN: u8, L: UnitLedger, D: DeviceServer, R: Wait>(
     rt: &R,
     lock: &Locked<LUN, L, D>,
     records: &mut Vec<Record>,
@@ -165,13 +166,13 @@ pub(crate) fn drain_at<const LUN: u8, L: Site, D: DeviceServer, R: Wait>(
     ensures there { result ≡ true }
     ensures trail { IsSomeTrail records.new.items }
 {
-    let mut kept = lock.lock().lock(rt);
+    let mut kept = lock.mutex().lock(rt);
     kept.drain_into(records);
     true
 }
 
 /// The same where the unit may be absent.
-pub(crate) fn drain_if_there<const LUN: u8, L: Site, D: DeviceServer, R: Wait>(
+pub(crate) fn drain_if_there<const LUN: u8, L: UnitLedger, D: DeviceServer, R: Wait>(
     rt: &R,
     lock: &Option<Locked<LUN, L, D>>,
     records: &mut Vec<Record>,
@@ -188,31 +189,38 @@ pub(crate) fn drain_if_there<const LUN: u8, L: Site, D: DeviceServer, R: Wait>(
 }
 
 /// A MOVE MEDIUM over the changer and the drive under this lock. Where the drive is absent, the changer alone answers.
-pub(crate) fn move_with_one<'a, const LUN: u8, C: Site, L: Site, D: DeviceServer, R: Wait>(
+pub(crate) fn move_with_one<
+    'a,
+    const LUN: u8,
+    C: UnitLedger,
+    L: UnitLedger,
+    D: DeviceServer,
+    R: Wait,
+>(
     rt: &R,
     alloc: Global,
     changer: &mut Kept<0, C, D>,
     lock: Option<&Locked<LUN, L, D>>,
     part: &mut Share<C>,
     drive_part: &mut Share<L>,
-    sent: Sent<'a>,
+    raw: RawCommand<'a>,
 ) -> Done<'a>
     requires part { part.old.parts ≡ 1 }
     requires drive_part { drive_part.old.parts ≡ 1 }
     requires drive { 0 < LUN }
-    requires named { named (drives_of changer.old.unit.device) sent.cdb.now ≡ LUN ∷ [] }
-    ensures answer { IsAnswer result (Some sent.entry.nexus) 0 (ran sent.entry.cdb.now sent.entry.bytes.now) }
-    ensures deed { result.deed ≡ deed_if result.numbers (deed_of (act_of Changer sent.entry.cdb.now sent.entry.bytes.now)) }
+    requires named { named (drives_of changer.old.unit.device) raw.cdb.now ≡ LUN ∷ [] }
+    ensures answer { IsAnswer result (Some raw.entry.nexus) 0 (event.Command raw.entry.cdb.now raw.entry.bytes.now) }
+    ensures act { result.act ≡ act_kind_if result.numbers (act_kind_of (act_of Changer raw.entry.cdb.now raw.entry.bytes.now)) }
     ensures only { (k : ℕ) → k ≢ 0 → k ≢ LUN → count_at k result.numbers ≡ 0 }
     ensures unnumbered { result.numbers ≡ [] → result.reply ≡ busy }
     ensures part { part.new.amount ≡ part.old.amount + count_at 0 result.numbers }
     ensures drive_part { drive_part.new.amount ≡ drive_part.old.amount + count_at LUN result.numbers }
     ensures parts { (part.new.parts ≡ 1) × (drive_part.new.parts ≡ 1) }
 {
-    let Sent { nexus, cdb, bytes } = sent;
+    let RawCommand { nexus, cdb, bytes } = raw;
     match lock {
         Some(lock) => {
-            let mut drive = lock.lock().lock(rt);
+            let mut drive = lock.mutex().lock(rt);
             move_kept_one(
                 alloc,
                 changer,
@@ -233,9 +241,9 @@ pub(crate) fn move_with_two<
     'a,
     const LOW: u8,
     const HIGH: u8,
-    C: Site,
-    L: Site,
-    H: Site,
+    C: UnitLedger,
+    L: UnitLedger,
+    H: UnitLedger,
     D: DeviceServer,
     R: Wait,
 >(
@@ -247,15 +255,15 @@ pub(crate) fn move_with_two<
     part: &mut Share<C>,
     low_part: &mut Share<L>,
     high_part: &mut Share<H>,
-    sent: Sent<'a>,
+    raw: RawCommand<'a>,
 ) -> Done<'a>
     requires part { part.old.parts ≡ 1 }
     requires low_part { low_part.old.parts ≡ 1 }
     requires high_part { high_part.old.parts ≡ 1 }
     requires drives { (0 < LOW) × (LOW < HIGH) }
-    requires named { named (drives_of changer.old.unit.device) sent.cdb.now ≡ LOW ∷ HIGH ∷ [] }
-    ensures answer { IsAnswer result (Some sent.entry.nexus) 0 (ran sent.entry.cdb.now sent.entry.bytes.now) }
-    ensures deed { result.deed ≡ deed_if result.numbers (deed_of (act_of Changer sent.entry.cdb.now sent.entry.bytes.now)) }
+    requires named { named (drives_of changer.old.unit.device) raw.cdb.now ≡ LOW ∷ HIGH ∷ [] }
+    ensures answer { IsAnswer result (Some raw.entry.nexus) 0 (event.Command raw.entry.cdb.now raw.entry.bytes.now) }
+    ensures act { result.act ≡ act_kind_if result.numbers (act_kind_of (act_of Changer raw.entry.cdb.now raw.entry.bytes.now)) }
     ensures only { (k : ℕ) → k ≢ 0 → k ≢ LOW → k ≢ HIGH → count_at k result.numbers ≡ 0 }
     ensures unnumbered { result.numbers ≡ [] → result.reply ≡ busy }
     ensures part { part.new.amount ≡ part.old.amount + count_at 0 result.numbers }
@@ -263,12 +271,12 @@ pub(crate) fn move_with_two<
     ensures high_part { high_part.new.amount ≡ high_part.old.amount + count_at HIGH result.numbers }
     ensures parts { (part.new.parts ≡ 1) × (low_part.new.parts ≡ 1) × (high_part.new.parts ≡ 1) }
 {
-    let Sent { nexus, cdb, bytes } = sent;
+    let RawCommand { nexus, cdb, bytes } = raw;
     let (Some(low), Some(high)) = (low, high) else {
         return changer.step(alloc, part, nexus, cdb, bytes);
     };
-    let mut low = low.lock().lock(rt);
-    let mut high = high.lock().lock(rt);
+    let mut low = low.mutex().lock(rt);
+    let mut high = high.mutex().lock(rt);
     move_kept_two(
         alloc, changer, &mut *low, &mut *high, part, low_part, high_part, nexus, cdb, bytes,
     )

@@ -4,68 +4,69 @@ ghost use Rattle.device_server.specs.View.{drives_of};
 ghost use Rattle.judgement.specs.Replies.{busy};
 ghost use Rattle.judgement.specs.Commands.{act_of};
 ghost use Rattle.logical_unit.specs.Route.{named};
-ghost use Rattle.kept_unit.specs.Answers.{IsAnswer, ran};
-ghost use Rattle.kept_unit.specs.Deeds.{deed_of, deed_if};
+ghost use Rattle.kept_unit.specs.Answers as event;
+ghost use Rattle.kept_unit.specs.Answers.{IsAnswer};
+ghost use Rattle.kept_unit.specs.ActKinds.{act_kind_of, act_kind_if};
 ghost use Rattle.lun_router.specs.Seats.{Rise};
 
 use crate::gate::Gate;
 use crate::library::Library;
 use crate::locks::{move_with_one, move_with_two};
-use crate::seat::Parts;
-use crate::sent::Sent;
+use crate::raw_command::RawCommand;
+use crate::seat::SeatShares;
 use device_server::DeviceServer;
-use kept_unit::{Done, Kept, Site};
+use kept_unit::{Done, Kept, UnitLedger};
 use logical_unit::named;
 use std::alloc::Global;
 use std::sync::Wait;
 
-impl<L0: Site, L1: Site, L2: Site, L3: Site, L4: Site, D: DeviceServer, G: Gate> Library<
-    L0,
-    L1,
-    L2,
-    L3,
-    L4,
-    D,
-    G,
-> {
+impl<
+    L0: UnitLedger,
+    L1: UnitLedger,
+    L2: UnitLedger,
+    L3: UnitLedger,
+    L4: UnitLedger,
+    D: DeviceServer,
+    G: Gate,
+> Library<L0, L1, L2, L3, L4, D, G> {
     /// A MOVE MEDIUM that names one drive, with the changer's lock held.
     fn move_one<'a, R: Wait>(
         &self,
         rt: &R,
         alloc: Global,
         changer: &mut Kept<0, L0, D>,
-        parts: &mut Parts<L0, L1, L2, L3, L4>,
+        parts: &mut SeatShares<L0, L1, L2, L3, L4>,
         drive: u8,
-        sent: Sent<'a>,
+        raw: RawCommand<'a>,
     ) -> Done<'a>
-        requires { named (drives_of changer.old.unit.device) sent.cdb.now ≡ drive ∷ [] }
-        ensures answer { IsAnswer result (Some sent.entry.nexus) 0 (ran sent.entry.cdb.now sent.entry.bytes.now) }
-        ensures deed { result.deed ≡ deed_if result.numbers (deed_of (act_of Changer sent.entry.cdb.now sent.entry.bytes.now)) }
+        requires { named (drives_of changer.old.unit.device) raw.cdb.now ≡ drive ∷ [] }
+        ensures answer { IsAnswer result (Some raw.entry.nexus) 0 (event.Command raw.entry.cdb.now raw.entry.bytes.now) }
+        ensures act { result.act ≡ act_kind_if result.numbers (act_kind_of (act_of Changer raw.entry.cdb.now raw.entry.bytes.now)) }
         ensures unnumbered { result.numbers ≡ [] → result.reply ≡ busy }
         ensures rise { Rise parts.old result.numbers parts.new }
     {
         match drive {
             1 => {
                 let lock = Some(&self.first);
-                let Parts { zero, one, .. } = parts;
-                move_with_one(rt, alloc, changer, lock, zero, one, sent)
+                let SeatShares { zero, one, .. } = parts;
+                move_with_one(rt, alloc, changer, lock, zero, one, raw)
             }
             2 => {
                 let lock = self.second.as_ref();
-                let Parts { zero, two, .. } = parts;
-                move_with_one(rt, alloc, changer, lock, zero, two, sent)
+                let SeatShares { zero, two, .. } = parts;
+                move_with_one(rt, alloc, changer, lock, zero, two, raw)
             }
             3 => {
                 let lock = self.third.as_ref();
-                let Parts { zero, three, .. } = parts;
-                move_with_one(rt, alloc, changer, lock, zero, three, sent)
+                let SeatShares { zero, three, .. } = parts;
+                move_with_one(rt, alloc, changer, lock, zero, three, raw)
             }
             4 => {
                 let lock = self.fourth.as_ref();
-                let Parts { zero, four, .. } = parts;
-                move_with_one(rt, alloc, changer, lock, zero, four, sent)
+                let SeatShares { zero, four, .. } = parts;
+                move_with_one(rt, alloc, changer, lock, zero, four, raw)
             }
-            _ => changer.step(alloc, &mut parts.zero, sent.nexus, sent.cdb, sent.bytes),
+            _ => changer.step(alloc, &mut parts.zero, raw.nexus, raw.cdb, raw.bytes),
         }
     }
 
@@ -75,14 +76,14 @@ impl<L0: Site, L1: Site, L2: Site, L3: Site, L4: Site, D: DeviceServer, G: Gate>
         rt: &R,
         alloc: Global,
         changer: &mut Kept<0, L0, D>,
-        parts: &mut Parts<L0, L1, L2, L3, L4>,
+        parts: &mut SeatShares<L0, L1, L2, L3, L4>,
         low: u8,
         high: u8,
-        sent: Sent<'a>,
+        raw: RawCommand<'a>,
     ) -> Done<'a>
-        requires { named (drives_of changer.old.unit.device) sent.cdb.now ≡ low ∷ high ∷ [] }
-        ensures answer { IsAnswer result (Some sent.entry.nexus) 0 (ran sent.entry.cdb.now sent.entry.bytes.now) }
-        ensures deed { result.deed ≡ deed_if result.numbers (deed_of (act_of Changer sent.entry.cdb.now sent.entry.bytes.now)) }
+        requires { named (drives_of changer.old.unit.device) raw.cdb.now ≡ low ∷ high ∷ [] }
+        ensures answer { IsAnswer result (Some raw.entry.nexus) 0 (event.Command raw.entry.cdb.now raw.entry.bytes.now) }
+        ensures act { result.act ≡ act_kind_if result.numbers (act_kind_of (act_of Changer raw.entry.cdb.now raw.entry.bytes.now)) }
         ensures unnumbered { result.numbers ≡ [] → result.reply ≡ busy }
         ensures rise { Rise parts.old result.numbers parts.new }
     {
@@ -93,29 +94,29 @@ impl<L0: Site, L1: Site, L2: Site, L3: Site, L4: Site, D: DeviceServer, G: Gate>
         match (low, high) {
             (1, 2) => {
                 let (zero, one, two) = (&mut parts.zero, &mut parts.one, &mut parts.two);
-                move_with_two(rt, alloc, changer, first, second, zero, one, two, sent)
+                move_with_two(rt, alloc, changer, first, second, zero, one, two, raw)
             }
             (1, 3) => {
                 let (zero, one, three) = (&mut parts.zero, &mut parts.one, &mut parts.three);
-                move_with_two(rt, alloc, changer, first, third, zero, one, three, sent)
+                move_with_two(rt, alloc, changer, first, third, zero, one, three, raw)
             }
             (1, 4) => {
                 let (zero, one, four) = (&mut parts.zero, &mut parts.one, &mut parts.four);
-                move_with_two(rt, alloc, changer, first, fourth, zero, one, four, sent)
+                move_with_two(rt, alloc, changer, first, fourth, zero, one, four, raw)
             }
             (2, 3) => {
                 let (zero, two, three) = (&mut parts.zero, &mut parts.two, &mut parts.three);
-                move_with_two(rt, alloc, changer, second, third, zero, two, three, sent)
+                move_with_two(rt, alloc, changer, second, third, zero, two, three, raw)
             }
             (2, 4) => {
                 let (zero, two, four) = (&mut parts.zero, &mut parts.two, &mut parts.four);
-                move_with_two(rt, alloc, changer, second, fourth, zero, two, four, sent)
+                move_with_two(rt, alloc, changer, second, fourth, zero, two, four, raw)
             }
             (3, 4) => {
                 let (zero, three, four) = (&mut parts.zero, &mut parts.three, &mut parts.four);
-                move_with_two(rt, alloc, changer, third, fourth, zero, three, four, sent)
+                move_with_two(rt, alloc, changer, third, fourth, zero, three, four, raw)
             }
-            _ => changer.step(alloc, &mut parts.zero, sent.nexus, sent.cdb, sent.bytes),
+            _ => changer.step(alloc, &mut parts.zero, raw.nexus, raw.cdb, raw.bytes),
         }
     }
 
@@ -124,21 +125,21 @@ impl<L0: Site, L1: Site, L2: Site, L3: Site, L4: Site, D: DeviceServer, G: Gate>
         &self,
         rt: &R,
         alloc: Global,
-        parts: &mut Parts<L0, L1, L2, L3, L4>,
-        sent: Sent<'a>,
+        parts: &mut SeatShares<L0, L1, L2, L3, L4>,
+        raw: RawCommand<'a>,
     ) -> Done<'a>
-        ensures answer { IsAnswer result (Some sent.entry.nexus) 0 (ran sent.entry.cdb.now sent.entry.bytes.now) }
-        ensures deed { result.deed ≡ deed_if result.numbers (deed_of (act_of Changer sent.entry.cdb.now sent.entry.bytes.now)) }
+        ensures answer { IsAnswer result (Some raw.entry.nexus) 0 (event.Command raw.entry.cdb.now raw.entry.bytes.now) }
+        ensures act { result.act ≡ act_kind_if result.numbers (act_kind_of (act_of Changer raw.entry.cdb.now raw.entry.bytes.now)) }
         ensures unnumbered { result.numbers ≡ [] → result.reply ≡ busy }
         ensures rise { Rise parts.old result.numbers parts.new }
     {
-        let mut changer = self.changer.lock().lock(rt);
-        self.gate.inside(0, sent.nexus);
-        let names = named(changer.drives(), sent.cdb);
+        let mut changer = self.changer.mutex().lock(rt);
+        self.gate.inside(0, raw.nexus);
+        let names = named(changer.drives(), raw.cdb);
         match names.as_slice() {
-            [drive] => self.move_one(rt, alloc, &mut *changer, parts, *drive, sent),
-            [low, high] => self.move_two(rt, alloc, &mut *changer, parts, *low, *high, sent),
-            _ => changer.step(alloc, &mut parts.zero, sent.nexus, sent.cdb, sent.bytes),
+            [drive] => self.move_one(rt, alloc, &mut *changer, parts, *drive, raw),
+            [low, high] => self.move_two(rt, alloc, &mut *changer, parts, *low, *high, raw),
+            _ => changer.step(alloc, &mut parts.zero, raw.nexus, raw.cdb, raw.bytes),
         }
     }
 }

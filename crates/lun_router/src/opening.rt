@@ -3,13 +3,13 @@ ghost use Rattle.std.specs.Option.{ForSome};
 ghost use Rattle.logical_unit.specs.UnitView.{last_number};
 ghost use Rattle.lun_router.specs.Opening.{IsAt, IsSince};
 
-use crate::apart::{Apart, take_apart};
 use crate::gate::Gate;
 use crate::library::Library;
 use crate::locked::Locked;
-use crate::seat::{Parts, Seat};
+use crate::seat::{Seat, SeatShares};
+use crate::units_by_lun::{UnitsByLun, split_units};
 use device_server::DeviceServer;
-use kept_unit::{Kept, Site};
+use kept_unit::{Kept, UnitLedger};
 use logical_unit::LogicalUnit;
 use std::alloc::{AllocError, Global};
 use std::sync::ledger::{Blank, Share};
@@ -26,7 +26,7 @@ pub struct Blanks {
 }
 
 /// Puts a unit under a lock.
-fn keep<const LUN: u8, L: Site, D: DeviceServer>(
+fn put_under_lock<const LUN: u8, L: UnitLedger, D: DeviceServer>(
     unit: LogicalUnit<D>,
     blank: Blank,
 ) -> (Locked<LUN, L, D>, Share<L>)
@@ -41,7 +41,7 @@ fn keep<const LUN: u8, L: Site, D: DeviceServer>(
 }
 
 /// The same where the unit may be absent. Its book then goes, and the shares stay at nothing.
-fn keep_if_there<const LUN: u8, L: Site, D: DeviceServer>(
+fn put_under_lock_if_there<const LUN: u8, L: UnitLedger, D: DeviceServer>(
     unit: Option<LogicalUnit<D>>,
     blank: Blank,
 ) -> (Option<Locked<LUN, L, D>>, Share<L>)
@@ -54,7 +54,7 @@ fn keep_if_there<const LUN: u8, L: Site, D: DeviceServer>(
 {
     match unit {
         Some(unit) => {
-            let (lock, share) = keep(unit, blank);
+            let (lock, share) = put_under_lock(unit, blank);
             (Some(lock), share)
         }
         None => {
@@ -66,7 +66,7 @@ fn keep_if_there<const LUN: u8, L: Site, D: DeviceServer>(
 
 /// The shares of all ledgers, before they are cut.
 #[derive(Drop)]
-struct Wholes<L0: Site, L1: Site, L2: Site, L3: Site, L4: Site> {
+struct AllShares<L0: UnitLedger, L1: UnitLedger, L2: UnitLedger, L3: UnitLedger, L4: UnitLedger> {
     zero: Share<L0>,
     one: Share<L1>,
     two: Share<L2>,
@@ -75,24 +75,24 @@ struct Wholes<L0: Site, L1: Site, L2: Site, L3: Site, L4: Site> {
 }
 
 /// A seat with a part of each, which was told nothing.
-fn cut<L0: Site, L1: Site, L2: Site, L3: Site, L4: Site>(
+fn cut<L0: UnitLedger, L1: UnitLedger, L2: UnitLedger, L3: UnitLedger, L4: UnitLedger>(
     alloc: Global,
-    wholes: &mut Wholes<L0, L1, L2, L3, L4>,
+    shares: &mut AllShares<L0, L1, L2, L3, L4>,
 ) -> Seat<L0, L1, L2, L3, L4>
-    requires parts { (0 < wholes.old.zero.parts) × (0 < wholes.old.one.parts) × (0 < wholes.old.two.parts) × (0 < wholes.old.three.parts) × (0 < wholes.old.four.parts) }
-    requires amounts { (wholes.old.zero.amount ≡ 0) × (wholes.old.one.amount ≡ 0) × (wholes.old.two.amount ≡ 0) × (wholes.old.three.amount ≡ 0) × (wholes.old.four.amount ≡ 0) }
+    requires parts { (0 < shares.old.zero.parts) × (0 < shares.old.one.parts) × (0 < shares.old.two.parts) × (0 < shares.old.three.parts) × (0 < shares.old.four.parts) }
+    requires amounts { (shares.old.zero.amount ≡ 0) × (shares.old.one.amount ≡ 0) × (shares.old.two.amount ≡ 0) × (shares.old.three.amount ≡ 0) × (shares.old.four.amount ≡ 0) }
     ensures seat { result.entries ≡ [] }
-    ensures amounts { (wholes.new.zero.amount ≡ 0) × (wholes.new.one.amount ≡ 0) × (wholes.new.two.amount ≡ 0) × (wholes.new.three.amount ≡ 0) × (wholes.new.four.amount ≡ 0) }
-    ensures parts { (wholes.new.zero.parts + 1 ≡ wholes.old.zero.parts) × (wholes.new.one.parts + 1 ≡ wholes.old.one.parts) × (wholes.new.two.parts + 1 ≡ wholes.old.two.parts) × (wholes.new.three.parts + 1 ≡ wholes.old.three.parts) × (wholes.new.four.parts + 1 ≡ wholes.old.four.parts) }
+    ensures amounts { (shares.new.zero.amount ≡ 0) × (shares.new.one.amount ≡ 0) × (shares.new.two.amount ≡ 0) × (shares.new.three.amount ≡ 0) × (shares.new.four.amount ≡ 0) }
+    ensures parts { (shares.new.zero.parts + 1 ≡ shares.old.zero.parts) × (shares.new.one.parts + 1 ≡ shares.old.one.parts) × (shares.new.two.parts + 1 ≡ shares.old.two.parts) × (shares.new.three.parts + 1 ≡ shares.old.three.parts) × (shares.new.four.parts + 1 ≡ shares.old.four.parts) }
 {
-    let Wholes {
+    let AllShares {
         zero,
         one,
         two,
         three,
         four,
-    } = wholes;
-    let parts = Parts {
+    } = shares;
+    let parts = SeatShares {
         zero: zero.split_off(1, 0),
         one: one.split_off(1, 0),
         two: two.split_off(1, 0),
@@ -103,15 +103,15 @@ fn cut<L0: Site, L1: Site, L2: Site, L3: Site, L4: Site>(
     Seat::new(parts, entries)
 }
 
-impl<L0: Site, L1: Site, L2: Site, L3: Site, L4: Site, D: DeviceServer, G: Gate> Library<
-    L0,
-    L1,
-    L2,
-    L3,
-    L4,
-    D,
-    G,
-> {
+impl<
+    L0: UnitLedger,
+    L1: UnitLedger,
+    L2: UnitLedger,
+    L3: UnitLedger,
+    L4: UnitLedger,
+    D: DeviceServer,
+    G: Gate,
+> Library<L0, L1, L2, L3, L4, D, G> {
     /// Puts each unit of a target under a lock of its own, and makes so many seats. It is called by a function that is
     /// generic over the five ledgers, which its caller picks with `Brand`: the blanks' names, and the last record numbers
     /// that the units have used. A refusal hands the target back; the blanks are spent.
@@ -144,14 +144,14 @@ impl<L0: Site, L1: Site, L2: Site, L3: Site, L4: Site, D: DeviceServer, G: Gate>
         if let Err(refused) = all.reserve(seats) {
             return Err((refused.into(), core));
         }
-        let Apart {
+        let UnitsByLun {
             count,
             changer,
             first,
             second,
             third,
             fourth,
-        } = take_apart(core);
+        } = split_units(core);
         let Blanks {
             zero,
             one,
@@ -159,12 +159,12 @@ impl<L0: Site, L1: Site, L2: Site, L3: Site, L4: Site, D: DeviceServer, G: Gate>
             three,
             four,
         } = blanks;
-        let (changer, zero) = keep(changer, zero);
-        let (first, one) = keep(first, one);
-        let (second, two) = keep_if_there(second, two);
-        let (third, three) = keep_if_there(third, three);
-        let (fourth, four) = keep_if_there(fourth, four);
-        let mut wholes = Wholes {
+        let (changer, zero) = put_under_lock(changer, zero);
+        let (first, one) = put_under_lock(first, one);
+        let (second, two) = put_under_lock_if_there(second, two);
+        let (third, three) = put_under_lock_if_there(third, three);
+        let (fourth, four) = put_under_lock_if_there(fourth, four);
+        let mut shares = AllShares {
             zero,
             one,
             two,
@@ -172,7 +172,7 @@ impl<L0: Site, L1: Site, L2: Site, L3: Site, L4: Site, D: DeviceServer, G: Gate>
             four,
         };
         for _i in 0..seats {
-            all.push_reserved(cut(alloc, &mut wholes));
+            all.push_reserved(cut(alloc, &mut shares));
         }
         let library = Library {
             seats,

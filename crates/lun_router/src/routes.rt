@@ -1,8 +1,9 @@
 ghost use Rattle.std.specs.Prelude.{◌≡◌, ◌<◌, ◌≤◌, [], false, Some, None, IsNone, IfSome, IsTrue, ◌↔◌};
 ghost use Rattle.judgement.specs.Commands.{act_of};
-ghost use Rattle.kept_unit.specs.declared.deed.Deed.TheVariants as deed;
-ghost use Rattle.kept_unit.specs.Answers.{IsAnswer, ran, lost, was_reset};
-ghost use Rattle.kept_unit.specs.Deeds.{deed_of, deed_if};
+ghost use Rattle.kept_unit.specs.declared.act_kind.ActKind.TheVariants as kind;
+ghost use Rattle.kept_unit.specs.Answers as event;
+ghost use Rattle.kept_unit.specs.Answers.{IsAnswer};
+ghost use Rattle.kept_unit.specs.ActKinds.{act_kind_of, act_kind_if};
 ghost use Rattle.kept_unit.specs.Keeping.{kind_at};
 ghost use Rattle.lun_router.specs.Answering.{AnswersAsAbsent, LeavesNoneFor, LosesNoneFor, RefusesAsAbsent, IsSomeTrail};
 ghost use Rattle.lun_router.specs.Seats.{Rise, Notes};
@@ -13,47 +14,47 @@ use crate::locks::{
     drain_at, drain_if_there, lose_at, lose_if_there, reset_at, reset_if_there, step_at,
     step_if_there,
 };
-use crate::seat::{Parts, Seat};
-use crate::sent::Sent;
+use crate::raw_command::RawCommand;
+use crate::seat::{Seat, SeatShares};
 use audit_log::Record;
 use device_server::DeviceServer;
-use kept_unit::{Asked, Done, Site};
+use kept_unit::{Done, EventKind, UnitLedger};
 use scsi_nexus::Nexus;
 use std::alloc::Global;
 use std::sync::Wait;
 
-impl<L0: Site, L1: Site, L2: Site, L3: Site, L4: Site, D: DeviceServer, G: Gate> Library<
-    L0,
-    L1,
-    L2,
-    L3,
-    L4,
-    D,
-    G,
-> {
+impl<
+    L0: UnitLedger,
+    L1: UnitLedger,
+    L2: UnitLedger,
+    L3: UnitLedger,
+    L4: UnitLedger,
+    D: DeviceServer,
+    G: Gate,
+> Library<L0, L1, L2, L3, L4, D, G> {
     /// A command at its unit, or at none.
     fn route<'a, R: Wait>(
         &self,
         rt: &R,
         alloc: Global,
-        parts: &mut Parts<L0, L1, L2, L3, L4>,
+        parts: &mut SeatShares<L0, L1, L2, L3, L4>,
         lun: u8,
-        sent: Sent<'a>,
+        raw: RawCommand<'a>,
     ) -> Done<'a>
-        ensures answer { IsAnswer result (Some sent.entry.nexus) lun (ran sent.entry.cdb.now sent.entry.bytes.now) }
-        ensures deed { result.deed ≡ deed_if result.numbers (deed_of (act_of (kind_at lun) sent.entry.cdb.now sent.entry.bytes.now)) }
-        ensures absent { AnswersAsAbsent self.now.units lun sent.entry.cdb.now result.reply }
+        ensures answer { IsAnswer result (Some raw.entry.nexus) lun (event.Command raw.entry.cdb.now raw.entry.bytes.now) }
+        ensures act { result.act ≡ act_kind_if result.numbers (act_kind_of (act_of (kind_at lun) raw.entry.cdb.now raw.entry.bytes.now)) }
+        ensures absent { AnswersAsAbsent self.now.units lun raw.entry.cdb.now result.reply }
         ensures unnumbered { LeavesNoneFor self.now.units lun result.numbers result.reply }
         ensures rise { Rise parts.old result.numbers parts.new }
     {
         let gate = &self.gate;
         match lun {
-            0 => self.step_changer(rt, alloc, parts, sent),
-            1 => step_at(rt, alloc, gate, &self.first, &mut parts.one, sent),
-            2 => step_if_there(rt, alloc, gate, &self.second, &mut parts.two, sent),
-            3 => step_if_there(rt, alloc, gate, &self.third, &mut parts.three, sent),
-            4 => step_if_there(rt, alloc, gate, &self.fourth, &mut parts.four, sent),
-            _ => Done::absent(alloc, sent.nexus, lun, sent.cdb, sent.bytes),
+            0 => self.step_changer(rt, alloc, parts, raw),
+            1 => step_at(rt, alloc, gate, &self.first, &mut parts.one, raw),
+            2 => step_if_there(rt, alloc, gate, &self.second, &mut parts.two, raw),
+            3 => step_if_there(rt, alloc, gate, &self.third, &mut parts.three, raw),
+            4 => step_if_there(rt, alloc, gate, &self.fourth, &mut parts.four, raw),
+            _ => Done::absent(alloc, raw.nexus, lun, raw.cdb, raw.bytes),
         }
     }
 
@@ -62,12 +63,12 @@ impl<L0: Site, L1: Site, L2: Site, L3: Site, L4: Site, D: DeviceServer, G: Gate>
         &self,
         rt: &R,
         alloc: Global,
-        parts: &mut Parts<L0, L1, L2, L3, L4>,
+        parts: &mut SeatShares<L0, L1, L2, L3, L4>,
         nexus: Nexus,
         lun: u8,
     ) -> Done<'static>
-        ensures answer { IsAnswer result (Some nexus) lun lost }
-        ensures deed { result.deed ≡ deed_if result.numbers deed.Loss }
+        ensures answer { IsAnswer result (Some nexus) lun event.Loss }
+        ensures act { result.act ≡ act_kind_if result.numbers kind.Loss }
         ensures absent { RefusesAsAbsent self.now.units lun result.reply }
         ensures unnumbered { LosesNoneFor self.now.units lun result.numbers result.reply }
         ensures rise { Rise parts.old result.numbers parts.new }
@@ -87,11 +88,11 @@ impl<L0: Site, L1: Site, L2: Site, L3: Site, L4: Site, D: DeviceServer, G: Gate>
         &self,
         rt: &R,
         alloc: Global,
-        parts: &mut Parts<L0, L1, L2, L3, L4>,
+        parts: &mut SeatShares<L0, L1, L2, L3, L4>,
         lun: u8,
     ) -> Done<'static>
-        ensures answer { IsAnswer result None lun was_reset }
-        ensures deed { result.deed ≡ deed_if result.numbers deed.Reset }
+        ensures answer { IsAnswer result None lun event.Reset }
+        ensures act { result.act ≡ act_kind_if result.numbers kind.Reset }
         ensures absent { RefusesAsAbsent self.now.units lun result.reply }
         ensures unnumbered { LeavesNoneFor self.now.units lun result.numbers result.reply }
         ensures rise { Rise parts.old result.numbers parts.new }
@@ -119,17 +120,17 @@ impl<L0: Site, L1: Site, L2: Site, L3: Site, L4: Site, D: DeviceServer, G: Gate>
         cdb: &'a [u8],
         bytes: &'a [u8],
     ) -> Done<'a>
-        ensures answer { IsAnswer result (Some nexus) lun (ran cdb.now bytes.now) }
-        ensures deed { result.deed ≡ deed_if result.numbers (deed_of (act_of (kind_at lun) cdb.now bytes.now)) }
+        ensures answer { IsAnswer result (Some nexus) lun (event.Command cdb.now bytes.now) }
+        ensures act { result.act ≡ act_kind_if result.numbers (act_kind_of (act_of (kind_at lun) cdb.now bytes.now)) }
         ensures absent { AnswersAsAbsent self.now.units lun cdb.now result.reply }
         ensures unnumbered { LeavesNoneFor self.now.units lun result.numbers result.reply }
         ensures notes { Notes seat.old result seat.new }
     {
         let Seat { parts, entries, .. } = seat;
         if entries.reserve(1).is_err() {
-            return Done::busy(alloc, Some(nexus), lun, Asked::Command { cdb, bytes });
+            return Done::busy(alloc, Some(nexus), lun, EventKind::Command { cdb, bytes });
         }
-        let done = self.route(rt, alloc, parts, lun, Sent { nexus, cdb, bytes });
+        let done = self.route(rt, alloc, parts, lun, RawCommand { nexus, cdb, bytes });
         entries.push_reserved(done.entry());
         done
     }
@@ -143,15 +144,15 @@ impl<L0: Site, L1: Site, L2: Site, L3: Site, L4: Site, D: DeviceServer, G: Gate>
         nexus: Nexus,
         lun: u8,
     ) -> Done<'static>
-        ensures answer { IsAnswer result (Some nexus) lun lost }
-        ensures deed { result.deed ≡ deed_if result.numbers deed.Loss }
+        ensures answer { IsAnswer result (Some nexus) lun event.Loss }
+        ensures act { result.act ≡ act_kind_if result.numbers kind.Loss }
         ensures absent { RefusesAsAbsent self.now.units lun result.reply }
         ensures unnumbered { LosesNoneFor self.now.units lun result.numbers result.reply }
         ensures notes { Notes seat.old result seat.new }
     {
         let Seat { parts, entries, .. } = seat;
         if entries.reserve(1).is_err() {
-            return Done::busy(alloc, Some(nexus), lun, Asked::Loss);
+            return Done::busy(alloc, Some(nexus), lun, EventKind::Loss);
         }
         let done = self.route_loss(rt, alloc, parts, nexus, lun);
         entries.push_reserved(done.entry());
@@ -166,15 +167,15 @@ impl<L0: Site, L1: Site, L2: Site, L3: Site, L4: Site, D: DeviceServer, G: Gate>
         seat: &mut Seat<L0, L1, L2, L3, L4>,
         lun: u8,
     ) -> Done<'static>
-        ensures answer { IsAnswer result None lun was_reset }
-        ensures deed { result.deed ≡ deed_if result.numbers deed.Reset }
+        ensures answer { IsAnswer result None lun event.Reset }
+        ensures act { result.act ≡ act_kind_if result.numbers kind.Reset }
         ensures absent { RefusesAsAbsent self.now.units lun result.reply }
         ensures unnumbered { LeavesNoneFor self.now.units lun result.numbers result.reply }
         ensures notes { Notes seat.old result seat.new }
     {
         let Seat { parts, entries, .. } = seat;
         if entries.reserve(1).is_err() {
-            return Done::busy(alloc, None, lun, Asked::Reset);
+            return Done::busy(alloc, None, lun, EventKind::Reset);
         }
         let done = self.route_reset(rt, alloc, parts, lun);
         entries.push_reserved(done.entry());

@@ -1,11 +1,17 @@
-use crate::locked::Gap;
-use kept_unit::{Entry, Site};
+use crate::locked::CachePadding;
+use kept_unit::{Entry, UnitLedger};
 use std::marker::Model;
 use std::sync::ledger::Share;
 
 /// One part of each unit's ledger, with the count of the numbers that it was told. Contracts see the counts.
 #[derive(Drop)]
-pub struct Parts<L0: Site, L1: Site, L2: Site, L3: Site, L4: Site> {
+pub struct SeatShares<
+    L0: UnitLedger,
+    L1: UnitLedger,
+    L2: UnitLedger,
+    L3: UnitLedger,
+    L4: UnitLedger,
+> {
     pub(crate) zero: Share<L0>,
     pub(crate) one: Share<L1>,
     pub(crate) two: Share<L2>,
@@ -13,7 +19,8 @@ pub struct Parts<L0: Site, L1: Site, L2: Site, L3: Site, L4: Site> {
     pub(crate) four: Share<L4>,
 }
 
-impl<L0: Site, L1: Site, L2: Site, L3: Site, L4: Site> Model for Parts<L0, L1, L2, L3, L4> {
+impl<L0: UnitLedger, L1: UnitLedger, L2: UnitLedger, L3: UnitLedger, L4: UnitLedger> Model
+    for SeatShares<L0, L1, L2, L3, L4> {
     ghost use Rattle.std.specs.Prelude.{◌≡◌};
     ghost use Rattle.lun_router.specs.Seats.{Amounts};
 
@@ -29,14 +36,15 @@ impl<L0: Site, L1: Site, L2: Site, L3: Site, L4: Site> Model for Parts<L0, L1, L
 /// lies on each side.
 #[repr(C)]
 #[derive(Drop)]
-pub struct Seat<L0: Site, L1: Site, L2: Site, L3: Site, L4: Site> {
-    _before: Gap,
-    pub(crate) parts: Parts<L0, L1, L2, L3, L4>,
+pub struct Seat<L0: UnitLedger, L1: UnitLedger, L2: UnitLedger, L3: UnitLedger, L4: UnitLedger> {
+    _before: CachePadding,
+    pub(crate) parts: SeatShares<L0, L1, L2, L3, L4>,
     pub(crate) entries: Vec<Entry>,
-    _behind: Gap,
+    _behind: CachePadding,
 }
 
-impl<L0: Site, L1: Site, L2: Site, L3: Site, L4: Site> Model for Seat<L0, L1, L2, L3, L4> {
+impl<L0: UnitLedger, L1: UnitLedger, L2: UnitLedger, L3: UnitLedger, L4: UnitLedger> Model
+    for Seat<L0, L1, L2, L3, L4> {
     ghost use Rattle.lun_router.specs.Seats.{SeatValue, IsCounted};
 
     ghost Value = { SeatValue };
@@ -46,12 +54,18 @@ impl<L0: Site, L1: Site, L2: Site, L3: Site, L4: Site> Model for Seat<L0, L1, L2
     ghost invariant = { λ s. IsCounted s.entries.items s.parts };
 }
 
-impl<L0: Site, L1: Site, L2: Site, L3: Site, L4: Site> Seat<L0, L1, L2, L3, L4> {
+impl<L0: UnitLedger, L1: UnitLedger, L2: UnitLedger, L3: UnitLedger, L4: UnitLedger> Seat<
+    L0,
+    L1,
+    L2,
+    L3,
+    L4,
+> {
     ghost use Rattle.std.specs.Prelude.{◌≡◌};
     ghost use Rattle.lun_router.specs.Seats.{IsCounted};
 
     pub(crate) fn new(
-        parts: Parts<L0, L1, L2, L3, L4>,
+        parts: SeatShares<L0, L1, L2, L3, L4>,
         entries: Vec<Entry>,
     ) -> Seat<L0, L1, L2, L3, L4>
         requires { IsCounted entries.items parts }

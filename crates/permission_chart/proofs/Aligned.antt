@@ -1,5 +1,7 @@
 -- The lines of the chart have their columns in the same places.
-use Rattle.std.proofs.Common.{◌≡◌, ℕ, List, cond, codes, length, refl}
+use Rattle.std.proofs.Common.{◌≡◌, ◌==◌, ℕ, List, cond, codes, length, refl}
+use Rattle.std.proofs.lemmas.Bool.{eqb-true}
+use Rattle.permission_chart.proofs.EachClass.{each_class}
 use Rattle.permission_chart.specs.Chart.{LinesAreAligned, at_left, at_right, columns, initial}
 use Rattle.permit_tables.specs.Permission.{Group, group_of, row_allows}
 use Rattle.permit_tables.specs.Permission.{Harmless, Reading, Changing, Enrolling, Registrants, Holders}
@@ -8,40 +10,9 @@ use Rattle.permit_tables.specs.declared.res_type.ResType.{ResType}
 use Rattle.permit_tables.specs.declared.res_type.ResType.TheVariants.{None, We, Ea, Wero, Earo, Wear, Eaar}
 use Rattle.permit_tables.specs.declared.role.Role.{Role}
 use Rattle.permit_tables.specs.declared.classes.Class.{Class}
-use Rattle.permit_tables.specs.declared.classes.Class.TheVariants.{TestUnitReady, RequestSense, Inquiry, ReportLuns, PersistentReserveIn, AllowRemoval, ReadBlockLimits, ReadPosition, ReadElementStatusCurdata, ModeSense, Read, Space, Locate, Rewind, ReadElementStatus, ModeSelect, PreventRemoval, Write, WriteFilemarks, Erase, LoadUnload, MoveMedium, InitializeElementStatus, Register, RegisterAndIgnoreExistingKey, Clear, Preempt, PreemptAndAbort, Release, Reserve, RegisterAndMove}
 
 of_name : (c : Class) → length (at_left 27 (class_name c)) ≡ 27
-of_name TestUnitReady = refl
-of_name RequestSense = refl
-of_name Inquiry = refl
-of_name ReportLuns = refl
-of_name PersistentReserveIn = refl
-of_name AllowRemoval = refl
-of_name ReadBlockLimits = refl
-of_name ReadPosition = refl
-of_name ReadElementStatusCurdata = refl
-of_name ModeSense = refl
-of_name Read = refl
-of_name Space = refl
-of_name Locate = refl
-of_name Rewind = refl
-of_name ReadElementStatus = refl
-of_name ModeSelect = refl
-of_name PreventRemoval = refl
-of_name Write = refl
-of_name WriteFilemarks = refl
-of_name Erase = refl
-of_name LoadUnload = refl
-of_name MoveMedium = refl
-of_name InitializeElementStatus = refl
-of_name Register = refl
-of_name RegisterAndIgnoreExistingKey = refl
-of_name Clear = refl
-of_name Preempt = refl
-of_name PreemptAndAbort = refl
-of_name Release = refl
-of_name Reserve = refl
-of_name RegisterAndMove = refl
+of_name c = eqb-true _ _ (each_class (λ x. length (at_left 27 (class_name x)) == 27) refl c)
 
 -- a fact of each type is a fact of all
 each_type : (P : ResType → Type 0) → P None → P We → P Ea → P Wero → P Earo → P Wear → P Eaar → (t : ResType) → P t

@@ -1,4 +1,5 @@
 pub mod Aligned
 pub mod ClassNames
+pub mod EachClass
 pub mod NameColumn
 pub mod Pieces

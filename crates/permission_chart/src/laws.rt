@@ -12,7 +12,7 @@ pub fn worked_rows()
 {}
 
 /// Law: the chart of all classes leaves none out.
-#[tactic(auto, using(crate::proofs::ClassNames::every_class_has))]
+#[tactic(auto, using(crate::proofs::EachClass::every_class_has))]
 pub fn each_class_has_a_line()
     ensures { HasEachClass }
 {}

@@ -12,12 +12,12 @@ use std::marker::Model;
 /// fields with as many addresses as the list named. Its value is that of its `OutParams`.
 #[derive(Drop, Debug)]
 pub struct KeptParams {
-    kept: Box<Kept>,
+    kept: Box<Contents>,
 }
 
 /// The fields of an `OutParams`.
 #[derive(Drop, Debug)]
-struct Kept {
+struct Contents {
     rk: u64,
     sark: u64,
     dest: Option<Nexus>,
@@ -55,7 +55,7 @@ impl OutParams {
     pub fn keep(&self, alloc: Global) -> Result<KeptParams, AllocError>
         ensures { IfOk result (λ kept. kept ≡ self.now) }
     {
-        let kept = Kept {
+        let kept = Contents {
             rk: self.rk,
             sark: self.sark,
             dest: self.dest,

@@ -1,3 +1,5 @@
+use scsi_nexus::LIST_CAPACITY;
+
 // Service actions of PERSISTENT RESERVE OUT.
 pub const REGISTER: u8 = 0x00;
 
@@ -16,4 +18,4 @@ pub const REGISTER_AND_IGNORE_EXISTING_KEY: u8 = 0x06;
 pub const REGISTER_AND_MOVE: u8 = 0x07;
 
 /// How many SAS addresses a REGISTER list names at most (profile).
-pub const TARGETS: usize = 256;
+pub const TARGETS: usize = LIST_CAPACITY;

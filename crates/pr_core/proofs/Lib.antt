@@ -3,5 +3,5 @@ pub mod TableLaws
 pub mod PutLaws
 pub mod Steps
 pub mod RaisedLaws
-pub mod Room
+pub mod RoomForKeys
 pub mod ManyLaws

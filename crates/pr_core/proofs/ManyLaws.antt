@@ -14,7 +14,7 @@ use Rattle.pr_core.specs.Acts.{Register}
 use Rattle.pr_core.specs.State.{State, Keys, capacity, keys_after}
 use Rattle.pr_core.proofs.Steps.{registered, unregistered}
 use Rattle.pr_core.specs.Table.{IsProper, put_all, remove_all}
-use Rattle.pr_core.proofs.Room.{length-filter-le, length-put-one}
+use Rattle.pr_core.proofs.RoomForKeys.{length-filter-le, length-put-one}
 
 -- none is lost, and at most one comes
 pub length-put-between : (n : Nexus) (k : ℕ) (x : Keys) → (length x ≤ length (put nexus_cmp n k x)) × (length (put nexus_cmp n k x) ≤ length x + 1)

@@ -11,7 +11,8 @@ use Rattle.unit_attention.specs.declared.kind.Kind.TheVariants.{ReservationsPree
 use Rattle.permit_tables.specs.declared.out_params.OutParams.{OutParams}
 use Rattle.pr_core.specs.declared.act.Standing.{Standing}
 use Rattle.pr_core.specs.Acts.{Act, Register, Reserve, Release, Clear, Preempt, Move}
-use Rattle.pr_core.specs.Targets.{is_target_port, targets, is_among}
+use Rattle.scsi_nexus.specs.Ports.{is_target_port}
+use Rattle.pr_core.specs.Targets.{targets, is_among}
 use Rattle.permit_tables.specs.declared.pr_fault.PrFault.{PrFault}
 use Rattle.permit_tables.specs.declared.pr_fault.PrFault.TheVariants.{InvalidField, InvalidParam, InvalidRelease, NoRegistrationRoom}
 use Rattle.pr_core.specs.State.{State, capacity, is_registered, is_all_held, is_holder, is_sole_holder, res_type, registrants, takes, is_taking, key_after, keys_after, type_in, after}

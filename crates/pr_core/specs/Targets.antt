@@ -1,13 +1,9 @@
 -- The nexuses that a REGISTER of either kind names (SPC-4, "PERSISTENT RESERVE OUT parameter list").
-use Rattle.std.specs.Prelude.{ℕ, Bool, ◌&&◌, nat_le, if◌then◌else◌, List, [], ◌∷◌, ◌++◌, is_some}
+use Rattle.std.specs.Prelude.{ℕ, Bool, if◌then◌else◌, List, [], ◌∷◌, ◌++◌, is_some}
 use Rattle.std.specs.List.{flat_map, list_any}
 use Rattle.scsi_nexus.specs.declared.nexus.Nexus.{Nexus}
 use Rattle.scsi_nexus.specs.Order.{same_nexus}
 use Rattle.permit_tables.specs.declared.out_params.OutParams.{OutParams}
-
--- the relative target ports of the target (profile)
-abbrev pub is_target_port : ℕ → Bool
-is_target_port port = nat_le 1 port && nat_le port 4
 
 -- a SAS address at every port of the target
 abbrev pub at_all_ports : ℕ → List Nexus

@@ -82,7 +82,7 @@ impl PrState {
         let Some(act) = self.act_of(nexus, params, targets) else {
             return Ok(());
         };
-        self.tell(nexus, act, queues);
+        self.raise_attentions(nexus, act, queues);
         self.accept(nexus, act);
         Ok(())
     }

@@ -7,11 +7,11 @@ ghost use Rattle.pr_core.specs.State.{capacity};
 ghost use Rattle.pr_core.specs.Table.{IsProper, put_all, remove_all, register_all};
 
 use arrayvec::ArrayVec;
-use scsi_nexus::{Nexus, place_of};
+use scsi_nexus::{LIST_CAPACITY, Nexus, place_of};
 use std::marker::Model;
 
 /// How many registrations a unit has room for (profile).
-pub const REGISTRATIONS: usize = 256;
+pub const REGISTRATIONS: usize = LIST_CAPACITY;
 
 /// The registered nexuses with their keys, ascending by nexus, in fixed room.
 #[derive(Debug, Default, Drop)]

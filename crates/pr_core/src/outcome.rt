@@ -8,7 +8,6 @@ ghost use Rattle.pr_core.specs.Outcome.{refusal, register_refusal, reserve_refus
 use crate::act::ReservationAct;
 use crate::key_table::REGISTRATIONS;
 use crate::state::{PrState, type_in};
-use crate::targets::is_target_port;
 use permit_tables::{OutParams, OutServiceAction, PrFault, ResType};
 use scsi_nexus::Nexus;
 
@@ -113,7 +112,7 @@ impl PrState {
         let Some(destination) = params.dest else {
             return Some(PrFault::InvalidParam);
         };
-        if destination == nexus || !is_target_port(destination.port) {
+        if destination == nexus || !destination.has_target_port() {
             Some(PrFault::InvalidParam)
         } else if self.key_of(destination) == 0 && !params.unreg && self.is_full() {
             Some(PrFault::NoRegistrationRoom)

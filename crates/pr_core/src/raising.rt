@@ -61,7 +61,12 @@ impl PrState {
     }
 
     /// Raises the attentions of an act, ascending by nexus.
-    pub(crate) fn tell(&self, sender: Nexus, act: ReservationAct<'_>, queues: &mut Queues)
+    pub(crate) fn raise_attentions(
+        &self,
+        sender: Nexus,
+        act: ReservationAct<'_>,
+        queues: &mut Queues,
+    )
         ensures { queues.new ≡ all_raised queues.old (raised self.now sender (act_shown act.entry)) }
     {
         let standing = self.standing(sender, act);

@@ -22,6 +22,12 @@ use std::marker::Model;
 /// | PREEMPT that takes | none for the others with that key, or all others under an all registrants type | the sender's, of the command's type |
 /// | PREEMPT that doesn't | none for each with that key | ends with its last holder's key |
 /// | REGISTER AND MOVE | the destination's is the new one, the sender's goes with UNREG | the destination's, of the old type |
+///
+/// ```text
+/// if state.judge(nexus, &params) == Verdict::Allowed {
+///     state.apply(nexus, &params, &mut queues)?;
+/// }
+/// ```
 #[derive(Debug, Default, Drop)]
 pub struct PrState {
     keys: KeyTable,

@@ -1,22 +1,12 @@
 ghost use Rattle.std.specs.Prelude.{◌≡◌, true, [], ◌∷◌, ◌++◌};
-ghost use Rattle.pr_core.specs.Targets.{is_target_port, at_all_ports, targets, is_among};
+ghost use Rattle.pr_core.specs.Targets.{at_all_ports, targets, is_among};
 
 use arrayvec::ArrayVec;
 use permit_tables::{OutParams, TARGETS};
-use scsi_nexus::Nexus;
-
-/// How many relative target ports the target has, from 1 on (profile).
-const TARGET_PORTS: usize = 4;
+use scsi_nexus::{Nexus, TARGET_PORTS};
 
 /// Room for the sender, and for its SAS address and each listed one at every port.
-pub const TARGET_ROOM: usize = 1 + TARGET_PORTS * (1 + TARGETS);
-
-/// Whether a relative target port is one of the target's.
-pub(crate) fn is_target_port(port: u16) -> bool
-    ensures { result ≡ is_target_port port }
-{
-    1 <= port && port <= TARGET_PORTS as u16
-}
+pub const TARGET_ROOM: usize = 1 + TARGET_PORTS as usize * (1 + TARGETS);
 
 /// Whether a nexus is one of these.
 pub(crate) fn is_among(nexus: Nexus, targets: &[Nexus]) -> bool

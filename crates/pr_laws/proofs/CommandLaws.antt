@@ -26,7 +26,7 @@ use Rattle.pr_core.specs.Outcome.{refusal, act_of, applied}
 use Rattle.pr_laws.specs.Laws.{answered, commanded, is_kept_by, NoneRegistered, GenerationCounts, HolderIsRegistered, ReserveTakesNothing, Unregisters, MayEnd, OnlyTheseEnd}
 use Rattle.pr_core.proofs.KeyLaws.{key-after, proper-after, proper-power_on}
 use Rattle.pr_core.proofs.Steps.{kept_reserve, kept_release}
-use Rattle.pr_core.proofs.Room.{none_else, rule_free, unnot, act_given}
+use Rattle.pr_core.proofs.RoomForKeys.{none_else, rule_free, unnot, act_given}
 
 held_all : (sole all reg : Bool) → all ≡ true → (if (sole || (all && reg)) then Holder else if reg then Registered else Other) ≡ Registered → ⊥
 held_all true all reg e i = cc

@@ -158,6 +158,6 @@ abbrev pub length_fault : ListLengthFault
 length_fault = record {}
 
 -- the command with its list, or the fault of its length
-abbrev pub reading : OutServiceAction → (scope_type list_length : ℕ) → List ℕ → Result OutParams ListLengthFault
-reading act scope_type list_length bytes =
+abbrev pub decoded_list : OutServiceAction → (scope_type list_length : ℕ) → List ℕ → Result OutParams ListLengthFault
+decoded_list act scope_type list_length bytes =
     if is_length_right act list_length bytes then Ok (params_of act scope_type bytes) else Err length_fault

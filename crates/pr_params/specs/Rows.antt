@@ -6,7 +6,7 @@ use Rattle.scsi_nexus.specs.declared.nexus.Nexus.{Nexus}
 use Rattle.permit_tables.specs.declared.res_type.ResType.TheVariants.{We, Wero, Wear}
 use Rattle.permit_tables.specs.declared.out_params.OutParams.{OutParams}
 use Rattle.permit_tables.specs.declared.list_defect.ListDefect.TheVariants.{Field, TransportId}
-use Rattle.pr_params.specs.Lists.{reading, length_fault}
+use Rattle.pr_params.specs.Lists.{decoded_list, length_fault}
 use Rattle.pr_params.specs.Status.{keys_data, reservation_data, full_status_data}
 
 abbrev pub a : Nexus
@@ -60,51 +60,51 @@ list_of flags listed_length behind =
 
 pub record ParameterListRows : Type 0 where
   -- a basic list
-  pub registers : reading out.Register 0 24 (basic_list (low_key 0) (0x11 ∷ 0x22 ∷ 0x33 ∷ 0x44 ∷ 0x55 ∷ 0x66 ∷ 0x77 ∷ 0x88 ∷ []) 0)
+  pub registers : decoded_list out.Register 0 24 (basic_list (low_key 0) (0x11 ∷ 0x22 ∷ 0x33 ∷ 0x44 ∷ 0x55 ∷ 0x66 ∷ 0x77 ∷ 0x88 ∷ []) 0)
       ≡ Ok (plain out.Register 0 0x1122334455667788 0)
   -- 23 bytes, and a length that isn't the data's
-  pub short : reading out.Register 0 23 (replicate 23 0) ≡ Err length_fault
-  pub other : reading out.Clear 0 25 (replicate 24 0) ≡ Err length_fault
-  pub huge : reading out.Clear 0 0xFFFFFFFF [] ≡ Err length_fault
+  pub short : decoded_list out.Register 0 23 (replicate 23 0) ≡ Err length_fault
+  pub other : decoded_list out.Clear 0 25 (replicate 24 0) ≡ Err length_fault
+  pub huge : decoded_list out.Clear 0 0xFFFFFFFF [] ≡ Err length_fault
   -- a longer list without SPEC_I_PT, and with an act that ignores the bit
-  pub longer : reading out.Register 0 28 (list_of 0 0 []) ≡ Err length_fault
-  pub longer_clear : reading out.Clear 0 28 (list_of 0x08 0 []) ≡ Err length_fault
+  pub longer : decoded_list out.Register 0 28 (list_of 0 0 []) ≡ Err length_fault
+  pub longer_clear : decoded_list out.Clear 0 28 (list_of 0x08 0 []) ≡ Err length_fault
   -- ALL_TG_PT
-  pub all_ports : reading out.Register 0 24 (basic_list (low_key 0) (low_key 7) 0x04)
+  pub all_ports : decoded_list out.Register 0 24 (basic_list (low_key 0) (low_key 7) 0x04)
       ≡ Ok (record (plain out.Register 0 7 0) { all_ports = true })
   -- SPEC_I_PT with one TransportID, and the same without its last byte
-  pub listed : reading out.Register 0 52 (list_of 0x08 0x18 (cut_id 0x06 ++ 0 ∷ []))
+  pub listed : decoded_list out.Register 0 52 (list_of 0x08 0x18 (cut_id 0x06 ++ 0 ∷ []))
       ≡ Ok (record (plain out.Register 0 7 0) { listed = true; targets = record { items = 0x500000000000000C ∷ [] } })
-  pub listed_cut : reading out.Register 0 51 (list_of 0x08 0x18 (cut_id 0x06)) ≡ Err length_fault
+  pub listed_cut : decoded_list out.Register 0 51 (list_of 0x08 0x18 (cut_id 0x06)) ≡ Err length_fault
   -- SPEC_I_PT where the length field isn't whole
-  pub no_length : reading out.Register 0 24 (basic_list (low_key 0) (low_key 7) 0x08) ≡ Err length_fault
-  pub cut_length : reading out.Register 0 25 (basic_list (low_key 0) (low_key 7) 0x08 ++ replicate 1 0) ≡ Err length_fault
-  pub shorter_length : reading out.Register 0 27 (basic_list (low_key 0) (low_key 7) 0x08 ++ replicate 3 0) ≡ Err length_fault
-  pub huge_length : reading out.Register 0 28 (basic_list (low_key 0) (low_key 7) 0x08 ++ replicate 4 0xFF) ≡ Err length_fault
+  pub no_length : decoded_list out.Register 0 24 (basic_list (low_key 0) (low_key 7) 0x08) ≡ Err length_fault
+  pub cut_length : decoded_list out.Register 0 25 (basic_list (low_key 0) (low_key 7) 0x08 ++ replicate 1 0) ≡ Err length_fault
+  pub shorter_length : decoded_list out.Register 0 27 (basic_list (low_key 0) (low_key 7) 0x08 ++ replicate 3 0) ≡ Err length_fault
+  pub huge_length : decoded_list out.Register 0 28 (basic_list (low_key 0) (low_key 7) 0x08 ++ replicate 4 0xFF) ≡ Err length_fault
   -- SPEC_I_PT that names nobody; whose length is no whole TransportIDs; with a TransportID of another format
-  pub nobody : reading out.Register 0 28 (list_of 0x08 0 []) ≡ Ok (record (plain out.Register 0 7 0) { listed = true })
-  pub no_whole : reading out.Register 0 29 (list_of 0x08 1 (0 ∷ []))
+  pub nobody : decoded_list out.Register 0 28 (list_of 0x08 0 []) ≡ Ok (record (plain out.Register 0 7 0) { listed = true })
+  pub no_whole : decoded_list out.Register 0 29 (list_of 0x08 1 (0 ∷ []))
       ≡ Ok (record (plain out.Register 0 7 0) { listed = true; defect = Some Field })
-  pub other_format : reading out.Register 0 52 (list_of 0x08 0x18 (cut_id 0x46 ++ 0 ∷ []))
+  pub other_format : decoded_list out.Register 0 52 (list_of 0x08 0x18 (cut_id 0x46 ++ 0 ∷ []))
       ≡ Ok (record (plain out.Register 0 7 0) { listed = true; defect = Some TransportId })
   -- SPEC_I_PT with REGISTER AND IGNORE EXISTING KEY, and ALL_TG_PT beside it
-  pub ignoring : reading out.RegisterAndIgnoreExistingKey 0 52 (list_of 0x0C 0x18 (cut_id 0x06 ++ 0 ∷ []))
+  pub ignoring : decoded_list out.RegisterAndIgnoreExistingKey 0 52 (list_of 0x0C 0x18 (cut_id 0x06 ++ 0 ∷ []))
       ≡ Ok (record (plain out.RegisterAndIgnoreExistingKey 0 7 0) { all_ports = true; listed = true; defect = Some Field })
   -- APTPL with either REGISTER, before a bad TransportID, and with an act that ignores it
-  pub aptpl : reading out.RegisterAndIgnoreExistingKey 0 24 (basic_list (low_key 0) (low_key 7) 0x01)
+  pub aptpl : decoded_list out.RegisterAndIgnoreExistingKey 0 24 (basic_list (low_key 0) (low_key 7) 0x01)
       ≡ Ok (record (plain out.RegisterAndIgnoreExistingKey 0 7 0) { defect = Some Field })
-  pub aptpl_listed : reading out.Register 0 52 (list_of 0x09 0x18 (cut_id 0x46 ++ 0 ∷ []))
+  pub aptpl_listed : decoded_list out.Register 0 52 (list_of 0x09 0x18 (cut_id 0x46 ++ 0 ∷ []))
       ≡ Ok (record (plain out.Register 0 7 0) { listed = true; defect = Some Field })
-  pub ignored : reading out.Reserve 5 24 (basic_list (low_key 1) (low_key 0) 0x0D) ≡ Ok (plain out.Reserve 1 0 5)
+  pub ignored : decoded_list out.Reserve 5 24 (basic_list (low_key 1) (low_key 0) 0x0D) ≡ Ok (plain out.Reserve 1 0 5)
   -- REGISTER AND MOVE to B with UNREG; with APTPL; to a TransportID of another format
-  pub moves : reading out.RegisterAndMove 0 48 (move_list 2 6)
+  pub moves : decoded_list out.RegisterAndMove 0 48 (move_list 2 6)
       ≡ Ok (record (plain out.RegisterAndMove 1 9 0) { dest = Some b; unreg = true })
-  pub moves_aptpl : reading out.RegisterAndMove 0 48 (move_list 1 0x46)
+  pub moves_aptpl : decoded_list out.RegisterAndMove 0 48 (move_list 1 0x46)
       ≡ Ok (record (plain out.RegisterAndMove 1 9 0) { defect = Some Field })
-  pub moves_other : reading out.RegisterAndMove 0 48 (move_list 2 0x46)
+  pub moves_other : decoded_list out.RegisterAndMove 0 48 (move_list 2 0x46)
       ≡ Ok (record (plain out.RegisterAndMove 1 9 0) { unreg = true; defect = Some TransportId })
   -- 24 bytes whose TransportID has the length FFFFFFFFh
-  pub moves_huge : reading out.RegisterAndMove 0 24 (replicate 20 0 ++ replicate 4 0xFF) ≡ Err length_fault
+  pub moves_huge : decoded_list out.RegisterAndMove 0 24 (replicate 20 0 ++ replicate 4 0xFF) ≡ Err length_fault
 
 pub record StatusDataRows : Type 0 where
   pub no_keys : keys_data 0 [] ≡ replicate 8 0

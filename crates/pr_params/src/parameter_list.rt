@@ -1,5 +1,5 @@
 ghost use Rattle.std.specs.Prelude.{◌≡◌, ◌≤◌, length};
-ghost use Rattle.pr_params.specs.Lists.{reading, is_format_length, basic_params, move_params, move_defect, moved_to};
+ghost use Rattle.pr_params.specs.Lists.{decoded_list, is_format_length, basic_params, move_params, move_defect, moved_to};
 
 use crate::bits::is_set;
 use crate::layout::{
@@ -22,7 +22,7 @@ pub fn read_out(
     list_length: u32,
     bytes: &[u8],
 ) -> Result<OutParams, ListLengthFault>
-    ensures { result ≡ reading act scope_type list_length bytes.now }
+    ensures { result ≡ decoded_list act scope_type list_length bytes.now }
 {
     if bytes.len() != list_length as usize || !has_format_length(act, bytes) {
         return Err(ListLengthFault);

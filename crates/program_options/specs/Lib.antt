@@ -2,4 +2,4 @@ pub mod Faults
 pub mod Hosts
 pub mod Options
 pub mod Rows
-pub mod Terms
+pub mod ServeUntil

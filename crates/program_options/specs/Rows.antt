@@ -3,8 +3,8 @@ use Rattle.std.specs.Prelude.{◌≡◌, Some, None, Ok, Err, codes}
 use Rattle.program_options.specs.declared.option_fault.OptionFault.TheVariants.{MoreVolumes, BadNexus}
 use Rattle.program_options.specs.Faults.{option_fault_text, option_status}
 use Rattle.program_options.specs.Hosts.{nexus_by, sas_in}
-use Rattle.program_options.specs.Terms.{sessions_of, workers_of}
-use Rattle.program_options.specs.declared.term.Term.TheVariants.{Sessions, InputEnds}
+use Rattle.program_options.specs.ServeUntil.{sessions_of, workers_of}
+use Rattle.program_options.specs.declared.serve_until.ServeUntil.TheVariants.{Sessions, InputEnds}
 
 pub record AddressesRead : Type 0 where
   pub small_letters : sas_in (codes "500000000000000a") ≡ Some 0x500000000000000A
@@ -22,7 +22,7 @@ pub record FaultsTold : Type 0 where
   pub status_of_volumes : option_status MoreVolumes ≡ 2
   pub status_of_nexus : option_status BadNexus ≡ 2
 
-pub record TermsServed : Type 0 where
+pub record SessionsServed : Type 0 where
   pub workers_of_sessions : workers_of (Sessions 3) ≡ 3
   pub sessions : sessions_of (Sessions 3) ≡ 3
   pub workers : workers_of (InputEnds 5) ≡ 5

@@ -6,10 +6,10 @@ mod host;
 mod laws;
 mod library_options;
 mod option_fault;
-mod term;
+mod serve_until;
 
 pub use host::nexus_of;
 pub use laws::worked_rows;
-pub use library_options::LibraryOptions;
+pub use library_options::{LibraryOptions, MAX_READS};
 pub use option_fault::OptionFault;
-pub use term::Term;
+pub use serve_until::ServeUntil;

@@ -1,5 +1,8 @@
 use crate::option_fault::OptionFault;
 
+/// The most reads of an input, a script or a session, so that each is read to its end within a known time.
+pub const MAX_READS: u64 = 0xFFFF_FFFF;
+
 /// What a library is made of.
 #[derive(Clone, Copy, Debug, PartialEq, Eq)]
 pub struct LibraryOptions {
@@ -14,7 +17,7 @@ pub struct LibraryOptions {
 
 impl LibraryOptions {
     /// What a library is made of where nothing else is asked for.
-    pub const USUAL: LibraryOptions = LibraryOptions {
+    pub const DEFAULT: LibraryOptions = LibraryOptions {
         drives: 1,
         slots: 8,
         portals: 0,
@@ -22,7 +25,7 @@ impl LibraryOptions {
     };
 
     /// The most of each that a library has (profile).
-    pub const MOST: LibraryOptions = LibraryOptions {
+    pub const MAX: LibraryOptions = LibraryOptions {
         drives: 4,
         slots: 1024,
         portals: 16,
@@ -46,6 +49,6 @@ impl LibraryOptions {
 
 impl Default for LibraryOptions {
     fn default() -> LibraryOptions {
-        LibraryOptions::USUAL
+        LibraryOptions::DEFAULT
     }
 }

@@ -19,12 +19,12 @@ use Rattle.target_core.proofs.History.{get-set_same, get-set_other}
 use Rattle.target_core.proofs.Ordered.{one_named, two_named}
 use Rattle.target_laws.proofs.Parts.{set-same}
 use Rattle.protected_span.specs.Struck.{SameReply}
-use Rattle.protected_span.proofs.Along.{IsKeptAlong}
+use Rattle.protected_span.proofs.KeptByEachStep.{IsKeptAlong}
 use Rattle.protected_span.proofs.Carry.{BothDrives, one_alike, two_alike}
 use Rattle.protected_span.proofs.Ended.{Ended, ended_is, same_changer}
 use Rattle.logical_unit.proofs.Outsiders.{alone_one, alone_two}
 use Rattle.protected_span.proofs.Places.{Lists, At, BothAt, test_of, at_place, set_at, takes_at}
-use Rattle.logical_unit.proofs.Quiet.{barred}
+use Rattle.logical_unit.proofs.OutsiderLeavesContents.{barred}
 use Rattle.protected_span.proofs.Units.{answers}
 
 pub reply_same : (exact numbered : Bool) (r q : Reply) → r ≡ q → SameReply exact numbered r q

@@ -14,28 +14,28 @@ use Rattle.pr_core.specs.Outcome.{refusal, act_of, applied}
 use Rattle.permit_tables.specs.declared.pr_fault.PrFault.{PrFault}
 use Rattle.pr_core.specs.declared.verdict.Verdict.TheVariants.{Allowed}
 use Rattle.pr_core.proofs.KeyLaws.{proper-after}
-use Rattle.pr_core.proofs.Room.{room}
+use Rattle.pr_core.proofs.RoomForKeys.{room}
 use Rattle.audit_log.specs.declared.stage.Stage.TheVariants as stage
 use Rattle.audit_log.specs.declared.stage.Stage.TheVariants.{ResetAttention, OtherAttention, Fields}
 use Rattle.device_server.specs.View.{kind_of, field_fault, performed}
 use Rattle.judgement.specs.declared.command.Command.{Command}
 use Rattle.judgement.specs.declared.command.Command.TheVariants.{ReserveOut, ReserveIn, Inquiry, ReportLuns, RequestSense, Prevent, Device}
-use Rattle.judgement.specs.declared.finding.Finding.{Finding}
+use Rattle.judgement.specs.declared.decision.Decision.{Decision}
 use Rattle.judgement.specs.declared.reply.Reply.{Reply}
 use Rattle.judgement.specs.Conditions.{condition_of_refusal}
-use Rattle.judgement.specs.Findings.{at_stage}
+use Rattle.judgement.specs.Decisions.{at_stage}
 use Rattle.judgement.specs.Replies.{check}
 use Rattle.judgement.specs.Replies.{good}
-use Rattle.judgement.specs.Commands.{spelled}
-use Rattle.judgement.specs.Present.{Present}
+use Rattle.judgement.specs.Commands.{decoded_command}
+use Rattle.judgement.specs.JudgedUnit.{JudgedUnit}
 use Rattle.logical_unit.specs.UnitView.{UnitView}
-use Rattle.judgement.specs.Kept.{accepted, is_prevented, after_mode}
+use Rattle.judgement.specs.UnitState.{accepted, is_prevented, after_mode}
 use Rattle.judgement.specs.Readings.{verdict_of, pending_of}
 use Rattle.judgement.specs.Judge.{sensed, steps, unloads, performs, judged_as}
 use Rattle.judgement.specs.Judge.{carried_out}
 use Rattle.logical_unit.specs.Step.{contacted_present, Executes}
 use Rattle.judgement.proofs.Carried.{prevents_by}
-use Rattle.protected_span.proofs.Alike.{IsTable}
+use Rattle.protected_span.proofs.InsidersView.{IsTable}
 use Rattle.logical_unit.proofs.EndsOf.{by_ends}
 
 -- an act that is allowed and not refused
@@ -48,8 +48,8 @@ pub record Accepts (v : State) (n : Nexus) (w : State) : Type 0 where
 abbrev pub Change : State → Nexus → State → Type 0
 Change v n w = (w ≡ v) ⊎ Accepts v n w
 
-module _ (u : Present) (n : Nexus) where
-  abbrev Changes : Present × Finding × Reply → Type 0
+module _ (u : JudgedUnit) (n : Nexus) where
+  abbrev Changes : JudgedUnit × Decision × Reply → Type 0
   Changes x = Change u.kept.reservations n x.0.kept.reservations
 
   sensed_changes : (l : ℕ) (o : Option Kind) → Change u.kept.reservations n (sensed u.kept n l o).0.reservations
@@ -92,12 +92,12 @@ module _ (u : Present) (n : Nexus) where
 
   pub judged_changes : (c : Result Command Condition) (bytes : List ℕ) → Changes (judged_as u n c bytes)
   judged_changes (Err condition) bytes = inl refl
-  judged_changes (Ok c) bytes = by_ends (λ (v : Present). Change u.kept.reservations n v.kept.reservations) u n c bytes (inl refl) (λ kind. inl refl) (carried_changes c bytes)
+  judged_changes (Ok c) bytes = by_ends (λ (v : JudgedUnit). Change u.kept.reservations n v.kept.reservations) u n c bytes (inl refl) (λ kind. inl refl) (carried_changes c bytes)
 
 pub executes_changes : (u v : UnitView) (n : Nexus) (cdb bytes : List ℕ) (r : Reply) → Executes u n cdb bytes (v, r) → Change u.kept.reservations n v.kept.reservations
 executes_changes u v n cdb bytes r (inl e) = inl (ap (λ (x : UnitView × Reply). x.0.kept.reservations) e)
 executes_changes u v n cdb bytes r (inr e) =
-    subst (λ (x : UnitView × Reply). Change u.kept.reservations n x.0.kept.reservations) (sym e.2) (judged_changes (contacted_present u n) n (spelled (kind_of u.device) cdb bytes) bytes)
+    subst (λ (x : UnitView × Reply). Change u.kept.reservations n x.0.kept.reservations) (sym e.2) (judged_changes (contacted_present u n) n (decoded_command (kind_of u.device) cdb bytes) bytes)
 
 table_after : (v : State) (n : Nexus) (p : OutParams) → IsTable v → verdict v n p ≡ Allowed → refusal v n p ≡ None → IsTable (applied v n p)
 table_after v n p t allowed free =

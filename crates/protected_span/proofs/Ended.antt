@@ -5,25 +5,25 @@ use Rattle.scsi_nexus.specs.declared.nexus.Nexus.{Nexus}
 use Rattle.scsi_sense.specs.declared.condition.Condition.{Condition}
 use Rattle.scsi_sense.specs.declared.status.Status.TheVariants.{Busy}
 use Rattle.device_server.specs.View.{DeviceView, kind_of}
-use Rattle.judgement.specs.Present.{Present}
-use Rattle.judgement.specs.declared.finding.Finding.{Finding}
+use Rattle.judgement.specs.JudgedUnit.{JudgedUnit}
+use Rattle.judgement.specs.declared.decision.Decision.{Decision}
 use Rattle.judgement.specs.declared.reply.Reply.{Reply}
 use Rattle.judgement.specs.Replies.{busy, good, check}
-use Rattle.judgement.specs.Commands.{spelled, act_of}
-use Rattle.judgement.specs.Kept.{has_room}
+use Rattle.judgement.specs.Commands.{decoded_command, act_of}
+use Rattle.judgement.specs.UnitState.{has_room}
 use Rattle.logical_unit.specs.Move.{is_left, judged_at, ended, concluded, is_carried}
 use Rattle.logical_unit.specs.Step.{recorded, HasNumber, contacted_present}
 use Rattle.logical_unit.specs.UnitView.{UnitView}
 use Rattle.protected_span.proofs.Carry.{Same, With}
 use Rattle.pr_core.specs.State.{State}
-use Rattle.protected_span.proofs.Alike.{Says}
-use Rattle.judgement.specs.KeptView.{KeptView}
+use Rattle.protected_span.proofs.InsidersView.{Says}
+use Rattle.judgement.specs.UnitStateView.{UnitStateView}
 use Rattle.protected_span.proofs.Changes.{Change, judged_changes}
 use Rattle.protected_span.proofs.Insider.{says-refl}
 use Rattle.protected_span.proofs.Units.{not_busy, Beside, Moved, moved}
 
 -- the answer, and the drives, by whether the command was left to them
-abbrev pub end_answer : {A : Type 0} → Bool → Present × Finding × Reply → Result (DeviceView × A) Condition → Present × Finding × Reply
+abbrev pub end_answer : {A : Type 0} → Bool → JudgedUnit × Decision × Reply → Result (DeviceView × A) Condition → JudgedUnit × Decision × Reply
 end_answer false answer carried = answer
 end_answer true answer (Ok it) = (record answer.0 { device = it.0 }, answer.1, good [])
 end_answer true answer (Err condition) = (answer.0, answer.1, check condition)
@@ -46,7 +46,7 @@ pub record Ended {A : Type 0} (c v : UnitView) (n : Nexus) (cdb bytes : List ℕ
   pub unit : (v, r) ≡ recorded c n (act_of (kind_of c.device) cdb bytes) (end_answer (is_left (judged_at c n cdb bytes).2.sense) (judged_at c n cdb bytes) carried)
   pub drives_are : after ≡ end_drives (is_left (judged_at c n cdb bytes).2.sense) drives carried
 
-module _ {A : Type 0} (c : UnitView) (n : Nexus) (cdb bytes : List ℕ) (drives : A) (answer : Present × Finding × Reply) where
+module _ {A : Type 0} (c : UnitView) (n : Nexus) (cdb bytes : List ℕ) (drives : A) (answer : JudgedUnit × Decision × Reply) where
   abbrev pub end_of : Bool → Result (DeviceView × A) Condition → (UnitView × Reply) × A
   end_of b carried = (recorded c n (act_of (kind_of c.device) cdb bytes) (end_answer b answer carried), end_drives b drives carried)
 
@@ -86,7 +86,7 @@ module _ {A : Type 0} (c v : UnitView) (n : Nexus) (cdb bytes : List ℕ) (r : R
   ended_numbers free (inr e) = e.2
 
 -- what is kept is what judgement leaves
-pub end_kept : {A : Type 0} (left : Bool) (answer : Present × Finding × Reply) (carried : Result (DeviceView × A) Condition) → (end_answer left answer carried).0.kept ≡ answer.0.kept
+pub end_kept : {A : Type 0} (left : Bool) (answer : JudgedUnit × Decision × Reply) (carried : Result (DeviceView × A) Condition) → (end_answer left answer carried).0.kept ≡ answer.0.kept
 end_kept false answer carried = refl
 end_kept true answer (Ok it) = refl
 end_kept true answer (Err condition) = refl
@@ -96,14 +96,14 @@ ended_kept c v n cdb bytes r drives after carried e = ap (λ (x : UnitView × Re
 
 pub ended_changes : {A : Type 0} (c v : UnitView) (n : Nexus) (cdb bytes : List ℕ) (r : Reply) (drives after : A) (carried : Result (DeviceView × A) Condition) → Ended c v n cdb bytes r drives after carried → Change c.kept.reservations n v.kept.reservations
 ended_changes c v n cdb bytes r drives after carried e =
-    subst (λ (k : KeptView). Change c.kept.reservations n k.reservations) (sym (ended_kept c v n cdb bytes r drives after carried e)) (judged_changes (contacted_present c n) n (spelled (kind_of c.device) cdb bytes) bytes)
+    subst (λ (k : UnitStateView). Change c.kept.reservations n k.reservations) (sym (ended_kept c v n cdb bytes r drives after carried e)) (judged_changes (contacted_present c n) n (decoded_command (kind_of c.device) cdb bytes) bytes)
 
 -- AT THE SAME CHANGER, with drives that are related
 module _ {A : Type 0} (Q : A → A → Type 0) where
-  same_ends : (b : Bool) (answer : Present × Finding × Reply) (d e : A) (x y : Result (DeviceView × A) Condition) → Q d e → Same (With Q) x y → (end_answer b answer x ≡ end_answer b answer y) × Q (end_drives b d x) (end_drives b e y)
+  same_ends : (b : Bool) (answer : JudgedUnit × Decision × Reply) (d e : A) (x y : Result (DeviceView × A) Condition) → Q d e → Same (With Q) x y → (end_answer b answer x ≡ end_answer b answer y) × Q (end_drives b d x) (end_drives b e y)
   same_ends false answer d e x y q h = (refl, q)
-  same_ends true answer d e (Ok x) (Ok y) q h = (ap (λ (device : DeviceView). let z : Present × Finding × Reply = (record answer.0 { device = device }, answer.1, good []) in z) h.0, h.1)
-  same_ends true answer d e (Err x) (Err y) q h = (ap (λ (condition : Condition). let z : Present × Finding × Reply = (answer.0, answer.1, check condition) in z) h, q)
+  same_ends true answer d e (Ok x) (Ok y) q h = (ap (λ (device : DeviceView). let z : JudgedUnit × Decision × Reply = (record answer.0 { device = device }, answer.1, good []) in z) h.0, h.1)
+  same_ends true answer d e (Err x) (Err y) q h = (ap (λ (condition : Condition). let z : JudgedUnit × Decision × Reply = (answer.0, answer.1, check condition) in z) h, q)
   same_ends true answer d e (Ok x) (Err y) q h = absurd h
   same_ends true answer d e (Err x) (Ok y) q h = absurd h
 
@@ -118,7 +118,7 @@ module _ {A : Type 0} (Q : A → A → Type 0) where
       let answer = judged_at c n cdb bytes in
       let left = is_left answer.2.sense in
       let ends = same_ends left answer d e x y related alike in
-      let is = a.unit ∙ ap (λ (z : Present × Finding × Reply). recorded c n (act_of (kind_of c.device) cdb bytes) z) ends.0 ∙ sym b.unit in
+      let is = a.unit ∙ ap (λ (z : JudgedUnit × Decision × Reply). recorded c n (act_of (kind_of c.device) cdb bytes) z) ends.0 ∙ sym b.unit in
       record {
         unit = ap (λ (z : UnitView × Reply). z.0) is;
         reply = ap (λ (z : UnitView × Reply). z.1) is;
@@ -131,10 +131,10 @@ module _ (inside : Nexus → Bool) (P : State → Type 0) (R : State → State �
   same_sense true x y h = ap (λ (z : Reply). z.sense) h
   same_sense false x y h = h.sense
 
-  pub left_alike : (x y : Present × Finding × Reply) → Beside inside P R exact x y → is_left x.2.sense ≡ is_left y.2.sense
+  pub left_alike : (x y : JudgedUnit × Decision × Reply) → Beside inside P R exact x y → is_left x.2.sense ≡ is_left y.2.sense
   left_alike x y b = ap is_left (same_sense exact x.2 y.2 b.reply)
 
-  ends_beside : {A : Type 0} (left : Bool) (x y : Present × Finding × Reply) (carried : Result (DeviceView × A) Condition) → Beside inside P R exact x y → Beside inside P R exact (end_answer left x carried) (end_answer left y carried)
+  ends_beside : {A : Type 0} (left : Bool) (x y : JudgedUnit × Decision × Reply) (carried : Result (DeviceView × A) Condition) → Beside inside P R exact x y → Beside inside P R exact (end_answer left x carried) (end_answer left y carried)
   ends_beside false x y carried b = b
   ends_beside true x y (Ok it) b = record { device = refl; kept = b.kept; reply = says-refl exact _; reservations = b.reservations }
   ends_beside true x y (Err condition) b = record { device = b.device; kept = b.kept; reply = says-refl exact _; reservations = b.reservations }
@@ -148,6 +148,6 @@ module _ (inside : Nexus → Bool) (P : State → Type 0) (R : State → State �
       let left = left_alike j k b in
       let ends = ends_beside (is_left j.2.sense) j k x b in
       let here : end_answer (is_left j.2.sense) k x ≡ end_answer (is_left k.2.sense) k y = λ i. end_answer (left i) k (same i) in (
-        moved inside f f' g g' n _ _ _ _ r q R exact P good a.unit d.unit (subst (λ (z : Present × Finding × Reply). Beside inside P R exact (end_answer (is_left j.2.sense) j x) z) here ends),
+        moved inside f f' g g' n _ _ _ _ r q R exact P good a.unit d.unit (subst (λ (z : JudgedUnit × Decision × Reply). Beside inside P R exact (end_answer (is_left j.2.sense) j x) z) here ends),
         a.drives_are ∙ (λ i. end_drives (left i) drives (same i)) ∙ sym d.drives_are,
       )

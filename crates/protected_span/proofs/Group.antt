@@ -23,9 +23,9 @@ use Rattle.pr_core.specs.declared.verdict.Verdict.TheVariants.{Allowed, Denied, 
 use Rattle.pr_core.specs.Judge.{verdict, broken_rule}
 use Rattle.pr_core.specs.Outcome.{act_of, applied, register_act, raised_by, removed_by}
 use Rattle.pr_core.proofs.KeyLaws.{key-after}
-use Rattle.judgement.specs.Kept.{preventers_after}
-use Rattle.protected_span.proofs.Alike.{IsHeldInside, IsShared}
-use Rattle.logical_unit.proofs.Quiet.{Shut, barred}
+use Rattle.judgement.specs.UnitState.{preventers_after}
+use Rattle.protected_span.proofs.InsidersView.{IsHeldInside, IsShared}
+use Rattle.logical_unit.proofs.OutsiderLeavesContents.{Shut, barred}
 use Rattle.protected_span.proofs.Outsider.{Calm}
 use Rattle.protected_span.proofs.Insider.{Agree}
 use Rattle.protected_span.proofs.Slots.{all_raised-alike}

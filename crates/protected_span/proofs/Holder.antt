@@ -31,11 +31,11 @@ use Rattle.pr_core.specs.declared.verdict.Verdict.{Verdict}
 use Rattle.pr_core.specs.declared.verdict.Verdict.TheVariants.{Allowed, Denied, Rule}
 use Rattle.pr_core.specs.Judge.{verdict, broken_rule, breaks_third, has_unregistered, has_other_key}
 use Rattle.pr_core.specs.Outcome.{refusal, register_refusal, register_act, is_known_type}
-use Rattle.pr_core.proofs.Room.{act_given}
+use Rattle.pr_core.proofs.RoomForKeys.{act_given}
 use Rattle.pr_core.proofs.ManyLaws.{room_for_one, unregistering_fits, registering_is}
-use Rattle.protected_span.proofs.Alike.{IsTable}
+use Rattle.protected_span.proofs.InsidersView.{IsTable}
 use Rattle.protected_span.specs.Span as span
-use Rattle.protected_span.proofs.Alike as seen
+use Rattle.protected_span.proofs.InsidersView as seen
 use Rattle.protected_span.proofs.Insider.{Agree}
 use Rattle.protected_span.proofs.Slots.{all_raised-apart}
 use Rattle.pr_core.specs.State.{capacity, cell, decided}
@@ -43,8 +43,9 @@ use Rattle.pr_core.specs.State.{State, Keys, key, is_registered, res_type, is_al
 use Rattle.pr_core.specs.Judge.{held_code}
 use Rattle.pr_core.specs.Outcome.{act_of, applied, told, raised_for, raised, is_removed, removed, raised_by, removed_by}
 use Rattle.pr_core.proofs.KeyLaws.{key-after}
-use Rattle.judgement.specs.Kept.{preventers_after}
-use Rattle.logical_unit.proofs.Quiet.{Shut, barred}
+use Rattle.judgement.specs.UnitState.{preventers_after}
+use Rattle.target_core.proofs.Places.{same_some}
+use Rattle.logical_unit.proofs.OutsiderLeavesContents.{Shut, barred}
 use Rattle.protected_span.proofs.Outsider.{Calm}
 
 -- a list that is picked out has none of a nexus where none of its picks is one
@@ -86,9 +87,6 @@ kept_all inside test (p ∷ ps) h own =
     and_parts : (a b : Bool) → (a && b) ≡ true → (a ≡ true) × (b ≡ true)
     and_parts true b h = (refl, h)
     and_parts false b h = cc
-
-same_some : {x y : Act} → Some x ≡ Some y → x ≡ y
-same_some e = cc
 
 module _ (h : Nexus) where
   abbrev pub is_h : Nexus → Bool
@@ -367,9 +365,9 @@ module _ (h : Nexus) where
     mild_act : (act : OutServiceAction) (p : OutParams) (a : Act) → ConcernsItself act (targets h p) → act_of v h (record p { act = act }) ≡ Some a → IsMild a
     mild_act out.Register p a mild e = subst IsMild (act_given _ _ _ e) tt
     mild_act out.RegisterAndIgnoreExistingKey p a mild e = subst IsMild (act_given _ _ _ e) tt
-    mild_act out.Reserve p a mild e = subst IsMild (same_some e) tt
-    mild_act out.Release p a mild e = subst IsMild (same_some e) tt
-    mild_act out.Clear p a mild e = subst IsMild (same_some e) tt
+    mild_act out.Reserve p a mild e = subst IsMild (same_some _ _ e) tt
+    mild_act out.Release p a mild e = subst IsMild (same_some _ _ e) tt
+    mild_act out.Clear p a mild e = subst IsMild (same_some _ _ e) tt
     mild_act out.Preempt p a mild e = absurd mild
     mild_act out.PreemptAndAbort p a mild e = absurd mild
     mild_act out.RegisterAndMove p a mild e = absurd mild

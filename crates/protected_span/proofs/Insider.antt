@@ -26,24 +26,24 @@ use Rattle.audit_log.specs.declared.stage.Stage.TheVariants.{ResetAttention, Oth
 use Rattle.device_server.specs.View.{field_fault, performed}
 use Rattle.judgement.specs.declared.command.Command.{Command}
 use Rattle.judgement.specs.declared.command.Command.TheVariants.{ReserveOut, ReserveIn, Inquiry, ReportLuns, RequestSense, Prevent, Device}
-use Rattle.judgement.specs.declared.finding.Finding.{Finding}
+use Rattle.judgement.specs.declared.decision.Decision.{Decision}
 use Rattle.judgement.specs.declared.reply.Reply.{Reply}
 use Rattle.judgement.specs.Conditions.{condition_of_refusal}
-use Rattle.judgement.specs.Findings.{at_stage, in_conflict}
-use Rattle.judgement.specs.Findings.{let_in}
+use Rattle.judgement.specs.Decisions.{at_stage, in_conflict}
+use Rattle.judgement.specs.Decisions.{let_in}
 use Rattle.judgement.specs.Replies.{conflict, check}
 use Rattle.judgement.specs.Replies.{good}
 use Rattle.judgement.specs.Commands.{class_of_command}
-use Rattle.judgement.specs.Present.{Present}
-use Rattle.judgement.specs.Kept.{accepted, is_prevented, preventers_after, after_mode}
+use Rattle.judgement.specs.JudgedUnit.{JudgedUnit}
+use Rattle.judgement.specs.UnitState.{accepted, is_prevented, preventers_after, after_mode}
 use Rattle.unit_attention.specs.Queues.{all_raised}
 use Rattle.judgement.specs.Judge.{cell_of, tells, carried_out, commanded}
 use Rattle.judgement.specs.Readings.{verdict_of, status_data, pending_of}
 use Rattle.judgement.specs.Judge.{waiting, sensed, steps, unloads, performs, at_cell, let_through, checked, judged_as}
 use Rattle.judgement.proofs.Carried.{prevents_by}
-use Rattle.protected_span.proofs.Alike.{Alike, Says}
+use Rattle.protected_span.proofs.InsidersView.{Alike, Says}
 use Rattle.unit_attention.proofs.SlotOf.{change-alike}
-use Rattle.protected_span.proofs.Slots.{others_told-alike}
+use Rattle.protected_span.proofs.Slots.{raised_for_others-alike}
 
 pub says-refl : (exact : Bool) (r : Reply) → Says exact r r
 says-refl true r = refl
@@ -91,11 +91,11 @@ module _ (inside : Nexus → Bool) where
     pub raised : (q r : Slots) (m : Nexus) → inside m ≡ true → slot_of q m ≡ slot_of r m → slot_of (all_raised q (raised_by v n (act_of v n p))) m ≡ slot_of (all_raised r (raised_by w n (act_of w n p))) m
     pub preventers : (ps : List Nexus) → list_all inside ps ≡ true → preventers_after ps p.act (removed_by v n (act_of v n p)) ≡ preventers_after ps p.act (removed_by w n (act_of w n p))
 
-  module _ (f : Present) (w : State) (r : Slots) (n : Nexus) (is : inside n ≡ true) (own : list_all inside f.kept.preventers ≡ true)
+  module _ (f : JudgedUnit) (w : State) (r : Slots) (n : Nexus) (is : inside n ≡ true) (own : list_all inside f.kept.preventers ≡ true)
       (slots : (m : Nexus) → inside m ≡ true → slot_of f.kept.slots m ≡ slot_of r m)
       (P : State → Type 0) (R : State → State → Type 0) (related : R f.kept.reservations w) (exact : Bool) where
     -- the other unit, of the same device
-    abbrev pub other : Present
+    abbrev pub other : JudgedUnit
     other = record { device = f.device; kept = record f.kept { reservations = w; slots = r } }
 
     -- what the reservations have to do with a command
@@ -104,7 +104,7 @@ module _ (inside : Nexus → Bool) where
     Fit (ReserveIn a l) = Says exact (good (take l (status_data f.kept.reservations a))) (good (take l (status_data w a)))
     Fit c = Unit {0}
 
-    pub record Both (x y : Present × Finding × Reply) : Type 0 where
+    pub record Both (x y : JudgedUnit × Decision × Reply) : Type 0 where
       pub device : x.0.device ≡ y.0.device
       pub kept : Alike inside x.0.kept y.0.kept
       pub reply : Says exact x.2 y.2
@@ -113,10 +113,10 @@ module _ (inside : Nexus → Bool) where
     alike : Alike inside f.kept other.kept
     alike = record { lun = refl; units = refl; slots = slots; preventers = refl; own = own }
 
-    same_both : (e g : Finding) (a : Reply) → Both (f, e, a) (other, g, a)
+    same_both : (e g : Decision) (a : Reply) → Both (f, e, a) (other, g, a)
     same_both e g a = record { device = refl; kept = alike; reply = says-refl exact a; reservations = λ _. related }
 
-    told_both : (kind : Kind) (e g : Finding) → Both (tells f n kind e) (tells other n kind g)
+    told_both : (kind : Kind) (e g : Decision) → Both (tells f n kind e) (tells other n kind g)
     told_both kind e g = record {
       device = refl;
       kept = record { lun = refl; units = refl; slots = λ m within. change-alike f.kept.slots r n m (λ ks. without_kind ks kind) (slots m within); preventers = refl; own = own };
@@ -159,7 +159,7 @@ module _ (inside : Nexus → Bool) where
     prevents_both at to false false = same_both _ _ _
 
     mode_both : (b : Bool) → Alike inside (after_mode f.kept n b) (after_mode other.kept n b)
-    mode_both true = record { lun = refl; units = refl; slots = λ m within. others_told-alike f.kept.slots r n m ModeParametersChanged (slots m within); preventers = refl; own = own }
+    mode_both true = record { lun = refl; units = refl; slots = λ m within. raised_for_others-alike f.kept.slots r n m ModeParametersChanged (slots m within); preventers = refl; own = own }
     mode_both false = alike
 
     mode_reservations : (b : Bool) → R (after_mode f.kept n b).reservations (after_mode other.kept n b).reservations
@@ -197,7 +197,7 @@ module _ (inside : Nexus → Bool) where
     }
 
     -- an allowed act, refused or accepted
-    abbrev acts : Present → OutParams → Option PrFault → Present × Finding × Reply
+    abbrev acts : JudgedUnit → OutParams → Option PrFault → JudgedUnit × Decision × Reply
     acts u p o = elim o [ Some fault ↦ (u, at_stage Fields, check (condition_of_refusal fault)) | None ↦ (record u { kept = accepted u.kept n p }, at_stage stage.Device, good []) ]
 
     reserves_both : (at to : Cell) (p : OutParams) → Fit (ReserveOut p) → (o : Option PrFault) → Both (at_cell at (acts f p o)) (at_cell to (acts other p o))
@@ -217,7 +217,7 @@ module _ (inside : Nexus → Bool) where
     carried_both at to (Prevent p) bytes fit = prevents_both at to (p == 0) (p == 1)
     carried_both at to (Device req) bytes fit = performs_both at to req bytes
 
-    abbrev through : Present → Command → List ℕ → Option Kind → Present × Finding × Reply
+    abbrev through : JudgedUnit → Command → List ℕ → Option Kind → JudgedUnit × Decision × Reply
     through u c bytes o = elim (waiting (class_of_command c) o) [ Some kind ↦ tells u n kind (let_in (cell_of u n c) OtherAttention) | None ↦ at_cell (cell_of u n c) (carried_out u n c bytes) ]
 
     let_through_both : (c : Command) (bytes : List ℕ) → Fit c → Both (let_through f n c bytes) (let_through other n c bytes)
@@ -228,7 +228,7 @@ module _ (inside : Nexus → Bool) where
           | None ↦ carried_both (cell_of f n c) (cell_of other n c) c bytes fit
         ])
 
-    abbrev by : Present → Command → List ℕ → Verdict → Present × Finding × Reply
+    abbrev by : JudgedUnit → Command → List ℕ → Verdict → JudgedUnit × Decision × Reply
     by u c bytes v = elim v [ Allowed ↦ let_through u n c bytes | Denied cell ↦ (u, in_conflict (cell_of u n c) None, conflict) | Rule rule ↦ (u, in_conflict (cell_of u n c) (Some rule), conflict) ]
 
     by_both : (c : Command) (bytes : List ℕ) (v : Verdict) → Fit c → Both (by f c bytes v) (by other c bytes v)
@@ -239,7 +239,7 @@ module _ (inside : Nexus → Bool) where
     checked_both : (c : Command) (bytes : List ℕ) → verdict_of f.kept.reservations n c ≡ verdict_of w n c → Fit c → Both (checked f n c bytes) (checked other n c bytes)
     checked_both c bytes e fit = subst (λ (v : Verdict). Both (by f c bytes (verdict_of f.kept.reservations n c)) (by other c bytes v)) e (by_both c bytes (verdict_of f.kept.reservations n c) fit)
 
-    abbrev comes : Present → Command → List ℕ → Option Kind → Present × Finding × Reply
+    abbrev comes : JudgedUnit → Command → List ℕ → Option Kind → JudgedUnit × Decision × Reply
     comes u c bytes o = elim (waiting (class_of_command c) o) [ Some kind ↦ tells u n kind (at_stage ResetAttention) | None ↦ checked u n c bytes ]
 
     pub commanded_both : (c : Command) (bytes : List ℕ) → verdict_of f.kept.reservations n c ≡ verdict_of w n c → Fit c → Both (commanded f n c bytes) (commanded other n c bytes)

@@ -12,13 +12,13 @@ use Rattle.device_server.specs.declared.fault.PutFault.{PutFault}
 use Rattle.logical_unit.specs.declared.medium_fault.MediumFault.{MediumFault}
 use Rattle.logical_unit.specs.declared.medium_fault.MediumFault.TheVariants.{NotADrive, Prevented}
 use Rattle.logical_unit.specs.UnitView.{UnitView}
-use Rattle.judgement.specs.Kept.{with_medium, is_prevented}
+use Rattle.judgement.specs.UnitState.{with_medium, is_prevented}
 use Rattle.logical_unit.specs.Medium.{taken_out, taken_as, put_in, put_as}
 use Rattle.logical_unit.specs.Move.{IsSameUnit}
 use Rattle.logical_unit.proofs.SameUnits.{out_same, in_same}
-use Rattle.protected_span.proofs.Alike.{Alike}
+use Rattle.protected_span.proofs.InsidersView.{Alike}
 use Rattle.protected_span.proofs.Carry.{Same, With, Takes}
-use Rattle.protected_span.proofs.Slots.{all_told-alike}
+use Rattle.protected_span.proofs.Slots.{raised_for_all-alike}
 
 module _ (inside : Nexus → Bool) where
   -- the same device, the same reservations where they are the same, and alike to those inside
@@ -33,7 +33,7 @@ module _ (inside : Nexus → Bool) where
   PutsAlike o p = Same Beside o p
 
   medium_alike : (f g : UnitView) → Alike inside f.kept g.kept → Alike inside (with_medium f.kept) (with_medium g.kept)
-  medium_alike f g a = record { lun = a.lun; units = a.units; slots = λ m is. all_told-alike f.kept.slots g.kept.slots m MediumChanged (a.slots m is); preventers = a.preventers; own = a.own }
+  medium_alike f g a = record { lun = a.lun; units = a.units; slots = λ m is. raised_for_all-alike f.kept.slots g.kept.slots m MediumChanged (a.slots m is); preventers = a.preventers; own = a.own }
 
   taken_alike : (f g : UnitView) (o : Result (Volume × DeviceView) TakeFault) → Beside f g → TakesAlike (taken_as f o) (taken_as g o)
   taken_alike f g (Ok it) b = (refl, record { device = refl; kept = b.kept })

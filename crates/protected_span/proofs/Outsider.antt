@@ -26,15 +26,15 @@ use Rattle.audit_log.specs.declared.stage.Stage.TheVariants.{ResetAttention, Oth
 use Rattle.device_server.specs.View.{DeviceView, field_fault, performed}
 use Rattle.judgement.specs.declared.command.Command.{Command}
 use Rattle.judgement.specs.declared.command.Command.TheVariants.{ReserveOut, ReserveIn, Inquiry, ReportLuns, RequestSense, Prevent, Device}
-use Rattle.judgement.specs.declared.finding.Finding.{Finding}
+use Rattle.judgement.specs.declared.decision.Decision.{Decision}
 use Rattle.judgement.specs.declared.reply.Reply.{Reply}
 use Rattle.judgement.specs.Conditions.{condition_of_refusal}
-use Rattle.judgement.specs.Findings.{at_stage}
+use Rattle.judgement.specs.Decisions.{at_stage}
 use Rattle.judgement.specs.Replies.{check}
 use Rattle.judgement.specs.Replies.{good}
 use Rattle.judgement.specs.Commands.{class_of_command}
-use Rattle.judgement.specs.Present.{Present}
-use Rattle.judgement.specs.Kept.{accepted, is_prevented, preventers_after, after_mode}
+use Rattle.judgement.specs.JudgedUnit.{JudgedUnit}
+use Rattle.judgement.specs.UnitState.{accepted, is_prevented, preventers_after, after_mode}
 use Rattle.judgement.specs.Judge.{cell_of, tells, carried_out}
 use Rattle.judgement.specs.Readings.{verdict_of, pending_of}
 use Rattle.judgement.specs.Judge.{sensed, steps, unloads, performs, at_cell, judged_as}
@@ -42,11 +42,11 @@ use Rattle.judgement.proofs.Carried.{prevents_by}
 use Rattle.unit_attention.proofs.SlotOf.{change-apart}
 use Rattle.protected_span.proofs.Slots.{all_raised-apart}
 use Rattle.logical_unit.proofs.EndsOf.{by_ends}
-use Rattle.logical_unit.proofs.Quiet.{Shut, barred, performed_quiet}
+use Rattle.logical_unit.proofs.OutsiderLeavesContents.{Shut, barred, performed_quiet}
 
 module _ (inside : Nexus → Bool) where
   -- what those inside see stays as it was
-  pub record Left (u v : Present) : Type 0 where
+  pub record Left (u v : JudgedUnit) : Type 0 where
     pub device : v.device ≡ u.device
     pub lun : v.kept.lun ≡ u.kept.lun
     pub units : v.kept.units ≡ u.kept.units
@@ -65,7 +65,7 @@ module _ (inside : Nexus → Bool) where
         | false ↦ λ e. refl
       ] refl
 
-  left_same : (u : Present) → Left u u
+  left_same : (u : JudgedUnit) → Left u u
   left_same u = record { device = refl; lun = refl; units = refl; slots = λ m is. refl; preventers = refl }
 
   and_parts : (a b : Bool) → (a && b) ≡ true → (a ≡ true) × (b ≡ true)
@@ -80,16 +80,16 @@ module _ (inside : Nexus → Bool) where
       ap (λ b. cond (not b) (p ∷ filter (λ x. not (same_nexus x n)) ps) (filter (λ x. not (same_nexus x n)) ps)) (apart p n parts.0 isnt)
       ∙ ap (λ x. p ∷ x) (allowed_apart ps n isnt parts.1)
 
-  module _ (u : Present) (n : Nexus) (isnt : inside n ≡ false) (shut : Shut (res_type u.kept.reservations) (role u.kept.reservations n)) (own : list_all inside u.kept.preventers ≡ true)
+  module _ (u : JudgedUnit) (n : Nexus) (isnt : inside n ≡ false) (shut : Shut (res_type u.kept.reservations) (role u.kept.reservations n)) (own : list_all inside u.kept.preventers ≡ true)
       (P : State → Type 0) (calm : (p : OutParams) → verdict u.kept.reservations n p ≡ Allowed → P (applied u.kept.reservations n p) → Calm u.kept.reservations n p) where
     -- what is judged so leaves what those inside see, where the reservations that it leaves are such
-    abbrev Leaves : Present × Finding × Reply → Type 0
+    abbrev Leaves : JudgedUnit × Decision × Reply → Type 0
     Leaves x = P x.0.kept.reservations → Left u x.0
 
-    stays : (f : Finding) (r : Reply) → Leaves (u, f, r)
+    stays : (f : Decision) (r : Reply) → Leaves (u, f, r)
     stays f r g = left_same u
 
-    told_leaves : (kind : Kind) (f : Finding) → Leaves (tells u n kind f)
+    told_leaves : (kind : Kind) (f : Decision) → Leaves (tells u n kind f)
     told_leaves kind f g = record {
       device = refl;
       lun = refl;
@@ -168,4 +168,4 @@ module _ (inside : Nexus → Bool) where
     pub judged_leaves : (c : Result Command Condition) (bytes : List ℕ) → Leaves (judged_as u n c bytes)
     judged_leaves (Err condition) bytes = λ g. left_same u
     judged_leaves (Ok c) bytes =
-        by_ends (λ (v : Present). P v.kept.reservations → Left u v) u n c bytes (λ g. left_same u) (λ kind. told_leaves kind (at_stage Fields)) (carried_leaves (cell_of u n c) c bytes)
+        by_ends (λ (v : JudgedUnit). P v.kept.reservations → Left u v) u n c bytes (λ g. left_same u) (λ kind. told_leaves kind (at_stage Fields)) (carried_leaves (cell_of u n c) c bytes)

@@ -4,9 +4,10 @@ use Rattle.std.specs.Prelude.{slice_get, slice_set}
 use Rattle.std.proofs.lemmas.Map.Views.{exact_unsigned_eq}
 use Rattle.logical_unit.specs.Medium.{taken_out, put_in}
 use Rattle.logical_unit.specs.UnitView.{UnitView}
+use Rattle.target_core.proofs.Places.{same_some}
 use Rattle.target_core.proofs.History.{get-set_same, get-set_other}
 use Rattle.protected_span.proofs.Carry.{Same, With, Takes, same_self, same_as}
-use Rattle.logical_unit.proofs.Quiet.{barred}
+use Rattle.logical_unit.proofs.OutsiderLeavesContents.{barred}
 
 -- two lists that agree at a place agree there after both are changed alike
 get-set_alike : (xs ys : List UnitView) (i j : ℕ) (x : UnitView) → slice_get xs j ≡ slice_get ys j → slice_get (slice_set xs i x) j ≡ slice_get (slice_set ys i x) j
@@ -23,9 +24,6 @@ get-set_alike (z ∷ xs) (y ∷ ys) zero zero x h = refl
 get-set_alike (z ∷ xs) (y ∷ ys) zero (suc j) x h = h
 get-set_alike (z ∷ xs) (y ∷ ys) (suc i) zero x h = h
 get-set_alike (z ∷ xs) (y ∷ ys) (suc i) (suc j) x h = get-set_alike xs ys i j x h
-
-pub same_unit : (a b : UnitView) → Some a ≡ Some b → a ≡ b
-same_unit a b e = cc
 
 no_unit : (u : UnitView) → None ≡ Some u → ⊥
 no_unit u e = cc
@@ -57,7 +55,7 @@ module _ (lun : ℕ) (Rel : UnitView → UnitView → Type 0) where
 
   both_same : (us ws : List UnitView) (k : ℕ) (o p : Option UnitView) → (k == lun) ≡ false → slice_get us k ≡ o → slice_get ws k ≡ p → slice_get us k ≡ slice_get ws k → BothAt k o p
   both_same us ws k None None away a b same = tt
-  both_same us ws k (Some x) (Some y) away a b same = record { here = λ e. barred (k == lun) e away; away = λ e. same_unit x y (sym a ∙ same ∙ b) }
+  both_same us ws k (Some x) (Some y) away a b same = record { here = λ e. barred (k == lun) e away; away = λ e. same_some x y (sym a ∙ same ∙ b) }
   both_same us ws k None (Some y) away a b same = no_unit y (sym a ∙ same ∙ b)
   both_same us ws k (Some x) None away a b same = no_unit x (sym b ∙ sym same ∙ a)
 
@@ -66,8 +64,8 @@ module _ (lun : ℕ) (Rel : UnitView → UnitView → Type 0) where
   both_here us ws k (Some x) None here a b l = absurd (no_unit l.g (sym b ∙ ap (slice_get ws) (exact_unsigned_eq k lun here) ∙ l.there))
   both_here us ws k (Some x) (Some y) here a b l =
       let same = exact_unsigned_eq k lun here in
-      let first : l.f ≡ x = same_unit l.f x (sym l.here ∙ sym (ap (slice_get us) same) ∙ a) in
-      let second : l.g ≡ y = same_unit l.g y (sym l.there ∙ sym (ap (slice_get ws) same) ∙ b) in
+      let first : l.f ≡ x = same_some l.f x (sym l.here ∙ sym (ap (slice_get us) same) ∙ a) in
+      let second : l.g ≡ y = same_some l.g y (sym l.there ∙ sym (ap (slice_get ws) same) ∙ b) in
       record { here = λ e. subst (λ (z : UnitView). Rel x z) second (subst (λ (z : UnitView). Rel z l.g) first l.related); away = λ e. barred (k == lun) here e }
 
   pub at_place : (us ws : List UnitView) (k : ℕ) (o p : Option UnitView) → slice_get us k ≡ o → slice_get ws k ≡ p → Lists us ws → BothAt k o p

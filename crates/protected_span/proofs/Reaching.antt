@@ -32,14 +32,15 @@ use Rattle.target_core.specs.declared.event.Event.TheVariants as event
 use Rattle.target_core.specs.Run.{AtUnit, MovesWith, MovesBetween, CommandsNaming, CommandsAt, LosesAt, ResetsAt, Steps}
 use Rattle.target_core.proofs.History.{get-set_other}
 use Rattle.protected_span.specs.Reached.{IsReached, AreReached, PowerOnIsReached, DrainedIsReached, RunsReach}
-use Rattle.protected_span.proofs.Alike.{IsTable}
+use Rattle.protected_span.proofs.InsidersView.{IsTable}
 use Rattle.protected_span.proofs.Carry.{Same, With, Takes, BothDrives, one_alike, two_alike}
 use Rattle.protected_span.proofs.Changes.{Change, executes_changes, change_table}
 use Rattle.protected_span.proofs.Ended.{Ended, MovesBy, end_drives, end_of_move, ended_changes}
 use Rattle.logical_unit.specs.Route.{named}
-use Rattle.protected_span.proofs.Places.{same_unit, apart_of}
-use Rattle.protected_span.proofs.Room.{Roomy, roomy_self, strike_roomy, lose_roomy, reset_roomy}
-use Rattle.protected_span.proofs.Roomed.{ended_roomy, both_roomy, out_number, in_number}
+use Rattle.target_core.proofs.Places.{same_some}
+use Rattle.protected_span.proofs.Places.{apart_of}
+use Rattle.protected_span.proofs.RoomOfStruckRuns.{Roomy, roomy_self, strike_roomy, lose_roomy, reset_roomy}
+use Rattle.protected_span.proofs.RelatedWithRoom.{ended_roomy, both_roomy, out_number, in_number}
 use Rattle.protected_span.proofs.Shape.{shape_self}
 use Rattle.protected_span.proofs.Units.{loss_known, lost_reservations}
 
@@ -188,7 +189,7 @@ one_less a b e = cc
 
 set_at_it : (us : List UnitView) (at lun : ℕ) (x u : UnitView) → at ≡ lun → IsReached x → slice_get (slice_set us at x) lun ≡ Some u → IsReached u
 set_at_it [] at lun x u same is here = absurd cc
-set_at_it (z ∷ us) zero zero x u same is here = subst IsReached (same_unit x u here) is
+set_at_it (z ∷ us) zero zero x u same is here = subst IsReached (same_some x u here) is
 set_at_it (z ∷ us) zero (suc k) x u same is here = absurd cc
 set_at_it (z ∷ us) (suc j) zero x u same is here = absurd cc
 set_at_it (z ∷ us) (suc j) (suc k) x u same is here = set_at_it us j k x u (one_less j k same) is here

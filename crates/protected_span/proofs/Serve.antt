@@ -9,8 +9,8 @@ use Rattle.unit_attention.specs.Queues.{has_slot}
 use Rattle.device_server.specs.View.{DeviceView, kind_of, drives_of}
 use Rattle.judgement.proofs.Carried.{judged_free}
 use Rattle.judgement.specs.declared.reply.Reply.{Reply}
-use Rattle.judgement.specs.Commands.{spelled}
-use Rattle.judgement.specs.Kept.{has_room}
+use Rattle.judgement.specs.Commands.{decoded_command}
+use Rattle.judgement.specs.UnitState.{has_room}
 use Rattle.logical_unit.specs.Move.{TwoDrives, is_left, judged_at, route_at, concluded, carried_one, carried_two, moved_one, moved_two, MovesOne, MovesTwo}
 use Rattle.logical_unit.specs.Route.{named}
 use Rattle.logical_unit.specs.Step.{Executes, IsLost, IsReset, HasNumber, answered, contacted_present}
@@ -21,14 +21,14 @@ use Rattle.target_core.specs.declared.event.Event.TheVariants as event
 use Rattle.target_core.specs.Run.{AtUnit, AtDrive, AtDrives, MovesWith, MovesBetween, CommandsNaming, CommandsAt, LosesAt, ResetsAt, Steps}
 use Rattle.target_core.proofs.History.{get-set_same, get-set_other}
 use Rattle.protected_span.specs.Struck.{is_struck, struck, RunsThrough, InSpan, Serves}
-use Rattle.protected_span.proofs.Along.{IsKeptAlong}
+use Rattle.protected_span.proofs.KeptByEachStep.{IsKeptAlong}
 use Rattle.protected_span.proofs.Carry.{Same, With, BothDrives, one_alike, two_alike}
 use Rattle.protected_span.proofs.Changer.{Goes, looks_at, no_drive, no_drives}
 use Rattle.protected_span.proofs.Ended.{concluded_is, end_free, ended_is, ended_numbers}
-use Rattle.protected_span.proofs.Fold.{struck_event, kept_event}
+use Rattle.protected_span.proofs.StruckRuns.{struck_event, kept_event}
 use Rattle.protected_span.proofs.Places.{Lists, At, BothAt, at_place, takes_at}
-use Rattle.protected_span.proofs.Room.{room_too, number_too, serve_command, serve_loss, serve_reset}
-use Rattle.protected_span.proofs.Roomed.{Roomed, with_room}
+use Rattle.protected_span.proofs.RoomOfStruckRuns.{room_too, number_too, serve_command, serve_loss, serve_reset}
+use Rattle.protected_span.proofs.RelatedWithRoom.{Roomed, with_room}
 
 same_ok : {A E : Type 0} (R : A → A → Type 0) (o p : Result A E) → Same R o p → is_ok o ≡ is_ok p
 same_ok R (Ok a) (Ok b) h = refl
@@ -41,7 +41,7 @@ concluded_free : {A : Type 0} (c : UnitView) (n : Nexus) (cdb bytes : List ℕ) 
 concluded_free {A} c n cdb bytes drives carried =
     let answer = judged_at c n cdb bytes in
     subst (λ (x : (UnitView × Reply) × A). x.0.1.status ≢ Busy) (sym (concluded_is c n cdb bytes drives answer carried))
-    (end_free c n cdb bytes drives answer (is_left answer.2.sense) carried (judged_free (contacted_present c n) n (spelled (kind_of c.device) cdb bytes) bytes))
+    (end_free c n cdb bytes drives answer (is_left answer.2.sense) carried (judged_free (contacted_present c n) n (decoded_command (kind_of c.device) cdb bytes) bytes))
 
 -- the drives of a carried volume have numbers in the other run
 numbers_too : {A B : Type 0} (a b : Bool) (x : Result A Condition) (y : Result B Condition) (N M : Type 0) → a ≡ b → is_ok x ≡ is_ok y → ((a && is_ok x) ≡ true → N) → (N → M) → (b && is_ok y) ≡ true → M

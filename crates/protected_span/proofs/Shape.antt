@@ -19,16 +19,16 @@ use Rattle.audit_log.specs.declared.stage.Stage.TheVariants.{ResetAttention, Oth
 use Rattle.device_server.specs.View.{field_fault, performed}
 use Rattle.judgement.specs.declared.command.Command.{Command}
 use Rattle.judgement.specs.declared.command.Command.TheVariants.{ReserveOut, ReserveIn, Inquiry, ReportLuns, RequestSense, Prevent, Device}
-use Rattle.judgement.specs.declared.finding.Finding.{Finding}
+use Rattle.judgement.specs.declared.decision.Decision.{Decision}
 use Rattle.judgement.specs.declared.reply.Reply.{Reply}
 use Rattle.judgement.specs.Conditions.{condition_of_refusal}
-use Rattle.judgement.specs.Findings.{at_stage}
+use Rattle.judgement.specs.Decisions.{at_stage}
 use Rattle.judgement.specs.Replies.{check}
 use Rattle.judgement.specs.Replies.{good}
-use Rattle.judgement.specs.Present.{Present}
-use Rattle.judgement.specs.Kept.{accepted, is_prevented, after_mode}
+use Rattle.judgement.specs.JudgedUnit.{JudgedUnit}
+use Rattle.judgement.specs.UnitState.{accepted, is_prevented, after_mode}
 use Rattle.unit_attention.specs.Queues.{all_raised}
-use Rattle.judgement.specs.Kept.{with_slots, all_told}
+use Rattle.judgement.specs.UnitState.{with_slots, raised_for_all}
 use Rattle.judgement.specs.Readings.{pending_of}
 use Rattle.judgement.specs.Judge.{sensed, steps, unloads, performs, judged_as}
 use Rattle.judgement.specs.Judge.{carried_out}
@@ -77,11 +77,11 @@ all-shape k (n ∷ ns) q s =
     let one = change-shape q n (λ ks. with_kind ks k) s in
     shape_then q _ _ one (all-shape k ns (raised q n k) one.sorted)
 
-pub told_all-shape : (q : Slots) (k : Kind) → T (is_sorted nexus_cmp q) → Shape q (all_told q k)
+pub told_all-shape : (q : Slots) (k : Kind) → T (is_sorted nexus_cmp q) → Shape q (raised_for_all q k)
 told_all-shape q k s = all-shape k (with_slots q) q s
 
-module _ (u : Present) (n : Nexus) (s : T (is_sorted nexus_cmp u.kept.slots)) where
-  abbrev Keeps : Present × Finding × Reply → Type 0
+module _ (u : JudgedUnit) (n : Nexus) (s : T (is_sorted nexus_cmp u.kept.slots)) where
+  abbrev Keeps : JudgedUnit × Decision × Reply → Type 0
   Keeps x = Shape u.kept.slots x.0.kept.slots
 
   self : Shape u.kept.slots u.kept.slots
@@ -130,4 +130,4 @@ module _ (u : Present) (n : Nexus) (s : T (is_sorted nexus_cmp u.kept.slots)) wh
 
   pub judged_shape : (c : Result Command Condition) (bytes : List ℕ) → Keeps (judged_as u n c bytes)
   judged_shape (Err condition) bytes = self
-  judged_shape (Ok c) bytes = by_ends (λ (v : Present). Shape u.kept.slots v.kept.slots) u n c bytes self reported (λ _. carried_keeps c bytes)
+  judged_shape (Ok c) bytes = by_ends (λ (v : JudgedUnit). Shape u.kept.slots v.kept.slots) u n c bytes self reported (λ _. carried_keeps c bytes)

@@ -10,7 +10,7 @@ use Rattle.unit_attention.specs.declared.kind.Kind.{Kind}
 use Rattle.unit_attention.specs.Pending.{with_kind}
 use Rattle.unit_attention.specs.Queues.{Slots, slot_of, raised, all_raised}
 use Rattle.unit_attention.proofs.SlotOf.{slot-change, change-alike, change-apart, with_kind-twice}
-use Rattle.judgement.specs.Kept.{with_slots, others_told, all_told}
+use Rattle.judgement.specs.UnitState.{with_slots, raised_for_others, raised_for_all}
 
 -- attentions that are raised alike
 pub all_raised-alike : (l : List (Nexus × Kind)) (q r : Slots) (m : Nexus) → slot_of q m ≡ slot_of r m → slot_of (all_raised q l) m ≡ slot_of (all_raised r l) m
@@ -81,12 +81,12 @@ told_if k true (Some ks) = refl
 told_if k false (Some ks) = refl
 
 -- every slot but the sender's is told
-pub slot-others_told : (q : Slots) (s m : Nexus) (k : Kind) → slot_of (others_told q s k) m ≡ cond (same_nexus m s) (slot_of q m) (told k (slot_of q m))
-slot-others_told q s m k =
+pub slot-raised_for_others : (q : Slots) (s m : Nexus) (k : Kind) → slot_of (raised_for_others q s k) m ≡ cond (same_nexus m s) (slot_of q m) (told k (slot_of q m))
+slot-raised_for_others q s m k =
     told_over s k (with_slots q) q m ∙ ap (λ b. cond (b && not (same_nexus m s)) (told k (slot_of q m)) (slot_of q m)) (has-with_slots q m) ∙ told_if k (same_nexus m s) (slot_of q m)
 
-pub others_told-alike : (q r : Slots) (s m : Nexus) (k : Kind) → slot_of q m ≡ slot_of r m → slot_of (others_told q s k) m ≡ slot_of (others_told r s k) m
-others_told-alike q r s m k h = slot-others_told q s m k ∙ ap (λ o. cond (same_nexus m s) o (told k o)) h ∙ sym (slot-others_told r s m k)
+pub raised_for_others-alike : (q r : Slots) (s m : Nexus) (k : Kind) → slot_of q m ≡ slot_of r m → slot_of (raised_for_others q s k) m ≡ slot_of (raised_for_others r s k) m
+raised_for_others-alike q r s m k h = slot-raised_for_others q s m k ∙ ap (λ o. cond (same_nexus m s) o (told k o)) h ∙ sym (slot-raised_for_others r s m k)
 
 -- every slot is told
 all_over : (k : Kind) (ns : List Nexus) (q : Slots) (m : Nexus) → slot_of (fold (λ slots n. raised slots n k) q ns) m ≡ cond (list_any (same_nexus m) ns) (told k (slot_of q m)) (slot_of q m)
@@ -106,8 +106,8 @@ told_some : (k : Kind) (o : Option (List Kind)) → cond (is_some o) (told k o) 
 told_some k None = refl
 told_some k (Some ks) = refl
 
-pub slot-all_told : (q : Slots) (m : Nexus) (k : Kind) → slot_of (all_told q k) m ≡ told k (slot_of q m)
-slot-all_told q m k = all_over k (with_slots q) q m ∙ ap (λ b. cond b (told k (slot_of q m)) (slot_of q m)) (has-with_slots q m) ∙ told_some k (slot_of q m)
+pub slot-raised_for_all : (q : Slots) (m : Nexus) (k : Kind) → slot_of (raised_for_all q k) m ≡ told k (slot_of q m)
+slot-raised_for_all q m k = all_over k (with_slots q) q m ∙ ap (λ b. cond b (told k (slot_of q m)) (slot_of q m)) (has-with_slots q m) ∙ told_some k (slot_of q m)
 
-pub all_told-alike : (q r : Slots) (m : Nexus) (k : Kind) → slot_of q m ≡ slot_of r m → slot_of (all_told q k) m ≡ slot_of (all_told r k) m
-all_told-alike q r m k h = slot-all_told q m k ∙ ap (told k) h ∙ sym (slot-all_told r m k)
+pub raised_for_all-alike : (q r : Slots) (m : Nexus) (k : Kind) → slot_of q m ≡ slot_of r m → slot_of (raised_for_all q k) m ≡ slot_of (raised_for_all r k) m
+raised_for_all-alike q r m k h = slot-raised_for_all q m k ∙ ap (told k) h ∙ sym (slot-raised_for_all r m k)

@@ -16,19 +16,20 @@ use Rattle.device_server.specs.View.{kind_of}
 use Rattle.judgement.specs.declared.command.Command.{Command}
 use Rattle.judgement.specs.declared.command.Command.TheVariants.{ReserveOut, ReserveIn, Inquiry, ReportLuns, RequestSense, Prevent, Device}
 use Rattle.judgement.specs.declared.reply.Reply.{Reply}
-use Rattle.judgement.specs.Commands.{spelled, class_of_command}
+use Rattle.judgement.specs.Commands.{decoded_command, class_of_command}
 use Rattle.judgement.specs.Replies.{good}
 use Rattle.judgement.specs.Readings.{verdict_of, status_data}
 use Rattle.logical_unit.specs.Step.{Executes}
 use Rattle.logical_unit.specs.UnitView.{UnitView}
 use Rattle.logical_unit.proofs.History.{executes_stays}
 use Rattle.device_server.proofs.SameDevice.{reset_same}
+use Rattle.target_core.proofs.Places.{same_some}
 use Rattle.target_core.specs.declared.event.Event.{Event}
 use Rattle.target_core.specs.Run.{Runs}
 use Rattle.logical_unit.specs.Step.{IsLost, IsReset}
 use Rattle.protected_span.specs.Span.{ConcernsItself, is_the_holder, MaySend, IsFair, is_read}
 use Rattle.protected_span.specs.Struck.{SameReply, struck, RunsThrough, IsServed, InSpan, EndsAlike, is_exact, Tells}
-use Rattle.protected_span.proofs.Alike.{Alike, Says, IsShared, IsTable, Hold, Begins}
+use Rattle.protected_span.proofs.InsidersView.{Alike, Says, IsShared, IsTable, Hold, Begins}
 use Rattle.protected_span.proofs.Changes.{Change, executes_changes, change_table}
 use Rattle.protected_span.proofs.Holder as holder
 use Rattle.protected_span.proofs.Holder.{SameHold}
@@ -38,10 +39,10 @@ use Rattle.std.specs.List.{list_all}
 use Rattle.scsi_sense.specs.declared.condition.Condition.{Condition}
 use Rattle.device_server.specs.View.{DeviceView}
 use Rattle.logical_unit.specs.Move.{judged_at, IsSameUnit}
-use Rattle.protected_span.proofs.Along.{KeepsMoves, IsKeptAlong}
+use Rattle.protected_span.proofs.KeptByEachStep.{KeepsMoves, IsKeptAlong}
 use Rattle.protected_span.proofs.Ended.{Ended, ended_changes, move_units, same_sense}
 use Rattle.protected_span.proofs.Medium as medium
-use Rattle.protected_span.proofs.Fold.{runs_alike}
+use Rattle.protected_span.proofs.StruckRuns.{runs_alike}
 
 -- lists that are related at the unit end alike
 ends_alike : (lun : ℕ) (vs ws : List UnitView) (f g : UnitView) → slice_get vs lun ≡ Some f → slice_get ws lun ≡ Some g → f.device ≡ g.device → ((k : ℕ) → lun ≢ k → slice_get vs k ≡ slice_get ws k) → EndsAlike lun vs ws
@@ -49,9 +50,6 @@ ends_alike lun vs ws f g here there device rest = record {
   device = λ v w e d. ap (λ (u : UnitView). u.device) (same_some v f (sym e ∙ here)) ∙ device ∙ ap (λ (u : UnitView). u.device) (same_some g w (sym there ∙ d));
   others = λ k apart. rest k (λ e. apart (sym e));
 }
-  where
-    same_some : (a b : UnitView) → Some a ≡ Some b → a ≡ b
-    same_some a b e = cc
 
 module _ (h : Nexus) (kind : Kind) where
   -- reservations that h sees alike, each with its table
@@ -70,7 +68,7 @@ module _ (h : Nexus) (kind : Kind) where
   Kept v = Hold h v.kept.reservations
 
   abbrev pub exact : Nexus → (cdb bytes : List ℕ) → Bool
-  exact n cdb bytes = not (is_read (spelled kind cdb bytes))
+  exact n cdb bytes = not (is_read (decoded_command kind cdb bytes))
 
   pub strike : (f v g : UnitView) (n : Nexus) (cdb bytes : List ℕ) (r : Reply) → is_the_holder h n ≡ false → Rel f g → Kept v → IsFair h n cdb bytes f v → Executes f n cdb bytes (v, r) → Rel v g
   strike f v g n cdb bytes r isnt rel kept may e =
@@ -97,7 +95,7 @@ module _ (h : Nexus) (kind : Kind) where
   some_ok a b e = cc
 
   -- what h sends is taken alike
-  pub fits : (f g : UnitView) (cdb bytes : List ℕ) (rel : Rel f g) (is : is_the_holder h h ≡ true) → MaySend h (spelled (kind_of f.device) cdb bytes)
+  pub fits : (f g : UnitView) (cdb bytes : List ℕ) (rel : Rel f g) (is : is_the_holder h h ≡ true) → MaySend h (decoded_command (kind_of f.device) cdb bytes)
       → Fits (is_the_holder h) f g h cdb bytes rel.kept is (Hold h) (SameHold h) rel.tables.same (exact h cdb bytes)
   fits f g cdb bytes rel is may (ReserveOut p) e =
       let t = rel.tables in
@@ -110,7 +108,7 @@ module _ (h : Nexus) (kind : Kind) where
       )
   fits f g cdb bytes rel is may (ReserveIn a l) e = (
     let_both f.kept.reservations g.kept.reservations (ReserveIn a l) rel.tables.same,
-    subst (λ (s : Result Command Condition). Says (not (is_read s)) (good (take l (status_data f.kept.reservations a))) (good (take l (status_data g.kept.reservations a)))) (sym (ap (λ k. spelled k cdb bytes) (sym rel.of_kind) ∙ e)) (record { status = refl; sense = refl }),
+    subst (λ (s : Result Command Condition). Says (not (is_read s)) (good (take l (status_data f.kept.reservations a))) (good (take l (status_data g.kept.reservations a)))) (sym (ap (λ k. decoded_command k cdb bytes) (sym rel.of_kind) ∙ e)) (record { status = refl; sense = refl }),
   )
   fits f g cdb bytes rel is may (Inquiry x y z) e = (let_both f.kept.reservations g.kept.reservations (Inquiry x y z) rel.tables.same, tt)
   fits f g cdb bytes rel is may (ReportLuns x y) e = (let_both f.kept.reservations g.kept.reservations (ReportLuns x y) rel.tables.same, tt)

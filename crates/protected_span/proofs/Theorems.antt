@@ -1,5 +1,6 @@
 -- The laws of protected spans: what every unit that is reached has is found, and the spans of the proofs are used.
 use Rattle.std.proofs.Common.{◌≡◌, ℕ, Bool, true, false, cond, not, ◌==◌, List, [], ◌∷◌, Option, Some, None, inl, inr, refl, sym, ap, ◌∙◌, subst}
+use Rattle.std.proofs.lemmas.Bool.{not-true}
 use Rattle.std.specs.Prelude.{◌⊎◌, length}
 use Rattle.scsi_nexus.specs.declared.nexus.Nexus.{Nexus}
 use Rattle.permit_tables.specs.declared.res_type.ResType.{ResType}
@@ -15,19 +16,15 @@ use Rattle.target_core.specs.declared.event.Event.TheVariants as event
 use Rattle.protected_span.specs.Reached.{IsReached, AreReached}
 use Rattle.protected_span.specs.Span.{Holds, IsFair, BeginsFor, HolderStep, HolderSpan, IsSharedBy, GroupStep, GroupSpan, SpansServe, SpansAreRuns}
 use Rattle.protected_span.specs.Struck.{RunsThrough, InSpan, Goes}
-use Rattle.protected_span.proofs.Alike.{Hold, Begins, IsHeldAs, IsHeldInside, IsShared, HasSlots}
+use Rattle.protected_span.proofs.InsidersView.{Hold, Begins, IsHeldAs, IsHeldInside, IsShared, HasSlots}
 use Rattle.protected_span.proofs.Reaching.{reached_table, reached_holder, step_reaches}
-use Rattle.protected_span.proofs.Served as served
+use Rattle.protected_span.proofs.StruckRunIsServed as served
 use Rattle.protected_span.proofs.Spans as spans
 use Rattle.protected_span.proofs.Spans.{KeptG, AnyG, through_is_run}
 
 -- a holder has a key
-unnot : (b : Bool) → not b ≡ true → b ≡ false
-unnot true h = cc
-unnot false h = refl
-
 keyed : (v : State) (o : Option (ResType × Nexus)) (h : Nexus) → o ≡ Some (type.Ea, h) → is_kept_by v.keys o ≡ true → (key v h == 0) ≡ false
-keyed v o h held kept = unnot (key v h == 0) (sym (ap (is_kept_by v.keys) held) ∙ kept)
+keyed v o h held kept = not-true (key v h == 0) (sym (ap (is_kept_by v.keys) held) ∙ kept)
 
 hold_of : (u : UnitView) (h : Nexus) → IsReached u → Holds h u → Hold h u.kept.reservations
 hold_of u h r held = record { holds = held; keyed = keyed u.kept.reservations u.kept.reservations.reservation h held (reached_holder u r) }

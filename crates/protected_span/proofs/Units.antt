@@ -15,12 +15,12 @@ use Rattle.pr_core.specs.Outcome.{applied}
 use Rattle.pr_core.specs.declared.verdict.Verdict.TheVariants.{Allowed}
 use Rattle.device_server.specs.View.{kind_of, reset_of}
 use Rattle.judgement.specs.declared.command.Command.{Command}
-use Rattle.judgement.specs.declared.finding.Finding.{Finding}
+use Rattle.judgement.specs.declared.decision.Decision.{Decision}
 use Rattle.judgement.specs.declared.reply.Reply.{Reply}
-use Rattle.judgement.specs.Commands.{spelled}
+use Rattle.judgement.specs.Commands.{decoded_command}
 use Rattle.judgement.specs.Replies.{busy}
-use Rattle.judgement.specs.KeptView.{KeptView}
-use Rattle.judgement.specs.Present.{Present}
+use Rattle.judgement.specs.UnitStateView.{UnitStateView}
+use Rattle.judgement.specs.JudgedUnit.{JudgedUnit}
 use Rattle.logical_unit.specs.UnitView.{UnitView, last_number}
 use Rattle.judgement.specs.Readings.{verdict_of}
 use Rattle.judgement.specs.Judge.{judged}
@@ -28,16 +28,16 @@ use Rattle.judgement.specs.Judge.{judged_as}
 use Rattle.audit_log.specs.declared.act.Act.{Act}
 use Rattle.logical_unit.specs.Move.{judged_at}
 use Rattle.logical_unit.specs.Step.{recorded, contacted_present, Executes, answered, loses, resets, LosesAs}
-use Rattle.logical_unit.specs.Step.{IsLost, IsReset, done, number_or_0}
+use Rattle.logical_unit.specs.Step.{IsLost, IsReset, event_reply, number_or_0}
 use Rattle.protected_span.specs.Struck.{SameReply}
-use Rattle.protected_span.proofs.Alike.{Alike, Says}
+use Rattle.protected_span.proofs.InsidersView.{Alike, Says}
 use Rattle.unit_attention.proofs.SlotOf.{contact-apart, contact-alike, change-apart, change-alike, reset-alike}
-use Rattle.logical_unit.proofs.Quiet.{Shut}
+use Rattle.logical_unit.proofs.OutsiderLeavesContents.{Shut}
 use Rattle.protected_span.proofs.Outsider.{Left, Calm, apart, allowed_apart, judged_leaves}
 use Rattle.protected_span.proofs.Insider.{Fit, Both, other, commanded_both, refused_both, own_filter}
 
 -- a unit's present
-abbrev pub present_of : UnitView → Present
+abbrev pub present_of : UnitView → JudgedUnit
 present_of u = record { device = u.device; kept = u.kept }
 
 pub not_busy : (r q : Reply) → r ≡ q → q.status ≡ Busy → r.status ≢ Busy → ⊥
@@ -50,7 +50,7 @@ answers u v n cdb bytes r free (inr e) = e.2
 
 module _ (inside : Nexus → Bool) where
   -- what looked alike before looks alike after what those inside don't see
-  pub left_alike : (f f' g : KeptView) → Alike inside f g → f'.lun ≡ f.lun → f'.units ≡ f.units → ((m : Nexus) → inside m ≡ true → slot_of f'.slots m ≡ slot_of f.slots m) → f'.preventers ≡ f.preventers → Alike inside f' g
+  pub left_alike : (f f' g : UnitStateView) → Alike inside f g → f'.lun ≡ f.lun → f'.units ≡ f.units → ((m : Nexus) → inside m ≡ true → slot_of f'.slots m ≡ slot_of f.slots m) → f'.preventers ≡ f.preventers → Alike inside f' g
   left_alike f f' g a lun units slots preventers = record {
     lun = lun ∙ a.lun;
     units = units ∙ a.units;
@@ -59,7 +59,7 @@ module _ (inside : Nexus → Bool) where
     own = ap (list_all inside) preventers ∙ a.own;
   }
 
-  pub alike-sym : (f g : KeptView) → Alike inside f g → Alike inside g f
+  pub alike-sym : (f g : UnitStateView) → Alike inside f g → Alike inside g f
   alike-sym f g a = record { lun = sym a.lun; units = sym a.units; slots = λ m is. sym (a.slots m is); preventers = sym a.preventers; own = ap (list_all inside) (sym a.preventers) ∙ a.own }
 
   -- THE STEP OF A NEXUS OUTSIDE, at one of the two
@@ -74,7 +74,7 @@ module _ (inside : Nexus → Bool) where
       let u = contacted_present f n in
       let x = judged u n cdb bytes in
       let is : f' ≡ (answered f n cdb bytes).0 = ap (λ (y : UnitView × Reply). y.0) e.2 in
-      let left : Left inside u x.0 = judged_leaves inside u n isnt shut alike.own P calm (spelled (kind_of f.device) cdb bytes) bytes (subst (λ (y : UnitView). P y.kept.reservations) is good) in
+      let left : Left inside u x.0 = judged_leaves inside u n isnt shut alike.own P calm (decoded_command (kind_of f.device) cdb bytes) bytes (subst (λ (y : UnitView). P y.kept.reservations) is good) in
       let kept : Alike inside x.0.kept g.kept =
       left_alike f.kept x.0.kept g.kept alike left.lun left.units (λ m within. left.slots m within ∙ contact-apart f.kept.slots n m (apart inside m n within isnt)) left.preventers in
       (ap (λ (y : UnitView). y.device) is ∙ left.device ∙ device, subst (λ (y : UnitView). Alike inside y.kept g.kept) (sym is) kept)
@@ -91,25 +91,25 @@ module _ (inside : Nexus → Bool) where
     pub reply : SameReply exact false r q
 
   -- two answers that look alike, with no word of where they come from
-  pub record Beside (P : State → Type 0) (R : State → State → Type 0) (exact : Bool) (x y : Present × Finding × Reply) : Type 0 where
+  pub record Beside (P : State → Type 0) (R : State → State → Type 0) (exact : Bool) (x y : JudgedUnit × Decision × Reply) : Type 0 where
     pub device : x.0.device ≡ y.0.device
     pub kept : Alike inside x.0.kept y.0.kept
     pub reply : Says exact x.2 y.2
     pub reservations : P x.0.kept.reservations → R x.0.kept.reservations y.0.kept.reservations
 
   -- two units that such answers were recorded at
-  pub moved : (f f' g g' : UnitView) (n : Nexus) (a b : Act) (x y : Present × Finding × Reply) (r q : Reply) (R : State → State → Type 0) (exact : Bool) (P : State → Type 0) → P f'.kept.reservations
+  pub moved : (f f' g g' : UnitView) (n : Nexus) (a b : Act) (x y : JudgedUnit × Decision × Reply) (r q : Reply) (R : State → State → Type 0) (exact : Bool) (P : State → Type 0) → P f'.kept.reservations
       → ◌≡◌ {A = UnitView × Reply} (f', r) (recorded f n a x) → ◌≡◌ {A = UnitView × Reply} (g', q) (recorded g n b y) → Beside P R exact x y → Moved R exact f' g' r q
   moved f f' g g' n a b' x y r q R exact P good e d b =
       let reservations = b.reservations (subst P (ap (λ (z : UnitView × Reply). z.0.kept.reservations) e) good) in
       record {
         device = ap (λ (z : UnitView × Reply). z.0.device) e ∙ b.device ∙ sym (ap (λ (z : UnitView × Reply). z.0.device) d);
-        kept = subst (λ (k : KeptView). Alike inside k g'.kept) (sym (ap (λ (z : UnitView × Reply). z.0.kept) e)) (subst (λ (k : KeptView). Alike inside x.0.kept k) (sym (ap (λ (z : UnitView × Reply). z.0.kept) d)) b.kept);
+        kept = subst (λ (k : UnitStateView). Alike inside k g'.kept) (sym (ap (λ (z : UnitView × Reply). z.0.kept) e)) (subst (λ (k : UnitStateView). Alike inside x.0.kept k) (sym (ap (λ (z : UnitView × Reply). z.0.kept) d)) b.kept);
         reservations = subst (λ (k : State). R k g'.kept.reservations) (sym (ap (λ (z : UnitView × Reply). z.0.kept.reservations) e)) (subst (λ (k : State). R x.0.kept.reservations k) (sym (ap (λ (z : UnitView × Reply). z.0.kept.reservations) d)) reservations);
         reply = subst (λ (z : Reply). SameReply exact false z q) (sym (ap (λ (z : UnitView × Reply). z.1) e)) (subst (λ (z : Reply). SameReply exact false (recorded f n a x).1 z) (sym (ap (λ (z : UnitView × Reply). z.1) d)) (says_reply exact x.2 y.2 (last_number f + 1) (last_number g + 1) b.reply));
       }
 
-  judged_both : (f : Present) (w : State) (s : Slots) (n : Nexus) (is : inside n ≡ true) (own : list_all inside f.kept.preventers ≡ true) (slots : (m : Nexus) → inside m ≡ true → slot_of f.kept.slots m ≡ slot_of s m)
+  judged_both : (f : JudgedUnit) (w : State) (s : Slots) (n : Nexus) (is : inside n ≡ true) (own : list_all inside f.kept.preventers ≡ true) (slots : (m : Nexus) → inside m ≡ true → slot_of f.kept.slots m ≡ slot_of s m)
       (P : State → Type 0) (R : State → State → Type 0) (related : R f.kept.reservations w) (exact : Bool) (c : Result Command Condition) (bytes : List ℕ)
       → ((k : Command) → c ≡ Ok k → (verdict_of f.kept.reservations n k ≡ verdict_of w n k) × Fit inside f w s n is own slots P R related exact k)
       → Both inside f w s n is own slots P R related exact (judged_as f n c bytes) (judged_as (other inside f w s n is own slots P R related exact) n c bytes)
@@ -121,7 +121,7 @@ module _ (inside : Nexus → Bool) where
   -- what a nexus inside has to do with two units: the check says the same of its command, and its act is taken alike
   abbrev pub Fits : (f g : UnitView) (n : Nexus) (cdb bytes : List ℕ) → Alike inside f.kept g.kept → inside n ≡ true → (P : State → Type 0) (R : State → State → Type 0) → R f.kept.reservations g.kept.reservations → (exact : Bool) → Type 0
   Fits f g n cdb bytes alike is P R related exact =
-      (k : Command) → spelled (kind_of f.device) cdb bytes ≡ Ok k → (verdict_of f.kept.reservations n k ≡ verdict_of g.kept.reservations n k)
+      (k : Command) → decoded_command (kind_of f.device) cdb bytes ≡ Ok k → (verdict_of f.kept.reservations n k ≡ verdict_of g.kept.reservations n k)
       × Fit inside (contacted_present f n) g.kept.reservations (contacted g.kept.slots n) n is alike.own (λ m within. contact-alike f.kept.slots g.kept.slots n m (alike.slots m within)) P R related exact k
 
   -- THE JUDGEMENT OF A NEXUS INSIDE, at both
@@ -133,8 +133,8 @@ module _ (inside : Nexus → Bool) where
       let o = other inside u g.kept.reservations (contacted g.kept.slots n) n is alike.own slots P R related exact in
       let shape : contacted_present g n ≡ o =
       λ i. record { device = sym device i; kept = record { lun = sym alike.lun i; units = sym alike.units i; reservations = g.kept.reservations; slots = contacted g.kept.slots n; preventers = sym alike.preventers i } } in
-      let b = judged_both u g.kept.reservations (contacted g.kept.slots n) n is alike.own slots P R related exact (spelled (kind_of f.device) cdb bytes) bytes fits in
-      subst (λ (x : Present × Finding × Reply). Beside P R exact (judged u n cdb bytes) x) (sym (ap (λ (p : Present). judged p n cdb bytes) shape)) (record { device = b.device; kept = b.kept; reply = b.reply; reservations = b.reservations })
+      let b = judged_both u g.kept.reservations (contacted g.kept.slots n) n is alike.own slots P R related exact (decoded_command (kind_of f.device) cdb bytes) bytes fits in
+      subst (λ (x : JudgedUnit × Decision × Reply). Beside P R exact (judged u n cdb bytes) x) (sym (ap (λ (p : JudgedUnit). judged p n cdb bytes) shape)) (record { device = b.device; kept = b.kept; reply = b.reply; reservations = b.reservations })
 
   -- THE STEP OF A NEXUS INSIDE, at both
   pub both_units : (f f' g g' : UnitView) (n : Nexus) (cdb bytes : List ℕ) (r q : Reply) → f.device ≡ g.device → (alike : Alike inside f.kept g.kept) (is : inside n ≡ true)
@@ -155,7 +155,7 @@ module _ (inside : Nexus → Bool) where
   -- a loss that isn't BUSY is GOOD
   pub record IsDone (r : Reply) : Type 0 where
     pub number : ℕ
-    pub is : r ≡ done number
+    pub is : r ≡ event_reply number
 
   pub loss_is : (u v : UnitView) (n : Nexus) (r : Reply) → r.status ≢ Busy → IsLost u n (v, r) → (v ≡ cond (has_slot u.kept.slots n) (loses u n) u) × IsDone r
   loss_is u v n r free (inl e) = absurd (not_busy r busy (ap (λ (x : UnitView × Reply). x.1) e.0) refl free)
@@ -170,12 +170,12 @@ module _ (inside : Nexus → Bool) where
   }
 
   -- what a loss of a nexus outside leaves
-  lost_left : (f : KeptView) (u : UnitView) (n : Nexus) (known : Bool) → u.kept ≡ f → inside n ≡ false → list_all inside f.preventers ≡ true → Alike inside (cond known (loses u n) u).kept f
-  lost_left f u n false e isnt own = subst (λ (k : KeptView). Alike inside u.kept k) e (record { lun = refl; units = refl; slots = λ m is. refl; preventers = refl; own = ap (λ (k : KeptView). list_all inside k.preventers) e ∙ own })
+  lost_left : (f : UnitStateView) (u : UnitView) (n : Nexus) (known : Bool) → u.kept ≡ f → inside n ≡ false → list_all inside f.preventers ≡ true → Alike inside (cond known (loses u n) u).kept f
+  lost_left f u n false e isnt own = subst (λ (k : UnitStateView). Alike inside u.kept k) e (record { lun = refl; units = refl; slots = λ m is. refl; preventers = refl; own = ap (λ (k : UnitStateView). list_all inside k.preventers) e ∙ own })
   lost_left f u n true e isnt own =
-      let mine : list_all inside u.kept.preventers ≡ true = ap (λ (k : KeptView). list_all inside k.preventers) e ∙ own in
+      let mine : list_all inside u.kept.preventers ≡ true = ap (λ (k : UnitStateView). list_all inside k.preventers) e ∙ own in
       let ends = allowed_apart inside u.kept.preventers n isnt mine in
-      subst (λ (k : KeptView). Alike inside (loses u n).kept k) e (record {
+      subst (λ (k : UnitStateView). Alike inside (loses u n).kept k) e (record {
         lun = refl;
         units = refl;
         slots = λ m is. change-apart u.kept.slots n m (λ ks. with_kind ks NexusLoss) (apart inside m n is isnt);
@@ -194,7 +194,7 @@ module _ (inside : Nexus → Bool) where
     own = own_filter inside (λ p. not (same_nexus p n)) f.kept.preventers a.own;
   }
 
-  pub alike_trans : (f g k : KeptView) → Alike inside f g → Alike inside g k → Alike inside f k
+  pub alike_trans : (f g k : UnitStateView) → Alike inside f g → Alike inside g k → Alike inside f k
   alike_trans f g k a b = record { lun = a.lun ∙ b.lun; units = a.units ∙ b.units; slots = λ m is. a.slots m is ∙ b.slots m is; preventers = a.preventers ∙ b.preventers; own = a.own }
 
   lost_alike : (f g : UnitView) (n : Nexus) → Alike inside f.kept g.kept → Alike inside (cond (has_slot f.kept.slots n) (loses f n) f).kept (cond (has_slot g.kept.slots n) (loses g n) g).kept

@@ -22,7 +22,7 @@ use Rattle.tape_medium.specs.TapeView.{TapeView}
 use Rattle.tape_medium.specs.declared.volume.VolumeTag.{VolumeTag}
 use Rattle.device_server.specs.View.{DeviceView, Drive}
 use Rattle.judgement.specs.declared.reply.Reply.{Reply}
-use Rattle.judgement.specs.KeptView.{KeptView}
+use Rattle.judgement.specs.UnitStateView.{UnitStateView}
 use Rattle.logical_unit.specs.Step.{answered}
 use Rattle.logical_unit.specs.UnitView.{UnitView}
 use Rattle.target_core.specs.declared.event.Event.TheVariants as event
@@ -40,7 +40,7 @@ b = record { sas = 0x500000000000000B; port = 1 }
 abbrev pub held_by_a : State
 held_by_a = record { keys = (a, 1) ∷ []; reservation = Some (type.Ea, a); generation = 1 }
 
-abbrev pub kept_with : State → List Nexus → KeptView
+abbrev pub kept_with : State → List Nexus → UnitStateView
 kept_with v preventers = record { lun = 1; units = 2; reservations = v; slots = (a, []) ∷ (b, []) ∷ []; preventers = preventers }
 
 abbrev pub drive_at : VolumeTag → TapeView → DeviceView
@@ -50,31 +50,31 @@ abbrev pub unit_with : VolumeTag → State → List Nexus → UnitView
 unit_with tag v preventers = record { device = drive_at tag (blank 1000); kept = kept_with v preventers; base = record { kept = kept_with v preventers; last = 0 }; records = [] }
 
 -- WHAT IS SENT: a sender, a CDB, the data; the replies, and the unit in the end
-abbrev pub Sent : Type 0
-Sent = Nexus × List ℕ × List ℕ
+abbrev pub Sending : Type 0
+Sending = Nexus × List ℕ × List ℕ
 
-abbrev pub replies : UnitView → List Sent → List Reply
+abbrev pub replies : UnitView → List Sending → List Reply
 replies u [] = []
 replies u (s ∷ l) = (answered u s.0 s.1 s.2).1 ∷ replies (answered u s.0 s.1 s.2).0 l
 
-abbrev pub last : UnitView → List Sent → UnitView
+abbrev pub last : UnitView → List Sending → UnitView
 last u [] = u
 last u (s ∷ l) = last (answered u s.0 s.1 s.2).0 l
 
-abbrev pub statuses : UnitView → List Sent → List Status
+abbrev pub statuses : UnitView → List Sending → List Status
 statuses u l = map (λ (r : Reply). r.status) (replies u l)
 
-abbrev pub payloads : UnitView → List Sent → List (List ℕ)
+abbrev pub payloads : UnitView → List Sending → List (List ℕ)
 payloads u l = map (λ (r : Reply). r.payload) (replies u l)
 
-abbrev pub by_a : List Sent → List Sent
+abbrev pub by_a : List Sending → List Sending
 by_a l = filter (λ s. same_nexus s.0 a) l
 
 abbrev pub allow_removal : List ℕ
 allow_removal = 0x1E ∷ replicate 5 0
 
 -- WRITE(6) of B, then of A; REGISTER of B with a key, PREVENT of B; READ POSITION of A; ALLOW of B; REWIND and READ(6) of A
-abbrev pub row : List Sent
+abbrev pub row : List Sending
 row =
     (b, 0x0A ∷ 0 ∷ 0 ∷ 0 ∷ 1 ∷ 0 ∷ [], 9 ∷ [])
     ∷ (a, 0x0A ∷ 0 ∷ 0 ∷ 0 ∷ 4 ∷ 0 ∷ [], 1 ∷ 2 ∷ 3 ∷ 4 ∷ [])
@@ -146,7 +146,7 @@ beside_many = record { keys = (a, 1) ∷ registered_from 0x500000000000000B 255;
 abbrev pub moves : OutParams
 moves = record asks { act = out.RegisterAndMove; dest = Some (record { sas = 0x5000000000001000; port = 1 }) }
 
-abbrev pub unload : Sent
+abbrev pub unload : Sending
 unload = (a, 0x1B ∷ replicate 5 0, [])
 
 pub record ConditionsAreNeeded (tag : VolumeTag) : Type 0 where

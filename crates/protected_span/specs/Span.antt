@@ -14,7 +14,7 @@ use Rattle.pr_core.specs.Targets.{targets}
 use Rattle.device_server.specs.View.{kind_of}
 use Rattle.judgement.specs.declared.command.Command.{Command}
 use Rattle.judgement.specs.declared.command.Command.TheVariants.{ReserveOut, ReserveIn}
-use Rattle.judgement.specs.Commands.{spelled}
+use Rattle.judgement.specs.Commands.{decoded_command}
 use Rattle.judgement.specs.declared.reply.Reply.{Reply}
 use Rattle.logical_unit.specs.UnitView.{UnitView}
 use Rattle.target_core.specs.declared.event.Event.{Event}
@@ -45,7 +45,7 @@ MaySend h c = Unit {0}
 
 -- a command to the unit: of h, one that it may send; of another, one that leaves h its key
 pub record IsFair (h : Nexus) (n : Nexus) (cdb bytes : List ℕ) (u v : UnitView) : Type 0 where
-  pub own : same_nexus n h ≡ true → MaySend h (spelled (kind_of u.device) cdb bytes)
+  pub own : same_nexus n h ≡ true → MaySend h (decoded_command (kind_of u.device) cdb bytes)
   pub others : same_nexus n h ≡ false → key v.kept.reservations h ≡ key u.kept.reservations h
 
 -- a REGISTER list with neither SPEC_I_PT nor ALL_TG_PT names its sender alone (SPC-4, "REGISTER service action")
@@ -74,7 +74,7 @@ abbrev pub HolderSpan : Type 0
 HolderSpan =
     (us vs ws : List UnitView) (es : List Event) (rs qs : List Reply) (lun : ℕ) (h : Nexus) (u : UnitView) → AreReached us → slice_get us lun ≡ Some u → BeginsFor h u
     → RunsThrough (HolderStep lun h) us es rs vs → RunsThrough IsServed us (struck lun (is_the_holder h) es) qs ws
-    → EndsAlike lun vs ws × Tells lun (is_the_holder h) (is_exact lun (λ n cdb bytes. not (is_read (spelled (kind_of u.device) cdb bytes)))) es rs qs
+    → EndsAlike lun vs ws × Tells lun (is_the_holder h) (is_exact lun (λ n cdb bytes. not (is_read (decoded_command (kind_of u.device) cdb bytes)))) es rs qs
 
 -- THE SPAN OF A GROUP, those inside: Exclusive Access of registrants, and the registered nexuses are those inside
 pub record IsSharedBy (inside : Nexus → Bool) (v : State) : Type 0 where

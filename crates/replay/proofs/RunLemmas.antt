@@ -9,10 +9,10 @@ use Rattle.logical_unit.specs.UnitView.{UnitView}
 use Rattle.target_core.specs.declared.event.Event.{Event}
 use Rattle.target_core.specs.Run.{Steps, Runs}
 use Rattle.target_core.proofs.Runs.{Runs-append}
-use Rattle.replay_output.specs.declared.explained.Explanations.{Explanations}
-use Rattle.replay_output.specs.declared.explained.Explanations.TheVariants.{Off}
-use Rattle.replay_output.specs.Replies.{reply_line, text_of}
-use Rattle.replay_script.specs.Events.{joined}
+use Rattle.output_lines.specs.declared.explained.Explanations.{Explanations}
+use Rattle.output_lines.specs.declared.explained.Explanations.TheVariants.{Off}
+use Rattle.output_lines.specs.Replies.{reply_line, text_of}
+use Rattle.script_lines.specs.Events.{joined}
 use Rattle.replay.specs.Texts.{event_text, run_text}
 
 -- events were run, and, if the outcome is good, so was the one before, and what is written of their replies was added

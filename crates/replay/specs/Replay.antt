@@ -5,14 +5,14 @@ use Rattle.logical_unit.specs.UnitView.{UnitView}
 use Rattle.judgement.specs.declared.reply.Reply.{Reply}
 use Rattle.target_core.specs.Run.{Runs}
 use Rattle.target_core.specs.declared.event.Event.{Event}
-use Rattle.replay_output.specs.declared.audit_lines.Audit.{Audit}
-use Rattle.replay_output.specs.declared.explained.Explanations.{Explanations}
-use Rattle.replay_script.specs.declared.line_fault.LineFault.{LineFault}
+use Rattle.output_lines.specs.declared.audit_lines.Audit.{Audit}
+use Rattle.output_lines.specs.declared.explained.Explanations.{Explanations}
+use Rattle.script_lines.specs.declared.line_fault.LineFault.{LineFault}
 use Rattle.replay.specs.declared.replay_fault.ReplayFault.{ReplayFault}
 use Rattle.replay.specs.declared.replay_fault.ReplayFault.TheVariants.{Line, NoMemory, Read, Write}
-use Rattle.replay_output.specs.AuditLines.{audit_text}
-use Rattle.script_input.specs.Input.{IsReadWhole}
-use Rattle.replay_script.specs.Script.{saids, script_in}
+use Rattle.output_lines.specs.AuditLines.{audit_text}
+use Rattle.script_lines.specs.Input.{IsReadWhole}
+use Rattle.script_lines.specs.Script.{saids, script_in}
 use Rattle.replay.specs.Texts.{run_text}
 
 -- the input was read whole, it is a script, and its events were run

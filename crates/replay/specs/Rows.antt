@@ -9,11 +9,11 @@ use Rattle.device_server.specs.Drive.{empty_drive}
 use Rattle.device_server.specs.View.{Drive, Changer}
 use Rattle.logical_unit.specs.Step.{made}
 use Rattle.logical_unit.specs.UnitView.{UnitView}
-use Rattle.replay_output.specs.declared.audit_lines.Audit.{Audit}
-use Rattle.replay_output.specs.declared.audit_lines.Audit.TheVariants.{Off, Lines}
-use Rattle.replay_output.specs.declared.explained.Explanations.{Explanations}
-use Rattle.replay_output.specs.declared.explained.Explanations.TheVariants as words
-use Rattle.replay_script.specs.declared.line_fault.LineFault.TheVariants.{BadNexus, BadUnit, BadHex}
+use Rattle.output_lines.specs.declared.audit_lines.Audit.{Audit}
+use Rattle.output_lines.specs.declared.audit_lines.Audit.TheVariants.{Off, Lines}
+use Rattle.output_lines.specs.declared.explained.Explanations.{Explanations}
+use Rattle.output_lines.specs.declared.explained.Explanations.TheVariants as words
+use Rattle.script_lines.specs.declared.line_fault.LineFault.TheVariants.{BadNexus, BadUnit, BadHex}
 use Rattle.replay.specs.declared.replay_fault.ReplayFault.TheVariants.{Line, NoMemory, Read, Write}
 use Rattle.replay.specs.Faults.{exit_status, fault_text}
 use Rattle.replay.specs.Replay.{IsBeforeRun, IsBeforeOutput, Refuses, Replays}

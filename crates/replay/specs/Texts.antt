@@ -3,8 +3,8 @@ use Rattle.std.specs.Prelude.{ℕ, List, [], ◌∷◌, ◌++◌}
 use Rattle.judgement.specs.declared.reply.Reply.{Reply}
 use Rattle.target_core.specs.declared.event.Event.{Event}
 use Rattle.target_core.specs.declared.event.Event.TheVariants.{Command, Loss, Reset}
-use Rattle.replay_output.specs.declared.explained.Explanations.{Explanations}
-use Rattle.replay_output.specs.Explained.{answer_text}
+use Rattle.output_lines.specs.declared.explained.Explanations.{Explanations}
+use Rattle.output_lines.specs.Explained.{answer_text}
 
 -- the CDB of an event: a loss and a reset have none
 abbrev pub cdb_of : Event → List ℕ

@@ -2,8 +2,8 @@
 
 ghost use Rattle.std.specs.Prelude.{◌≡◌, List};
 ghost use Rattle.logical_unit.specs.UnitView.{UnitView};
-ghost use Rattle.replay_output.specs.declared.explained.Explanations.TheVariants.{Off};
-ghost use Rattle.replay_output.specs.Replies.{text_of};
+ghost use Rattle.output_lines.specs.declared.explained.Explanations.TheVariants.{Off};
+ghost use Rattle.output_lines.specs.Replies.{text_of};
 ghost use Rattle.target_core.specs.declared.event.Event.{Event};
 ghost use Rattle.target_core.specs.Run.{Runs};
 ghost use Rattle.judgement.specs.declared.reply.Reply.{Reply};

@@ -1,7 +1,6 @@
 ghost use Rattle.std.specs.Prelude.{◌≡◌};
 
-use replay_script::{LineFault, ScriptFault};
-use script_input::InputFault;
+use script_lines::{InputFault, LineFault, ScriptFault};
 use std::alloc::{AllocError, AllocFailed};
 use std::fmt;
 use thiserror::Error;

@@ -3,15 +3,14 @@ ghost use Rattle.std.specs.Io.KnownBytes.{Appends, Keeps};
 ghost use Rattle.replay.specs.Replay.{HasRun, IsBeforeOutput, IsBeforeRun, Refuses, Replays};
 ghost use Rattle.target_core.specs.Run.{Runs};
 ghost use Rattle.judgement.specs.declared.reply.Reply.{Reply};
-ghost use Rattle.replay_script.specs.declared.line_fault.LineFault.{LineFault};
+ghost use Rattle.script_lines.specs.declared.line_fault.LineFault.{LineFault};
 ghost use Rattle.replay.specs.Texts.{cdb_of, event_text, run_text};
 
 use crate::replay_fault::ReplayFault;
 use device_server::DeviceServer;
 use logical_unit::Reply;
-use replay_output::{Audit, Explanations, audit_text, write_explained};
-use replay_script::{Events, events_of};
-use script_input::read_all;
+use output_lines::{Audit, Explanations, audit_text, write_explained, write_out};
+use script_lines::{Events, events_of, read_all};
 use std::alloc::{AllocError, Global};
 use std::io;
 use std::io::{Read, Write};
@@ -56,7 +55,7 @@ pub fn replay<D: DeviceServer, R: Read, W: Write>(
     let mut text = Vec::new(alloc);
     run(alloc, core, events, explanations, &mut text)?;
     let records = audit_text(alloc, audit, core.all())?;
-    match write_out(writer, &text, records.as_bytes()) {
+    match write_both(writer, &text, records.as_bytes()) {
         Ok(()) => Ok(()),
         Err(_) => Err(ReplayFault::Write),
     }
@@ -133,11 +132,10 @@ fn cdb_of(event: &Event) -> &[u8]
 }
 
 /// Writes all of two texts, and what the writer may still hold back of them.
-fn write_out<W: Write>(writer: &mut W, text: &[u8], more: &[u8]) -> io::Result<()>
+fn write_both<W: Write>(writer: &mut W, text: &[u8], more: &[u8]) -> io::Result<()>
     ensures { OnOk result
         (Appends (W.contents writer.old) (W.contents writer.new) (text.now ++ more.now)) }
 {
     writer.write_all(text)?;
-    writer.write_all(more)?;
-    writer.flush()
+    write_out(writer, more)
 }

@@ -5,7 +5,7 @@ ghost use Rattle.lun_router.specs.Opening.{IsSince};
 use crate::figures::tell;
 use crate::targets::four_drives;
 use crate::work::{BLOCKS, REWIND, TEST_UNIT_READY, Task, loading, nexus_at};
-use kept_unit::Site;
+use kept_unit::UnitLedger;
 use library_device::Device;
 use lun_router::{Blanks, Library, Pass, Seat};
 use std::alloc::Global;
@@ -22,7 +22,7 @@ use target_core::TargetCore;
 const SEATS: usize = 4;
 
 /// Asks a drive so often, with a REWIND before each round of blocks.
-fn ask<L0: Site, L1: Site, L2: Site, L3: Site, L4: Site, R: Wait>(
+fn ask<L0: UnitLedger, L1: UnitLedger, L2: UnitLedger, L3: UnitLedger, L4: UnitLedger, R: Wait>(
     rt: &R,
     alloc: Global,
     library: &Library<L0, L1, L2, L3, L4, Device, Pass>,
@@ -44,7 +44,7 @@ fn ask<L0: Site, L1: Site, L2: Site, L3: Site, L4: Site, R: Wait>(
 
 /// Loads each drive, reads off what each nexus is told first at each unit, and writes each tape once, so that it takes its memory
 /// before anything is measured.
-fn prepare<L0: Site, L1: Site, L2: Site, L3: Site, L4: Site, R: Wait>(
+fn prepare<L0: UnitLedger, L1: UnitLedger, L2: UnitLedger, L3: UnitLedger, L4: UnitLedger, R: Wait>(
     rt: &R,
     alloc: Global,
     library: &Library<L0, L1, L2, L3, L4, Device, Pass>,
@@ -86,11 +86,11 @@ fn prepare<L0: Site, L1: Site, L2: Site, L3: Site, L4: Site, R: Wait>(
 
 /// Measures one task from so many threads, each at its own drive or all at the first.
 fn measure<
-    L0: Site + Send + Sync,
-    L1: Site + Send + Sync,
-    L2: Site + Send + Sync,
-    L3: Site + Send + Sync,
-    L4: Site + Send + Sync,
+    L0: UnitLedger + Send + Sync,
+    L1: UnitLedger + Send + Sync,
+    L2: UnitLedger + Send + Sync,
+    L3: UnitLedger + Send + Sync,
+    L4: UnitLedger + Send + Sync,
     R: Clock + Print + Threads + Wait + Sync,
 >(
     rt: &R,
@@ -126,11 +126,11 @@ fn measure<
 }
 
 fn day<
-    L0: Site + Send + Sync,
-    L1: Site + Send + Sync,
-    L2: Site + Send + Sync,
-    L3: Site + Send + Sync,
-    L4: Site + Send + Sync,
+    L0: UnitLedger + Send + Sync,
+    L1: UnitLedger + Send + Sync,
+    L2: UnitLedger + Send + Sync,
+    L3: UnitLedger + Send + Sync,
+    L4: UnitLedger + Send + Sync,
     R: Clock + Print + Threads + Wait + Sync,
 >(
     rt: &R,
@@ -157,11 +157,11 @@ fn day<
 
 /// Measures all, and closes the library.
 fn play<
-    L0: Site + Send + Sync,
-    L1: Site + Send + Sync,
-    L2: Site + Send + Sync,
-    L3: Site + Send + Sync,
-    L4: Site + Send + Sync,
+    L0: UnitLedger + Send + Sync,
+    L1: UnitLedger + Send + Sync,
+    L2: UnitLedger + Send + Sync,
+    L3: UnitLedger + Send + Sync,
+    L4: UnitLedger + Send + Sync,
     R: Clock + Print + Threads + Wait + Sync,
 >(
     rt: &R,

@@ -5,15 +5,12 @@ use element_map::Elements;
 use library_device::{Device, unit_at};
 use std::alloc::Global;
 use std::io;
-use tape_medium::{Tape, Volume, VolumeTag};
+use tape_medium::{FIRST_STORAGE, Tape, Volume, VolumeTag};
 use tape_server::TapeDrive;
 use target_core::TargetCore;
 
 /// How many drives there are.
 pub(crate) const DRIVES: u8 = 4;
-
-/// The address of the first storage element.
-const FIRST_STORAGE: u16 = 0x0400;
 
 /// How many bytes of blocks a volume takes: 64 MiB.
 const CAPACITY: u32 = 67_108_864;

@@ -1,17 +1,13 @@
 ghost use Rattle.command_line.specs.Tasks.{MakesLibrary};
 
 use crate::case_fault::CaseFault;
-use command_line::{Task, task_of};
-use command_line_fault::CommandLineFault;
-use program_options::LibraryOptions;
+use command_line::{CommandLineFault, Task, task_of};
+use output_lines::{Audit, Explanations};
+use program_options::{LibraryOptions, MAX_READS};
 use replay::{ReplayFault, replay};
-use replay_output::{Audit, Explanations};
 use std::alloc::{AllocError, Global};
 use std::io;
 use stocked_library::library;
-
-/// The most reads of a script.
-const TURNS: u64 = 0xFFFF_FFFF;
 
 /// A script and the heading that names it.
 #[derive(Drop)]
@@ -93,7 +89,7 @@ fn replay_script(
         &mut writer,
         explanations,
         audit,
-        TURNS,
+        MAX_READS,
     )
 }
 

@@ -1,4 +1,4 @@
-use command_line_fault::CommandLineFault;
+use command_line::CommandLineFault;
 use std::alloc::{AllocError, AllocFailed};
 use std::io;
 use thiserror::Error;

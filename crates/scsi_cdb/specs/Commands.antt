@@ -100,9 +100,10 @@ abbrev pub fields_in : Option Row → List ℕ → Option Request
 fields_in None cdb = None
 fields_in (Some r) cdb = r.fields cdb
 
-abbrev pub length_in : Option Row → ℕ
-length_in None = 0
-length_in (Some r) = r.length
+-- the length of a CDB by the group code of its operation code, bits 7 to 5 (SPC-4, "Operation code"): 0 is six bytes, 1 and 2 are ten, 5 is
+-- twelve; other groups have no command here
+abbrev pub length_of_group : (group : ℕ) → ℕ
+length_of_group group = if group == 0 then 6 else if group == 1 then 10 else if group == 2 then 10 else 12
 
 -- NACA is bit 2 of the CONTROL byte, the last of the command's length
 abbrev pub naca : Row → List ℕ → Bool
@@ -118,5 +119,5 @@ read_as None cdb = Err Opcode
 read_as (Some r) cdb = if nat_lt (length cdb) r.length then Err ShortCdb else checked (naca r cdb) (r.fields cdb)
 
 -- the request that a CDB spells for a kind of unit, or the first fault in order
-abbrev pub reading : Kind → List ℕ → Result Request CdbFault
-reading kind cdb = if length cdb == 0 then Err ShortCdb else read_as (row_of kind (byte cdb 0)) cdb
+abbrev pub decoded : Kind → List ℕ → Result Request CdbFault
+decoded kind cdb = if length cdb == 0 then Err ShortCdb else read_as (row_of kind (byte cdb 0)) cdb

@@ -14,7 +14,7 @@ pub enum InServiceAction {
 
 impl InServiceAction {
     ghost use Rattle.scsi_cdb.specs.Commands.{in_service_action};
-    ghost use Rattle.scsi_cdb.specs.Spelling.{in_code};
+    ghost use Rattle.scsi_cdb.specs.Encoding.{in_code};
 
     /// The service action of a code, where there is one.
     pub fn of(code: u8) -> Option<InServiceAction>

@@ -1,7 +1,7 @@
 //! What the CDBs of the medium changer commands say (SMC-3).
 ghost use Rattle.std.specs.Prelude.{◌≡◌, ◌≤◌, length};
 ghost use Rattle.scsi_cdb.specs.Bits.{bit, bits, two_bytes, three_bytes};
-ghost use Rattle.scsi_cdb.specs.Spelling.{Fits};
+ghost use Rattle.scsi_cdb.specs.Encoding.{Fits};
 ghost use Rattle.scsi_cdb.specs.declared.request.Request.TheVariants.{MoveMedium, ReadElementStatus};
 
 use crate::fields::{bit_at, byte_at, u16_at, u24_at};

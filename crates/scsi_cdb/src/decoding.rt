@@ -1,7 +1,7 @@
-ghost use Rattle.std.specs.Prelude.{◌≡◌, ◌<◌, ◌≤◌, length, IfSome, IfOk};
+ghost use Rattle.std.specs.Prelude.{◌≡◌, ◌/◌, ◌<◌, ◌≤◌, length, IfSome, IfOk, is_some};
 ghost use Rattle.std.specs.Option.{option_map};
-ghost use Rattle.scsi_cdb.specs.Commands.{Row, command_of, row_of, fields_in, reading};
-ghost use Rattle.scsi_cdb.specs.Spelling.{Fits};
+ghost use Rattle.scsi_cdb.specs.Commands.{Row, command_of, row_of, fields_in, length_of_group, decoded};
+ghost use Rattle.scsi_cdb.specs.Encoding.{Fits};
 
 use crate::changer::{move_medium_at, read_element_status_at};
 use crate::fault::CdbFault;
@@ -21,7 +21,7 @@ use crate::stream::{
 /// bits that are no field are ignored. An empty CDB is `ShortCdb`; else the first of these that
 /// holds is the fault: no such opcode, too few bytes for it, no such service action, NACA.
 pub fn decode(kind: Kind, cdb: &[u8]) -> Result<Request, CdbFault>
-    ensures reading { result ≡ reading kind cdb.now }
+    ensures decoded { result ≡ decoded kind cdb.now }
     ensures fits { IfOk result Fits }
 {
     let opcode = *cdb.first().ok_or(CdbFault::ShortCdb)?;
@@ -36,35 +36,58 @@ pub fn decode(kind: Kind, cdb: &[u8]) -> Result<Request, CdbFault>
     Ok(request)
 }
 
-/// The length of a command's CDB, where units of the kind have the command.
-#[tactic(auto, unfolding(crate::specs::Commands::command_of))]
+/// The length of a CDB, where units of the kind have the command.
+#[tactic(auto, using(crate::proofs::GroupCodes::length_where_had, crate::proofs::GroupCodes::no_length))]
 fn length_of(kind: Kind, opcode: u8) -> Option<usize>
     ensures length { result ≡ option_map (λ (r : Row). r.length) (row_of kind opcode) }
     ensures some { IfSome result (λ n. 0 < n) }
 {
-    match (kind, opcode) {
-        (
-            _,
-            TEST_UNIT_READY | REQUEST_SENSE | INQUIRY | MODE_SENSE_6 | PREVENT_ALLOW_MEDIUM_REMOVAL,
-        ) => Some(SIX_BYTES),
-        (_, PERSISTENT_RESERVE_IN | PERSISTENT_RESERVE_OUT) => Some(TEN_BYTES),
-        (_, REPORT_LUNS) => Some(TWELVE_BYTES),
-        (
-            Kind::Drive,
-            REWIND
-            | READ_BLOCK_LIMITS
-            | READ_6
-            | WRITE_6
-            | WRITE_FILEMARKS_6
-            | SPACE_6
-            | MODE_SELECT_6
-            | ERASE_6
-            | LOAD_UNLOAD,
-        ) => Some(SIX_BYTES),
-        (Kind::Drive, LOCATE_10 | READ_POSITION) => Some(TEN_BYTES),
-        (Kind::Changer, INITIALIZE_ELEMENT_STATUS) => Some(SIX_BYTES),
-        (Kind::Changer, MOVE_MEDIUM | READ_ELEMENT_STATUS) => Some(TWELVE_BYTES),
-        _ => None,
+    if has_command(kind, opcode) {
+        Some(length_by_group(opcode))
+    } else {
+        None
+    }
+}
+
+/// Whether units of the kind have the command.
+#[tactic(auto, unfolding(crate::specs::Commands::command_of))]
+fn has_command(kind: Kind, opcode: u8) -> bool
+    ensures { result ≡ is_some (row_of kind opcode) }
+{
+    match opcode {
+        TEST_UNIT_READY
+        | REQUEST_SENSE
+        | INQUIRY
+        | MODE_SENSE_6
+        | PREVENT_ALLOW_MEDIUM_REMOVAL
+        | PERSISTENT_RESERVE_IN
+        | PERSISTENT_RESERVE_OUT
+        | REPORT_LUNS => true,
+        INITIALIZE_ELEMENT_STATUS | MOVE_MEDIUM | READ_ELEMENT_STATUS => kind == Kind::Changer,
+        REWIND
+        | READ_BLOCK_LIMITS
+        | READ_6
+        | WRITE_6
+        | WRITE_FILEMARKS_6
+        | SPACE_6
+        | MODE_SELECT_6
+        | ERASE_6
+        | LOAD_UNLOAD
+        | LOCATE_10
+        | READ_POSITION => kind == Kind::Drive,
+        _ => false,
+    }
+}
+
+/// The length of a CDB by the group code of its operation code, the three high bits (SPC-4, "Operation code").
+fn length_by_group(opcode: u8) -> usize
+    ensures some { 0 < result }
+    ensures length { result ≡ length_of_group (opcode / 32) }
+{
+    match opcode / GROUP_CODE {
+        0 => SIX_BYTES,
+        1 | 2 => TEN_BYTES,
+        _ => TWELVE_BYTES,
     }
 }
 

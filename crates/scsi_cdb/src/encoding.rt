@@ -1,5 +1,5 @@
 ghost use Rattle.std.specs.Prelude.{◌≡◌};
-ghost use Rattle.scsi_cdb.specs.Spelling.{spelling, length_of};
+ghost use Rattle.scsi_cdb.specs.Encoding.{encoded};
 
 use crate::fields::{flag, zero_padded};
 use crate::layout::*;
@@ -8,7 +8,7 @@ use crate::request::Request;
 /// A CDB of the request, then zeros. Of a field only the bits of its width are written, and what is
 /// no field is zero.
 pub fn encode(request: &Request) -> [u8; CDB_LENGTH]
-    ensures { result ≡ spelling request.now }
+    ensures { result ≡ encoded request.now }
 {
     match *request {
         Request::TestUnitReady => zero_padded(&[TEST_UNIT_READY]),
@@ -179,36 +179,5 @@ pub fn encode(request: &Request) -> [u8; CDB_LENGTH]
                 n0,
             ])
         }
-    }
-}
-
-/// How many bytes the CDB of a request has: so many of what `encode` makes of it are a whole command.
-#[tactic(auto, unfolding(crate::specs::Commands::command_of))]
-pub fn cdb_length(request: &Request) -> usize
-    ensures { result ≡ length_of request.now }
-{
-    match request {
-        Request::TestUnitReady
-        | Request::Rewind
-        | Request::RequestSense { .. }
-        | Request::ReadBlockLimits
-        | Request::InitializeElementStatus
-        | Request::Read { .. }
-        | Request::Write { .. }
-        | Request::WriteFilemarks { .. }
-        | Request::Space { .. }
-        | Request::Inquiry { .. }
-        | Request::ModeSelect { .. }
-        | Request::Erase
-        | Request::ModeSense { .. }
-        | Request::LoadUnload { .. }
-        | Request::PreventAllowMediumRemoval { .. } => SIX_BYTES,
-        Request::Locate { .. }
-        | Request::ReadPosition
-        | Request::PersistentReserveIn { .. }
-        | Request::PersistentReserveOut { .. } => TEN_BYTES,
-        Request::ReportLuns { .. }
-        | Request::MoveMedium { .. }
-        | Request::ReadElementStatus { .. } => TWELVE_BYTES,
     }
 }

@@ -1,7 +1,7 @@
 //! Fields of a CDB by their places, read and written. A single byte past the end reads as 0.
 ghost use Rattle.std.specs.Prelude.{◌≡◌, ◌<◌, ◌≤◌, ◌+◌, ◌^◌, length, pos, neg_ℤ, ◌≤ℤ◌, ◌<ℤ◌};
 ghost use Rattle.scsi_cdb.specs.Bits.{bit, bits, byte, two_bytes, three_bytes, four_bytes, signed_three_bytes};
-ghost use Rattle.scsi_cdb.specs.Spelling.{at, padded};
+ghost use Rattle.scsi_cdb.specs.Encoding.{at, padded};
 
 use crate::layout::{
     CDB_LENGTH, FIRST_NEGATIVE_OF_24_BITS, NUMBERS_OF_24_BITS, SERVICE_ACTION, SERVICE_ACTION_BITS,

@@ -1,6 +1,6 @@
 ghost use Rattle.std.specs.Prelude.{◌≡◌, Ok, Err, [], ◌∷◌, pos, negsuc, true, false};
-ghost use Rattle.scsi_cdb.specs.Commands.{reading};
-ghost use Rattle.scsi_cdb.specs.Spelling.{ReadsBack, spelling, padded, length_of};
+ghost use Rattle.scsi_cdb.specs.Commands.{decoded};
+ghost use Rattle.scsi_cdb.specs.Encoding.{ReadsBack, encoded, padded};
 ghost use Rattle.scsi_cdb.specs.declared.action.InServiceAction.TheVariants.{ReadKeys, ReadFullStatus};
 ghost use Rattle.permit_tables.specs.declared.service_action.OutServiceAction.TheVariants.{RegisterAndMove};
 ghost use Rattle.scsi_cdb.specs.declared.fault.CdbFault.TheVariants.{Opcode, ShortCdb, ServiceAction, Naca};
@@ -16,111 +16,95 @@ pub fn request_reads_back()
 /// Worked rows of the table of commands, of the order of the faults, and of bytes to be written.
 #[tactic(auto, unfolding(crate::specs::Commands::command_of))]
 pub fn worked_rows()
-    ensures test_unit_ready { reading Changer (0 ∷ 0 ∷ 0 ∷ 0 ∷ 0 ∷ 0 ∷ []) ≡ Ok TestUnitReady }
-    ensures read_keys { reading Changer (0x5E ∷ 0 ∷ 0 ∷ 0 ∷ 0 ∷ 0 ∷ 0 ∷ 0 ∷ 0xFF ∷ 0 ∷ [])
+    ensures test_unit_ready { decoded Changer (0 ∷ 0 ∷ 0 ∷ 0 ∷ 0 ∷ 0 ∷ []) ≡ Ok TestUnitReady }
+    ensures read_keys { decoded Changer (0x5E ∷ 0 ∷ 0 ∷ 0 ∷ 0 ∷ 0 ∷ 0 ∷ 0 ∷ 0xFF ∷ 0 ∷ [])
         ≡ Ok (PersistentReserveIn ReadKeys 255) }
-    ensures read_full_status { reading Drive (0x5E ∷ 0xE3 ∷ 9 ∷ 9 ∷ 9 ∷ 9 ∷ 9 ∷ 1 ∷ 2 ∷ 0 ∷ [])
+    ensures read_full_status { decoded Drive (0x5E ∷ 0xE3 ∷ 9 ∷ 9 ∷ 9 ∷ 9 ∷ 9 ∷ 1 ∷ 2 ∷ 0 ∷ [])
         ≡ Ok (PersistentReserveIn ReadFullStatus 258) }
-    ensures register_and_move { reading Drive (0x5F ∷ 7 ∷ 0x15 ∷ 0 ∷ 0 ∷ 0 ∷ 0 ∷ 0 ∷ 0x30 ∷ 0 ∷ [])
+    ensures register_and_move { decoded Drive (0x5F ∷ 7 ∷ 0x15 ∷ 0 ∷ 0 ∷ 0 ∷ 0 ∷ 0 ∷ 0x30 ∷ 0 ∷ [])
         ≡ Ok (PersistentReserveOut RegisterAndMove 0x15 48) }
-    ensures longest_list { reading Drive (0x5F ∷ 7 ∷ 0 ∷ 0 ∷ 0 ∷ 0xFF ∷ 0xFF ∷ 0xFF ∷ 0xFF ∷ 0 ∷ 4 ∷ [])
+    ensures longest_list { decoded Drive (0x5F ∷ 7 ∷ 0 ∷ 0 ∷ 0 ∷ 0xFF ∷ 0xFF ∷ 0xFF ∷ 0xFF ∷ 0 ∷ 4 ∷ [])
         ≡ Ok (PersistentReserveOut RegisterAndMove 0 0xFFFFFFFF) }
-    ensures request_sense { reading Changer (0x03 ∷ 1 ∷ 0 ∷ 0 ∷ 0x12 ∷ 0 ∷ []) ≡ Ok (RequestSense true 18) }
-    ensures inquiry { reading Drive (0x12 ∷ 1 ∷ 0x80 ∷ 1 ∷ 2 ∷ 0 ∷ []) ≡ Ok (Inquiry true 0x80 258) }
-    ensures prevent { reading Changer (0x1E ∷ 0 ∷ 0 ∷ 0 ∷ 0xFD ∷ 0 ∷ []) ≡ Ok (PreventAllowMediumRemoval 1) }
-    ensures allow { reading Drive (0x1E ∷ 0xFF ∷ 0xFF ∷ 0xFF ∷ 0 ∷ 0xC0 ∷ []) ≡ Ok (PreventAllowMediumRemoval 0) }
-    ensures report_luns { reading Drive (0xA0 ∷ 0 ∷ 2 ∷ 0 ∷ 0 ∷ 0 ∷ 0 ∷ 0 ∷ 1 ∷ 0 ∷ 0 ∷ 0 ∷ [])
+    ensures request_sense { decoded Changer (0x03 ∷ 1 ∷ 0 ∷ 0 ∷ 0x12 ∷ 0 ∷ []) ≡ Ok (RequestSense true 18) }
+    ensures inquiry { decoded Drive (0x12 ∷ 1 ∷ 0x80 ∷ 1 ∷ 2 ∷ 0 ∷ []) ≡ Ok (Inquiry true 0x80 258) }
+    ensures prevent { decoded Changer (0x1E ∷ 0 ∷ 0 ∷ 0 ∷ 0xFD ∷ 0 ∷ []) ≡ Ok (PreventAllowMediumRemoval 1) }
+    ensures allow { decoded Drive (0x1E ∷ 0xFF ∷ 0xFF ∷ 0xFF ∷ 0 ∷ 0xC0 ∷ []) ≡ Ok (PreventAllowMediumRemoval 0) }
+    ensures report_luns { decoded Drive (0xA0 ∷ 0 ∷ 2 ∷ 0 ∷ 0 ∷ 0 ∷ 0 ∷ 0 ∷ 1 ∷ 0 ∷ 0 ∷ 0 ∷ [])
         ≡ Ok (ReportLuns 2 256) }
-    ensures short_report_luns { reading Drive (0xA0 ∷ 0 ∷ 2 ∷ 0 ∷ 0 ∷ 0 ∷ 0 ∷ 0 ∷ 1 ∷ 0 ∷ 0 ∷ [])
+    ensures short_report_luns { decoded Drive (0xA0 ∷ 0 ∷ 2 ∷ 0 ∷ 0 ∷ 0 ∷ 0 ∷ 0 ∷ 1 ∷ 0 ∷ 0 ∷ [])
         ≡ Err ShortCdb }
-    ensures empty { reading Drive [] ≡ Err ShortCdb }
-    ensures unknown_and_short { reading Drive (0x16 ∷ []) ≡ Err Opcode }
-    ensures short_before_service_action { reading Drive (0x5E ∷ 4 ∷ 0 ∷ 0 ∷ 0 ∷ 0 ∷ 0 ∷ 0 ∷ 0 ∷ [])
+    ensures empty { decoded Drive [] ≡ Err ShortCdb }
+    ensures unknown_and_short { decoded Drive (0x16 ∷ []) ≡ Err Opcode }
+    ensures short_before_service_action { decoded Drive (0x5E ∷ 4 ∷ 0 ∷ 0 ∷ 0 ∷ 0 ∷ 0 ∷ 0 ∷ 0 ∷ [])
         ≡ Err ShortCdb }
-    ensures service_action_before_naca { reading Drive (0x5E ∷ 4 ∷ 0 ∷ 0 ∷ 0 ∷ 0 ∷ 0 ∷ 0 ∷ 0 ∷ 4 ∷ [])
+    ensures service_action_before_naca { decoded Drive (0x5E ∷ 4 ∷ 0 ∷ 0 ∷ 0 ∷ 0 ∷ 0 ∷ 0 ∷ 0 ∷ 4 ∷ [])
         ≡ Err ServiceAction }
-    ensures no_eighth_act { reading Changer (0x5F ∷ 8 ∷ 0 ∷ 0 ∷ 0 ∷ 0 ∷ 0 ∷ 0 ∷ 24 ∷ 0 ∷ [])
+    ensures no_eighth_act { decoded Changer (0x5F ∷ 8 ∷ 0 ∷ 0 ∷ 0 ∷ 0 ∷ 0 ∷ 0 ∷ 24 ∷ 0 ∷ [])
         ≡ Err ServiceAction }
-    ensures naca { reading Changer (0x5E ∷ 3 ∷ 0 ∷ 0 ∷ 0 ∷ 0 ∷ 0 ∷ 0 ∷ 0 ∷ 4 ∷ 0 ∷ []) ≡ Err Naca }
-    ensures naca_of_six_bytes { reading Changer (0 ∷ 0 ∷ 0 ∷ 0 ∷ 0 ∷ 4 ∷ []) ≡ Err Naca }
-    ensures space_two_filemarks_back { spelling (Space 1 (negsuc 1))
+    ensures naca { decoded Changer (0x5E ∷ 3 ∷ 0 ∷ 0 ∷ 0 ∷ 0 ∷ 0 ∷ 0 ∷ 0 ∷ 4 ∷ 0 ∷ []) ≡ Err Naca }
+    ensures naca_of_six_bytes { decoded Changer (0 ∷ 0 ∷ 0 ∷ 0 ∷ 0 ∷ 4 ∷ []) ≡ Err Naca }
+    ensures space_two_filemarks_back { encoded (Space 1 (negsuc 1))
         ≡ padded (0x11 ∷ 1 ∷ 0xFF ∷ 0xFF ∷ 0xFE ∷ []) }
-    ensures saved_values_of_all_pages { spelling (ModeSense true 3 0x3F 0 255)
+    ensures saved_values_of_all_pages { encoded (ModeSense true 3 0x3F 0 255)
         ≡ padded (0x1A ∷ 8 ∷ 0xFF ∷ 0 ∷ 0xFF ∷ []) }
-    ensures storage_to_drive { spelling (MoveMedium 0 0x400 0x100 false)
+    ensures storage_to_drive { encoded (MoveMedium 0 0x400 0x100 false)
         ≡ padded (0xA5 ∷ 0 ∷ 0 ∷ 0 ∷ 4 ∷ 0 ∷ 1 ∷ 0 ∷ []) }
-    ensures all_elements { spelling (ReadElementStatus false 0 0 0xFFFF false false 0x1000)
+    ensures all_elements { encoded (ReadElementStatus false 0 0 0xFFFF false false 0x1000)
         ≡ padded (0xB8 ∷ 0 ∷ 0 ∷ 0 ∷ 0xFF ∷ 0xFF ∷ 0 ∷ 0 ∷ 0x10 ∷ 0 ∷ []) }
 {}
 
 /// Worked rows of the commands that drives alone have.
 #[tactic(auto, unfolding(crate::specs::Commands::command_of))]
 pub fn worked_rows_of_drives()
-    ensures rewind { reading Drive (1 ∷ 1 ∷ 0 ∷ 0 ∷ 0 ∷ 0 ∷ []) ≡ Ok Rewind }
-    ensures read_block_limits { reading Drive (5 ∷ 0 ∷ 0 ∷ 0 ∷ 0 ∷ 0 ∷ []) ≡ Ok ReadBlockLimits }
-    ensures read_of_300_bytes { reading Drive (8 ∷ 0 ∷ 0 ∷ 1 ∷ 0x2C ∷ 0 ∷ []) ≡ Ok (Read false false 300) }
-    ensures read_of_two_blocks { reading Drive (8 ∷ 1 ∷ 0 ∷ 0 ∷ 2 ∷ 0 ∷ []) ≡ Ok (Read false true 2) }
-    ensures longest_read { reading Drive (8 ∷ 2 ∷ 0xFF ∷ 0xFF ∷ 0xFF ∷ 0xC0 ∷ []) ≡ Ok (Read true false 0xFFFFFF) }
-    ensures write { reading Drive (0x0A ∷ 1 ∷ 1 ∷ 2 ∷ 3 ∷ 0 ∷ []) ≡ Ok (Write true 0x010203) }
-    ensures filemarks { reading Drive (0x10 ∷ 1 ∷ 0 ∷ 1 ∷ 2 ∷ 0 ∷ []) ≡ Ok (WriteFilemarks false 258) }
-    ensures setmark { reading Drive (0x10 ∷ 2 ∷ 0 ∷ 0 ∷ 1 ∷ 0 ∷ []) ≡ Ok (WriteFilemarks true 1) }
-    ensures space_to_end_of_data { reading Drive (0x11 ∷ 3 ∷ 0 ∷ 0 ∷ 0 ∷ 0 ∷ []) ≡ Ok (Space 3 (pos 0)) }
-    ensures space_one_back { reading Drive (0x11 ∷ 0 ∷ 0xFF ∷ 0xFF ∷ 0xFF ∷ 0 ∷ []) ≡ Ok (Space 0 (negsuc 0)) }
-    ensures space_furthest { reading Drive (0x11 ∷ 0xF1 ∷ 0x7F ∷ 0xFF ∷ 0xFF ∷ 0 ∷ []) ≡ Ok (Space 1 (pos 8388607)) }
-    ensures space_furthest_back { reading Drive (0x11 ∷ 1 ∷ 0x80 ∷ 0 ∷ 0 ∷ 0 ∷ []) ≡ Ok (Space 1 (negsuc 8388607)) }
-    ensures mode_select { reading Drive (0x15 ∷ 0x11 ∷ 0 ∷ 0 ∷ 12 ∷ 0 ∷ []) ≡ Ok (ModeSelect true 12) }
-    ensures erase { reading Drive (0x19 ∷ 1 ∷ 0 ∷ 0 ∷ 0 ∷ 0 ∷ []) ≡ Ok Erase }
-    ensures mode_sense { reading Drive (0x1A ∷ 8 ∷ 0xBF ∷ 1 ∷ 2 ∷ 0 ∷ []) ≡ Ok (ModeSense true 2 0x3F 1 2) }
-    ensures load_and_hold { reading Drive (0x1B ∷ 1 ∷ 0 ∷ 0 ∷ 0x0B ∷ 0 ∷ []) ≡ Ok (LoadUnload true false true) }
-    ensures unload_at_end_of_tape { reading Drive (0x1B ∷ 0 ∷ 0 ∷ 0 ∷ 4 ∷ 0 ∷ []) ≡ Ok (LoadUnload false true false) }
-    ensures locate { reading Drive (0x2B ∷ 6 ∷ 9 ∷ 1 ∷ 2 ∷ 3 ∷ 4 ∷ 9 ∷ 9 ∷ 0 ∷ []) ≡ Ok (Locate true true 0x01020304) }
-    ensures no_naca_within_ten_bytes { reading Drive (0x2B ∷ 0 ∷ 0 ∷ 0 ∷ 0 ∷ 4 ∷ 0 ∷ 0 ∷ 0 ∷ 0 ∷ [])
+    ensures rewind { decoded Drive (1 ∷ 1 ∷ 0 ∷ 0 ∷ 0 ∷ 0 ∷ []) ≡ Ok Rewind }
+    ensures read_block_limits { decoded Drive (5 ∷ 0 ∷ 0 ∷ 0 ∷ 0 ∷ 0 ∷ []) ≡ Ok ReadBlockLimits }
+    ensures read_of_300_bytes { decoded Drive (8 ∷ 0 ∷ 0 ∷ 1 ∷ 0x2C ∷ 0 ∷ []) ≡ Ok (Read false false 300) }
+    ensures read_of_two_blocks { decoded Drive (8 ∷ 1 ∷ 0 ∷ 0 ∷ 2 ∷ 0 ∷ []) ≡ Ok (Read false true 2) }
+    ensures longest_read { decoded Drive (8 ∷ 2 ∷ 0xFF ∷ 0xFF ∷ 0xFF ∷ 0xC0 ∷ []) ≡ Ok (Read true false 0xFFFFFF) }
+    ensures write { decoded Drive (0x0A ∷ 1 ∷ 1 ∷ 2 ∷ 3 ∷ 0 ∷ []) ≡ Ok (Write true 0x010203) }
+    ensures filemarks { decoded Drive (0x10 ∷ 1 ∷ 0 ∷ 1 ∷ 2 ∷ 0 ∷ []) ≡ Ok (WriteFilemarks false 258) }
+    ensures setmark { decoded Drive (0x10 ∷ 2 ∷ 0 ∷ 0 ∷ 1 ∷ 0 ∷ []) ≡ Ok (WriteFilemarks true 1) }
+    ensures space_to_end_of_data { decoded Drive (0x11 ∷ 3 ∷ 0 ∷ 0 ∷ 0 ∷ 0 ∷ []) ≡ Ok (Space 3 (pos 0)) }
+    ensures space_one_back { decoded Drive (0x11 ∷ 0 ∷ 0xFF ∷ 0xFF ∷ 0xFF ∷ 0 ∷ []) ≡ Ok (Space 0 (negsuc 0)) }
+    ensures space_furthest { decoded Drive (0x11 ∷ 0xF1 ∷ 0x7F ∷ 0xFF ∷ 0xFF ∷ 0 ∷ []) ≡ Ok (Space 1 (pos 8388607)) }
+    ensures space_furthest_back { decoded Drive (0x11 ∷ 1 ∷ 0x80 ∷ 0 ∷ 0 ∷ 0 ∷ []) ≡ Ok (Space 1 (negsuc 8388607)) }
+    ensures mode_select { decoded Drive (0x15 ∷ 0x11 ∷ 0 ∷ 0 ∷ 12 ∷ 0 ∷ []) ≡ Ok (ModeSelect true 12) }
+    ensures erase { decoded Drive (0x19 ∷ 1 ∷ 0 ∷ 0 ∷ 0 ∷ 0 ∷ []) ≡ Ok Erase }
+    ensures mode_sense { decoded Drive (0x1A ∷ 8 ∷ 0xBF ∷ 1 ∷ 2 ∷ 0 ∷ []) ≡ Ok (ModeSense true 2 0x3F 1 2) }
+    ensures load_and_hold { decoded Drive (0x1B ∷ 1 ∷ 0 ∷ 0 ∷ 0x0B ∷ 0 ∷ []) ≡ Ok (LoadUnload true false true) }
+    ensures unload_at_end_of_tape { decoded Drive (0x1B ∷ 0 ∷ 0 ∷ 0 ∷ 4 ∷ 0 ∷ []) ≡ Ok (LoadUnload false true false) }
+    ensures locate { decoded Drive (0x2B ∷ 6 ∷ 9 ∷ 1 ∷ 2 ∷ 3 ∷ 4 ∷ 9 ∷ 9 ∷ 0 ∷ []) ≡ Ok (Locate true true 0x01020304) }
+    ensures no_naca_within_ten_bytes { decoded Drive (0x2B ∷ 0 ∷ 0 ∷ 0 ∷ 0 ∷ 4 ∷ 0 ∷ 0 ∷ 0 ∷ 0 ∷ [])
         ≡ Ok (Locate false false 1024) }
-    ensures read_position { reading Drive (0x34 ∷ 0xE0 ∷ 0 ∷ 0 ∷ 0 ∷ 0 ∷ 0 ∷ 0 ∷ 0 ∷ 0 ∷ []) ≡ Ok ReadPosition }
-    ensures no_long_form { reading Drive (0x34 ∷ 6 ∷ 0 ∷ 0 ∷ 0 ∷ 0 ∷ 0 ∷ 0 ∷ 0 ∷ 4 ∷ []) ≡ Err ServiceAction }
-    ensures naca { reading Drive (0x34 ∷ 0 ∷ 0 ∷ 0 ∷ 0 ∷ 0 ∷ 0 ∷ 0 ∷ 0 ∷ 4 ∷ []) ≡ Err Naca }
-    ensures short_locate { reading Drive (0x2B ∷ 0 ∷ 0 ∷ 0 ∷ 0 ∷ 0 ∷ 5 ∷ 0 ∷ 0 ∷ []) ≡ Err ShortCdb }
-    ensures rewind_of_one_byte { reading Drive (1 ∷ []) ≡ Err ShortCdb }
-    ensures rewind_of_a_changer { reading Changer (1 ∷ []) ≡ Err Opcode }
-    ensures move_medium_of_a_drive { reading Drive (0xA5 ∷ 0 ∷ 0 ∷ 0 ∷ 4 ∷ 0 ∷ 1 ∷ 0 ∷ 0 ∷ 0 ∷ 0 ∷ 0 ∷ []) ≡ Err Opcode }
+    ensures read_position { decoded Drive (0x34 ∷ 0xE0 ∷ 0 ∷ 0 ∷ 0 ∷ 0 ∷ 0 ∷ 0 ∷ 0 ∷ 0 ∷ []) ≡ Ok ReadPosition }
+    ensures no_long_form { decoded Drive (0x34 ∷ 6 ∷ 0 ∷ 0 ∷ 0 ∷ 0 ∷ 0 ∷ 0 ∷ 0 ∷ 4 ∷ []) ≡ Err ServiceAction }
+    ensures naca { decoded Drive (0x34 ∷ 0 ∷ 0 ∷ 0 ∷ 0 ∷ 0 ∷ 0 ∷ 0 ∷ 0 ∷ 4 ∷ []) ≡ Err Naca }
+    ensures short_locate { decoded Drive (0x2B ∷ 0 ∷ 0 ∷ 0 ∷ 0 ∷ 0 ∷ 5 ∷ 0 ∷ 0 ∷ []) ≡ Err ShortCdb }
+    ensures rewind_of_one_byte { decoded Drive (1 ∷ []) ≡ Err ShortCdb }
+    ensures rewind_of_a_changer { decoded Changer (1 ∷ []) ≡ Err Opcode }
+    ensures move_medium_of_a_drive { decoded Drive (0xA5 ∷ 0 ∷ 0 ∷ 0 ∷ 4 ∷ 0 ∷ 1 ∷ 0 ∷ 0 ∷ 0 ∷ 0 ∷ 0 ∷ []) ≡ Err Opcode }
 {}
 
 /// Worked rows of the commands that changers alone have, and of MODE SENSE there.
 #[tactic(auto, unfolding(crate::specs::Commands::command_of))]
 pub fn worked_rows_of_changers()
-    ensures initialize { reading Changer (7 ∷ 0 ∷ 0 ∷ 0 ∷ 0 ∷ 0 ∷ []) ≡ Ok InitializeElementStatus }
-    ensures mode_sense { reading Changer (0x1A ∷ 0 ∷ 0x5D ∷ 3 ∷ 0x18 ∷ 0 ∷ []) ≡ Ok (ModeSense false 1 0x1D 3 24) }
-    ensures move_medium { reading Changer (0xA5 ∷ 0 ∷ 1 ∷ 2 ∷ 4 ∷ 3 ∷ 1 ∷ 5 ∷ 0 ∷ 0 ∷ 0xFE ∷ 0 ∷ [])
+    ensures initialize { decoded Changer (7 ∷ 0 ∷ 0 ∷ 0 ∷ 0 ∷ 0 ∷ []) ≡ Ok InitializeElementStatus }
+    ensures mode_sense { decoded Changer (0x1A ∷ 0 ∷ 0x5D ∷ 3 ∷ 0x18 ∷ 0 ∷ []) ≡ Ok (ModeSense false 1 0x1D 3 24) }
+    ensures move_medium { decoded Changer (0xA5 ∷ 0 ∷ 1 ∷ 2 ∷ 4 ∷ 3 ∷ 1 ∷ 5 ∷ 0 ∷ 0 ∷ 0xFE ∷ 0 ∷ [])
         ≡ Ok (MoveMedium 0x0102 0x0403 0x0105 false) }
-    ensures inverted { reading Changer (0xA5 ∷ 0 ∷ 0 ∷ 0 ∷ 4 ∷ 0 ∷ 1 ∷ 0 ∷ 0 ∷ 0 ∷ 1 ∷ 0 ∷ [])
+    ensures inverted { decoded Changer (0xA5 ∷ 0 ∷ 0 ∷ 0 ∷ 4 ∷ 0 ∷ 1 ∷ 0 ∷ 0 ∷ 0 ∷ 1 ∷ 0 ∷ [])
         ≡ Ok (MoveMedium 0 0x400 0x100 true) }
-    ensures all_elements { reading Changer (0xB8 ∷ 0 ∷ 0 ∷ 0 ∷ 0xFF ∷ 0xFF ∷ 0 ∷ 0 ∷ 0x10 ∷ 0 ∷ 0 ∷ 0 ∷ [])
+    ensures all_elements { decoded Changer (0xB8 ∷ 0 ∷ 0 ∷ 0 ∷ 0xFF ∷ 0xFF ∷ 0 ∷ 0 ∷ 0x10 ∷ 0 ∷ 0 ∷ 0 ∷ [])
         ≡ Ok (ReadElementStatus false 0 0 0xFFFF false false 0x1000) }
-    ensures tags_of_two_slots { reading Changer (0xB8 ∷ 0xF2 ∷ 4 ∷ 1 ∷ 0 ∷ 2 ∷ 2 ∷ 1 ∷ 2 ∷ 3 ∷ 0 ∷ 0 ∷ [])
+    ensures tags_of_two_slots { decoded Changer (0xB8 ∷ 0xF2 ∷ 4 ∷ 1 ∷ 0 ∷ 2 ∷ 2 ∷ 1 ∷ 2 ∷ 3 ∷ 0 ∷ 0 ∷ [])
         ≡ Ok (ReadElementStatus true 2 0x401 2 true false 0x010203) }
-    ensures identifiers_of_drives { reading Changer (0xB8 ∷ 0x04 ∷ 1 ∷ 0 ∷ 0 ∷ 1 ∷ 1 ∷ 0 ∷ 0 ∷ 0xFF ∷ 0 ∷ 0 ∷ [])
+    ensures identifiers_of_drives { decoded Changer (0xB8 ∷ 0x04 ∷ 1 ∷ 0 ∷ 0 ∷ 1 ∷ 1 ∷ 0 ∷ 0 ∷ 0xFF ∷ 0 ∷ 0 ∷ [])
         ≡ Ok (ReadElementStatus false 4 0x100 1 false true 255) }
-    ensures naca { reading Changer (0xA5 ∷ 0 ∷ 0 ∷ 0 ∷ 4 ∷ 0 ∷ 1 ∷ 0 ∷ 0 ∷ 0 ∷ 0 ∷ 4 ∷ []) ≡ Err Naca }
-    ensures short_move { reading Changer (0xA5 ∷ 0 ∷ 0 ∷ 0 ∷ 4 ∷ 0 ∷ 1 ∷ 0 ∷ 0 ∷ 0 ∷ 0 ∷ []) ≡ Err ShortCdb }
-    ensures short_status { reading Changer (0xB8 ∷ 0 ∷ 0 ∷ 0 ∷ 4 ∷ 0 ∷ 1 ∷ 0 ∷ 0 ∷ 0 ∷ 0 ∷ []) ≡ Err ShortCdb }
-    ensures short_initialize { reading Changer (7 ∷ 0 ∷ 0 ∷ 0 ∷ 0 ∷ []) ≡ Err ShortCdb }
-    ensures initialize_of_a_drive { reading Drive (7 ∷ 0 ∷ 0 ∷ 0 ∷ 0 ∷ 0 ∷ []) ≡ Err Opcode }
-    ensures status_of_a_drive { reading Drive (0xB8 ∷ []) ≡ Err Opcode }
-    ensures mode_select_of_a_changer { reading Changer (0x15 ∷ 0 ∷ 0 ∷ 0 ∷ 0 ∷ 0 ∷ []) ≡ Err Opcode }
-{}
-
-/// Worked rows of the lengths of CDBs.
-#[tactic(auto, unfolding(crate::specs::Commands::command_of))]
-pub fn worked_lengths()
-    ensures test_unit_ready { length_of TestUnitReady ≡ 6 }
-    ensures erase { length_of Erase ≡ 6 }
-    ensures mode_sense { length_of (ModeSense false 0 0x3F 0 255) ≡ 6 }
-    ensures prevent { length_of (PreventAllowMediumRemoval 1) ≡ 6 }
-    ensures locate { length_of (Locate false false 5) ≡ 10 }
-    ensures read_position { length_of ReadPosition ≡ 10 }
-    ensures read_keys { length_of (PersistentReserveIn ReadKeys 255) ≡ 10 }
-    ensures register_and_move { length_of (PersistentReserveOut RegisterAndMove 0 48) ≡ 10 }
-    ensures report_luns { length_of (ReportLuns 0 256) ≡ 12 }
-    ensures move_medium { length_of (MoveMedium 0 0x400 0x100 false) ≡ 12 }
-    ensures element_status { length_of (ReadElementStatus false 0 0 0xFFFF false false 255) ≡ 12 }
+    ensures naca { decoded Changer (0xA5 ∷ 0 ∷ 0 ∷ 0 ∷ 4 ∷ 0 ∷ 1 ∷ 0 ∷ 0 ∷ 0 ∷ 0 ∷ 4 ∷ []) ≡ Err Naca }
+    ensures short_move { decoded Changer (0xA5 ∷ 0 ∷ 0 ∷ 0 ∷ 4 ∷ 0 ∷ 1 ∷ 0 ∷ 0 ∷ 0 ∷ 0 ∷ []) ≡ Err ShortCdb }
+    ensures short_status { decoded Changer (0xB8 ∷ 0 ∷ 0 ∷ 0 ∷ 4 ∷ 0 ∷ 1 ∷ 0 ∷ 0 ∷ 0 ∷ 0 ∷ []) ≡ Err ShortCdb }
+    ensures short_initialize { decoded Changer (7 ∷ 0 ∷ 0 ∷ 0 ∷ 0 ∷ []) ≡ Err ShortCdb }
+    ensures initialize_of_a_drive { decoded Drive (7 ∷ 0 ∷ 0 ∷ 0 ∷ 0 ∷ 0 ∷ []) ≡ Err Opcode }
+    ensures status_of_a_drive { decoded Drive (0xB8 ∷ []) ≡ Err Opcode }
+    ensures mode_select_of_a_changer { decoded Changer (0x15 ∷ 0 ∷ 0 ∷ 0 ∷ 0 ∷ 0 ∷ []) ≡ Err Opcode }
 {}

@@ -60,6 +60,9 @@ pub const REPORT_CAPABILITIES: u8 = 0x02;
 
 pub const READ_FULL_STATUS: u8 = 0x03;
 
+/// The group code of an operation code is what stands above its five low bits.
+pub const GROUP_CODE: u8 = 0x20;
+
 // Lengths of CDBs.
 pub const SIX_BYTES: usize = 6;
 

@@ -18,11 +18,10 @@ mod stream;
 pub use action::InServiceAction;
 pub use classify::class;
 pub use decoding::decode;
-pub use encoding::{cdb_length, encode};
+pub use encoding::encode;
 pub use fault::CdbFault;
 pub use kind::Kind;
-pub use laws::{
-    request_reads_back, worked_lengths, worked_rows, worked_rows_of_changers, worked_rows_of_drives,
-};
+pub use laws::{request_reads_back, worked_rows, worked_rows_of_changers, worked_rows_of_drives};
+pub use layout::{CDB_LENGTH, INQUIRY, REQUEST_SENSE};
 pub use permit_tables::{Class, OutServiceAction};
 pub use request::Request;

@@ -3,7 +3,7 @@ ghost use Rattle.std.specs.Prelude.{◌≡◌, ◌≤◌, length, IfSome};
 ghost use Rattle.scsi_cdb.specs.Bits.{bit, bits, byte, two_bytes, four_bytes};
 ghost use Rattle.permit_tables.specs.ServiceActions.{out_service_action};
 ghost use Rattle.scsi_cdb.specs.Commands.{in_service_action, reserve_in, reserve_out};
-ghost use Rattle.scsi_cdb.specs.Spelling.{Fits};
+ghost use Rattle.scsi_cdb.specs.Encoding.{Fits};
 ghost use Rattle.scsi_cdb.specs.declared.request.Request.TheVariants.{RequestSense, Inquiry, ModeSelect, ModeSense, PreventAllowMediumRemoval, ReportLuns};
 
 use crate::action::InServiceAction;

@@ -2,7 +2,7 @@
 ghost use Rattle.std.specs.Prelude.{◌≡◌, ◌≤◌, length, IfSome};
 ghost use Rattle.scsi_cdb.specs.Bits.{bit, bits, three_bytes, four_bytes, signed_three_bytes};
 ghost use Rattle.scsi_cdb.specs.Commands.{read_position};
-ghost use Rattle.scsi_cdb.specs.Spelling.{Fits};
+ghost use Rattle.scsi_cdb.specs.Encoding.{Fits};
 ghost use Rattle.scsi_cdb.specs.declared.request.Request.TheVariants.{Read, Write, WriteFilemarks, Space, LoadUnload, Locate};
 
 use crate::fields::{bit_at, byte_at, count_at, service_action_at, u24_at, u32_at};

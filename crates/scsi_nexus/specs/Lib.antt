@@ -1,4 +1,6 @@
 pub mod Limits
+pub mod Ports
+pub mod Text
 pub mod Order
 pub mod TransportId
 pub mod Place

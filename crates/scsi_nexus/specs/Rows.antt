@@ -1,10 +1,12 @@
 -- Worked nexuses and TransportIDs.
-use Rattle.std.specs.Prelude.{◌≡◌, ℕ, true, false, [], ◌∷◌, replicate}
+use Rattle.std.specs.Prelude.{◌≡◌, ℕ, true, false, [], ◌∷◌, replicate, codes}
 use Rattle.std.specs.declared.cmp.Ordering.TheVariants.{Less, Equal, Greater}
 use Rattle.scsi_nexus.specs.declared.nexus.Nexus.{Nexus}
 use Rattle.scsi_nexus.specs.Order.{nexus_cmp, same_nexus}
 use Rattle.scsi_nexus.specs.TransportId.{transport_id, sas_address}
 use Rattle.scsi_nexus.specs.Limits.{list_limit}
+use Rattle.scsi_nexus.specs.Ports.{is_target_port}
+use Rattle.scsi_nexus.specs.Text.{nexus_text}
 
 abbrev pub nexus : (sas port : ℕ) → Nexus
 nexus sas port = record { sas = sas; port = port }
@@ -18,6 +20,15 @@ pub record NexusRows : Type 0 where
   pub other_address : same_nexus (nexus 0x500000000000000A 1) (nexus 0x500000000000000B 1) ≡ false
   pub same : same_nexus (nexus 0x500000000000000A 1) (nexus 0x500000000000000A 1) ≡ true
   pub limit : list_limit ≡ 256
+
+-- the ports of the target, and how a nexus is written
+pub record PortRows : Type 0 where
+  pub none : is_target_port 0 ≡ false
+  pub first : is_target_port 1 ≡ true
+  pub last : is_target_port 4 ≡ true
+  pub fifth : is_target_port 5 ≡ false
+  pub written : nexus_text (nexus 0x500000000000000A 1) ≡ codes "500000000000000a.1"
+  pub padded : nexus_text (nexus 0xAF 4) ≡ codes "00000000000000af.4"
 
 pub record TransportIdRows : Type 0 where
   pub written : transport_id 0x5000C500112233FF

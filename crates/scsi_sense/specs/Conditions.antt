@@ -1,5 +1,5 @@
 -- The conditions that sense data reports (SPC-4, "Sense key and additional sense code definitions").
-use Rattle.std.specs.Prelude.{◌≡◌, ℕ, false, Option, Some, MatchOption}
+use Rattle.std.specs.Prelude.{◌≡◌, ℕ, ◌==◌, ◌&&◌, Bool, false, Option, Some, MatchOption}
 use Rattle.scsi_sense.specs.declared.condition.Condition.{Condition}
 use Rattle.scsi_sense.specs.declared.condition.Condition.TheVariants.{NoAdditionalSenseInformation, FilemarkDetected, BeginningOfMediumDetected, InitializingCommandRequired, MediumNotPresent, InternalTargetFailure, ParameterListLengthError, InvalidCommandOperationCode, InvalidElementAddress, InvalidFieldInCdb, LogicalUnitNotSupported, InvalidFieldInParameterList, InvalidReleaseOfPersistentReservation, SavingParametersNotSupported, MediumDestinationElementFull, MediumSourceElementEmpty, MediumRemovalPrevented, InsufficientRegistrationResources, NotReadyToReadyChange, PowerOnOrResetOccurred, BusDeviceResetFunctionOccurred, NexusLossOccurred, ModeParametersChanged, ReservationsPreempted, ReservationsReleased, RegistrationsPreempted, WriteProtected, EndOfDataDetected, EndOfMediumDetected}
 use Rattle.scsi_sense.specs.declared.sense.Sense.{Sense}
@@ -74,7 +74,11 @@ sense_for WriteProtected = reports data_protect 0x27 0x00
 sense_for EndOfDataDetected = reports blank_check 0x00 0x05
 sense_for EndOfMediumDetected = reports volume_overflow 0x00 0x02
 
--- the sense data has the sense key, the additional sense code and the qualifier of the condition
+-- whether the sense data has the sense key, the additional sense code and the qualifier of the condition
+abbrev pub has_codes_of : Sense → Condition → Bool
+has_codes_of s c = (s.key == (sense_for c).key) && (s.asc == (sense_for c).asc) && (s.ascq == (sense_for c).ascq)
+
+-- the same as a fact
 abbrev pub HasCodesOf : Sense → Condition → Type 0
 HasCodesOf s c = (s.key ≡ (sense_for c).key) × (s.asc ≡ (sense_for c).asc) × (s.ascq ≡ (sense_for c).ascq)
 

@@ -23,8 +23,8 @@ abbrev pub response_code : List ℕ → ℕ
 response_code bytes = slice_index bytes 0 % 128
 
 -- the sense that bytes spell, or the first fault: too few of them, another response code
-abbrev pub reading : List ℕ → Result Sense SenseFault
-reading bytes =
+abbrev pub decoded_sense : List ℕ → Result Sense SenseFault
+decoded_sense bytes =
     if nat_lt (length bytes) 18 then Err Short
     else if response_code bytes == 0x70 then Ok (sense_of bytes)
     else Err NotFixed
@@ -45,4 +45,4 @@ pub record IsWritable (s : Sense) : Type 0 where
 
 -- what is written is read again
 abbrev pub ReadsBack : Type 0
-ReadsBack = (s : Sense) → IsWritable s → reading (fixed_sense s) ≡ Ok s
+ReadsBack = (s : Sense) → IsWritable s → decoded_sense (fixed_sense s) ≡ Ok s

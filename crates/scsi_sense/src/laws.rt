@@ -1,6 +1,6 @@
 ghost use Rattle.std.specs.Prelude.{◌≡◌, Ok, Err, None, Some, [], ◌∷◌, ◌++◌, replicate, true, false, codes};
 ghost use Rattle.scsi_sense.specs.Conditions.{sense_for, reports, IsConditionOf, OneConditionAtMost, ConditionsReadBack};
-ghost use Rattle.scsi_sense.specs.FixedSense.{ReadsBack, fixed_sense, reading};
+ghost use Rattle.scsi_sense.specs.FixedSense.{ReadsBack, fixed_sense, decoded_sense};
 ghost use Rattle.scsi_sense.specs.SenseKeys.{IsKeyOf, OneKeyAtMost};
 ghost use Rattle.scsi_sense.specs.Text.{condition_name, key_name, status_name};
 ghost use Rattle.scsi_sense.specs.declared.condition.Condition.TheVariants.{NoAdditionalSenseInformation, PowerOnOrResetOccurred, RegistrationsPreempted, InvalidReleaseOfPersistentReservation, FilemarkDetected, EndOfDataDetected, NotReadyToReadyChange, InitializingCommandRequired, NexusLossOccurred, BeginningOfMediumDetected, EndOfMediumDetected};
@@ -49,11 +49,11 @@ pub fn worked_rows()
       information = 1000;
     })
         ≡ 0xF0 ∷ 0 ∷ 0x80 ∷ 0 ∷ 0 ∷ 3 ∷ 0xE8 ∷ 0x0A ∷ 0 ∷ 0 ∷ 0 ∷ 0 ∷ 0 ∷ 1 ∷ 0 ∷ 0 ∷ 0 ∷ 0 ∷ [] }
-    ensures end_of_data_read { reading
+    ensures end_of_data_read { decoded_sense
         (0xF0 ∷ 0 ∷ 8 ∷ 0 ∷ 0 ∷ 3 ∷ 0xE8 ∷ 0x0A ∷ 0 ∷ 0 ∷ 0 ∷ 0 ∷ 0 ∷ 5 ∷ 0 ∷ 0 ∷ 0 ∷ 0 ∷ 9 ∷ [])
         ≡ Ok (record (sense_for EndOfDataDetected) { valid = true; information = 1000 }) }
-    ensures short_before_format { reading (0x72 ∷ replicate 16 0) ≡ Err Short }
-    ensures descriptor_format { reading (0x72 ∷ replicate 17 0) ≡ Err NotFixed }
+    ensures short_before_format { decoded_sense (0x72 ∷ replicate 16 0) ≡ Err Short }
+    ensures descriptor_format { decoded_sense (0x72 ∷ replicate 17 0) ≡ Err NotFixed }
 {}
 
 /// Worked rows: the words for statuses, keys and conditions, and the condition of sense data.

@@ -26,8 +26,8 @@ pub struct Sense {
 }
 
 impl Sense {
-    ghost use Rattle.scsi_sense.specs.FixedSense.{fixed_sense, reading};
-    ghost use Rattle.scsi_sense.specs.Conditions.{reports, sense_for, IsConditionOf};
+    ghost use Rattle.scsi_sense.specs.FixedSense.{fixed_sense, decoded_sense};
+    ghost use Rattle.scsi_sense.specs.Conditions.{reports, sense_for, has_codes_of, IsConditionOf};
     ghost use Rattle.scsi_sense.specs.declared.condition.Condition.TheVariants.{NoAdditionalSenseInformation};
 
     /// The sense data of a condition, with VALID, FILEMARK, EOM and ILI off and INFORMATION 0.
@@ -117,6 +117,14 @@ impl Sense {
         }
     }
 
+    /// Whether it has the sense key, the additional sense code and its qualifier of the condition. The other fields play no part.
+    pub fn has_codes_of(&self, condition: Condition) -> bool
+        ensures { result ≡ has_codes_of self.now condition }
+    {
+        let other = Sense::of(condition);
+        self.key == other.key && self.asc == other.asc && self.ascq == other.ascq
+    }
+
     /// The 18 bytes. Of the key only the low four bits are written, and INFORMATION only with
     /// VALID.
     pub fn to_bytes(&self) -> [u8; SENSE_LENGTH]
@@ -140,7 +148,7 @@ impl Sense {
     /// The sense that the bytes spell, with or without VALID. What follows the 18 bytes, and each
     /// bit that is no field, is ignored.
     pub fn from_bytes(bytes: &[u8]) -> Result<Sense, SenseFault>
-        ensures { result ≡ reading bytes.now }
+        ensures { result ≡ decoded_sense bytes.now }
     {
         if bytes.len() < SENSE_LENGTH {
             return Err(SenseFault::Short);

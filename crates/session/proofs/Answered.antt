@@ -3,14 +3,14 @@ use Rattle.std.proofs.Common.{◌≡◌, ℕ, true, List, [], ◌∷◌, ◌++�
 use Rattle.std.specs.Io.KnownBytes.{Appends}
 use Rattle.scsi_nexus.specs.declared.nexus.Nexus.{Nexus}
 use Rattle.kept_unit.specs.Answers.{DoneValue}
-use Rattle.frames.specs.Frames.{Sent, Login, Command, Reset, Logout, Whole, front_in}
+use Rattle.frames.specs.Frames.{FrameValue, Login, Command, Reset, Logout, Complete, parsed_frame}
 use Rattle.frames.specs.Stream.{Takes}
 use Rattle.frames.specs.Replies.{ResetReply, LogoutReply, reply_bytes}
 use Rattle.frames.proofs.Taking.{takes_one, takes_more, takes_before}
 use Rattle.session.specs.Answering.{command_reply, Says, Talks, Answers, AnswersAll}
 
 -- one frame more
-talks_on : {S : Type 0} (notes : S → DoneValue → S → Type 0) (n : Nexus) (s : S) (fs : List Sent) (f : Sent) (out mid out' : List ℕ) (t u : S)
+talks_on : {S : Type 0} (notes : S → DoneValue → S → Type 0) (n : Nexus) (s : S) (fs : List FrameValue) (f : FrameValue) (out mid out' : List ℕ) (t u : S)
     → Talks notes n s fs out mid t → Says notes n t f mid out' u → Talks notes n s (fs ++ f ∷ []) out out' u
 talks_on {S} notes n s [] f out mid out' t u so one =
     (u, out', subst (λ (x : List ℕ). Says notes n s f x out' u) so.0 (subst (λ (x : S). Says notes n x f mid out' u) so.1 one), (refl, refl))
@@ -19,16 +19,16 @@ talks_on {S} notes n s (g ∷ fs) f out mid out' t u so one = (so.0, so.1, so.2,
 pub none_yet : {S : Type 0} (notes : S → DoneValue → S → Type 0) (n : Nexus) (s : S) (pending out : List ℕ) → Answers notes n s pending out out pending s
 none_yet notes n s pending out = ([], (refl, refl), refl)
 
-pub one_more : {S : Type 0} (notes : S → DoneValue → S → Type 0) (n : Nexus) (s t u : S) (pending out mid out' rest rest' : List ℕ) (f : Sent) (k : ℕ)
-    → Answers notes n s pending out mid rest t → front_in true rest ≡ Whole f k → rest' ≡ drop k rest → Says notes n t f mid out' u → Answers notes n s pending out out' rest' u
+pub one_more : {S : Type 0} (notes : S → DoneValue → S → Type 0) (n : Nexus) (s t u : S) (pending out mid out' rest rest' : List ℕ) (f : FrameValue) (k : ℕ)
+    → Answers notes n s pending out mid rest t → parsed_frame true rest ≡ Complete f k → rest' ≡ drop k rest → Says notes n t f mid out' u → Answers notes n s pending out out' rest' u
 one_more notes n s t u pending out mid out' rest rest' f k so is cut one = (
   so.0 ++ f ∷ [],
   talks_on notes n s so.0 f out mid out' t u so.1 one,
   subst (λ (x : List ℕ). Takes true pending (so.0 ++ f ∷ []) x) (sym cut) (takes_one true pending so.0 rest f k refl so.2 is),
 )
 
-pub then_logout : {S : Type 0} (notes : S → DoneValue → S → Type 0) (n : Nexus) (s t u : S) (pending out mid out' rest rest' : List ℕ) (f : Sent) (k : ℕ)
-    → Answers notes n s pending out mid rest t → front_in true rest ≡ Whole f k → rest' ≡ drop k rest
+pub then_logout : {S : Type 0} (notes : S → DoneValue → S → Type 0) (n : Nexus) (s t u : S) (pending out mid out' rest rest' : List ℕ) (f : FrameValue) (k : ℕ)
+    → Answers notes n s pending out mid rest t → parsed_frame true rest ≡ Complete f k → rest' ≡ drop k rest
     → (f ≡ Logout) × (out' ≡ mid ++ reply_bytes LogoutReply) × (u ≡ t) → AnswersAll notes n s pending out out' rest' u
 then_logout {S} notes n s t u pending out mid out' rest rest' f k so is cut last = (
   so.0,
@@ -36,16 +36,16 @@ then_logout {S} notes n s t u pending out mid out' rest rest' f k so is cut last
   subst (λ (x : S). Talks notes n s so.0 out mid x) (sym last.2) so.1,
   last.1,
   subst (λ (x : List ℕ). Takes true pending (so.0 ++ Logout ∷ []) x) (sym cut)
-      (subst (λ (g : Sent). Takes true pending (so.0 ++ g ∷ []) (drop k rest)) last.0 (takes_one true pending so.0 rest f k refl so.2 is)),
+      (subst (λ (g : FrameValue). Takes true pending (so.0 ++ g ∷ []) (drop k rest)) last.0 (takes_one true pending so.0 rest f k refl so.2 is)),
 )
 
-talks_append : {S : Type 0} (notes : S → DoneValue → S → Type 0) (n : Nexus) (s : S) (fs gs : List Sent) (out mid out' : List ℕ) (t u : S)
+talks_append : {S : Type 0} (notes : S → DoneValue → S → Type 0) (n : Nexus) (s : S) (fs gs : List FrameValue) (out mid out' : List ℕ) (t u : S)
     → Talks notes n s fs out mid t → Talks notes n t gs mid out' u → Talks notes n s (fs ++ gs) out out' u
 talks_append {S} notes n s [] gs out mid out' t u one two =
     subst (λ (x : List ℕ). Talks notes n s gs x out' u) one.0 (subst (λ (x : S). Talks notes n x gs mid out' u) one.1 two)
 talks_append {S} notes n s (f ∷ fs) gs out mid out' t u one two = (one.0, one.1, one.2, talks_append notes n one.0 fs gs one.1 mid out' t u one.3 two)
 
-says_shift : {S : Type 0} (notes : S → DoneValue → S → Type 0) (n : Nexus) (s : S) (f : Sent) (pre out out' : List ℕ) (t : S)
+says_shift : {S : Type 0} (notes : S → DoneValue → S → Type 0) (n : Nexus) (s : S) (f : FrameValue) (pre out out' : List ℕ) (t : S)
     → Says notes n s f out out' t → Says notes n s f (pre ++ out) (pre ++ out') t
 says_shift notes n s (Command lun cdb bytes) pre out out' t one =
     (one.0, one.1, one.2, ap (λ (x : List ℕ). pre ++ x) one.3 ∙ sym (append_assoc pre out (command_reply one.0)))
@@ -54,7 +54,7 @@ says_shift notes n s (Reset lun) pre out out' t one =
 says_shift notes n s (Login nexus) pre out out' t one = one
 says_shift notes n s Logout pre out out' t one = one
 
-talks_shift : {S : Type 0} (notes : S → DoneValue → S → Type 0) (n : Nexus) (s : S) (fs : List Sent) (pre out out' : List ℕ) (t : S)
+talks_shift : {S : Type 0} (notes : S → DoneValue → S → Type 0) (n : Nexus) (s : S) (fs : List FrameValue) (pre out out' : List ℕ) (t : S)
     → Talks notes n s fs out out' t → Talks notes n s fs (pre ++ out) (pre ++ out') t
 talks_shift notes n s [] pre out out' t so = (ap (λ (x : List ℕ). pre ++ x) so.0, so.1)
 talks_shift notes n s (f ∷ fs) pre out out' t so = (so.0, pre ++ so.1, says_shift notes n s f pre out so.1 so.0 so.2, talks_shift notes n so.0 fs pre so.1 out' t so.3)
@@ -75,7 +75,7 @@ last_batch notes n s t u p q r out gone o1 o2 one two = (
   gone ++ two.1,
   talks_append notes n s one.0 two.0 out (gone ++ o1) (gone ++ two.1) t u one.1 (talks_shift notes n t two.0 gone o1 two.1 u two.2),
   ap (λ (x : List ℕ). gone ++ x) two.3 ∙ sym (append_assoc gone two.1 (reply_bytes LogoutReply)),
-  subst (λ (fs : List Sent). Takes true p fs r) (sym (append_assoc one.0 two.0 (Logout ∷ [])))
+  subst (λ (fs : List FrameValue). Takes true p fs r) (sym (append_assoc one.0 two.0 (Logout ∷ [])))
       (takes_more true p one.0 q (two.0 ++ Logout ∷ []) r refl one.2 two.4),
 )
 

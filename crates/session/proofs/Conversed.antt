@@ -4,7 +4,7 @@ use Rattle.std.proofs.lemmas.List.{drop-append-le}
 use Rattle.std.specs.Io.KnownBytes.{Consumes, Appends, IsAtEnd}
 use Rattle.scsi_nexus.specs.declared.nexus.Nexus.{Nexus}
 use Rattle.kept_unit.specs.Answers.{DoneValue}
-use Rattle.frames.specs.Frames.{Sent, Login, Partial, Whole, front_in}
+use Rattle.frames.specs.Frames.{FrameValue, Login, Partial, Complete, parsed_frame}
 use Rattle.frames.specs.Reading.{Filled}
 use Rattle.frames.specs.declared.reply_frame.LoginAnswer.TheVariants.{Accepted}
 use Rattle.frames.specs.Replies.{LoginReply, reply_bytes}
@@ -13,7 +13,7 @@ use Rattle.frames.proofs.Streams.{stable, frame_within}
 use Rattle.session.specs.declared.fault.End.{End}
 use Rattle.session.specs.declared.fault.End.TheVariants as end
 use Rattle.session.specs.Answering.{Answers, AnswersAll}
-use Rattle.session.specs.Greeting.{end_of}
+use Rattle.session.specs.Login.{end_of}
 use Rattle.session.specs.Serving.{Writes, WritesAll, Converses, last_frames, IsLostBelow, IsHeld}
 use Rattle.session.proofs.Answered.{batch, last_batch, more_comes, appends_more}
 use Rattle.session.proofs.Read.{consumes_none, consumes_more, nothing_more}
@@ -25,7 +25,7 @@ pub record Speaks {S : Type 0} (notes : S → DoneValue → S → Type 0) (n : N
   pub consumed : Consumes left left' read
   pub appended : Appends written written' said
   pub answered : Answers notes n s (pending ++ read) out said rest t
-  pub partial : front_in true rest ≡ Partial
+  pub partial : parsed_frame true rest ≡ Partial
   pub short : length rest < 131076
 
 -- before the first read
@@ -98,14 +98,14 @@ leaves_on notes n s t u pending out rest rest1 rest2 count left left1 left2 writ
 
 -- the end of input, between frames or within one
 at_end : {S : Type 0} (notes : S → DoneValue → S → Type 0) (n : Nexus) (s t : S) (pending out read said rest : List ℕ) (left left' written written' : Option (List ℕ))
-    → Consumes left left' read → Appends written written' said → Answers notes n s (pending ++ read) out said rest t → IsAtEnd left' → front_in true rest ≡ Partial
+    → Consumes left left' read → Appends written written' said → Answers notes n s (pending ++ read) out said rest t → IsAtEnd left' → parsed_frame true rest ≡ Partial
     → Converses notes n s pending out left left' written written' (end_of rest) rest t
 at_end notes n s t pending out read said [] left left' written written' took wrote so ended partial = record {
   read = read;
   frames = so.0;
   said = said;
   consumed = took;
-  taken = subst (λ (fs : List Sent). Takes true (pending ++ read) fs []) (sym (append-nil so.0)) so.2;
+  taken = subst (λ (fs : List FrameValue). Takes true (pending ++ read) fs []) (sym (append-nil so.0)) so.2;
   talked = so.1;
   appended = subst (λ (o : List ℕ). Appends written written' o) (sym (append-nil said)) wrote;
   ended = (ended, partial, refl);
@@ -115,7 +115,7 @@ at_end notes n s t pending out read said (byte ∷ rest) left left' written writ
   frames = so.0;
   said = said;
   consumed = took;
-  taken = subst (λ (fs : List Sent). Takes true (pending ++ read) fs (byte ∷ rest)) (sym (append-nil so.0)) so.2;
+  taken = subst (λ (fs : List FrameValue). Takes true (pending ++ read) fs (byte ∷ rest)) (sym (append-nil so.0)) so.2;
   talked = so.1;
   appended = subst (λ (o : List ℕ). Appends written written' o) (sym (append-nil said)) wrote;
   ended = (ended, partial, refl);
@@ -129,11 +129,11 @@ ends notes n s t pending out rest rest1 count left left1 left2 written written1 
     let same : rest1 ≡ rest = nothing_more rest rest1 count left1 left2 got none in
     at_end notes n s t pending out (so.read ++ got.0) (so.said ++ []) rest1 left left2 written written1 (consumes_more _ _ _ _ _ so.consumed got.3)
     (subst (λ (o : List ℕ). Appends written written1 o) (sym (append-nil so.said)) so.appended)
-    (before_read notes n s t pending out rest rest1 so.read got.0 so.said so.answered got.1) ended (ap (front_in true) same ∙ so.partial)
+    (before_read notes n s t pending out rest rest1 so.read got.0 so.said so.answered got.1) ended (ap (parsed_frame true) same ∙ so.partial)
 
 -- a session whole: the reads up to its LOGIN, what was answered behind it, and the loss of its nexus
 pub held : {S : Type 0} (notes : S → DoneValue → S → Type 0) (n : Nexus) (s m t : S) (first rest : List ℕ) (count : ℕ) (units : S → ℕ) (left middle left' written written' : Option (List ℕ)) (e : End)
-    → Consumes left middle first → front_in false first ≡ Whole (Login n) count
+    → Consumes left middle first → parsed_frame false first ≡ Complete (Login n) count
     → Converses notes n s (drop count first) (reply_bytes (LoginReply Accepted)) middle left' written written' e rest m → IsLostBelow notes n (units m) m t true
     → IsHeld notes units s left left' written written' e t
 held notes n s m t first rest count units left middle left' written written' e took login so gone = record {
@@ -146,7 +146,7 @@ held notes n s m t first rest count units left middle left' written written' e t
   consumed = consumes_more left middle left' first so.read took so.consumed;
   taken = (
     count,
-    stable false first so.read (Whole (Login n) count) login (λ e. absurd cc),
+    stable false first so.read (Complete (Login n) count) login (λ e. absurd cc),
     subst (λ (p : List ℕ). Takes true p (so.frames ++ last_frames e) rest) (sym (drop-append-le count first so.read (frame_within false first (Login n) count login))) so.taken,
   );
   talked = so.talked;

@@ -18,6 +18,6 @@ empty [] e = refl
 empty (x ∷ xs) e = absurd cc
 
 -- a read of nothing
-pub nothing_more : (inbox inbox' : List ℕ) (n : ℕ) (left left' : Option (List ℕ)) → Filled n inbox inbox' left left' → n ≡ 0 → inbox' ≡ inbox
-nothing_more inbox inbox' n left left' got none =
-    got.1 ∙ ap (λ (xs : List ℕ). inbox ++ xs) (empty got.0 (got.2 ∙ none)) ∙ append-nil inbox
+pub nothing_more : (read_buffer inbox' : List ℕ) (n : ℕ) (left left' : Option (List ℕ)) → Filled n read_buffer inbox' left left' → n ≡ 0 → inbox' ≡ read_buffer
+nothing_more read_buffer inbox' n left left' got none =
+    got.1 ∙ ap (λ (xs : List ℕ). read_buffer ++ xs) (empty got.0 (got.2 ∙ none)) ∙ append-nil read_buffer

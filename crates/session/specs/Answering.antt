@@ -1,9 +1,10 @@
--- What a session does with its frames. `notes s d t` says that a call with the answer d makes t of the station s.
+-- What a session does with its frames. `notes s d t` says that a call with the answer d makes t of the service s.
 use Rattle.std.specs.Prelude.{◌≡◌, ℕ, true, List, [], ◌∷◌, ◌++◌, Option, Some, None}
 use Rattle.std.specs.Io.KnownBytes.{Appends}
 use Rattle.scsi_nexus.specs.declared.nexus.Nexus.{Nexus}
-use Rattle.kept_unit.specs.Answers.{DoneValue, IsAnswer, ran, was_reset}
-use Rattle.frames.specs.Frames.{Sent, Login, Command, Reset, Logout}
+use Rattle.kept_unit.specs.Answers as event
+use Rattle.kept_unit.specs.Answers.{DoneValue, IsAnswer}
+use Rattle.frames.specs.Frames.{FrameValue, Login, Command, Reset, Logout}
 use Rattle.frames.specs.Stream.{Takes}
 use Rattle.frames.specs.Replies.{CommandReply, ResetReply, LogoutReply, reply_bytes}
 
@@ -14,32 +15,32 @@ command_reply d = reply_bytes (CommandReply d.reply.status d.reply.sense d.reply
 -- the command was submitted as it stands in its frame, and the reply frame of that very answer was added
 abbrev pub Commanded : {S : Type 0} → (S → DoneValue → S → Type 0) → S → Nexus → (lun : ℕ) → (cdb bytes out out' : List ℕ) → S → Type 0
 Commanded notes s n lun cdb bytes out out' t =
-    (d : DoneValue) × IsAnswer d (Some n) lun (ran cdb bytes) × notes s d t × (out' ≡ out ++ command_reply d)
+    (d : DoneValue) × IsAnswer d (Some n) lun (event.Command cdb bytes) × notes s d t × (out' ≡ out ++ command_reply d)
 
 abbrev pub WasReset : {S : Type 0} → (S → DoneValue → S → Type 0) → S → (lun : ℕ) → (out out' : List ℕ) → S → Type 0
 WasReset notes s lun out out' t =
-    (d : DoneValue) × IsAnswer d None lun was_reset × notes s d t × (out' ≡ out ++ reply_bytes (ResetReply d.reply.status))
+    (d : DoneValue) × IsAnswer d None lun event.Reset × notes s d t × (out' ≡ out ++ reply_bytes (ResetReply d.reply.status))
 
--- one frame of a session that is logged in, and not its end, answered: what that adds to the replies, and what it makes of the station
-abbrev pub Says : {S : Type 0} → (S → DoneValue → S → Type 0) → Nexus → S → Sent → (out out' : List ℕ) → S → Type 0
+-- one frame of a session that is logged in, and not its end, answered: what that adds to the replies, and what it makes of the service
+abbrev pub Says : {S : Type 0} → (S → DoneValue → S → Type 0) → Nexus → S → FrameValue → (out out' : List ℕ) → S → Type 0
 Says notes n s (Command lun cdb bytes) out out' t = Commanded notes s n lun cdb bytes out out' t
 Says notes n s (Reset lun) out out' t = WasReset notes s lun out out' t
 Says notes n s (Login nexus) out out' t = ⊥
 Says notes n s Logout out out' t = ⊥
 
 -- frames answered one after another
-abbrev pub Talks : {S : Type 0} → (S → DoneValue → S → Type 0) → Nexus → S → List Sent → (out out' : List ℕ) → S → Type 0
+abbrev pub Talks : {S : Type 0} → (S → DoneValue → S → Type 0) → Nexus → S → List FrameValue → (out out' : List ℕ) → S → Type 0
 Talks notes n s [] out out' t = (out' ≡ out) × (t ≡ s)
 Talks {S} notes n s (f ∷ fs) out out' t = (m : S) × (mid : List ℕ) × Says notes n s f out mid m × Talks notes n m fs mid out' t
 
 -- some frames that were pending were answered, in order, and others are pending
 abbrev pub Answers : {S : Type 0} → (S → DoneValue → S → Type 0) → Nexus → S → (pending out out' pending' : List ℕ) → S → Type 0
-Answers notes n s pending out out' pending' t = (fs : List Sent) × Talks notes n s fs out out' t × Takes true pending fs pending'
+Answers notes n s pending out out' pending' t = (fs : List FrameValue) × Talks notes n s fs out out' t × Takes true pending fs pending'
 
 -- and then LOGOUT
 abbrev pub AnswersAll : {S : Type 0} → (S → DoneValue → S → Type 0) → Nexus → S → (pending out out' pending' : List ℕ) → S → Type 0
 AnswersAll notes n s pending out out' pending' t =
-    (fs : List Sent) × (mid : List ℕ) × Talks notes n s fs out mid t × (out' ≡ mid ++ reply_bytes LogoutReply) × Takes true pending (fs ++ Logout ∷ []) pending'
+    (fs : List FrameValue) × (mid : List ℕ) × Talks notes n s fs out mid t × (out' ≡ mid ++ reply_bytes LogoutReply) × Takes true pending (fs ++ Logout ∷ []) pending'
 
 -- part of the replies was written, and the others wait behind it
 abbrev pub AnswersOut : {S : Type 0} → (S → DoneValue → S → Type 0) → Nexus → S → (pending out : List ℕ) → (written written' : Option (List ℕ)) → (out' pending' : List ℕ) → S → Type 0

@@ -2,5 +2,5 @@ pub mod Faults
 pub mod Splitting
 pub mod Answering
 pub mod Directories
-pub mod Greeting
+pub mod Login
 pub mod Serving

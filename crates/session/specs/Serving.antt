@@ -4,22 +4,23 @@ use Rattle.std.specs.Io.KnownBytes.{Consumes, Appends, IsAtEnd}
 use Rattle.scsi_nexus.specs.declared.nexus.Nexus.{Nexus}
 use Rattle.scsi_sense.specs.declared.status.Status.{Status}
 use Rattle.scsi_sense.specs.declared.status.Status.TheVariants.{Good, CheckCondition, Busy, ReservationConflict}
-use Rattle.kept_unit.specs.Answers.{DoneValue, IsAnswer, lost}
+use Rattle.kept_unit.specs.Answers as event
+use Rattle.kept_unit.specs.Answers.{DoneValue, IsAnswer}
 use Rattle.frames.specs.declared.reply_frame.LoginAnswer.TheVariants.{Accepted}
-use Rattle.frames.specs.Frames.{Sent, Login, Logout, Partial, front_in}
+use Rattle.frames.specs.Frames.{FrameValue, Login, Logout, Partial, parsed_frame}
 use Rattle.frames.specs.Replies.{LoginReply, LogoutReply, reply_bytes}
 use Rattle.frames.specs.Stream.{Takes}
 use Rattle.session.specs.declared.fault.End.{End}
 use Rattle.session.specs.declared.fault.End.TheVariants as end
 use Rattle.session.specs.Answering.{Talks, Answers, AnswersAll}
-use Rattle.session.specs.Greeting.{end_of}
+use Rattle.session.specs.Login.{end_of}
 
 -- what was pending is answered as far as it is whole, and all replies are written; and so with a LOGOUT at its end
 pub record Writes {S : Type 0} (notes : S → DoneValue → S → Type 0) (n : Nexus) (s : S) (pending out : List ℕ) (written written' : Option (List ℕ)) (rest : List ℕ) (t : S) : Type 0 where
   pub said : List ℕ
   pub appended : Appends written written' said
   pub answered : Answers notes n s pending out said rest t
-  pub partial : front_in true rest ≡ Partial
+  pub partial : parsed_frame true rest ≡ Partial
   pub short : length rest < 131076
 
 pub record WritesAll {S : Type 0} (notes : S → DoneValue → S → Type 0) (n : Nexus) (s : S) (pending out : List ℕ) (written written' : Option (List ℕ)) (rest : List ℕ) (t : S) : Type 0 where
@@ -28,7 +29,7 @@ pub record WritesAll {S : Type 0} (notes : S → DoneValue → S → Type 0) (n 
   pub answered : AnswersAll notes n s pending out said rest t
 
 -- the last frame of a session that a LOGOUT ends, and its reply
-abbrev pub last_frames : End → List Sent
+abbrev pub last_frames : End → List FrameValue
 last_frames end.Logout = Logout ∷ []
 last_frames end.Closed = []
 last_frames end.Cut = []
@@ -41,12 +42,12 @@ last_reply end.Cut = []
 -- a session that no LOGOUT ended read to the end of input, between frames or within one
 abbrev pub EndsAt : End → (left : Option (List ℕ)) → (rest : List ℕ) → Type 0
 EndsAt end.Logout left rest = Unit {0}
-EndsAt end left rest = IsAtEnd left × (front_in true rest ≡ Partial) × (end ≡ end_of rest)
+EndsAt end left rest = IsAtEnd left × (parsed_frame true rest ≡ Partial) × (end ≡ end_of rest)
 
 -- from a LOGIN on: the frames that were pending and that were read, in order, and what was answered to them
 pub record Converses {S : Type 0} (notes : S → DoneValue → S → Type 0) (n : Nexus) (s : S) (pending out : List ℕ) (left left' written written' : Option (List ℕ)) (end : End) (rest : List ℕ) (t : S) : Type 0 where
   pub read : List ℕ
-  pub frames : List Sent
+  pub frames : List FrameValue
   pub said : List ℕ
   pub consumed : Consumes left left' read
   pub taken : Takes true (pending ++ read) (frames ++ last_frames end) rest
@@ -64,10 +65,10 @@ is_busy ReservationConflict = false
 abbrev pub IsLostBelow : {S : Type 0} → (S → DoneValue → S → Type 0) → Nexus → (units : ℕ) → S → S → Bool → Type 0
 IsLostBelow notes n zero s t all = (t ≡ s) × (all ≡ true)
 IsLostBelow {S} notes n (suc lun) s t all =
-    (m : S) × (before : Bool) × (d : DoneValue) × IsLostBelow notes n lun s m before × IsAnswer d (Some n) lun lost × notes m d t
+    (m : S) × (before : Bool) × (d : DoneValue) × IsLostBelow notes n lun s m before × IsAnswer d (Some n) lun event.Loss × notes m d t
     × (all ≡ (before && not (is_busy d.reply.status)))
 
--- a session that ended early did nothing at the station; or the last thing that it did there was to lose its nexus at every unit
+-- a session that ended early did nothing at the service; or the last thing that it did there was to lose its nexus at every unit
 abbrev pub IsUntouched : {S : Type 0} → S → S → Type 0
 IsUntouched s t = t ≡ s
 
@@ -82,17 +83,17 @@ pub record NeverLogsIn {S : Type 0} (s : S) (left left' written written' : Optio
   pub read : List ℕ
   pub consumed : Consumes left left' read
   pub at_end : IsAtEnd left'
-  pub partial : front_in false read ≡ Partial
+  pub partial : parsed_frame false read ≡ Partial
   pub ended : end ≡ end_of read
   pub silent : Appends written written' []
-  pub station : t ≡ s
+  pub service : t ≡ s
 
 -- a session: what was read begins with a LOGIN and these frames, and LOGOUT where that ended it; what was written is the reply to LOGIN and
 -- just one reply for each frame, in order, of the answer to that very frame's call; and then the nexus was lost at every unit
 pub record IsHeld {S : Type 0} (notes : S → DoneValue → S → Type 0) (count : S → ℕ) (s : S) (left left' written written' : Option (List ℕ)) (end : End) (t : S) : Type 0 where
   pub nexus : Nexus
   pub read : List ℕ
-  pub frames : List Sent
+  pub frames : List FrameValue
   pub rest : List ℕ
   pub said : List ℕ
   pub before_loss : S

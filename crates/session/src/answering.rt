@@ -1,27 +1,27 @@
 ghost use Rattle.std.specs.Prelude.{◌≡◌, ◌≢◌, ◌++◌, Ok, OnOk};
 ghost use Rattle.frames.specs.Frames as frames;
-ghost use Rattle.frames.specs.Views.{sent};
+ghost use Rattle.frames.specs.Views.{frame_value};
 ghost use Rattle.frames.specs.Replies.{LogoutReply, reply_bytes};
 ghost use Rattle.session.specs.Answering.{Commanded, WasReset, Says};
 
-use crate::station::Station;
-use frames::{Frame, ReplyFrame, write_reply};
+use crate::service::Service;
+use frames::{FrameRef, ReplyFrame, write_reply};
 use scsi_nexus::Nexus;
 use std::alloc::{AllocError, Global};
 
 /// Submits a command, and adds the reply frame of its answer.
-fn command<S: Station>(
+fn command<S: Service>(
     alloc: Global,
-    station: &mut S,
+    service: &mut S,
     nexus: Nexus,
     lun: u8,
     cdb: &[u8],
     bytes: &[u8],
     out: &mut Vec<u8>,
 ) -> Result<(), AllocError>
-    ensures { OnOk result (Commanded S.notes station.old nexus lun cdb.now bytes.now out.old.items out.new.items station.new) }
+    ensures { OnOk result (Commanded S.notes service.old nexus lun cdb.now bytes.now out.old.items out.new.items service.new) }
 {
-    let done = station.submit(alloc, nexus, lun, cdb, bytes);
+    let done = service.submit(alloc, nexus, lun, cdb, bytes);
     let reply = &done.receipt().reply;
     let frame = ReplyFrame::Command {
         status: reply.status,
@@ -33,21 +33,21 @@ fn command<S: Station>(
 }
 
 /// Resets a unit, and adds the reply frame.
-fn reset<S: Station>(
+fn reset<S: Service>(
     alloc: Global,
-    station: &mut S,
+    service: &mut S,
     lun: u8,
     out: &mut Vec<u8>,
 ) -> Result<(), AllocError>
-    ensures { OnOk result (WasReset S.notes station.old lun out.old.items out.new.items station.new) }
+    ensures { OnOk result (WasReset S.notes service.old lun out.old.items out.new.items service.new) }
 {
-    let done = station.reset(alloc, lun);
+    let done = service.reset(alloc, lun);
     write_reply(out, &ReplyFrame::Reset(done.receipt().reply.status))
 }
 
 /// What comes behind a frame.
 #[derive(Clone, Copy, PartialEq, Eq)]
-pub(crate) enum Next {
+pub(crate) enum AfterFrame {
     /// Other frames.
     Frames,
     /// Nothing: it was a LOGOUT.
@@ -57,29 +57,29 @@ pub(crate) enum Next {
 }
 
 /// Answers one frame of a session that is logged in.
-pub(crate) fn answer<S: Station>(
+pub(crate) fn answer<S: Service>(
     alloc: Global,
-    station: &mut S,
+    service: &mut S,
     nexus: Nexus,
-    frame: Frame<'_>,
+    frame: FrameRef<'_>,
     out: &mut Vec<u8>,
-) -> Result<Next, AllocError>
-    ensures goes_on { result ≡ Ok Next.Frames → Says S.notes nexus station.old (sent frame.entry) out.old.items out.new.items station.new }
-    ensures logout { result ≡ Ok Next.Nothing → (sent frame.entry ≡ frames.Logout) × (out.new.items ≡ out.old.items ++ reply_bytes LogoutReply) × (station.new ≡ station.old) }
+) -> Result<AfterFrame, AllocError>
+    ensures goes_on { result ≡ Ok AfterFrame.Frames → Says S.notes nexus service.old (frame_value frame.entry) out.old.items out.new.items service.new }
+    ensures logout { result ≡ Ok AfterFrame.Nothing → (frame_value frame.entry ≡ frames.Logout) × (out.new.items ≡ out.old.items ++ reply_bytes LogoutReply) × (service.new ≡ service.old) }
 {
     match frame {
-        Frame::Login { .. } => Ok(Next::Again),
-        Frame::Command { lun, cdb, bytes } => {
-            command(alloc, station, nexus, lun, cdb, bytes, out)?;
-            Ok(Next::Frames)
+        FrameRef::Login { .. } => Ok(AfterFrame::Again),
+        FrameRef::Command { lun, cdb, bytes } => {
+            command(alloc, service, nexus, lun, cdb, bytes, out)?;
+            Ok(AfterFrame::Frames)
         }
-        Frame::Reset { lun } => {
-            reset(alloc, station, lun, out)?;
-            Ok(Next::Frames)
+        FrameRef::Reset { lun } => {
+            reset(alloc, service, lun, out)?;
+            Ok(AfterFrame::Frames)
         }
-        Frame::Logout => {
+        FrameRef::Logout => {
             write_reply(out, &ReplyFrame::Logout)?;
-            Ok(Next::Nothing)
+            Ok(AfterFrame::Nothing)
         }
     }
 }

@@ -1,6 +1,6 @@
 ghost use Rattle.std.specs.Prelude.{◌≡◌, IfOk};
-ghost use Rattle.frames.specs.Views.{sent};
-ghost use Rattle.session.specs.Splitting.{frame_sent};
+ghost use Rattle.frames.specs.Views.{frame_value};
+ghost use Rattle.session.specs.Splitting.{value_of_frame};
 
 use scsi_nexus::Nexus;
 use std::alloc::{AllocError, Global};
@@ -27,17 +27,17 @@ pub enum Frame {
 }
 
 /// The frame that lies among the bytes of a stream, with copies of them.
-pub(crate) fn copy_of(alloc: Global, frame: frames::Frame<'_>) -> Result<Frame, AllocError>
-    ensures { IfOk result (λ copy. frame_sent copy ≡ sent frame.entry) }
+pub(crate) fn copy_of(alloc: Global, frame: frames::FrameRef<'_>) -> Result<Frame, AllocError>
+    ensures { IfOk result (λ copy. value_of_frame copy ≡ frame_value frame.entry) }
 {
     match frame {
-        frames::Frame::Login { nexus } => Ok(Frame::Login { nexus }),
-        frames::Frame::Command { lun, cdb, bytes } => Ok(Frame::Command {
+        frames::FrameRef::Login { nexus } => Ok(Frame::Login { nexus }),
+        frames::FrameRef::Command { lun, cdb, bytes } => Ok(Frame::Command {
             lun,
             cdb: Vec::from_slice(alloc, cdb)?,
             bytes: Vec::from_slice(alloc, bytes)?,
         }),
-        frames::Frame::Reset { lun } => Ok(Frame::Reset { lun }),
-        frames::Frame::Logout => Ok(Frame::Logout),
+        frames::FrameRef::Reset { lun } => Ok(Frame::Reset { lun }),
+        frames::FrameRef::Logout => Ok(Frame::Logout),
     }
 }

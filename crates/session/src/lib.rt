@@ -1,22 +1,22 @@
-//! Sessions: the frames of one connection, answered one after another by a station in the library; and a stream cut into
-//! frames by itself, piece by piece.
+//! Sessions: the frames of one connection, answered one after another by a service; and a stream cut into frames by itself, piece
+//! by piece. No socket here: a session reads and writes what it is handed.
 #![tactic(auto)]
 
 mod answering;
+mod batching;
 mod directory;
 mod fault;
 mod frame;
-mod greeting;
+mod login;
+mod service;
 mod serving;
 mod splitter;
 mod splitting_laws;
-mod station;
-mod talking;
 
 pub use directory::Directory;
 pub use fault::{End, SessionFault};
 pub use frame::Frame;
+pub use service::Service;
 pub use serving::serve;
 pub use splitter::Splitter;
 pub use splitting_laws::{cuts_change_nothing, splitting_rows};
-pub use station::Station;

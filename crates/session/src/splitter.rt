@@ -1,16 +1,23 @@
 ghost use Rattle.std.specs.Prelude.{◌≡◌, ◌≢◌, ◌≤◌, false, [], length, drop, Err, IfOk, OnErr, vec_len};
 ghost use Rattle.frames.specs.Stream.{Reads, Waiting};
 ghost use Rattle.session.specs.declared.fault.SessionFault.TheVariants.{NoMemory};
-ghost use Rattle.session.specs.Splitting.{frames_sent, stopped, answer, Fed, Given};
+ghost use Rattle.session.specs.Splitting.{values_of_frames, stopped, answer, Fed, Given};
 
 use crate::fault::SessionFault;
 use crate::frame::{Frame, copy_of};
-use frames::{FrameFault, Front, front_of};
+use frames::{FrameFault, ParsedFrame, parse_frame};
 use std::alloc::{AllocError, Global};
 use std::marker::Model;
 
 /// Cuts a stream into frames, as its pieces come. Contracts see where it stands: at bytes that are no whole frame yet,
 /// after a LOGIN or before, or at a fault for good.
+///
+/// ```text
+/// let mut splitter = Splitter::new(alloc);
+/// for piece in pieces {
+///     splitter.feed(piece, &mut frames)?;
+/// }
+/// ```
 #[derive(Drop)]
 pub struct Splitter {
     pending: Vec<u8>,
@@ -38,15 +45,15 @@ struct Cut {
 
 /// Cuts all whole frames off the front.
 fn frames_of(alloc: Global, logged_in: bool, bytes: &[u8]) -> Result<Cut, AllocError>
-    ensures read { IfOk result (λ cut. Reads logged_in bytes.now (frames_sent cut.frames.items) (stopped cut.fault cut.logged_in (drop cut.taken bytes.now))) }
+    ensures read { IfOk result (λ cut. Reads logged_in bytes.now (values_of_frames cut.frames.items) (stopped cut.fault cut.logged_in (drop cut.taken bytes.now))) }
     ensures within { IfOk result (λ cut. cut.taken ≤ length bytes.now) }
 {
     let mut frames = Vec::new(alloc);
     let mut logged = logged_in;
     let mut rest = bytes;
     'frames: loop {
-        match front_of(logged, rest) {
-            Front::Partial => {
+        match parse_frame(logged, rest) {
+            ParsedFrame::Partial => {
                 return Ok(Cut {
                     frames,
                     taken: bytes.len() - rest.len(),
@@ -54,7 +61,7 @@ fn frames_of(alloc: Global, logged_in: bool, bytes: &[u8]) -> Result<Cut, AllocE
                     fault: None,
                 });
             }
-            Front::Faulty(fault) => {
+            ParsedFrame::Invalid(fault) => {
                 return Ok(Cut {
                     frames,
                     taken: bytes.len() - rest.len(),
@@ -62,7 +69,7 @@ fn frames_of(alloc: Global, logged_in: bool, bytes: &[u8]) -> Result<Cut, AllocE
                     fault: Some(fault),
                 });
             }
-            Front::Whole(frame, count) => {
+            ParsedFrame::Complete(frame, count) => {
                 frames.push(copy_of(alloc, frame)?)?;
                 rest = rest.split_at(count).1;
                 logged = true;
@@ -88,7 +95,7 @@ fn give(
     pending: &mut Vec<u8>,
     out: &mut Vec<Frame>,
 ) -> Result<(bool, Option<FrameFault>), AllocError>
-    ensures ok { IfOk result (λ left. Given logged_in pending.old.items (frames_sent out.old.items) (frames_sent out.new.items) (stopped left.1 left.0 pending.new.items)) }
+    ensures ok { IfOk result (λ left. Given logged_in pending.old.items (values_of_frames out.old.items) (values_of_frames out.new.items) (stopped left.1 left.0 pending.new.items)) }
     ensures err { OnErr result ((pending.new.items ≡ pending.old.items) × (out.new.items ≡ out.old.items)) }
 {
     let Cut {
@@ -118,7 +125,7 @@ impl Splitter {
     /// come behind the frames before the fault, and each later piece is answered the same. `NoMemory` changes nothing, so
     /// the piece may be handed in again.
     pub fn feed(&mut self, piece: &[u8], out: &mut Vec<Frame>) -> Result<(), SessionFault>
-        ensures fed { result ≢ Err NoMemory → Fed self.old piece.now (frames_sent out.old.items) (frames_sent out.new.items) self.new }
+        ensures fed { result ≢ Err NoMemory → Fed self.old piece.now (values_of_frames out.old.items) (values_of_frames out.new.items) self.new }
         ensures told { result ≢ Err NoMemory → result ≡ answer self.new }
         ensures memory { result ≡ Err NoMemory → (self.new ≡ self.old) × (out.new.items ≡ out.old.items) }
     {

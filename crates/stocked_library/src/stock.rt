@@ -8,10 +8,7 @@ use changer_server::Changer;
 use element_map::Elements;
 use program_options::LibraryOptions;
 use std::alloc::{AllocError, Global};
-use tape_medium::{Tape, Volume, VolumeTag};
-
-/// The address of the first storage element (profile).
-const FIRST_STORAGE: u16 = 0x400;
+use tape_medium::{FIRST_STORAGE, Tape, Volume, VolumeTag};
 
 /// How many bytes of blocks a volume holds: 16 MiB.
 const CAPACITY: u32 = 16_777_216;

@@ -2,7 +2,7 @@ use crate::work::{MARKS, blank, copies, fill, longest_block, over_marks, read_ba
 use std::io;
 use std::rt::Clock;
 use std::time::{Duration, Instant};
-use tape_medium::{BLOCK_LIMIT, Tape};
+use tape_medium::{MAX_BLOCK, Tape};
 
 /// The blocks of a full tape.
 const BLOCKS: u32 = 1_024;
@@ -15,7 +15,7 @@ fn micros(time: Duration) -> u64 {
 
 /// The time of one copy, and of one more over it.
 fn copy_times(rt: &(impl Clock + AllocGlobal), block: &[u8]) -> io::Result<(u64, u64)> {
-    let mut all = Vec::with_capacity(rt.alloc(), BLOCKS as usize * BLOCK_LIMIT as usize)?;
+    let mut all = Vec::with_capacity(rt.alloc(), BLOCKS as usize * MAX_BLOCK as usize)?;
     let start = Instant::now(rt)?;
     copies(&mut all, block, BLOCKS)?;
     let first = micros(start.elapsed(rt)?);
@@ -38,7 +38,7 @@ fn round(rt: &(impl Clock + AllocGlobal + Print), block: &[u8]) -> io::Result<()
     let write = fill_time(rt, &mut tape, block)?;
 
     // The first reading touches all of the memory, so that the second is like a copy over one.
-    let mut into = Vec::with_capacity(rt.alloc(), BLOCKS as usize * BLOCK_LIMIT as usize)?;
+    let mut into = Vec::with_capacity(rt.alloc(), BLOCKS as usize * MAX_BLOCK as usize)?;
     let _ = read_back(&mut tape, &mut into);
     into.clear();
     let start = Instant::now(rt)?;

@@ -1,16 +1,16 @@
 use std::alloc::{AllocError, Global};
 use std::io;
-use tape_medium::{BLOCK_LIMIT, CAPACITY_LIMIT, Item, SpaceCode, Tape, TapeFault};
+use tape_medium::{Item, MAX_BLOCK, MAX_CAPACITY, SpaceCode, Tape, TapeFault};
 
 pub(crate) const MARKS: u32 = 1_000_000;
 
 pub(crate) fn blank(alloc: Global) -> Tape {
-    Tape::new(alloc, CAPACITY_LIMIT)
+    Tape::new(alloc, MAX_CAPACITY)
 }
 
 /// A block of the most bytes.
 pub(crate) fn longest_block(alloc: Global) -> Result<Vec<u8>, AllocError> {
-    vec![in alloc; 7u8; BLOCK_LIMIT as usize]
+    vec![in alloc; 7u8; MAX_BLOCK as usize]
 }
 
 /// Copies the block `count` times, one after another.
@@ -35,7 +35,7 @@ pub(crate) fn read_back(tape: &mut Tape, into: &mut Vec<u8>) -> Result<u64, Tape
     tape.rewind();
     let mut bytes = 0u64;
     for _ in 0..tape.object_count() {
-        if let Item::Block(length) = tape.read(BLOCK_LIMIT, into)? {
+        if let Item::Block(length) = tape.read(MAX_BLOCK, into)? {
             bytes = bytes.wrapping_add(length as u64);
         }
     }

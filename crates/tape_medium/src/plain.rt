@@ -10,11 +10,11 @@ ghost use Rattle.tape_medium.specs.Tape.{size_of, is_mark, bytes_in, blocks, mar
 ghost use Rattle.tape_medium.specs.Found.{shown};
 ghost use Rattle.tape_medium.specs.Plain.{object_of, objects_of};
 
-use crate::along::Passed;
 use crate::fault::TapeFault;
 use crate::index::part;
 use crate::item::Item;
-use crate::limits::{BLOCK_LIMIT, OBJECT_LIMIT};
+use crate::limits::{MAX_BLOCK, MAX_OBJECTS};
+use crate::passage::Passage;
 use crate::space::{SpaceCode, SpaceEnd, Stop};
 use crate::store::Found;
 use std::alloc::{AllocError, Global};
@@ -131,7 +131,7 @@ fn edge(back: bool) -> Stop
 }
 
 /// Goes from `from` over `todo` filemarks with all between, or over `todo` blocks up to a filemark.
-fn along(objects: &[Stored], from: usize, back: bool, marks: bool, todo: u32) -> Passed
+fn pass_objects(objects: &[Stored], from: usize, back: bool, marks: bool, todo: u32) -> Passage
     requires { from ≤ length objects.now }
     ensures value { way_of result ≡ way (code_of marks) (edge_of back) (in_way (objects_of objects.now) from back) todo }
     ensures within { result.over ≤ length (in_way (objects_of objects.now) from back) }
@@ -142,7 +142,7 @@ fn along(objects: &[Stored], from: usize, back: bool, marks: bool, todo: u32) ->
     while counted < todo {
         if over == reach {
             let stop = edge(back);
-            return Passed {
+            return Passage {
                 counted,
                 over,
                 stop,
@@ -153,14 +153,14 @@ fn along(objects: &[Stored], from: usize, back: bool, marks: bool, todo: u32) ->
         if is_mark == marks {
             counted += 1;
         } else if is_mark {
-            return Passed {
+            return Passage {
                 counted,
                 over,
                 stop: Stop::AtMark,
             };
         }
     }
-    Passed {
+    Passage {
         counted,
         over,
         stop: Stop::Done,
@@ -271,13 +271,13 @@ impl PlainTape {
         ensures fault { IfErr result (IsFaultOf (writes_block self.old block.now)) }
         ensures err { OnErr result (self.new ≡ self.old) }
     {
-        if block.is_empty() || block.len() > BLOCK_LIMIT as usize {
+        if block.is_empty() || block.len() > MAX_BLOCK as usize {
             return Err(TapeFault::BlockLength);
         }
         if self.bytes_behind() + block.len() > self.capacity {
             return Err(TapeFault::Overflow);
         }
-        if self.position + 1 > OBJECT_LIMIT as usize {
+        if self.position + 1 > MAX_OBJECTS as usize {
             return Err(TapeFault::Overflow);
         }
         let Ok(more) = one_block(self.alloc, block) else {
@@ -296,7 +296,7 @@ impl PlainTape {
         ensures fault { IfErr result (IsFaultOf (writes_blocks self.old bytes.now size)) }
         ensures err { OnErr result (self.new ≡ self.old) }
     {
-        if size == 0 || size > BLOCK_LIMIT {
+        if size == 0 || size > MAX_BLOCK {
             return Err(TapeFault::BlockLength);
         }
         if bytes.len() % size as usize != 0 {
@@ -308,7 +308,7 @@ impl PlainTape {
         if self.bytes_behind() + bytes.len() > self.capacity {
             return Err(TapeFault::Overflow);
         }
-        if self.position + bytes.len() / size as usize > OBJECT_LIMIT as usize {
+        if self.position + bytes.len() / size as usize > MAX_OBJECTS as usize {
             return Err(TapeFault::Overflow);
         }
         let Ok(more) = blocks_of(self.alloc, bytes, size as usize) else {
@@ -329,7 +329,7 @@ impl PlainTape {
         if count == 0 {
             return Ok(());
         }
-        if self.position + count as usize > OBJECT_LIMIT as usize {
+        if self.position + count as usize > MAX_OBJECTS as usize {
             return Err(TapeFault::Overflow);
         }
         let Ok(more) = marks_of(self.alloc, count as usize) else {
@@ -376,14 +376,14 @@ impl PlainTape {
     {
         let todo = count.unsigned_abs();
         if count < 0 {
-            let way = along(&self.objects, self.position, true, marks, todo);
+            let way = pass_objects(&self.objects, self.position, true, marks, todo);
             self.position -= way.over;
             SpaceEnd {
                 moved: way.counted,
                 stop: way.stop,
             }
         } else {
-            let way = along(&self.objects, self.position, false, marks, todo);
+            let way = pass_objects(&self.objects, self.position, false, marks, todo);
             self.position += way.over;
             SpaceEnd {
                 moved: way.counted,

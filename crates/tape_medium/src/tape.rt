@@ -6,10 +6,10 @@ ghost use Rattle.tape_medium.specs.Along.{code_of};
 ghost use Rattle.tape_medium.specs.Space.{spaced};
 ghost use Rattle.tape_medium.specs.Tape.{blank, writes_block, writes_blocks, writes_marks, IsFaultOf, object_at, item_of, bytes_of, passed, moved_to, located, erased};
 
-use crate::along::along;
 use crate::fault::TapeFault;
 use crate::item::Item;
-use crate::limits::{BLOCK_LIMIT, OBJECT_LIMIT};
+use crate::limits::{MAX_BLOCK, MAX_OBJECTS};
+use crate::passage::pass_objects;
 use crate::space::{SpaceCode, SpaceEnd, Stop};
 use crate::store::{Found, Store};
 use std::alloc::Global;
@@ -104,13 +104,13 @@ impl Tape {
         ensures fault { IfErr result (IsFaultOf (writes_block self.old block.now)) }
         ensures err { OnErr result (self.new ≡ self.old) }
     {
-        if block.is_empty() || block.len() > BLOCK_LIMIT as usize {
+        if block.is_empty() || block.len() > MAX_BLOCK as usize {
             return Err(TapeFault::BlockLength);
         }
         if self.store.bytes_before(self.position) + block.len() > self.capacity {
             return Err(TapeFault::Overflow);
         }
-        if self.position + 1 > OBJECT_LIMIT as usize {
+        if self.position + 1 > MAX_OBJECTS as usize {
             return Err(TapeFault::Overflow);
         }
         if self
@@ -133,7 +133,7 @@ impl Tape {
         ensures memory { IsErrOf result TapeFault.NoMemory → 0 < length bytes.now }
         ensures err { OnErr result (self.new ≡ self.old) }
     {
-        if size == 0 || size > BLOCK_LIMIT {
+        if size == 0 || size > MAX_BLOCK {
             return Err(TapeFault::BlockLength);
         }
         if bytes.len() % size as usize != 0 {
@@ -146,7 +146,7 @@ impl Tape {
         if self.store.bytes_before(self.position) + bytes.len() > self.capacity {
             return Err(TapeFault::Overflow);
         }
-        if self.position + count > OBJECT_LIMIT as usize {
+        if self.position + count > MAX_OBJECTS as usize {
             return Err(TapeFault::Overflow);
         }
         match self
@@ -172,7 +172,7 @@ impl Tape {
             return Ok(());
         }
         let count = count as usize;
-        if self.position + count > OBJECT_LIMIT as usize {
+        if self.position + count > MAX_OBJECTS as usize {
             return Err(TapeFault::Overflow);
         }
         if self.store.put_marks(self.position, count).is_err() {
@@ -222,14 +222,14 @@ impl Tape {
     {
         let todo = count.unsigned_abs();
         if count < 0 {
-            let way = along(&self.store, self.position, true, marks, todo);
+            let way = pass_objects(&self.store, self.position, true, marks, todo);
             self.position -= way.over;
             SpaceEnd {
                 moved: way.counted,
                 stop: way.stop,
             }
         } else {
-            let way = along(&self.store, self.position, false, marks, todo);
+            let way = pass_objects(&self.store, self.position, false, marks, todo);
             self.position += way.over;
             SpaceEnd {
                 moved: way.counted,

@@ -5,15 +5,8 @@ ghost use Rattle.device_server.specs.Mode.{list_fault, block_length_after, mode_
 
 use byteorder::{BigEndian, ByteOrder};
 use device_server::Payload;
+use device_server::mode_layout::{BLOCK_DESCRIPTOR, BLOCK_LENGTH, DESCRIPTOR_LENGTH};
 use std::alloc::{AllocError, Global};
-
-/// The length of a block descriptor, in bytes.
-const BLOCK_DESCRIPTOR: u8 = 8;
-
-/// The places of the BLOCK DESCRIPTOR LENGTH in the header and of the BLOCK LENGTH, of three bytes, in a list with a descriptor.
-const DESCRIPTOR_LENGTH: usize = 3;
-
-const BLOCK_LENGTH: usize = 9;
 
 /// WP, in the device specific parameter.
 const WRITE_PROTECTED: u8 = 0x80;

@@ -13,7 +13,7 @@ use crate::sense::{at_end_of_data, at_mark, of_other_length};
 use device_server::{Outcome, Payload};
 use scsi_sense::Condition;
 use std::alloc::{AllocError, Global};
-use tape_medium::{BLOCK_LIMIT, Item, Tape};
+use tape_medium::{Item, MAX_BLOCK, Tape};
 
 /// Reads one block of any length.
 pub(crate) fn read_block(
@@ -68,7 +68,7 @@ fn one_block(
 pub(crate) fn is_fixed_transfer(block_length: u32, count: u32) -> bool
     ensures { result ≡ is_fixed_transfer block_length count }
 {
-    block_length != 0 && u64::from(count) * u64::from(block_length) <= u64::from(BLOCK_LIMIT)
+    block_length != 0 && u64::from(count) * u64::from(block_length) <= u64::from(MAX_BLOCK)
 }
 
 /// Reads so many blocks of the mode's length.

@@ -16,10 +16,11 @@ use Rattle.logical_unit.specs.Move.{TwoDrives, IsSameUnit}
 use Rattle.logical_unit.specs.Route.{named}
 use Rattle.logical_unit.specs.UnitView.{UnitView}
 use Rattle.logical_unit.proofs.NamedDrives.{has_route}
-use Rattle.logical_unit.proofs.SameUnits.{spells_move, one_same, two_same}
+use Rattle.logical_unit.proofs.SameUnits.{decodes_move, one_same, two_same}
 use Rattle.logical_unit.proofs.History.{executes_keeps, executes_stays}
 use Rattle.device_server.proofs.SameDevice.{reset_same}
 use Rattle.logical_unit.specs.Step.{Executes, LosesAs, IsLost, IsReset}
+use Rattle.target_core.proofs.Places.{same_some}
 use Rattle.target_core.specs.declared.event.Event.{Event}
 use Rattle.target_core.specs.declared.event.Event.TheVariants as event
 use Rattle.target_core.specs.Run.{AtUnit, MovesWith, MovesBetween, CommandsNaming, CommandsAt, LosesAt, ResetsAt, Steps, Runs}
@@ -60,9 +61,6 @@ absent_grows us ms lun at u added there here same =
       | false ↦ λ e. record { unit = u; place = ap (λ (xs : List UnitView). slice_get xs lun) same ∙ here; kind = refl; history = refl }
     ] refl
 
-same_unit : (a b : UnitView) → Some a ≡ Some b → a ≡ b
-same_unit a b e = cc
-
 -- a command to a unit changes that unit by its part of the history, and no other
 unit_grows : (us ms : List UnitView) (lun at : ℕ) (u w : UnitView) (n : Nexus) (cdb bytes : List ℕ) (r : Reply) → slice_get us lun ≡ Some u → slice_get us at ≡ Some w → AtUnit us at (Executes w n cdb bytes) (ms, r)
     → Grows u ms lun (added_at lun at (accepted_by (kind_of u.device) n cdb bytes r.status))
@@ -70,7 +68,7 @@ unit_grows us ms lun at u w n cdb bytes r here there a =
     elim (at == lun) as (λ b. (at == lun) ≡ b → Grows u ms lun (cond b (accepted_by (kind_of u.device) n cdb bytes r.status) [])) [
       | true ↦ λ e.
           let same : at ≡ lun = exact_unsigned_eq at lun e in
-          let is : u ≡ w = same_unit u w (sym here ∙ ap (slice_get us) (sym same) ∙ there) in
+          let is : u ≡ w = same_some u w (sym here ∙ ap (slice_get us) (sym same) ∙ there) in
           record {
             unit = a.unit;
             place = ap (λ (xs : List UnitView). slice_get xs lun) a.units ∙ ap (λ k. slice_get (slice_set us k a.unit) lun) same ∙ get-set_same us lun a.unit u here;
@@ -89,7 +87,7 @@ changed_grows us ms lun at u w x here there is kind kept =
     elim (at == lun) as (λ b. (at == lun) ≡ b → Grows u ms lun []) [
       | true ↦ λ e.
           let same : at ≡ lun = exact_unsigned_eq at lun e in
-          let one : u ≡ w = same_unit u w (sym here ∙ ap (slice_get us) (sym same) ∙ there) in
+          let one : u ≡ w = same_some u w (sym here ∙ ap (slice_get us) (sym same) ∙ there) in
           record {
             unit = x;
             place = ap (λ (xs : List UnitView). slice_get xs lun) is ∙ ap (λ k. slice_get (slice_set us k x) lun) same ∙ get-set_same us lun x u here;
@@ -107,7 +105,7 @@ beside_grows us xs lun at u d e added there same g =
     elim (at == lun) as (λ b. (at == lun) ≡ b → Grows u (slice_set xs at e) lun added) [
       | true ↦ λ t.
           let place : at ≡ lun = exact_unsigned_eq at lun t in
-          let one : g.unit ≡ d = same_unit g.unit d (sym g.place ∙ ap (slice_get xs) (sym place) ∙ there) in
+          let one : g.unit ≡ d = same_some g.unit d (sym g.place ∙ ap (slice_get xs) (sym place) ∙ there) in
           record {
             unit = e;
             place = ap (λ k. slice_get (slice_set xs k e) lun) place ∙ get-set_same xs lun e g.unit g.place;
@@ -121,11 +119,11 @@ beside_grows us xs lun at u d e added there same g =
 
 -- a MOVE MEDIUM adds nothing to any history
 pub adds_nothing : (device : DeviceView) (n : Nexus) (cdb bytes : List ℕ) (r : Reply) (l : ℕ) (more : List ℕ) → named (drives_of device) cdb ≡ l ∷ more → accepted_by (kind_of device) n cdb bytes r.status ≡ []
-adds_nothing device n cdb bytes r l more names = ap (accepted_as n r.status) (spells_move device cdb bytes l more (has_route device cdb l more names))
+adds_nothing device n cdb bytes r l more names = ap (accepted_as n r.status) (decodes_move device cdb bytes l more (has_route device cdb l more names))
 
 nothing_at : (us : List UnitView) (lun : ℕ) (u c : UnitView) (n : Nexus) (cdb bytes : List ℕ) (r : Reply) → slice_get us lun ≡ Some u → slice_get us 0 ≡ Some c → accepted_by (kind_of c.device) n cdb bytes r.status ≡ []
     → added_at lun 0 (accepted_by (kind_of u.device) n cdb bytes r.status) ≡ []
-nothing_at us zero u c n cdb bytes r here there none = ap (λ (x : UnitView). accepted_by (kind_of x.device) n cdb bytes r.status) (same_unit u c (sym here ∙ there)) ∙ none
+nothing_at us zero u c n cdb bytes r here there none = ap (λ (x : UnitView). accepted_by (kind_of x.device) n cdb bytes r.status) (same_some u c (sym here ∙ there)) ∙ none
 nothing_at us (suc k) u c n cdb bytes r here there none = let no : (0 == suc k) ≡ false = grind arith in ap (λ b. cond b (accepted_by (kind_of u.device) n cdb bytes r.status) []) no
 
 same_grows : (us ms : List UnitView) (lun at : ℕ) (u w x : UnitView) → slice_get us lun ≡ Some u → slice_get us at ≡ Some w → ms ≡ slice_set us at x → IsSameUnit w x → Grows u ms lun []
@@ -230,7 +228,7 @@ step_grows us ms (event.Reset at) r lun u step here = reset_grows us ms r lun at
 
 pub history_of_run : (us vs : List UnitView) (es : List Event) (rs : List Reply) (lun : ℕ) (u v : UnitView) → Runs us es rs vs → slice_get us lun ≡ Some u → slice_get vs lun ≡ Some v
     → v.kept.reservations ≡ after_history u.kept.reservations (accepted_in (kind_of u.device) lun es rs)
-history_of_run us vs [] [] lun u v run before after = ap (λ (x : UnitView). x.kept.reservations) (same_unit v u (sym after ∙ ap (λ (xs : List UnitView). slice_get xs lun) run ∙ before))
+history_of_run us vs [] [] lun u v run before after = ap (λ (x : UnitView). x.kept.reservations) (same_some v u (sym after ∙ ap (λ (xs : List UnitView). slice_get xs lun) run ∙ before))
 history_of_run us vs (e ∷ es) (r ∷ rs) lun u v run before after =
     let grown = step_grows us run.0 e r lun u run.1 before in
     let m = grown.unit in

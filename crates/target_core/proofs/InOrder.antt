@@ -27,6 +27,7 @@ use Rattle.logical_unit.proofs.History.{executes_stays, executes_marks}
 use Rattle.logical_unit.proofs.Moved.{Became, one_became, two_became}
 use Rattle.logical_unit.proofs.NamedDrives.{HasRoute, AreNamed, has_route, drive_within, named_two}
 use Rattle.logical_unit.proofs.SameUnits.{noting_same, one_same, two_same}
+use Rattle.target_core.proofs.Places.{same_some}
 use Rattle.target_core.specs.Faults.{is_drive, is_changer, are_drives, same_mark, agree, fault_of}
 use Rattle.target_core.specs.Run.{AtUnit, AtDrive, AtDrives, MovesWith, MovesBetween, CommandsNaming, CommandsAt, LosesAt, ResetsAt, DrainsAt}
 use Rattle.target_core.specs.declared.order.CoreFault.TheVariants.{Count, Order, Disagree}
@@ -38,14 +39,11 @@ use Rattle.target_core.proofs.SamePlace.{place_of, executes_place, loss_place, r
 abbrev look_of : UnitView → Kind × (ℕ × ℕ)
 look_of u = (kind_of u.device, place_of u.kept)
 
-same_unit : (a b : UnitView) → Some a ≡ Some b → a ≡ b
-same_unit a b e = cc
-
 -- a unit that looks as the one whose place it takes leaves the order of the drives
 set_drives : (us : List UnitView) (i : ℕ) (w x : UnitView) (from count : ℕ) → slice_get us i ≡ Some w → look_of x ≡ look_of w → are_drives (slice_set us i x) from count ≡ are_drives us from count
 set_drives [] i w x from count here same = refl
 set_drives (z ∷ us) zero w x from count here same =
-    ap (λ (l : Kind × (ℕ × ℕ)). is_drive l.0 && (l.1.0 == from && (l.1.1 == count && are_drives us (from + 1) count))) (same ∙ ap look_of (sym (same_unit z w here)))
+    ap (λ (l : Kind × (ℕ × ℕ)). is_drive l.0 && (l.1.0 == from && (l.1.1 == count && are_drives us (from + 1) count))) (same ∙ ap look_of (sym (same_some z w here)))
 set_drives (z ∷ us) (suc i) w x from count here same =
     ap (λ b. is_drive (kind_of z.device) && (z.kept.lun == from && (z.kept.units == count && b))) (set_drives us i w x (from + 1) count here same)
 
@@ -80,7 +78,7 @@ agree_drive : (ms : List (Option VolumeTag)) (ds : List UnitView) (i : ℕ) (d e
 agree_drive ms [] i d e there same = refl
 agree_drive [] (z ∷ ds) zero d e there same = refl
 agree_drive [] (z ∷ ds) (suc i) d e there same = refl
-agree_drive (m ∷ ms) (z ∷ ds) zero d e there same = ap (λ (held : Option VolumeTag). same_mark m held && agree ms ds) (same ∙ ap (λ (u : UnitView). held_in u.device 0) (sym (same_unit z d there)))
+agree_drive (m ∷ ms) (z ∷ ds) zero d e there same = ap (λ (held : Option VolumeTag). same_mark m held && agree ms ds) (same ∙ ap (λ (u : UnitView). held_in u.device 0) (sym (same_some z d there)))
 agree_drive (m ∷ ms) (z ∷ ds) (suc i) d e there same = ap (λ b. same_mark m (held_in z.device 0) && b) (agree_drive ms ds i d e there same)
 
 -- what a drive's marks tell of its bay
@@ -139,7 +137,7 @@ unit_changed : (us : List UnitView) (at : ℕ) (w x : UnitView) → slice_get us
 unit_changed [] at w x there look kept h = absurd cc
 unit_changed (c ∷ ds) zero w x there look kept h =
     let o = ordered c ds h in
-    let is : c ≡ w = same_unit c w there in
+    let is : c ≡ w = same_some c w there in
     no_fault x ds (ordered_set c x ds ds o (look ∙ ap look_of (sym is)) refl o.places (ap (λ ms. agree ms ds) (kept.marks ∙ ap (λ (u : UnitView). marks u.device) (sym is)) ∙ o.marked))
 unit_changed (c ∷ ds) (suc k) w x there look kept h =
     let o = ordered c ds h in
@@ -251,7 +249,7 @@ module _ (c : UnitView) (ds : List UnitView) (o : IsOrdered c ds) (n : Nexus) (c
       let q = has_route c.device cdb (suc k) [] names in
       let is : carried_by_one c.device d q.route q.route.from q.route.to ≡ Ok (moved.device, e) = sym (ap (carried_one c.device d) q.is) ∙ moved.is in
       ap (λ (x : UnitView × Reply). agree (marks x.0.device) (slice_set ds k e)) moved.ends.unit
-      ∙ by_one_agrees c ds o q.route k d e moved.device q.route.from q.route.to q.spells.from q.spells.to q.names is
+      ∙ by_one_agrees c ds o q.route k d e moved.device q.route.from q.route.to q.decodes.from q.decodes.to q.names is
 
   one_order : (k : ℕ) (d : UnitView) (ms : List UnitView) → slice_get ds k ≡ Some d → named (drives_of c.device) cdb ≡ suc k ∷ [] → AtDrive (c ∷ ds) (suc k) (MovesOne c d n cdb bytes) (ms, r) → fault_of ms ≡ None
   one_order k d ms there names a =
@@ -267,12 +265,12 @@ module _ (c : UnitView) (ds : List UnitView) (o : IsOrdered c ds) (n : Nexus) (c
       → AreNamed q.route.from q.route.to (suc i) (suc j) true ⊎ AreNamed q.route.from q.route.to (suc j) (suc i) false
       → by_way ds' q.route (is_upward q.route.from q.route.to) ≡ Ok (device, es) → agree (marks device) (slice_set (slice_set ds i es.low) j es.high) ≡ true
   by_ways i j ds' es device more q apart (inl up) h =
-      let low = drive_within (drives_of c.device) q.route.source (suc i) (sym q.spells.from ∙ up.from_is) in
-      let high = drive_within (drives_of c.device) q.route.destination (suc j) (sym q.spells.to ∙ up.to_is) in
+      let low = drive_within (drives_of c.device) q.route.source (suc i) (sym q.decodes.from ∙ up.from_is) in
+      let high = drive_within (drives_of c.device) q.route.destination (suc j) (sym q.decodes.to ∙ up.to_is) in
       upward_agrees c ds o q.route i j ds' es device (passed c.device ds'.low ds'.high q.route) low.2 high.2 low.1 high.1 refl (sym (ap (by_way ds' q.route) up.way) ∙ h)
   by_ways i j ds' es device more q apart (inr down) h =
-      let high = drive_within (drives_of c.device) q.route.source (suc j) (sym q.spells.from ∙ down.from_is) in
-      let low = drive_within (drives_of c.device) q.route.destination (suc i) (sym q.spells.to ∙ down.to_is) in
+      let high = drive_within (drives_of c.device) q.route.source (suc j) (sym q.decodes.from ∙ down.from_is) in
+      let low = drive_within (drives_of c.device) q.route.destination (suc i) (sym q.decodes.to ∙ down.to_is) in
       downward_agrees c ds o q.route i j ds' es device (passed c.device ds'.high ds'.low q.route) apart high.2 low.2 low.1 high.1 refl (sym (ap (by_way ds' q.route) down.way) ∙ h)
 
   module _ (i j : ℕ) (ds' : TwoDrives) (low : slice_get ds i ≡ Some ds'.low) (high : slice_get ds j ≡ Some ds'.high) (more : List ℕ) (names : named (drives_of c.device) cdb ≡ suc i ∷ suc j ∷ more) where
@@ -332,7 +330,7 @@ commands_order us ms at n cdb bytes r None there step h = ap fault_of step.0 ∙
 commands_order us ms (suc k) n cdb bytes r (Some w) there step h = alone_order us ms (suc k) w n cdb bytes r there step h
 commands_order [] ms zero n cdb bytes r (Some w) there step h = absurd cc
 commands_order (c ∷ ds) ms zero n cdb bytes r (Some w) there step h =
-    let is : w ≡ c = same_unit w c (sym there) in
+    let is : w ≡ c = same_some w c (sym there) in
     naming_order c ds ms (named (drives_of c.device) cdb) n cdb bytes r refl (subst (λ (u : UnitView). CommandsNaming (c ∷ ds) u (named (drives_of u.device) cdb) n cdb bytes (ms, r)) is step) h
 
 pub loses_order : (us ms : List UnitView) (at : ℕ) (n : Nexus) (r : Reply) (o : Option UnitView) → slice_get us at ≡ o → LosesAt us at o n (ms, r) → fault_of us ≡ None → fault_of ms ≡ None

@@ -107,7 +107,7 @@ one_within from to drives source destination l (inr is) f t = let w = drive_with
 pub one_named : (device : DeviceView) (cdb : List ℕ) (l : ℕ) → named (drives_of device) cdb ≡ l ∷ [] → (1 ≤ l) × (l ≤ drives_of device)
 one_named device cdb l h =
     let r = has_route device cdb l [] h in
-    one_within r.route.from r.route.to (drives_of device) r.route.source r.route.destination l (named_one r.route.from r.route.to l r.names) r.spells.from r.spells.to
+    one_within r.route.from r.route.to (drives_of device) r.route.source r.route.destination l (named_one r.route.from r.route.to l r.names) r.decodes.from r.decodes.to
 
 two_within : (from to : Option ℕ) (drives source destination l m : ℕ) → BothNamed from to l m → from ≡ drive_at drives source → to ≡ drive_at drives destination → (1 ≤ l) × (l < m) × (m ≤ drives)
 two_within from to drives source destination l m (less, inl up) f t =
@@ -122,7 +122,7 @@ two_within from to drives source destination l m (less, inr down) f t =
 pub two_named : (device : DeviceView) (cdb : List ℕ) (l m : ℕ) (more : List ℕ) → named (drives_of device) cdb ≡ l ∷ m ∷ more → (1 ≤ l) × (l < m) × (m ≤ drives_of device)
 two_named device cdb l m more h =
     let r = has_route device cdb l (m ∷ more) h in
-    two_within r.route.from r.route.to (drives_of device) r.route.source r.route.destination l m (named_two r.route.from r.route.to l m more r.names) r.spells.from r.spells.to
+    two_within r.route.from r.route.to (drives_of device) r.route.source r.route.destination l m (named_two r.route.from r.route.to l m more r.names) r.decodes.from r.decodes.to
 
 -- no marks are left where there are as many drives
 pub agree_end : (ms : List (Option VolumeTag)) (k : ℕ) → k ≤ length ms → nat_eq k (length ms) ≡ agree (drop k ms) []

@@ -3,14 +3,16 @@ use Rattle.std.proofs.Common.{◌≡◌, ◌<◌, ◌≤◌, ℕ, zero, suc, tru
 use Rattle.std.specs.Prelude.{slice_get, slice_set, slice_index_or, unwrap_or}
 use Rattle.std.proofs.lemmas.List.{map-set}
 use Rattle.scsi_nexus.specs.declared.nexus.Nexus.{Nexus}
-use Rattle.unit_attention.specs.Queues.{has_slot}
 use Rattle.audit_log.specs.declared.record.Record.{Record}
 use Rattle.judgement.specs.declared.reply.Reply.{Reply}
-use Rattle.judgement.specs.Replies.{busy}
 use Rattle.logical_unit.specs.UnitView.{UnitView, UnitWithRoom, units_of}
-use Rattle.logical_unit.specs.Step.{Executes, Loses, Resets, drained, done, number_or_0}
+use Rattle.logical_unit.specs.Step.{Executes, IsLost, IsReset, drained}
 use Rattle.logical_unit.specs.Legal.{IsTrail}
 use Rattle.target_core.specs.Run.{AtUnit, CommandsAt, Commands, LosesAt, ResetsAt, DrainsAt, Drains}
+
+-- what two equal options hold
+pub same_some : {A : Type 0} (a b : A) → Some a ≡ Some b → a ≡ b
+same_some a b e = cc
 
 -- the unit at a place
 pub placed : (us : List UnitWithRoom) (i : ℕ) (d : UnitWithRoom) → i < length us → slice_get (units_of us) i ≡ Some (slice_index_or us i d).unit
@@ -27,10 +29,6 @@ drive_at : (us : List UnitView) (i : ℕ) (u : UnitView) (n : Nexus) (cdb bytes 
 drive_at us zero u n cdb bytes new drive at = absurd (omega (arith, drive))
 drive_at us (suc k) u n cdb bytes new drive at = at
 
-number_or_0-is : (o : Option ℕ) → unwrap_or o 0 ≡ number_or_0 o
-number_or_0-is None = refl
-number_or_0-is (Some number) = refl
-
 module _ (us : List UnitWithRoom) (i : ℕ) (d w : UnitWithRoom) (within : i < length us) where
   -- a command, a loss, a reset and a drain of the unit at a place
   pub commands_at : (n : Nexus) (cdb bytes : List ℕ) (r : Reply) → 1 ≤ i → Executes (slice_index_or us i d).unit n cdb bytes (w.unit, r)
@@ -40,29 +38,15 @@ module _ (us : List UnitWithRoom) (i : ℕ) (d w : UnitWithRoom) (within : i < l
       subst (λ (o : Option UnitView). CommandsAt (units_of us) i o n cdb bytes (units_of (slice_set us i w), r)) (sym (placed us i d within))
       (drive_at (units_of us) i (slice_index_or us i d).unit n cdb bytes (units_of (slice_set us i w), r) drive at)
 
-  pub loses_at : (n : Nexus) (r : Reply) (number : Option ℕ) → Loses (slice_index_or us i d).unit n (w.unit, number) → r ≡ done (unwrap_or number 0)
-      → LosesAt (units_of us) i (slice_get (units_of us) i) n (units_of (slice_set us i w), r)
-  loses_at n r number lost told =
+  pub loses_at : (n : Nexus) (r : Reply) → IsLost (slice_index_or us i d).unit n (w.unit, r) → LosesAt (units_of us) i (slice_get (units_of us) i) n (units_of (slice_set us i w), r)
+  loses_at n r lost =
       subst (λ (o : Option UnitView). LosesAt (units_of us) i o n (units_of (slice_set us i w), r)) (sym (placed us i d within))
-      (record { unit = w.unit; step = inr (number, lost, told ∙ ap done (number_or_0-is number)); units = units_of-set us i w })
+      (record { unit = w.unit; step = lost; units = units_of-set us i w })
 
-  pub busy_loss_at : (n : Nexus) (r : Reply) → w.unit ≡ (slice_index_or us i d).unit → has_slot (slice_index_or us i d).unit.kept.slots n ≡ true → r ≡ busy
-      → LosesAt (units_of us) i (slice_get (units_of us) i) n (units_of (slice_set us i w), r)
-  busy_loss_at n r same known told =
-      subst (λ (o : Option UnitView). LosesAt (units_of us) i o n (units_of (slice_set us i w), r)) (sym (placed us i d within))
-      (record { unit = w.unit; step = inl (ap (λ (u : UnitView). (u, r)) same ∙ ap (λ q. ((slice_index_or us i d).unit, q)) told, known); units = units_of-set us i w })
-
-  pub resets_at : (r : Reply) (number : ℕ) → Resets (slice_index_or us i d).unit (w.unit, number) → r ≡ done number
-      → ResetsAt (units_of us) i (slice_get (units_of us) i) (units_of (slice_set us i w), r)
-  resets_at r number was told =
+  pub resets_at : (r : Reply) → IsReset (slice_index_or us i d).unit (w.unit, r) → ResetsAt (units_of us) i (slice_get (units_of us) i) (units_of (slice_set us i w), r)
+  resets_at r was =
       subst (λ (o : Option UnitView). ResetsAt (units_of us) i o (units_of (slice_set us i w), r)) (sym (placed us i d within))
-      (record { unit = w.unit; step = inr (number, was, told); units = units_of-set us i w })
-
-  pub busy_reset_at : (r : Reply) → w.unit ≡ (slice_index_or us i d).unit → r ≡ busy
-      → ResetsAt (units_of us) i (slice_get (units_of us) i) (units_of (slice_set us i w), r)
-  busy_reset_at r same told =
-      subst (λ (o : Option UnitView). ResetsAt (units_of us) i o (units_of (slice_set us i w), r)) (sym (placed us i d within))
-      (record { unit = w.unit; step = inl (ap (λ (u : UnitView). (u, r)) same ∙ ap (λ q. ((slice_index_or us i d).unit, q)) told); units = units_of-set us i w })
+      (record { unit = w.unit; step = was; units = units_of-set us i w })
 
   pub drains_at : (entries : List Record) → entries ≡ (slice_index_or us i d).unit.records → w.unit ≡ drained (slice_index_or us i d).unit
       → IsTrail (slice_index_or us i d).unit.base (slice_index_or us i d).unit.records (slice_index_or us i d).unit.kept

@@ -3,13 +3,13 @@ use Rattle.std.proofs.Common.{◌≡◌, ℕ, Bool, true, false, List, Option, i
 use Rattle.scsi_nexus.specs.declared.nexus.Nexus.{Nexus}
 use Rattle.unit_attention.specs.Queues.{has_slot}
 use Rattle.judgement.specs.declared.reply.Reply.{Reply}
-use Rattle.judgement.specs.KeptView.{KeptView}
+use Rattle.judgement.specs.UnitStateView.{UnitStateView}
 use Rattle.logical_unit.specs.UnitView.{UnitView}
 use Rattle.logical_unit.specs.Step.{Executes, LosesAs, IsLost, IsReset}
 use Rattle.logical_unit.proofs.History.{executes_stays}
 
 -- the number of a unit, and how many units it was made with
-abbrev pub place_of : KeptView → ℕ × ℕ
+abbrev pub place_of : UnitStateView → ℕ × ℕ
 place_of k = (k.lun, k.units)
 
 pub executes_place : (u v : UnitView) (n : Nexus) (cdb bytes : List ℕ) (r : Reply) → Executes u n cdb bytes (v, r) → place_of v.kept ≡ place_of u.kept

@@ -1,8 +1,9 @@
 use arrayvec::ArrayVec;
+use scsi_cdb::CDB_LENGTH;
 use scsi_nexus::Nexus;
 
 /// The longest CDB, in bytes.
-pub const CDB_LIMIT: usize = 16;
+pub const MAX_CDB: usize = CDB_LENGTH;
 
 /// What happens at the target.
 #[derive(Debug, Drop)]
@@ -11,7 +12,7 @@ pub enum Event {
     Command {
         nexus: Nexus,
         lun: u8,
-        cdb: ArrayVec<u8, CDB_LIMIT>,
+        cdb: ArrayVec<u8, MAX_CDB>,
         bytes: Vec<u8>,
     },
     /// An I_T nexus loss at a logical unit.

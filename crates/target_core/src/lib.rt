@@ -1,10 +1,10 @@
-//! All units of the target, and runs of events over them.
+//! All units of the target, and runs of events over them. No input or output here, no lock and no clock.
 #![tactic(auto)]
 
 mod event;
 mod order;
 mod target;
 
-pub use event::{CDB_LIMIT, Event};
+pub use event::{Event, MAX_CDB};
 pub use order::CoreFault;
 pub use target::TargetCore;

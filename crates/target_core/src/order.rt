@@ -8,7 +8,7 @@ ghost use Rattle.target_core.specs.Faults.{are_drives, same_mark, agree, fault_o
 use device_server::DeviceServer;
 use logical_unit::LogicalUnit;
 use scsi_cdb::Kind;
-use tape_medium::VolumeTag;
+use tape_medium::{FIRST_DATA_TRANSFER, VolumeTag};
 use thiserror::Error;
 
 /// How many units a target has at most: a changer and four drives.
@@ -51,9 +51,6 @@ pub(crate) fn fault_of<D: DeviceServer>(units: &[LogicalUnit<D>]) -> Option<Core
     }
     None
 }
-
-/// The address of the first data transfer element.
-const FIRST_DATA_TRANSFER: u16 = 0x0100;
 
 /// Whether a mark at the changer is the tag of what is in a drive's bay.
 fn is_same_mark(mark: Option<VolumeTag>, held: Option<VolumeTag>) -> bool

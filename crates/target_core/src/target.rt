@@ -4,14 +4,13 @@ ghost use Rattle.std.specs.Option.{option_map};
 ghost use Rattle.audit_log.specs.declared.record.Record.{Record};
 ghost use Rattle.logical_unit.specs.UnitView.{units_of};
 ghost use Rattle.target_core.specs.Faults.{fault_of};
-ghost use Rattle.logical_unit.specs.Step.{done};
 ghost use Rattle.target_core.specs.Run.{NamesAt, Commands, LosesAt, ResetsAt, Drains};
 
 use crate::event::Event;
 use crate::order::{CoreFault, fault_of};
 use audit_log::Record;
-use device_server::{DeviceServer, Payload};
-use logical_unit::{Busy, LogicalUnit, Reply, absent, move_one, move_two, named};
+use device_server::DeviceServer;
+use logical_unit::{LogicalUnit, Reply, absent, move_one, move_two, named};
 use scsi_nexus::Nexus;
 use scsi_sense::Condition;
 use std::alloc::{AllocError, Global};
@@ -19,6 +18,12 @@ use std::marker::Model;
 
 /// All units of a target: a changer as logical unit 0, then one to four drives numbered by place,
 /// each made with that count of units.
+///
+/// ```text
+/// let mut core = TargetCore::new(units)?;
+/// let reply = core.step(alloc, &Event::Command { nexus, lun: 1, cdb, bytes });
+/// let records = core.drain(alloc, 1);
+/// ```
 #[derive(Drop)]
 pub struct TargetCore<D: DeviceServer> {
     units: Vec<LogicalUnit<D>>,
@@ -164,15 +169,6 @@ fn command_to<D: DeviceServer>(
     }
 }
 
-/// GOOD with the number of the event's record, 0 where it has none.
-fn done(alloc: Global, number: u64) -> Reply
-    ensures { result ≡ done number }
-{
-    let mut reply = Reply::good(Payload::none(alloc));
-    reply.number = number;
-    reply
-}
-
 /// An I_T nexus loss at one of the units.
 fn lose_at<D: DeviceServer>(
     alloc: Global,
@@ -183,10 +179,7 @@ fn lose_at<D: DeviceServer>(
     requires { lun < length units.old }
     ensures { LosesAt (units_of units.old) lun (slice_get (units_of units.old) lun) nexus (units_of units.new, result) }
 {
-    match units[lun].lose(nexus) {
-        Ok(number) => done(alloc, number.unwrap_or(0)),
-        Err(Busy) => Reply::busy(alloc),
-    }
+    units[lun].lose_reply(alloc, nexus)
 }
 
 /// A reset of one of the units.
@@ -194,10 +187,7 @@ fn reset_at<D: DeviceServer>(alloc: Global, units: &mut [LogicalUnit<D>], lun: u
     requires { lun < length units.old }
     ensures { ResetsAt (units_of units.old) lun (slice_get (units_of units.old) lun) (units_of units.new, result) }
 {
-    match units[lun].reset() {
-        Ok(number) => done(alloc, number),
-        Err(Busy) => Reply::busy(alloc),
-    }
+    units[lun].reset_reply(alloc)
 }
 
 /// An I_T nexus loss at a unit, or at none.

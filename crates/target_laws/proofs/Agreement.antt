@@ -22,19 +22,19 @@ use Rattle.device_server.specs.View.{DeviceView, Drive, Changer, kind_of, drives
 use Rattle.device_server.specs.declared.fault.PutFault.{PutFault}
 use Rattle.device_server.specs.declared.fault.TakeFault.{TakeFault}
 use Rattle.device_server.proofs.FailureLemmas.{changers_fail_for_drives}
-use Rattle.judgement.specs.Kept.{is_prevented, with_medium}
-use Rattle.logical_unit.specs.Begun.{HasWays}
+use Rattle.judgement.specs.UnitState.{is_prevented, with_medium}
+use Rattle.logical_unit.specs.MoveJudgement.{HasWays}
 use Rattle.logical_unit.specs.Medium.{taken_as, put_as}
 use Rattle.logical_unit.specs.Move.{names_held, given, received, unloaded, loaded, passed}
 use Rattle.logical_unit.specs.Route.{drive_at}
 use Rattle.logical_unit.specs.Step.{with_event}
 use Rattle.logical_unit.specs.UnitView.{UnitView}
 use Rattle.logical_unit.specs.declared.route.Route.{Route}
-use Rattle.logical_unit.proofs.Free.{has_ways}
+use Rattle.logical_unit.proofs.FreeEnds.{has_ways}
 use Rattle.logical_unit.proofs.Halves.{received_as, put_down, unloaded_by, taken_up, loaded_by, handed, passed_by, out_by, in_by, given_by}
 use Rattle.logical_unit.proofs.NamedDrives.{drive_within}
 use Rattle.target_core.specs.Faults.{same_mark, agree}
-use Rattle.target_laws.proofs.CommandWays.{same_unit}
+use Rattle.target_core.proofs.Places.{same_some}
 use Rattle.target_core.proofs.Ordered.{both, IsOrdered}
 
 -- WHAT THE CHANGER SAYS of an element
@@ -116,7 +116,7 @@ agree_at : (ms : List (Option VolumeTag)) (ds : List UnitView) (k : ℕ) (d : Un
 agree_at ms [] k d h there = absurd cc
 agree_at [] (z ∷ ds) k d h there = absurd cc
 agree_at (m ∷ ms) (z ∷ ds) zero d h there =
-    let is : z ≡ d = same_unit z d there in
+    let is : z ≡ d = same_some z d there in
     subst (λ (u : UnitView). same_mark m (held_in u.device 0) ≡ true) is (both (same_mark m (held_in z.device 0)) (agree ms ds) h).0
 agree_at (m ∷ ms) (z ∷ ds) (suc k) d h there = agree_at ms ds k d (both (same_mark m (held_in z.device 0)) (agree ms ds) h).1 there
 

@@ -10,7 +10,7 @@ use Rattle.device_server.specs.View.{DeviceView, Drive, Changer, kind_of, reset_
 use Rattle.device_server.specs.Volumes.{volume_at, volumes_of, SameCartridge, SameAt}
 use Rattle.device_server.proofs.TapeLemmas.{same_volume, resets_keep_volumes}
 use Rattle.judgement.specs.declared.reply.Reply.{Reply}
-use Rattle.judgement.specs.Commands.{spelled}
+use Rattle.judgement.specs.Commands.{decoded_command}
 use Rattle.judgement.specs.History.{is_good}
 use Rattle.logical_unit.specs.Move.{TwoDrives, noting, unloaded, loaded, passed, carried_by_one, carried_one, upward, downward, carried_two, route_at}
 use Rattle.logical_unit.specs.Route.{is_upward}
@@ -28,7 +28,8 @@ use Rattle.target_core.specs.Faults.{fault_of}
 use Rattle.target_core.specs.Run.{LosesAt, ResetsAt, Steps}
 use Rattle.target_laws.specs.Volumes.{Way, way_of, writes, StaysSame}
 use Rattle.target_laws.proofs.CartridgeDevices.{drive_same, noting_volumes, drive_gives, drive_gets, changer_gives, changer_gets}
-use Rattle.target_laws.proofs.CommandWays.{same_unit, Goes, goes}
+use Rattle.target_core.proofs.Places.{same_some}
+use Rattle.target_laws.proofs.CommandWays.{Goes, goes}
 use Rattle.target_laws.proofs.Devices.{executed}
 use Rattle.target_core.proofs.History.{get-set_other}
 use Rattle.target_core.proofs.InOrder.{set_swap}
@@ -44,7 +45,7 @@ equal xs ys is = subst (IsPermutation xs) (sym is) (IsPermutation-refl xs)
 -- AMONG UNITS, one takes the place of another
 keeps : (us : List UnitView) (k : ℕ) (d e : UnitView) → slice_get us k ≡ Some d → cartridges_of e.device ≡ cartridges_of d.device → cartridges (slice_set us k e) ≡ cartridges us
 keeps [] k d e there same = refl
-keeps (z ∷ us) zero d e there same = ap (λ (cs : List Cartridge). cs ++ cartridges us) (same ∙ ap (λ (u : UnitView). cartridges_of u.device) (sym (same_unit z d there)))
+keeps (z ∷ us) zero d e there same = ap (λ (cs : List Cartridge). cs ++ cartridges us) (same ∙ ap (λ (u : UnitView). cartridges_of u.device) (sym (same_some z d there)))
 keeps (z ∷ us) (suc k) d e there same = ap (λ (cs : List Cartridge). cartridges_of z.device ++ cs) (keeps us k d e there same)
 
 empties : (us : List UnitView) (k : ℕ) (d e : UnitView) (x : Cartridge) → slice_get us k ≡ Some d → cartridges_of d.device ≡ x ∷ [] → cartridges_of e.device ≡ [] → IsPermutation (cartridges us) (x ∷ cartridges (slice_set us k e))
@@ -52,7 +53,7 @@ empties [] k d e x there full empty = absurd cc
 empties (z ∷ us) zero d e x there full empty =
     equal (cartridges (z ∷ us)) (x ∷ cartridges (e ∷ us))
     (ap (λ (cs : List Cartridge). x ∷ (cs ++ cartridges us)) empty
-    ∙ sym (ap (λ (cs : List Cartridge). cs ++ cartridges us) (ap (λ (u : UnitView). cartridges_of u.device) (same_unit z d there) ∙ full)))
+    ∙ sym (ap (λ (cs : List Cartridge). cs ++ cartridges us) (ap (λ (u : UnitView). cartridges_of u.device) (same_some z d there) ∙ full)))
 empties (z ∷ us) (suc k) d e x there full empty =
     let first = cartridges_of z.device in
     let rest = cartridges (slice_set us k e) in
@@ -64,7 +65,7 @@ fills [] k d e x there empty full = absurd cc
 fills (z ∷ us) zero d e x there empty full =
     equal (x ∷ cartridges (z ∷ us)) (cartridges (e ∷ us))
     (ap (λ (cs : List Cartridge). cs ++ cartridges us) full
-    ∙ sym (ap (λ (cs : List Cartridge). x ∷ (cs ++ cartridges us)) (ap (λ (u : UnitView). cartridges_of u.device) (same_unit z d there) ∙ empty)))
+    ∙ sym (ap (λ (cs : List Cartridge). x ∷ (cs ++ cartridges us)) (ap (λ (u : UnitView). cartridges_of u.device) (same_some z d there) ∙ empty)))
 fills (z ∷ us) (suc k) d e x there empty full =
     let first = cartridges_of z.device in
     let rest = cartridges (slice_set us k e) in
@@ -159,13 +160,13 @@ by_carries a b (Some w) h = IsPermutation-map cartridge_of (volumes_of a) (volum
 module _ (c : UnitView) (ds : List UnitView) (o : IsOrdered c ds) (n : Nexus) (cdb bytes : List ℕ) (r : Reply) where
   alone_stay : (v : UnitView) → Executes c n cdb bytes (v, r) → IsPermutation (cartridges (c ∷ ds)) (cartridges (v ∷ ds))
   alone_stay v step =
-      let s = spelled (kind_of c.device) cdb bytes in
+      let s = decoded_command (kind_of c.device) cdb bytes in
       IsPermutation-append_left (cartridges ds) (cartridges_of c.device) (cartridges_of v.device)
       (by_carries c.device v.device (cond (is_good r.status) (way_of s) None) (changer_does c.device v.device s bytes r.status r.sense o.kind (executed c v n cdb bytes r step)))
 
   own_stay : (k : ℕ) (d x : UnitView) → slice_get ds k ≡ Some d → Executes d n cdb bytes (x, r) → cartridges (c ∷ slice_set ds k x) ≡ cartridges (c ∷ ds)
   own_stay k d x there step =
-      let s = spelled (kind_of d.device) cdb bytes in
+      let s = decoded_command (kind_of d.device) cdb bytes in
       let drive = (drive_of c ds k d o there).kind in
       let same = drive_does d.device x.device s bytes r.status r.sense drive (executed d x n cdb bytes r step) in
       keeps (c ∷ ds) (suc k) d x there

@@ -10,11 +10,9 @@ use Rattle.logical_unit.specs.Move.{TwoDrives, MovesOne, MovesTwo}
 use Rattle.logical_unit.specs.Route.{named}
 use Rattle.logical_unit.specs.Step.{Executes}
 use Rattle.logical_unit.specs.UnitView.{UnitView}
+use Rattle.target_core.proofs.Places.{same_some}
 use Rattle.target_core.specs.Run.{AtUnit, AtDrive, AtDrives, MovesWith, MovesBetween, CommandsNaming, CommandsAt}
 use Rattle.target_core.proofs.Ordered.{IsOrdered, has_drives, one_named, two_named}
-
-pub same_unit : (a b : UnitView) → Some a ≡ Some b → a ≡ b
-same_unit a b e = cc
 
 -- a drive that is among so many is there
 missing : (ds : List UnitView) (k : ℕ) → slice_get ds k ≡ None → k < length ds → ⊥
@@ -94,6 +92,6 @@ module _ (c : UnitView) (ds : List UnitView) (n : Nexus) (cdb bytes : List ℕ) 
     pub goes : (at : ℕ) (w : Option UnitView) → slice_get (c ∷ ds) at ≡ w → CommandsAt (c ∷ ds) at w n cdb bytes (ms, r) → Goes at
     goes at None there step = inl (record { gone = there; units = step.0; answer = step.1 })
     goes zero (Some w) there step =
-        let is : w ≡ c = same_unit w c (sym there) in
+        let is : w ≡ c = same_some w c (sym there) in
         naming (named (drives_of c.device) cdb) refl (subst (λ (u : UnitView). CommandsNaming (c ∷ ds) u (named (drives_of u.device) cdb) n cdb bytes (ms, r)) is step)
     goes (suc k) (Some w) there step = inr (inl (record { place = k; drive = w; lun = refl; there = there; step = step }))

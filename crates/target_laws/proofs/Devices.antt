@@ -1,7 +1,7 @@
 -- What a command does to the device of its unit: nothing, or the device's own step.
 use Rattle.std.proofs.Common.{◌≡◌, ◌≢◌, ℕ, Bool, true, false, ◌==◌, List, [], Option, Some, None, Result, Ok, Err, refl, sym, inl, inr, subst}
 use Rattle.std.specs.Prelude.{◌⊎◌, ◌&&◌, cond}
-use Rattle.scsi_cdb.specs.Commands.{reading}
+use Rattle.scsi_cdb.specs.Commands.{decoded}
 use Rattle.scsi_cdb.specs.declared.fault.CdbFault.{CdbFault}
 use Rattle.scsi_cdb.specs.declared.fault.CdbFault.TheVariants.{Opcode, ShortCdb, ServiceAction, Naca}
 use Rattle.scsi_cdb.specs.declared.kind.Kind as cdb_kind
@@ -33,15 +33,15 @@ use Rattle.judgement.specs.Conditions.{condition_of_fault, condition_of_attentio
 use Rattle.judgement.specs.Replies.{busy, good, check, data_reply}
 use Rattle.judgement.specs.UnitData.{inquiry_data, selected_luns}
 use Rattle.judgement.specs.declared.reply.Reply.{Reply}
-use Rattle.judgement.specs.Commands.{command_of, spelled}
+use Rattle.judgement.specs.Commands.{command_of, decoded_command}
 use Rattle.judgement.specs.declared.command.Command.{Command}
 use Rattle.judgement.specs.declared.command.Command.TheVariants.{ReserveOut, ReserveIn, Inquiry, ReportLuns, RequestSense, Prevent, Device}
-use Rattle.judgement.specs.Kept.{accepted, prevented, is_prevented}
+use Rattle.judgement.specs.UnitState.{accepted, prevented, is_prevented}
 use Rattle.judgement.specs.Readings.{pending_of}
-use Rattle.judgement.specs.Findings.{at_stage, let_in}
+use Rattle.judgement.specs.Decisions.{at_stage, let_in}
 use Rattle.judgement.specs.Judge.{cell_of, sensed, tells, steps, unloads, performs, at_cell, carried_out, judged_as}
-use Rattle.judgement.specs.Present.{Present}
-use Rattle.judgement.specs.declared.finding.Finding.{Finding}
+use Rattle.judgement.specs.JudgedUnit.{JudgedUnit}
+use Rattle.judgement.specs.declared.decision.Decision.{Decision}
 use Rattle.judgement.proofs.Ways.{refuses, by_ways}
 use Rattle.logical_unit.specs.Step.{contacted_present, Executes}
 use Rattle.logical_unit.specs.UnitView.{UnitView}
@@ -64,16 +64,16 @@ pub record IsBeside (before after : DeviceView) (sense : Option Sense) : Type 0 
   pub free : is_failure sense ≡ false
 
 -- bytes that spell no command aren't told so by 44h/00h
-abbrev pub spelling_fails : Result Command Condition → Bool
-spelling_fails (Err condition) = is_failure (Some (sense_for condition))
-spelling_fails (Ok c) = false
+abbrev pub decoding_fails : Result Command Condition → Bool
+decoding_fails (Err condition) = is_failure (Some (sense_for condition))
+decoding_fails (Ok c) = false
 
 abbrev pub Does : (before : DeviceView) → Result Command Condition → List ℕ → (after : DeviceView) → Status → Option Sense → Type 0
 Does before (Ok (Device q)) bytes after status sense = IsUnreached before after status sense ⊎ IsPerformed before q bytes after status sense
 Does before c bytes after status sense = IsBeside before after sense
 
 -- what judgement makes of it
-abbrev pub DoesAs : Present → Result Command Condition → List ℕ → Present × Finding × Reply → Type 0
+abbrev pub DoesAs : JudgedUnit → Result Command Condition → List ℕ → JudgedUnit × Decision × Reply → Type 0
 DoesAs u c bytes x = Does u.device c bytes x.0.device x.2.status x.2.sense
 
 -- WHAT IS REPORTED
@@ -93,26 +93,26 @@ refusal_free InvalidParam = refl
 refusal_free InvalidRelease = refl
 refusal_free NoRegistrationRoom = refl
 
-fault_free : (fault : CdbFault) → spelling_fails (Err (condition_of_fault fault)) ≡ false
+fault_free : (fault : CdbFault) → decoding_fails (Err (condition_of_fault fault)) ≡ false
 fault_free Opcode = refl
 fault_free ShortCdb = refl
 fault_free ServiceAction = refl
 fault_free Naca = refl
 
-list_free : (o : Result OutParams ListLengthFault) → spelling_fails (elim o [ Ok params ↦ Ok (ReserveOut params) | Err fault ↦ Err ParameterListLengthError ]) ≡ false
+list_free : (o : Result OutParams ListLengthFault) → decoding_fails (elim o [ Ok params ↦ Ok (ReserveOut params) | Err fault ↦ Err ParameterListLengthError ]) ≡ false
 list_free (Ok params) = refl
 list_free (Err fault) = refl
 
-command_free : (q : Request) (bytes : List ℕ) → spelling_fails (command_of q bytes) ≡ false
-command_free (request.PersistentReserveOut action scope_type l) bytes = list_free (lists.reading action scope_type l bytes)
+command_free : (q : Request) (bytes : List ℕ) → decoding_fails (command_of q bytes) ≡ false
+command_free (request.PersistentReserveOut action scope_type l) bytes = list_free (lists.decoded_list action scope_type l bytes)
 command_free q bytes = refl
 
-spelling_by : (o : Result Request CdbFault) (bytes : List ℕ) → spelling_fails (elim o [ Ok q ↦ command_of q bytes | Err fault ↦ Err (condition_of_fault fault) ]) ≡ false
-spelling_by (Ok q) bytes = command_free q bytes
-spelling_by (Err fault) bytes = fault_free fault
+decoding_by : (o : Result Request CdbFault) (bytes : List ℕ) → decoding_fails (elim o [ Ok q ↦ command_of q bytes | Err fault ↦ Err (condition_of_fault fault) ]) ≡ false
+decoding_by (Ok q) bytes = command_free q bytes
+decoding_by (Err fault) bytes = fault_free fault
 
-pub spelling_free : (kind : cdb_kind.Kind) (cdb bytes : List ℕ) → spelling_fails (spelled kind cdb bytes) ≡ false
-spelling_free kind cdb bytes = spelling_by (reading kind cdb) bytes
+pub decoding_free : (kind : cdb_kind.Kind) (cdb bytes : List ℕ) → decoding_fails (decoded_command kind cdb bytes) ≡ false
+decoding_free kind cdb bytes = decoding_by (decoded kind cdb) bytes
 
 -- a device's command is the request that the CDB spells
 list_other : (o : Result OutParams ListLengthFault) (q : Request) → ◌≡◌ {A = Result Command Condition} (elim o [ Ok params ↦ Ok (ReserveOut params) | Err fault ↦ Err ParameterListLengthError ]) (Ok (Device q)) → ⊥
@@ -120,20 +120,20 @@ list_other (Ok params) q h = absurd cc
 list_other (Err fault) q h = absurd cc
 
 command_reads : (p : Request) (bytes : List ℕ) (q : Request) → command_of p bytes ≡ Ok (Device q) → ◌≡◌ {A = Result Request CdbFault} (Ok p) (Ok q)
-command_reads (request.PersistentReserveOut action scope_type l) bytes q h = absurd (list_other (lists.reading action scope_type l bytes) q h)
+command_reads (request.PersistentReserveOut action scope_type l) bytes q h = absurd (list_other (lists.decoded_list action scope_type l bytes) q h)
 command_reads p bytes q h = cc
 
 reads_by : (o : Result Request CdbFault) (bytes : List ℕ) (q : Request) → ◌≡◌ {A = Result Command Condition} (elim o [ Ok p ↦ command_of p bytes | Err fault ↦ Err (condition_of_fault fault) ]) (Ok (Device q)) → o ≡ Ok q
 reads_by (Ok p) bytes q h = command_reads p bytes q h
 reads_by (Err fault) bytes q h = absurd cc
 
-pub reads_device : (kind : cdb_kind.Kind) (cdb bytes : List ℕ) (q : Request) → spelled kind cdb bytes ≡ Ok (Device q) → reading kind cdb ≡ Ok q
-reads_device kind cdb bytes q h = reads_by (reading kind cdb) bytes q h
+pub reads_device : (kind : cdb_kind.Kind) (cdb bytes : List ℕ) (q : Request) → decoded_command kind cdb bytes ≡ Ok (Device q) → decoded kind cdb ≡ Ok q
+reads_device kind cdb bytes q h = reads_by (decoded kind cdb) bytes q h
 
 -- HOW A COMMAND ENDS
-module _ (u : Present) (n : Nexus) (bytes : List ℕ) where
+module _ (u : JudgedUnit) (n : Nexus) (bytes : List ℕ) where
   -- it is refused before its own rules
-  told : (c : Command) (kind : Kind) (f : Finding) → DoesAs u (Ok c) bytes (tells u n kind f)
+  told : (c : Command) (kind : Kind) (f : Decision) → DoesAs u (Ok c) bytes (tells u n kind f)
   told (Device q) kind f = inl (record { device = refl; refused = λ e. absurd cc; free = attention_free kind })
   told c kind f = record { device = refl; free = attention_free kind }
 
@@ -150,7 +150,7 @@ module _ (u : Present) (n : Nexus) (bytes : List ℕ) where
   sensed_does l (Some kind) = record { device = refl; free = refl }
   sensed_does l None = record { device = refl; free = refl }
 
-  either_beside : (b : Bool) (x y : Present × Finding × Reply) → IsBeside u.device x.0.device x.2.sense → IsBeside u.device y.0.device y.2.sense → IsBeside u.device (cond b x y).0.device (cond b x y).2.sense
+  either_beside : (b : Bool) (x y : JudgedUnit × Decision × Reply) → IsBeside u.device x.0.device x.2.sense → IsBeside u.device y.0.device y.2.sense → IsBeside u.device (cond b x y).0.device (cond b x y).2.sense
   either_beside true x y p q = p
   either_beside false x y p q = q
 
@@ -183,7 +183,7 @@ module _ (u : Present) (n : Nexus) (bytes : List ℕ) where
       (either_beside (p == 1) (record u { kept = prevented u.kept n }, at_stage stage.Device, good []) (u, at_stage Fields, check InvalidFieldInCdb) (record { device = refl; free = refl }) (record { device = refl; free = refl }))
   carried at (Device q) = performs_does q
 
-  pub judged : (c : Result Command Condition) → spelling_fails c ≡ false → DoesAs u c bytes (judged_as u n c bytes)
+  pub judged : (c : Result Command Condition) → decoding_fails c ≡ false → DoesAs u c bytes (judged_as u n c bytes)
   judged (Err condition) free = record { device = refl; free = free }
   judged (Ok c) free = by_ways (DoesAs u (Ok c) bytes) u n c bytes (λ kind. told c kind (at_stage stage.ResetAttention)) (λ v denied. barred c v) (λ kind. told c kind (let_in (cell_of u n c) stage.OtherAttention)) (carried (cell_of u n c) c)
 
@@ -193,10 +193,10 @@ unanswered device (Err condition) bytes = record { device = refl; free = refl }
 unanswered device (Ok (Device q)) bytes = inl (record { device = refl; refused = λ e. absurd cc; free = refl })
 unanswered device (Ok c) bytes = record { device = refl; free = refl }
 
-pub executed : (w v : UnitView) (n : Nexus) (cdb bytes : List ℕ) (r : Reply) → Executes w n cdb bytes (v, r) → Does w.device (spelled (kind_of w.device) cdb bytes) bytes v.device r.status r.sense
+pub executed : (w v : UnitView) (n : Nexus) (cdb bytes : List ℕ) (r : Reply) → Executes w n cdb bytes (v, r) → Does w.device (decoded_command (kind_of w.device) cdb bytes) bytes v.device r.status r.sense
 executed w v n cdb bytes r (inl e) =
-    let c = spelled (kind_of w.device) cdb bytes in
+    let c = decoded_command (kind_of w.device) cdb bytes in
     subst (λ (x : UnitView × Reply). Does w.device c bytes x.0.device x.1.status x.1.sense) (sym e) (unanswered w.device c bytes)
 executed w v n cdb bytes r (inr e) =
-    let c = spelled (kind_of w.device) cdb bytes in
-    subst (λ (x : UnitView × Reply). Does w.device c bytes x.0.device x.1.status x.1.sense) (sym e.2) (judged (contacted_present w n) n bytes c (spelling_free (kind_of w.device) cdb bytes))
+    let c = decoded_command (kind_of w.device) cdb bytes in
+    subst (λ (x : UnitView × Reply). Does w.device c bytes x.0.device x.1.status x.1.sense) (sym e.2) (judged (contacted_present w n) n bytes c (decoding_free (kind_of w.device) cdb bytes))

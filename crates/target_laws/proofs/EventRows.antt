@@ -5,9 +5,9 @@ use Rattle.tape_medium.specs.declared.volume.VolumeTag.{VolumeTag}
 use Rattle.scsi_nexus.specs.declared.nexus.Nexus.{Nexus}
 use Rattle.unit_attention.specs.declared.kind.Kind.TheVariants.{NexusLoss, BusDeviceReset}
 use Rattle.judgement.specs.declared.reply.Reply.{Reply}
-use Rattle.judgement.specs.Kept.{has_room}
+use Rattle.judgement.specs.UnitState.{has_room}
 use Rattle.judgement.specs.Replies.{busy}
-use Rattle.logical_unit.specs.Step.{HasNumber, Executes, IsLost, IsReset, done, number_or_0}
+use Rattle.logical_unit.specs.Step.{HasNumber, Executes, IsLost, IsReset, event_reply, number_or_0}
 use Rattle.logical_unit.specs.UnitView.{UnitView}
 use Rattle.target_laws.proofs.Sending.{busy_run}
 use Rattle.target_core.specs.declared.event.Event.TheVariants as event
@@ -46,7 +46,7 @@ lost_row (r ∷ []) vs run =
     elim at.step [
       | inl b ↦ inl (ap (λ (x : UnitView × Reply). x.1 ∷ []) b.0)
       | inr l ↦ inr (
-        ap (λ (x : Reply). x ∷ []) (l.2 ∙ ap (λ (x : UnitView × Option ℕ). done (number_or_0 x.1)) l.1.1),
+        ap (λ (x : Reply). x ∷ []) (l.2 ∙ ap (λ (x : UnitView × Option ℕ). event_reply (number_or_0 x.1)) l.1.1),
         ap (λ (us : List UnitView). map (λ (u : UnitView). u.kept.slots) us) (run.2 ∙ at.units ∙ ap (λ (x : UnitView × Option ℕ). changer ∷ x.0 ∷ []) l.1.1),
       )
     ]
@@ -60,7 +60,7 @@ reset_row (r ∷ []) vs run =
     elim at.step [
       | inl b ↦ inl (ap (λ (x : UnitView × Reply). x.1 ∷ []) b)
       | inr l ↦ inr (
-        ap (λ (x : Reply). x ∷ []) (l.2 ∙ ap (λ (x : UnitView × ℕ). done x.1) l.1.1),
+        ap (λ (x : Reply). x ∷ []) (l.2 ∙ ap (λ (x : UnitView × ℕ). event_reply x.1) l.1.1),
         ap (λ (us : List UnitView). map (λ (u : UnitView). u.kept.slots) us) (run.2 ∙ at.units ∙ ap (λ (x : UnitView × ℕ). changer ∷ x.0 ∷ []) l.1.1),
       )
     ]

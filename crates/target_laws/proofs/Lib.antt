@@ -1,5 +1,5 @@
 pub mod Parts
-pub mod Served
+pub mod CommandInARun
 pub mod Row
 pub mod Sending
 pub mod EventRows

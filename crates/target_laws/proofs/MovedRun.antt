@@ -11,8 +11,8 @@ use Rattle.tape_medium.specs.declared.volume.Volume.{Volume}
 use Rattle.tape_medium.specs.declared.volume.VolumeTag.{VolumeTag}
 use Rattle.device_server.specs.View.{drives_of}
 use Rattle.judgement.specs.declared.reply.Reply.{Reply}
-use Rattle.judgement.specs.Commands.{spelled}
-use Rattle.judgement.specs.Kept.{has_room}
+use Rattle.judgement.specs.Commands.{decoded_command}
+use Rattle.judgement.specs.UnitState.{has_room}
 use Rattle.judgement.specs.History.{is_good}
 use Rattle.logical_unit.specs.Move.{MovesOne, moved_one}
 use Rattle.unit_laws.specs.MoveRows.{first_tag, second_tag, move, drive_1, slot_1, slot_2, empty_drive}
@@ -23,7 +23,7 @@ use Rattle.logical_unit.specs.UnitView.{UnitView, last_number}
 use Rattle.target_core.specs.declared.event.Event.{Event}
 use Rattle.target_core.specs.declared.event.Event.TheVariants as event
 use Rattle.target_laws.specs.Cartridges.{Cartridge}
-use Rattle.target_laws.specs.LibraryRows.{Sent, Sends, AllSend, test_unit_ready, write, sent, sent_out, stocked, disagreeing, ways, writings, cartridge, IsMovedRun, NotKept, OtherCartridges, IsFailedRun}
+use Rattle.target_laws.specs.LibraryRows.{Sending, Sends, AllSend, test_unit_ready, write, sent, sent_out, stocked, disagreeing, ways, writings, cartridge, IsMovedRun, NotKept, OtherCartridges, IsFailedRun}
 use Rattle.target_core.specs.Run.{AtUnit, AtDrive, CommandsNaming, Steps, Runs}
 use Rattle.target_laws.specs.Volumes.{Way, way_of, carried_by, writes, is_written}
 
@@ -60,43 +60,43 @@ module _ (c d : UnitView) where
 
 -- what it carried, and whether it wrote
 abbrev carried_as : (lun : ℕ) → (cdb bytes : List ℕ) → Reply → Option Way
-carried_as zero cdb bytes r = if is_good r.status then way_of (spelled kind.Changer cdb bytes) else None
+carried_as zero cdb bytes r = if is_good r.status then way_of (decoded_command kind.Changer cdb bytes) else None
 carried_as (suc k) cdb bytes r = None
 
-way_sent : (e : Event) (s : Sent) (r : Reply) → Sends e s → carried_by e r ≡ carried_as s.0 s.1 s.2 r
+way_sent : (e : Event) (s : Sending) (r : Reply) → Sends e s → carried_by e r ≡ carried_as s.0 s.1 s.2 r
 way_sent (event.Command n zero cdb bytes) s r h = ap (λ x. carried_as 0 x bytes.items r) h.2 ∙ ap (λ x. carried_as 0 s.1 x r) h.3 ∙ ap (λ lun. carried_as lun s.1 s.2 r) h.1
 way_sent (event.Command n (suc k) cdb bytes) s r h = ap (λ lun. carried_as lun s.1 s.2 r) h.1
 way_sent (event.Loss n lun) s r h = absurd h
 way_sent (event.Reset lun) s r h = absurd h
 
-writing_sent : (e : Event) (s : Sent) (r : Reply) → Sends e s → is_written e r ≡ (is_good r.status && writes (spelled kind.Drive s.1 s.2))
+writing_sent : (e : Event) (s : Sending) (r : Reply) → Sends e s → is_written e r ≡ (is_good r.status && writes (decoded_command kind.Drive s.1 s.2))
 writing_sent (event.Command n lun cdb bytes) s r h =
-    ap (λ x. is_good r.status && writes (spelled kind.Drive x bytes.items)) h.2 ∙ ap (λ x. is_good r.status && writes (spelled kind.Drive s.1 x)) h.3
+    ap (λ x. is_good r.status && writes (decoded_command kind.Drive x bytes.items)) h.2 ∙ ap (λ x. is_good r.status && writes (decoded_command kind.Drive s.1 x)) h.3
 writing_sent (event.Loss n lun) s r h = absurd h
 writing_sent (event.Reset lun) s r h = absurd h
 
 each : {X : Type 0} (x y : X) (xs ys : List X) → x ≡ y → xs ≡ ys → x ∷ xs ≡ y ∷ ys
 each x y xs ys p q = cc
 
-abbrev ways_of : List Sent → List Reply → List (Option Way)
+abbrev ways_of : List Sending → List Reply → List (Option Way)
 ways_of (s ∷ l) (r ∷ rs) = carried_as s.0 s.1 s.2 r ∷ ways_of l rs
 ways_of l rs = []
 
-abbrev writings_of : List Sent → List Reply → List Bool
-writings_of (s ∷ l) (r ∷ rs) = (is_good r.status && writes (spelled kind.Drive s.1 s.2)) ∷ writings_of l rs
+abbrev writings_of : List Sending → List Reply → List Bool
+writings_of (s ∷ l) (r ∷ rs) = (is_good r.status && writes (decoded_command kind.Drive s.1 s.2)) ∷ writings_of l rs
 writings_of l rs = []
 
-ways_sent : (es : List Event) (l : List Sent) (rs : List Reply) → AllSend es l → ways es rs ≡ ways_of l rs
+ways_sent : (es : List Event) (l : List Sending) (rs : List Reply) → AllSend es l → ways es rs ≡ ways_of l rs
 ways_sent [] [] rs h = refl
 ways_sent (e ∷ es) (s ∷ l) [] h = refl
 ways_sent (e ∷ es) (s ∷ l) (r ∷ rs) h = each (carried_by e r) (carried_as s.0 s.1 s.2 r) (ways es rs) (ways_of l rs) (way_sent e s r h.0) (ways_sent es l rs h.1)
 ways_sent [] (s ∷ l) rs h = absurd h
 ways_sent (e ∷ es) [] rs h = absurd h
 
-writings_sent : (es : List Event) (l : List Sent) (rs : List Reply) → AllSend es l → writings es rs ≡ writings_of l rs
+writings_sent : (es : List Event) (l : List Sending) (rs : List Reply) → AllSend es l → writings es rs ≡ writings_of l rs
 writings_sent [] [] rs h = refl
 writings_sent (e ∷ es) (s ∷ l) [] h = refl
-writings_sent (e ∷ es) (s ∷ l) (r ∷ rs) h = each (is_written e r) (is_good r.status && writes (spelled kind.Drive s.1 s.2)) (writings es rs) (writings_of l rs) (writing_sent e s r h.0) (writings_sent es l rs h.1)
+writings_sent (e ∷ es) (s ∷ l) (r ∷ rs) h = each (is_written e r) (is_good r.status && writes (decoded_command kind.Drive s.1 s.2)) (writings es rs) (writings_of l rs) (writing_sent e s r h.0) (writings_sent es l rs h.1)
 writings_sent [] (s ∷ l) rs h = absurd h
 writings_sent (e ∷ es) [] rs h = absurd h
 

@@ -3,7 +3,7 @@ use Rattle.std.proofs.Common.{◌≡◌, ◌+◌, ◌-◌, ◌==◌, ◌&&◌, �
 use Rattle.std.specs.Prelude.{◌⊎◌, ◌||◌, cond, not, is_none, nat_lt, slice_get}
 use Rattle.std.proofs.lemmas.List.Elements.{All-nil, All-cons}
 use Rattle.std.proofs.lemmas.Map.Views.{exact_unsigned_eq}
-use Rattle.scsi_cdb.specs.Commands.{reading}
+use Rattle.scsi_cdb.specs.Commands.{decoded}
 use Rattle.scsi_cdb.specs.declared.fault.CdbFault.{CdbFault}
 use Rattle.scsi_cdb.specs.declared.kind.Kind.{Kind}
 use Rattle.scsi_cdb.specs.declared.kind.Kind.TheVariants as kind
@@ -21,11 +21,11 @@ use Rattle.device_server.specs.View.{DeviceView, Drive, Changer, kind_of, drives
 use Rattle.device_server.proofs.FailureLemmas.{drives_never_fail, changers_fail_for_drives}
 use Rattle.judgement.specs.Replies.{check, AnswersAbsent}
 use Rattle.judgement.specs.declared.reply.Reply.{Reply}
-use Rattle.judgement.specs.Commands.{spelled, act_of}
+use Rattle.judgement.specs.Commands.{decoded_command, act_of}
 use Rattle.judgement.specs.declared.command.Command.{Command}
 use Rattle.judgement.specs.declared.command.Command.TheVariants.{Device}
-use Rattle.judgement.specs.Present.{Present}
-use Rattle.judgement.specs.declared.finding.Finding.{Finding}
+use Rattle.judgement.specs.JudgedUnit.{JudgedUnit}
+use Rattle.judgement.specs.declared.decision.Decision.{Decision}
 use Rattle.logical_unit.specs.Move.{TwoDrives, is_left, judged_at, route_at, passed, carried_by_one, carried_one, upward, downward, carried_two, ended, MovesOne, MovesTwo}
 use Rattle.logical_unit.specs.Route.{drive_at, is_upward, named_by, named_in, named}
 use Rattle.logical_unit.specs.Step.{contacted_present, recorded, Executes, IsLost, IsReset}
@@ -33,7 +33,7 @@ use Rattle.logical_unit.specs.UnitView.{UnitView}
 use Rattle.logical_unit.specs.declared.route.Route.{Route}
 use Rattle.logical_unit.proofs.Moved.{concluded_by}
 use Rattle.logical_unit.proofs.NamedDrives.{some_of, HasRoute, AreNamed, route_by, has_route, drive_within, named_two}
-use Rattle.logical_unit.proofs.SameUnits.{spells_move}
+use Rattle.logical_unit.proofs.SameUnits.{decodes_move}
 use Rattle.target_core.specs.declared.event.Event.{Event}
 use Rattle.target_core.specs.declared.event.Event.TheVariants as event
 use Rattle.target_laws.specs.Failures.{NeverFails}
@@ -41,7 +41,7 @@ use Rattle.target_core.specs.Faults.{fault_of}
 use Rattle.target_core.specs.Run.{LosesAt, ResetsAt, Steps}
 use Rattle.target_laws.proofs.Agreement.{IsAllowed, left_allowed, drive_gives, drive_receives, carrying_fails, unloaded_free, loaded_free, passed_free}
 use Rattle.target_laws.proofs.CommandWays.{Goes, goes}
-use Rattle.target_laws.proofs.Devices.{Does, DoesAs, spelling_free, reads_device, judged, executed}
+use Rattle.target_laws.proofs.Devices.{Does, DoesAs, decoding_free, reads_device, judged, executed}
 use Rattle.target_core.proofs.Ordered.{IsOrdered, ordered, drive_of}
 use Rattle.target_laws.proofs.StaysTarget.{step_order}
 
@@ -59,7 +59,7 @@ drive_steps (Changer e) q bytes k = absurd cc
 
 drive_free : (w v : UnitView) (n : Nexus) (cdb bytes : List ℕ) (r : Reply) → kind_of w.device ≡ kind.Drive → Executes w n cdb bytes (v, r) → is_failure r.sense ≡ false
 drive_free w v n cdb bytes r k step =
-    device_free w.device v.device (spelled (kind_of w.device) cdb bytes) bytes r.status r.sense (executed w v n cdb bytes r step) (λ q is. drive_steps w.device q bytes k)
+    device_free w.device v.device (decoded_command (kind_of w.device) cdb bytes) bytes r.status r.sense (executed w v n cdb bytes r step) (λ q is. drive_steps w.device q bytes k)
 
 -- the changer's, of a command that names no drive, doesn't
 chosen_other : (transport drive portal slot : Bool) (at i j k : ℕ) → cond drive (Some at) None ≡ None
@@ -91,7 +91,7 @@ either_false true true = refl
 either_false true false = refl
 either_false false y = refl
 
-alone : (e : Elements) (cdb : List ℕ) (q : Request) → named (length e.data_transfer) cdb ≡ [] → reading kind.Changer cdb ≡ Ok q → is_for_drives e q ≡ false
+alone : (e : Elements) (cdb : List ℕ) (q : Request) → named (length e.data_transfer) cdb ≡ [] → decoded kind.Changer cdb ≡ Ok q → is_for_drives e q ≡ false
 alone e cdb (request.MoveMedium transport source destination invert) names reads =
     let size = length e.data_transfer in
     let ends = none_named (drive_at size source) (drive_at size destination) (sym (ap (λ (o : Result Request CdbFault). named_in (route_by size o)) reads) ∙ names) in
@@ -101,33 +101,33 @@ alone e cdb (request.MoveMedium transport source destination invert) names reads
     ∙ either_false (not invert) free
 alone e cdb q names reads = refl
 
-changer_steps : (device : DeviceView) (cdb : List ℕ) (q : Request) (bytes : List ℕ) → kind_of device ≡ kind.Changer → named (drives_of device) cdb ≡ [] → reading kind.Changer cdb ≡ Ok q → is_failure (performed device q bytes).1.sense ≡ false
+changer_steps : (device : DeviceView) (cdb : List ℕ) (q : Request) (bytes : List ℕ) → kind_of device ≡ kind.Changer → named (drives_of device) cdb ≡ [] → decoded kind.Changer cdb ≡ Ok q → is_failure (performed device q bytes).1.sense ≡ false
 changer_steps (Drive d) cdb q bytes k names reads = absurd cc
 changer_steps (Changer e) cdb q bytes k names reads = changers_fail_for_drives e q bytes ∙ alone e cdb q names reads
 
 changer_free : (c v : UnitView) (n : Nexus) (cdb bytes : List ℕ) (r : Reply) → kind_of c.device ≡ kind.Changer → named (drives_of c.device) cdb ≡ [] → Executes c n cdb bytes (v, r) → is_failure r.sense ≡ false
 changer_free c v n cdb bytes r k names step =
-    device_free c.device v.device (spelled (kind_of c.device) cdb bytes) bytes r.status r.sense (executed c v n cdb bytes r step)
-    (λ q is. changer_steps c.device cdb q bytes k names (subst (λ (x : Kind). reading x cdb ≡ Ok q) k (reads_device (kind_of c.device) cdb bytes q is)))
+    device_free c.device v.device (decoded_command (kind_of c.device) cdb bytes) bytes r.status r.sense (executed c v n cdb bytes r step)
+    (λ q is. changer_steps c.device cdb q bytes k names (subst (λ (x : Kind). decoded x cdb ≡ Ok q) k (reads_device (kind_of c.device) cdb bytes q is)))
 
 -- A MOVE. What is left to the drives, the changer's map and marks allow
 left_at : (c : UnitView) (n : Nexus) (cdb bytes : List ℕ) (l : ℕ) (more : List ℕ) (q : HasRoute c.device cdb l more) → is_left (judged_at c n cdb bytes).2.sense ≡ true → IsAllowed c.device q.route
 left_at c n cdb bytes l more q left =
     let u = contacted_present c n in
-    let move = request.MoveMedium q.spells.transport q.route.source q.route.destination q.spells.invert in
-    let does = judged u n bytes (spelled (kind_of c.device) cdb bytes) (spelling_free (kind_of c.device) cdb bytes) in
-    let here : DoesAs u (Ok (Device move)) bytes (judged_at c n cdb bytes) = subst (λ (s : Result Command Condition). DoesAs u s bytes (judged_at c n cdb bytes)) (spells_move c.device cdb bytes l more q) does in
+    let move = request.MoveMedium q.decodes.transport q.route.source q.route.destination q.decodes.invert in
+    let does = judged u n bytes (decoded_command (kind_of c.device) cdb bytes) (decoding_free (kind_of c.device) cdb bytes) in
+    let here : DoesAs u (Ok (Device move)) bytes (judged_at c n cdb bytes) = subst (λ (s : Result Command Condition). DoesAs u s bytes (judged_at c n cdb bytes)) (decodes_move c.device cdb bytes l more q) does in
     elim here [
       | inl unreached ↦ let free = unreached.free in absurd cc
-      | inr step ↦ left_allowed c.device q.spells.transport q.route q.spells.invert bytes q.changer q.spells.from q.spells.to (ap is_failure (sym step.reports) ∙ left)
+      | inr step ↦ left_allowed c.device q.decodes.transport q.route q.decodes.invert bytes q.changer q.decodes.from q.decodes.to (ap is_failure (sym step.reports) ∙ left)
     ]
 
-ended_free : {A : Type 0} (c v : UnitView) (n : Nexus) (cdb bytes : List ℕ) (r : Reply) (drives after : A) (answer : Present × Finding × Reply) (carried : Result (DeviceView × A) Condition)
+ended_free : {A : Type 0} (c v : UnitView) (n : Nexus) (cdb bytes : List ℕ) (r : Reply) (drives after : A) (answer : JudgedUnit × Decision × Reply) (carried : Result (DeviceView × A) Condition)
     → ((v, r), after) ≡ ended c n cdb bytes drives answer carried → carrying_fails carried ≡ false → is_failure r.sense ≡ false
 ended_free {A} c v n cdb bytes r drives after answer (Ok it) e free = ap (λ (x : (UnitView × Reply) × A). is_failure x.0.1.sense) e
 ended_free {A} c v n cdb bytes r drives after answer (Err condition) e free = ap (λ (x : (UnitView × Reply) × A). is_failure x.0.1.sense) e ∙ free
 
-concluded_free : {A : Type 0} (c v : UnitView) (n : Nexus) (cdb bytes : List ℕ) (r : Reply) (drives after : A) (answer : Present × Finding × Reply) (carried : Result (DeviceView × A) Condition) (left : Bool) → is_left answer.2.sense ≡ left
+concluded_free : {A : Type 0} (c v : UnitView) (n : Nexus) (cdb bytes : List ℕ) (r : Reply) (drives after : A) (answer : JudgedUnit × Decision × Reply) (carried : Result (DeviceView × A) Condition) (left : Bool) → is_left answer.2.sense ≡ left
     → ((v, r), after) ≡ concluded_by left (recorded c n (act_of (kind_of c.device) cdb bytes) answer, drives) (ended c n cdb bytes drives answer carried)
     → (left ≡ true → carrying_fails carried ≡ false) → is_failure r.sense ≡ false
 concluded_free {A} c v n cdb bytes r drives after answer carried true left e free = ended_free c v n cdb bytes r drives after answer carried e (free refl)
@@ -163,7 +163,7 @@ module _ (c : UnitView) (ds : List UnitView) (o : IsOrdered c ds) (n : Nexus) (c
       let q = has_route c.device cdb (suc k) [] names in
       concluded_free c v n cdb bytes r d e (judged_at c n cdb bytes) (carried_one c.device d (route_at c cdb)) (is_left (judged_at c n cdb bytes).2.sense) refl moves.3
       (λ left. ap (λ (x : Option Route). carrying_fails (carried_one c.device d x)) q.is
-      ∙ by_one q.route (left_at c n cdb bytes (suc k) [] q left) k d q.route.from q.route.to there refl refl q.spells.from q.spells.to q.names)
+      ∙ by_one q.route (left_at c n cdb bytes (suc k) [] q left) k d q.route.from q.route.to there refl refl q.decodes.from q.decodes.to q.names)
 
   upward_free : (p : Result (DeviceView × UnitView × UnitView) Condition) → carrying_fails p ≡ false → carrying_fails (upward p) ≡ false
   upward_free (Ok it) h = refl
@@ -195,7 +195,7 @@ module _ (c : UnitView) (ds : List UnitView) (o : IsOrdered c ds) (n : Nexus) (c
       let q = has_route c.device cdb (suc i) (suc j ∷ more) names in
       concluded_free c v n cdb bytes r ds' es (judged_at c n cdb bytes) (carried_two c.device ds' (route_at c cdb)) (is_left (judged_at c n cdb bytes).2.sense) refl moves.3
       (λ left. ap (λ (x : Option Route). carrying_fails (carried_two c.device ds' x)) q.is
-      ∙ by_two q.route (left_at c n cdb bytes (suc i) (suc j ∷ more) q left) i j ds' low high q.spells.from q.spells.to (named_two q.route.from q.route.to (suc i) (suc j) more q.names).1)
+      ∙ by_two q.route (left_at c n cdb bytes (suc i) (suc j ∷ more) q left) i j ds' low high q.decodes.from q.decodes.to (named_two q.route.from q.route.to (suc i) (suc j) more q.names).1)
 
 -- AN ABSENT UNIT
 either_answer : (b : Bool) (x y : Reply) → is_failure x.sense ≡ false → is_failure y.sense ≡ false → is_failure (cond b x y).sense ≡ false

@@ -8,7 +8,7 @@ use Rattle.pr_core.specs.State.{keys_after}
 use Rattle.device_server.specs.View.{kind_of}
 use Rattle.judgement.specs.declared.reply.Reply.{Reply}
 use Rattle.judgement.specs.History.{Accepted, accepted_by, after_history}
-use Rattle.judgement.specs.Kept.{has_room}
+use Rattle.judgement.specs.UnitState.{has_room}
 use Rattle.logical_unit.specs.Step.{answered}
 use Rattle.logical_unit.specs.UnitView.{UnitView, last_number}
 use Rattle.target_core.specs.declared.event.Event.{Event}
@@ -16,19 +16,19 @@ use Rattle.target_core.specs.declared.event.Event.TheVariants as event
 use Rattle.target_core.specs.Run.{Runs, Steps}
 use Rattle.target_core.specs.Laws.{accepted_at, accepted_in}
 use Rattle.target_laws.specs.Headline.{by_history}
-use Rattle.target_laws.specs.Rows.{Sent, Sends, AllSend, sent, changer, drive, IsWorked}
+use Rattle.target_laws.specs.Rows.{Sending, Sends, AllSend, sent, changer, drive, IsWorked}
 
 -- the replies of one unit, and the unit in the end
-abbrev replies_of : UnitView → List Sent → List Reply
+abbrev replies_of : UnitView → List Sending → List Reply
 replies_of u [] = []
 replies_of u (s ∷ l) = (answered u s.0 s.1 s.2).1 ∷ replies_of (answered u s.0 s.1 s.2).0 l
 
-abbrev last_of : UnitView → List Sent → UnitView
+abbrev last_of : UnitView → List Sending → UnitView
 last_of u [] = u
 last_of u (s ∷ l) = last_of (answered u s.0 s.1 s.2).0 l
 
 -- whether there is always room, and a number
-abbrev is_open : UnitView → List Sent → Bool
+abbrev is_open : UnitView → List Sending → Bool
 is_open u [] = true
 is_open u (s ∷ l) = has_room u.kept s.0 && (ltb (last_number u + 1) (2 ^ 64) && is_open (answered u s.0 s.1 s.2).0 l)
 
@@ -41,18 +41,18 @@ and_right true y e = e
 and_right false y e = absurd cc
 
 -- the history that commands add at one unit
-abbrev added : Kind → List Sent → List Reply → List Accepted
+abbrev added : Kind → List Sending → List Reply → List Accepted
 added kind (s ∷ l) (r ∷ rs) = accepted_by kind s.0 s.1 s.2 r.status ++ added kind l rs
 added kind l rs = []
 
-step : (u : UnitView) (e : Event) (s : Sent) → Sends e s → has_room u.kept s.0 ≡ true → ltb (last_number u + 1) (2 ^ 64) ≡ true → Steps (changer ∷ u ∷ []) e (changer ∷ (answered u s.0 s.1 s.2).0 ∷ [], (answered u s.0 s.1 s.2).1)
+step : (u : UnitView) (e : Event) (s : Sending) → Sends e s → has_room u.kept s.0 ≡ true → ltb (last_number u + 1) (2 ^ 64) ≡ true → Steps (changer ∷ u ∷ []) e (changer ∷ (answered u s.0 s.1 s.2).0 ∷ [], (answered u s.0 s.1 s.2).1)
 step u (event.Command n lun cdb bytes) s h room number =
     let x = answered u s.0 s.1 s.2 in
     rw (h.0, h.1, h.2, h.3) (record { unit = x.0; step = inr (room, ltb-true (last_number u + 1) (2 ^ 64) number, refl); units = refl })
 step u (event.Loss n lun) s h room number = absurd h
 step u (event.Reset lun) s h room number = absurd h
 
-runs : (u : UnitView) (es : List Event) (l : List Sent) → AllSend es l → is_open u l ≡ true → Runs (changer ∷ u ∷ []) es (replies_of u l) (changer ∷ last_of u l ∷ [])
+runs : (u : UnitView) (es : List Event) (l : List Sending) → AllSend es l → is_open u l ≡ true → Runs (changer ∷ u ∷ []) es (replies_of u l) (changer ∷ last_of u l ∷ [])
 runs u [] [] h opens = refl
 runs u (e ∷ es) (s ∷ l) h opens =
     let x = answered u s.0 s.1 s.2 in
@@ -64,12 +64,12 @@ runs u (e ∷ es) (s ∷ l) h opens =
 runs u [] (s ∷ l) h opens = absurd h
 runs u (e ∷ es) [] h opens = absurd h
 
-one : (kind : Kind) (e : Event) (s : Sent) (r : Reply) → Sends e s → accepted_at kind 1 e r ≡ accepted_by kind s.0 s.1 s.2 r.status
+one : (kind : Kind) (e : Event) (s : Sending) (r : Reply) → Sends e s → accepted_at kind 1 e r ≡ accepted_by kind s.0 s.1 s.2 r.status
 one kind (event.Command n lun cdb bytes) s r h = rw (h.0, h.1, h.2, h.3) refl
 one kind (event.Loss n lun) s r h = absurd h
 one kind (event.Reset lun) s r h = absurd h
 
-adds : (kind : Kind) (k : ℕ) (es : List Event) (l : List Sent) (rs : List Reply) → AllSend es l → accepted_in kind 1 (take k es) rs ≡ added kind (take k l) rs
+adds : (kind : Kind) (k : ℕ) (es : List Event) (l : List Sending) (rs : List Reply) → AllSend es l → accepted_in kind 1 (take k es) rs ≡ added kind (take k l) rs
 adds kind zero es l rs h = refl
 adds kind (suc k) [] [] rs h = refl
 adds kind (suc k) (e ∷ es) (s ∷ l) [] h = refl
@@ -97,10 +97,10 @@ worked tag es h = record {
   before_own_write = by tag es h 5;
   before_register = by tag es h 6;
   before_read = by tag es h 7;
-  spells_write = refl;
+  decodes_write = refl;
   denied = refl;
   allowed = refl;
-  spells_register = refl;
+  decodes_register = refl;
   broken = refl;
   stages = refl;
   rules = refl;

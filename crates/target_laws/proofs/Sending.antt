@@ -16,27 +16,27 @@ event_of heap n lun cdb bytes small =
     event.Command n lun (record { items = cdb }) (record { ptr = null_ptr; len = length bytes; cap = length bytes; alloc = heap; items = bytes; ok = (refl, omega arith); small = small })
 
 -- no data is longer than the address space
-abbrev AllFit : List rows.Sent → Type 0
+abbrev AllFit : List rows.Sending → Type 0
 AllFit [] = Unit {0}
 AllFit (s ∷ l) = (length s.2 < 2 ^ 63) × AllFit l
 
-abbrev events_of : Global → (l : List rows.Sent) → AllFit l → List Event
+abbrev events_of : Global → (l : List rows.Sending) → AllFit l → List Event
 events_of heap [] h = []
 events_of heap (s ∷ l) h = event_of heap s.0 1 s.1 s.2 h.0 ∷ events_of heap l h.1
 
-send : (heap : Global) (l : List rows.Sent) (h : AllFit l) → rows.AllSend (events_of heap l h) l
+send : (heap : Global) (l : List rows.Sending) (h : AllFit l) → rows.AllSend (events_of heap l h) l
 send heap [] h = tt
 send heap (s ∷ l) h = ((refl, refl, refl, refl), send heap l h.1)
 
-abbrev AllFitIn : List library.Sent → Type 0
+abbrev AllFitIn : List library.Sending → Type 0
 AllFitIn [] = Unit {0}
 AllFitIn (s ∷ l) = (length s.2 < 2 ^ 63) × AllFitIn l
 
-abbrev events_in : Global → (l : List library.Sent) → AllFitIn l → List Event
+abbrev events_in : Global → (l : List library.Sending) → AllFitIn l → List Event
 events_in heap [] h = []
 events_in heap (s ∷ l) h = event_of heap a s.0 s.1 s.2 h.0 ∷ events_in heap l h.1
 
-send_in : (heap : Global) (l : List library.Sent) (h : AllFitIn l) → library.AllSend (events_in heap l h) l
+send_in : (heap : Global) (l : List library.Sending) (h : AllFitIn l) → library.AllSend (events_in heap l h) l
 send_in heap [] h = tt
 send_in heap (s ∷ l) h = ((refl, refl, refl, refl), send_in heap l h.1)
 

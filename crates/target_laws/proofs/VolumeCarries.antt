@@ -159,7 +159,7 @@ module _ (c v : UnitView) (ds : List UnitView) (o : IsOrdered c ds) (cdb : List 
       → IsCarried (c ∷ ds) (v ∷ slice_set ds k e) (way (has_route c.device cdb (suc k) [] names).route)
   one_carries k d e names there h =
       let q = has_route c.device cdb (suc k) [] names in
-      by_one q.route k d e q.route.from q.route.to there q.spells.from q.spells.to q.names (sym (ap (carried_one c.device d) q.is) ∙ h)
+      by_one q.route k d e q.route.from q.route.to there q.decodes.from q.decodes.to q.names (sym (ap (carried_one c.device d) q.is) ∙ h)
 
   upward_carries : (q : Route) (i j : ℕ) (ds' es : TwoDrives) (p : Result (DeviceView × UnitView × UnitView) Condition) → i ≢ j → slice_get ds i ≡ Some ds'.low → slice_get ds j ≡ Some ds'.high → drive_at (length ds) q.source ≡ Some (suc i) → drive_at (length ds) q.destination ≡ Some (suc j)
       → passed c.device ds'.low ds'.high q ≡ p → upward p ≡ Ok (v.device, es) → IsCarried (c ∷ ds) (v ∷ slice_set (slice_set ds i es.low) j es.high) (way q)
@@ -195,4 +195,4 @@ module _ (c v : UnitView) (ds : List UnitView) (o : IsOrdered c ds) (cdb : List 
       let q = has_route c.device cdb (suc i) (suc j ∷ more) names in
       let two = named_two q.route.from q.route.to (suc i) (suc j) more q.names in
       let less = two.0 in
-      by_two q.route i j ds' es (λ p. absurd (omega (arith, p, less))) low high q.spells.from q.spells.to two.1 (sym (ap (carried_two c.device ds') q.is) ∙ h)
+      by_two q.route i j ds' es (λ p. absurd (omega (arith, p, less))) low high q.decodes.from q.decodes.to two.1 (sym (ap (carried_two c.device ds') q.is) ∙ h)

@@ -16,7 +16,7 @@ use Rattle.logical_unit.proofs.NamedDrives.{drive_within}
 use Rattle.target_core.specs.declared.event.Event.{Event}
 use Rattle.target_laws.specs.Volumes.{bay_of, volume_by, volume_in, lun_of, is_to, is_written, StaysSame}
 use Rattle.target_laws.proofs.Agreement.{drive_element}
-use Rattle.target_laws.proofs.CommandWays.{same_unit}
+use Rattle.target_core.proofs.Places.{same_some}
 
 -- an element is a drive's, or the changer's own
 by_drive : (Q : Option Volume → Option Volume → Type 0) (c v : UnitView) (ds es : List UnitView) (address size : ℕ) (o : Option ℕ) → drive_at size address ≡ o
@@ -72,7 +72,7 @@ one_less a b e = cc
 pub beside_set : (Q : Option Volume → Option Volume → Type 0) (ds : List UnitView) (k j : ℕ) (d e : UnitView) → slice_get ds k ≡ Some d → (j ≡ k → Q (volume_at d.device 0) (volume_at e.device 0))
     → (j ≢ k → Q (bay_of (slice_get ds j)) (bay_of (slice_get ds j))) → Q (bay_of (slice_get ds j)) (bay_of (slice_get (slice_set ds k e) j))
 beside_set Q [] k j d e there same other = absurd cc
-beside_set Q (z ∷ ds) zero zero d e there same other = subst (λ (u : UnitView). Q (volume_at u.device 0) (volume_at e.device 0)) (sym (same_unit z d there)) (same refl)
+beside_set Q (z ∷ ds) zero zero d e there same other = subst (λ (u : UnitView). Q (volume_at u.device 0) (volume_at e.device 0)) (sym (same_some z d there)) (same refl)
 beside_set Q (z ∷ ds) zero (suc j) d e there same other = other (λ p. absurd cc)
 beside_set Q (z ∷ ds) (suc k) zero d e there same other = other (λ p. absurd cc)
 beside_set Q (z ∷ ds) (suc k) (suc j) d e there same other = beside_set Q ds k j d e there (λ p. same (ap suc p)) (λ apart. other (λ p. apart (one_less j k p)))

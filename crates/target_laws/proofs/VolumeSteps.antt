@@ -19,7 +19,7 @@ use Rattle.device_server.specs.Volumes.{volume_at, SameVolume, SameAt, Carries, 
 use Rattle.device_server.proofs.MoveLemmas.{changers_stay, moves_carry_one}
 use Rattle.device_server.proofs.TapeLemmas.{drives_keep_their_volume, drives_keep_their_tape, resets_keep_volumes}
 use Rattle.judgement.specs.declared.reply.Reply.{Reply}
-use Rattle.judgement.specs.Commands.{spelled}
+use Rattle.judgement.specs.Commands.{decoded_command}
 use Rattle.judgement.specs.declared.command.Command.{Command}
 use Rattle.judgement.specs.declared.command.Command.TheVariants.{Device}
 use Rattle.judgement.specs.History.{is_good}
@@ -30,7 +30,7 @@ use Rattle.logical_unit.specs.UnitView.{UnitView}
 use Rattle.logical_unit.proofs.History.{executes_stays}
 use Rattle.logical_unit.proofs.Moved.{Became, carried_to, one_became, two_became}
 use Rattle.logical_unit.proofs.NamedDrives.{has_route}
-use Rattle.logical_unit.proofs.SameUnits.{spells_move}
+use Rattle.logical_unit.proofs.SameUnits.{decodes_move}
 use Rattle.target_core.specs.declared.event.Event.{Event}
 use Rattle.target_core.specs.declared.event.Event.TheVariants as event
 use Rattle.target_core.specs.Faults.{fault_of}
@@ -124,28 +124,28 @@ module _ (c : UnitView) (ds : List UnitView) (o : IsOrdered c ds) (n : Nexus) (c
       let same = (executes_stays c v n cdb.items bytes.items r step).device in
       let does = executed c v n cdb.items bytes.items r step in
       by_carries c v ds o (asked 0) r (carried_by (asked 0) r) (same.kind ∙ o.kind) same.drives
-      (subst (λ (x : Kind). CarriesBy c.device v.device (cond (is_good r.status) (way_of (spelled x cdb.items bytes.items)) None)) o.kind
-      (changer_does c.device v.device (spelled (kind_of c.device) cdb.items bytes.items) bytes.items r.status r.sense o.kind does))
+      (subst (λ (x : Kind). CarriesBy c.device v.device (cond (is_good r.status) (way_of (decoded_command x cdb.items bytes.items)) None)) o.kind
+      (changer_does c.device v.device (decoded_command (kind_of c.device) cdb.items bytes.items) bytes.items r.status r.sense o.kind does))
 
   -- at a drive
   own_keeps : (k : ℕ) (d x : UnitView) → slice_get ds k ≡ Some d → Executes d n cdb.items bytes.items (x, r) → KeepsVolumes (c ∷ ds) (c ∷ slice_set ds k x) (asked (suc k)) r None
   own_keeps k d x there step =
       let drive = (drive_of c ds k d o there).kind in
       drive_keeps c ds k d x (asked (suc k)) r there refl
-      (subst (λ (y : Kind). SameAt (StaysSame true (is_good r.status && writes (spelled y cdb.items bytes.items))) (volume_at d.device 0) (volume_at x.device 0)) drive
-      (drive_does d.device x.device (spelled (kind_of d.device) cdb.items bytes.items) bytes.items r.status r.sense drive (executed d x n cdb.items bytes.items r step)))
+      (subst (λ (y : Kind). SameAt (StaysSame true (is_good r.status && writes (decoded_command y cdb.items bytes.items))) (volume_at d.device 0) (volume_at x.device 0)) drive
+      (drive_does d.device x.device (decoded_command (kind_of d.device) cdb.items bytes.items) bytes.items r.status r.sense drive (executed d x n cdb.items bytes.items r step)))
 
   -- at the changer with drives: alone, with nothing carried, or with a volume carried
   carried_way : (l : ℕ) (more : List ℕ) (names : named (drives_of c.device) cdb.items ≡ l ∷ more) → r.status ≡ Good → carried_by (asked 0) r ≡ Some (way (has_route c.device cdb.items l more names).route)
   carried_way l more names good =
       let q = has_route c.device cdb.items l more names in
-      ap (λ (s : Status). cond (is_good s) (way_of (spelled kind.Changer cdb.items bytes.items)) None) good
-      ∙ ap (λ (x : Kind). way_of (spelled x cdb.items bytes.items)) (sym q.changer)
-      ∙ ap way_of (spells_move c.device cdb.items bytes.items l more q)
+      ap (λ (s : Status). cond (is_good s) (way_of (decoded_command kind.Changer cdb.items bytes.items)) None) good
+      ∙ ap (λ (x : Kind). way_of (decoded_command x cdb.items bytes.items)) (sym q.changer)
+      ∙ ap way_of (decodes_move c.device cdb.items bytes.items l more q)
 
   halted_keeps : (v : UnitView) → v.device ≡ c.device → r.status ≡ CheckCondition → KeepsVolumes (c ∷ ds) (v ∷ ds) (asked 0) r (carried_by (asked 0) r)
   halted_keeps v same bad =
-      subst (KeepsVolumes (c ∷ ds) (v ∷ ds) (asked 0) r) (sym (ap (λ (s : Status). cond (is_good s) (way_of (spelled kind.Changer cdb.items bytes.items)) None) bad))
+      subst (KeepsVolumes (c ∷ ds) (v ∷ ds) (asked 0) r) (sym (ap (λ (s : Status). cond (is_good s) (way_of (decoded_command kind.Changer cdb.items bytes.items)) None) bad))
       (λ address. equal_stays (is_to (asked 0) address) (is_written (asked 0) r) (volume_in (c ∷ ds) address) (volume_in (v ∷ ds) address) (changer_same c v ds address same))
 
   move_keeps : {A : Type 0} (v : UnitView) (drives after : A) (carried : Result (DeviceView × A) Condition) (set : A → List UnitView) (l : ℕ) (more : List ℕ) (names : named (drives_of c.device) cdb.items ≡ l ∷ more) → set drives ≡ ds

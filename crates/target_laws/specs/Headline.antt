@@ -16,17 +16,17 @@ use Rattle.judgement.specs.declared.command.Command.TheVariants.{ReserveIn}
 use Rattle.judgement.specs.declared.reply.Reply.{Reply}
 use Rattle.unit_laws.specs.Check.{ComesToTheCheck}
 use Rattle.judgement.specs.Commands.{class_of_command, act_of_command}
-use Rattle.judgement.specs.Findings.{rule_of, in_conflict}
+use Rattle.judgement.specs.Decisions.{rule_of, in_conflict}
 use Rattle.judgement.specs.History.{accepted_by, after_history}
 use Rattle.judgement.specs.Readings.{verdict_of, status_data}
 use Rattle.judgement.specs.Judge.{let_through}
-use Rattle.judgement.specs.Present.{Present}
-use Rattle.judgement.specs.declared.finding.Finding.{Finding}
-use Rattle.judgement.specs.Kept.{has_room, met}
+use Rattle.judgement.specs.JudgedUnit.{JudgedUnit}
+use Rattle.judgement.specs.declared.decision.Decision.{Decision}
+use Rattle.judgement.specs.UnitState.{has_room, after_contact}
 use Rattle.judgement.specs.Replies.{busy, conflict, numbered, IsWhole}
 use Rattle.logical_unit.specs.Medium.{taken_out, put_in}
 use Rattle.logical_unit.specs.Move.{is_left}
-use Rattle.logical_unit.specs.Step.{HasNumber, contacted_present, recorded, entry_of}
+use Rattle.logical_unit.specs.Step.{HasNumber, contacted_present, recorded, record_of}
 use Rattle.logical_unit.specs.UnitView.{UnitView, last_number}
 use Rattle.target_core.specs.declared.event.Event.{Event}
 use Rattle.target_core.specs.declared.event.Event.TheVariants as event
@@ -40,7 +40,7 @@ by_history u lun es rs = after_history u.kept.reservations (accepted_in (kind_of
 
 -- the record of a refused command: the cell of the permission table that it stands in by the reservations h, and the rule on keys if one was broken
 abbrev pub refusal_entry : (h : State) → UnitView → Nexus → Command → Record
-refusal_entry h now n command = entry_of (last_number now + 1) (Some n) (act_of_command command) (in_conflict (cell h n (class_of_command command)) (rule_of (verdict_of h n command))) ReservationConflict None
+refusal_entry h now n command = record_of (last_number now + 1) (Some n) (act_of_command command) (in_conflict (cell h n (class_of_command command)) (rule_of (verdict_of h n command))) ReservationConflict None
 
 -- a refused command: RESERVATION CONFLICT changes nothing at the unit
 pub record IsRefused (h : State) (now left : UnitView) (n : Nexus) (command : Command) (r : Reply) : Type 0 where
@@ -51,13 +51,13 @@ pub record IsRefused (h : State) (now left : UnitView) (n : Nexus) (command : Co
   -- so are the registrations, the reservation and the generation
   pub reservations : left.kept.reservations ≡ now.kept.reservations
   -- and all else that the unit keeps, but that its sender now had contact
-  pub contact : left.kept ≡ met now.kept n
+  pub contact : left.kept ≡ after_contact now.kept n
   -- and the records are those that were there and one more: it names the sender's cell of the permission table, and the rule on keys if one decided
   pub base : left.base ≡ now.base
   pub entry : left.records ≡ now.records ++ refusal_entry h now n command ∷ []
 
 -- the answer behind the check
-abbrev pub behind : UnitView → Nexus → Command → List ℕ → Present × Finding × Reply
+abbrev pub behind : UnitView → Nexus → Command → List ℕ → JudgedUnit × Decision × Reply
 behind now n command bytes = let_through (contacted_present now n) n command bytes
 
 -- a MOVE MEDIUM that the changer leaves to the drives ends as they decide: GOOD, or CHECK CONDITION with the changer's elements as they were

@@ -22,20 +22,20 @@ use Rattle.target_core.specs.Run.{Runs}
 use Rattle.target_laws.specs.Volumes.{volume_in, Way, carried_by, is_to, is_written, StaysSame, IsCarried, KeepsVolumes}
 
 -- what A sends to a logical unit: the bytes, and the data
-abbrev pub Sent : Type 0
-Sent = ℕ × List ℕ × List ℕ
+abbrev pub Sending : Type 0
+Sending = ℕ × List ℕ × List ℕ
 
-abbrev pub Sends : Event → Sent → Type 0
+abbrev pub Sends : Event → Sending → Type 0
 Sends (event.Command n lun cdb bytes) s = (n ≡ a) × (lun ≡ s.0) × (cdb.items ≡ s.1) × (bytes.items ≡ s.2)
 Sends e s = ⊥
 
-abbrev pub AllSend : List Event → List Sent → Type 0
+abbrev pub AllSend : List Event → List Sending → Type 0
 AllSend [] [] = Unit {0}
 AllSend (e ∷ es) (s ∷ l) = Sends e s × AllSend es l
 AllSend es l = ⊥
 
 -- there are events that send these commands, wherever their data lie
-pub record IsSent (l : List Sent) : Type 0 where
+pub record IsSent (l : List Sending) : Type 0 where
   pub events : List Event
   pub send : AllSend events l
 
@@ -46,7 +46,7 @@ test_unit_ready = replicate 6 0
 abbrev pub write : List ℕ
 write = 0x0A ∷ 0 ∷ 0 ∷ 0 ∷ 2 ∷ 0 ∷ []
 
-abbrev pub sent : List Sent
+abbrev pub sent : List Sending
 sent =
     (0, move slot_1 drive_1, [])
     ∷ (1, test_unit_ready, [])
@@ -158,7 +158,7 @@ pub record IsFailedRun (es : List Event) : Type 0 where
   pub fails : is_failure reply.sense ≡ true
 
 -- a move out of the drive
-abbrev pub sent_out : List Sent
+abbrev pub sent_out : List Sending
 sent_out = (0, move drive_1 slot_2, []) ∷ []
 
 abbrev pub FailedRun : Type 0

@@ -26,9 +26,9 @@ use Rattle.device_server.specs.Drive.{empty_drive}
 use Rattle.device_server.specs.View.{Drive, Changer}
 use Rattle.judgement.specs.declared.command.Command.TheVariants as command
 use Rattle.judgement.specs.declared.reply.Reply.{Reply}
-use Rattle.judgement.specs.Commands.{spelled}
+use Rattle.judgement.specs.Commands.{decoded_command}
 use Rattle.judgement.specs.Readings.{verdict_of}
-use Rattle.judgement.specs.Kept.{has_room}
+use Rattle.judgement.specs.UnitState.{has_room}
 use Rattle.judgement.specs.Replies.{busy}
 use Rattle.logical_unit.specs.Step.{made}
 use Rattle.logical_unit.specs.UnitView.{UnitView}
@@ -46,21 +46,21 @@ abbrev pub b : Nexus
 b = record { sas = 0x500000000000000B; port = 1 }
 
 -- what a command's event sends to the drive, which is unit 1: the sender, the bytes and the data
-abbrev pub Sent : Type 0
-Sent = Nexus × List ℕ × List ℕ
+abbrev pub Sending : Type 0
+Sending = Nexus × List ℕ × List ℕ
 
 -- an event is that command to the drive
-abbrev pub Sends : Event → Sent → Type 0
+abbrev pub Sends : Event → Sending → Type 0
 Sends (event.Command n lun cdb bytes) s = (n ≡ s.0) × (lun ≡ 1) × (cdb.items ≡ s.1) × (bytes.items ≡ s.2)
 Sends e s = ⊥
 
-abbrev pub AllSend : List Event → List Sent → Type 0
+abbrev pub AllSend : List Event → List Sending → Type 0
 AllSend [] [] = Unit {0}
 AllSend (e ∷ es) (s ∷ l) = Sends e s × AllSend es l
 AllSend es l = ⊥
 
 -- there are events that send these commands, wherever their data lie
-pub record IsSent (l : List Sent) : Type 0 where
+pub record IsSent (l : List Sending) : Type 0 where
   pub events : List Event
   pub send : AllSend events l
 
@@ -83,7 +83,7 @@ abbrev pub read_reservation : List ℕ
 read_reservation = 0x5E ∷ 1 ∷ 0 ∷ 0 ∷ 0 ∷ 0 ∷ 0 ∷ 0 ∷ 0xFF ∷ 0 ∷ []
 
 -- what A and B send
-abbrev pub sent : List Sent
+abbrev pub sent : List Sending
 sent =
     (a, test_unit_ready, [])
     ∷ (a, reserve_out 0 0, parameters 0 1)
@@ -126,10 +126,10 @@ pub record IsWorked (tag : VolumeTag) (es : List Event) : Type 0 where
   pub before_register : by_history (drive tag) 1 (take 6 es) (take 6 replies) ≡ held
   pub before_read : by_history (drive tag) 1 (take 7 es) (take 7 replies) ≡ held
   -- they are denied, allowed, and barred by the first rule
-  pub spells_write : spelled kind.Drive write (7 ∷ 8 ∷ []) ≡ Ok (command.Device (request.Write false 2))
+  pub decodes_write : decoded_command kind.Drive write (7 ∷ 8 ∷ []) ≡ Ok (command.Device (request.Write false 2))
   pub denied : verdict_of held b (command.Device (request.Write false 2)) ≡ Denied (record { class = class.Write; res_type = Ea; role = Other })
   pub allowed : verdict_of held a (command.Device (request.Write false 2)) ≡ Allowed
-  pub spells_register : spelled kind.Drive (reserve_out 0 0) (parameters 5 2) ≡ Ok (command.ReserveOut wrong_key)
+  pub decodes_register : decoded_command kind.Drive (reserve_out 0 0) (parameters 5 2) ≡ Ok (command.ReserveOut wrong_key)
   pub broken : verdict_of held b (command.ReserveOut wrong_key) ≡ Rule K1
   -- as the records say: the stage, the cell, the rule
   pub stages : map (λ (e : Record). e.stage) last.records

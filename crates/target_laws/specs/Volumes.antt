@@ -7,7 +7,7 @@ use Rattle.scsi_sense.specs.declared.condition.Condition.{Condition}
 use Rattle.tape_medium.specs.declared.volume.Volume.{Volume}
 use Rattle.device_server.specs.Volumes.{volume_at, SameCartridge, SameVolume, SameAt, is_write}
 use Rattle.judgement.specs.declared.reply.Reply.{Reply}
-use Rattle.judgement.specs.Commands.{spelled}
+use Rattle.judgement.specs.Commands.{decoded_command}
 use Rattle.judgement.specs.declared.command.Command.{Command}
 use Rattle.judgement.specs.declared.command.Command.TheVariants.{Device}
 use Rattle.judgement.specs.History.{is_good}
@@ -43,7 +43,7 @@ way_of command = None
 
 -- the way that an event carried a volume: that of a MOVE MEDIUM to the changer that ended GOOD
 abbrev pub carried_by : Event → Reply → Option Way
-carried_by (event.Command n zero cdb bytes) r = if is_good r.status then way_of (spelled kind.Changer cdb.items bytes.items) else None
+carried_by (event.Command n zero cdb bytes) r = if is_good r.status then way_of (decoded_command kind.Changer cdb.items bytes.items) else None
 carried_by e r = None
 
 abbrev pub lun_of : Event → ℕ
@@ -61,7 +61,7 @@ writes command = false
 
 -- whether an event writes on the tape of its drive: a WRITE, WRITE FILEMARKS or ERASE that ended GOOD
 abbrev pub is_written : Event → Reply → Bool
-is_written (event.Command n lun cdb bytes) r = is_good r.status && writes (spelled kind.Drive cdb.items bytes.items)
+is_written (event.Command n lun cdb bytes) r = is_good r.status && writes (decoded_command kind.Drive cdb.items bytes.items)
 is_written e r = false
 
 -- what stays the same of a volume: all of it, unless the event is to its drive; then all but where its tape stands, and but what is on it

@@ -19,13 +19,13 @@ use Rattle.audit_log.specs.declared.act.Act.{Act}
 use Rattle.audit_log.specs.declared.act.Act.TheVariants.{Command, ReserveOut, Invalid, Loss, Reset, MediumIn, MediumOut}
 use Rattle.audit_log.specs.declared.record.Record.{Record}
 use Rattle.audit_log.specs.declared.stage.Stage.TheVariants.{ResetAttention, ReservationCheck, OtherAttention, Fields, Device}
-use Rattle.judgement.specs.declared.finding.Finding.{Finding}
+use Rattle.judgement.specs.declared.decision.Decision.{Decision}
 use Rattle.judgement.specs.declared.reply.Reply.{Reply}
 use Rattle.judgement.specs.Conditions.{condition_of_attention, condition_of_refusal}
-use Rattle.judgement.specs.Findings.{at_stage, let_in, in_conflict}
+use Rattle.judgement.specs.Decisions.{at_stage, let_in, in_conflict}
 use Rattle.judgement.specs.Replies.{conflict, check, good, IsWhole}
-use Rattle.judgement.specs.KeptView.{KeptView}
-use Rattle.judgement.specs.Kept.{met}
+use Rattle.judgement.specs.UnitStateView.{UnitStateView}
+use Rattle.judgement.specs.UnitState.{after_contact}
 use Rattle.judgement.specs.Readings.{verdict_by}
 use Rattle.judgement.specs.Judge.{waiting}
 use Rattle.logical_unit.specs.Legal.{kept_by, Says, SaysItsOwn, IsCarriedOut, IsLetThrough, IsChecked, IsCommand, IsJudgedAs, AreJudged, ConflictsAtTheCheck}
@@ -33,10 +33,10 @@ use Rattle.logical_unit.specs.Legal.{kept_by, Says, SaysItsOwn, IsCarriedOut, Is
 abbrev pub AtTheCheck : Record → Type 0
 AtTheCheck e = (e.status ≡ ReservationConflict) ↔ (e.stage ≡ ReservationCheck)
 
-elsewhere : (e : Record) (f : Finding) (r : Reply) → r.status ≢ ReservationConflict → f.stage ≢ ReservationCheck → Says e f r → AtTheCheck e
+elsewhere : (e : Record) (f : Decision) (r : Reply) → r.status ≢ ReservationConflict → f.stage ≢ ReservationCheck → Says e f r → AtTheCheck e
 elsewhere e f r a b s = (λ h. absurd (a (sym s.status ∙ h)), λ h. absurd (b (sym s.stage ∙ h)))
 
-conflicting : (e : Record) (f : Finding) → f.stage ≡ ReservationCheck → Says e f conflict → AtTheCheck e
+conflicting : (e : Record) (f : Decision) → f.stage ≡ ReservationCheck → Says e f conflict → AtTheCheck e
 conflicting e f b s = (λ h. s.stage ∙ b, λ h. s.status)
 
 own_stage : (e : Record) → (e.stage ≡ Fields) ⊎ (e.stage ≡ Device) → e.stage ≢ ReservationCheck
@@ -50,7 +50,7 @@ whole_no_conflict e (inr a) h = let is = a.0 in cc
 own : (e : Record) (at : Cell) → SaysItsOwn e at → AtTheCheck e
 own e at s = (λ h. absurd (whole_no_conflict e s.whole h), λ h. absurd (own_stage e s.stage h))
 
-carried : (k : KeptView) (n : Nexus) (list : Option OutParams) (class : Class) (e : Record) → IsCarriedOut k n list class e → AtTheCheck e
+carried : (k : UnitStateView) (n : Nexus) (list : Option OutParams) (class : Class) (e : Record) → IsCarriedOut k n list class e → AtTheCheck e
 carried k n None class e = own e (cell k.reservations n class)
 carried k n (Some params) class e =
     let at = cell k.reservations n class in
@@ -59,7 +59,7 @@ carried k n (Some params) class e =
       | None ↦ elsewhere e (let_in at Device) (good []) (λ h. cc) (λ h. cc)
     ]
 
-let_through : (k : KeptView) (n : Nexus) (list : Option OutParams) (class : Class) (e : Record) → IsLetThrough k n list class e → AtTheCheck e
+let_through : (k : UnitStateView) (n : Nexus) (list : Option OutParams) (class : Class) (e : Record) → IsLetThrough k n list class e → AtTheCheck e
 let_through k n list class e =
     let at = cell k.reservations n class in
     elim (waiting class (first_other_of k.slots n)) as (λ (o : Option Kind). (elim o [ Some kind ↦ Says e (let_in at OtherAttention) (check (condition_of_attention kind)) | None ↦ IsCarriedOut k n list class e ]) → AtTheCheck e) [
@@ -67,7 +67,7 @@ let_through k n list class e =
       | None ↦ carried k n list class e
     ]
 
-checked : (k : KeptView) (n : Nexus) (list : Option OutParams) (class : Class) (e : Record) → IsChecked k n list class e → AtTheCheck e
+checked : (k : UnitStateView) (n : Nexus) (list : Option OutParams) (class : Class) (e : Record) → IsChecked k n list class e → AtTheCheck e
 checked k n list class e =
     let at = cell k.reservations n class in
     elim (verdict_by k.reservations n list class) as (λ (v : Verdict). (elim v [ Allowed ↦ IsLetThrough k n list class e | Denied d ↦ Says e (in_conflict at None) conflict | Rule rule ↦ Says e (in_conflict at (Some rule)) conflict ]) → AtTheCheck e) [
@@ -76,16 +76,16 @@ checked k n list class e =
       | Rule rule ↦ conflicting e (in_conflict at (Some rule)) refl
     ]
 
-commanded : (k : KeptView) (n : Nexus) (list : Option OutParams) (class : Class) (e : Record) → IsCommand k n list class e → AtTheCheck e
+commanded : (k : UnitStateView) (n : Nexus) (list : Option OutParams) (class : Class) (e : Record) → IsCommand k n list class e → AtTheCheck e
 commanded k n list class e =
     elim (waiting class (first_reset_of k.slots n)) as (λ (o : Option Kind). (elim o [ Some kind ↦ Says e (at_stage ResetAttention) (check (condition_of_attention kind)) | None ↦ IsChecked k n list class e ]) → AtTheCheck e) [
       | Some kind ↦ elsewhere e (at_stage ResetAttention) (check (condition_of_attention kind)) (λ h. cc) (λ h. cc)
       | None ↦ checked k n list class e
     ]
 
-judged : (k : KeptView) (nexus : Option Nexus) (act : Act) (e : Record) → IsJudgedAs k nexus act e → AtTheCheck e
-judged k (Some n) (Command class) e j = commanded (met k n) n None class e j.judged
-judged k (Some n) (ReserveOut params) e j = commanded (met k n) n (Some params) (class_of_action params.act) e j.judged
+judged : (k : UnitStateView) (nexus : Option Nexus) (act : Act) (e : Record) → IsJudgedAs k nexus act e → AtTheCheck e
+judged k (Some n) (Command class) e j = commanded (after_contact k n) n None class e j.judged
+judged k (Some n) (ReserveOut params) e j = commanded (after_contact k n) n (Some params) (class_of_action params.act) e j.judged
 judged k (Some n) Invalid e j = elsewhere e _ (check j.condition) (λ h. cc) (λ h. cc) j.says
 judged k (Some n) Loss e j = elsewhere e _ (good []) (λ h. cc) (λ h. cc) j.says
 judged k (Some n) Reset e j = absurd j
@@ -99,7 +99,7 @@ judged k None Reset e j = elsewhere e _ (good []) (λ h. cc) (λ h. cc) j
 judged k None MediumIn e j = elsewhere e _ (good []) (λ h. cc) (λ h. cc) j
 judged k None MediumOut e j = elsewhere e _ (good []) (λ h. cc) (λ h. cc) j.says
 
-all : (k : KeptView) (es : List Record) → AreJudged k es → All AtTheCheck es
+all : (k : UnitStateView) (es : List Record) → AreJudged k es → All AtTheCheck es
 all k [] j place d within = absurd (omega (arith, within))
 all k (e ∷ es) j zero d within = judged k e.nexus e.act e j.0
 all k (e ∷ es) j (suc place) d within = all (kept_by k e) es j.1 place d (omega (arith, within))

@@ -8,25 +8,25 @@ use Rattle.unit_attention.specs.Queues.{first_reset_of}
 use Rattle.pr_core.specs.State.{cell}
 use Rattle.pr_core.specs.declared.verdict.Verdict.TheVariants.{Allowed}
 use Rattle.device_server.specs.View.{kind_of}
-use Rattle.judgement.specs.declared.finding.Finding.{Finding}
+use Rattle.judgement.specs.declared.decision.Decision.{Decision}
 use Rattle.judgement.specs.declared.command.Command.{Command}
-use Rattle.judgement.specs.Commands.{spelled, class_of_command, act_of_command}
-use Rattle.judgement.specs.Findings.{rule_of, in_conflict}
+use Rattle.judgement.specs.Commands.{decoded_command, class_of_command, act_of_command}
+use Rattle.judgement.specs.Decisions.{rule_of, in_conflict}
 use Rattle.judgement.specs.Replies.{conflict}
 use Rattle.logical_unit.specs.UnitView.{UnitView}
-use Rattle.judgement.specs.Kept.{met}
+use Rattle.judgement.specs.UnitState.{after_contact}
 use Rattle.judgement.specs.Readings.{verdict_of}
 use Rattle.judgement.specs.Judge.{waiting, let_through}
 use Rattle.logical_unit.specs.Step.{contacted_present, recorded, answered}
 
 -- the bytes spell a command, and no attention of ASC 29h waits for its sender, or the command passes over it
 pub record ComesToTheCheck (u : UnitView) (n : Nexus) (cdb bytes : List ℕ) (command : Command) : Type 0 where
-  pub spells : spelled (kind_of u.device) cdb bytes ≡ Ok command
-  pub ready : waiting (class_of_command command) (first_reset_of (met u.kept n).slots n) ≡ None
+  pub decodes : decoded_command (kind_of u.device) cdb bytes ≡ Ok command
+  pub ready : waiting (class_of_command command) (first_reset_of (after_contact u.kept n).slots n) ≡ None
 
 -- what the record of a conflict says: the sender's cell, and the rule on keys where one was broken
-abbrev pub conflict_finding : UnitView → Nexus → Command → Finding
-conflict_finding u n command =
+abbrev pub conflict_decision : UnitView → Nexus → Command → Decision
+conflict_decision u n command =
     in_conflict (cell u.kept.reservations n (class_of_command command)) (rule_of (verdict_of u.kept.reservations n command))
 
 pub record IsDecided (u : UnitView) (n : Nexus) (cdb bytes : List ℕ) (command : Command) : Type 0 where
@@ -34,7 +34,7 @@ pub record IsDecided (u : UnitView) (n : Nexus) (cdb bytes : List ℕ) (command 
   pub carried_out : verdict_of u.kept.reservations n command ≡ Allowed
       → answered u n cdb bytes ≡ recorded u n (act_of_command command) (let_through (contacted_present u n) n command bytes)
   pub unchanged : verdict_of u.kept.reservations n command ≢ Allowed
-      → answered u n cdb bytes ≡ recorded u n (act_of_command command) (contacted_present u n, conflict_finding u n command, conflict)
+      → answered u n cdb bytes ≡ recorded u n (act_of_command command) (contacted_present u n, conflict_decision u n command, conflict)
 
 abbrev pub ReservationCheck : Type 0
 ReservationCheck = (u : UnitView) (n : Nexus) (cdb bytes : List ℕ) (command : Command) → ComesToTheCheck u n cdb bytes command → IsDecided u n cdb bytes command

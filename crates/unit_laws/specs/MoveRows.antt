@@ -20,7 +20,7 @@ use Rattle.device_server.specs.View.{DeviceView, Changer}
 use Rattle.judgement.specs.declared.reply.Reply.{Reply}
 use Rattle.judgement.specs.declared.command.Command.TheVariants.{Prevent}
 use Rattle.judgement.specs.declared.command.Command.TheVariants as command
-use Rattle.judgement.specs.KeptView.{KeptView}
+use Rattle.judgement.specs.UnitStateView.{UnitStateView}
 use Rattle.judgement.specs.Judge.{asks_memory}
 use Rattle.logical_unit.specs.Move.{TwoDrives, judged_at, route_at, carried_one, is_carried, moved_one, moved_two, numbers_of}
 use Rattle.logical_unit.specs.Route.{named}
@@ -68,7 +68,7 @@ abbrev pub library : List (Option VolumeTag) → (first second : Option Volume) 
 library marks first second = Changer (record { data_transfer = marks; import_export = []; storage = first ∷ second ∷ [] })
 
 -- what a unit keeps at which nobody is registered, and nothing waits for A and B
-abbrev pub kept_free : (lun : ℕ) → KeptView
+abbrev pub kept_free : (lun : ℕ) → UnitStateView
 kept_free lun = record { lun = lun; units = 2; reservations = power_on; slots = slots_with []; preventers = [] }
 
 abbrev pub changer_of : DeviceView → UnitView

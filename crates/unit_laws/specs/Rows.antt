@@ -26,12 +26,12 @@ use Rattle.audit_log.specs.declared.act.Act.{Act}
 use Rattle.audit_log.specs.declared.act.Act.TheVariants as act
 use Rattle.audit_log.specs.declared.record.Record.{Record}
 use Rattle.audit_log.specs.declared.stage.Stage.{Stage}
-use Rattle.audit_log.specs.declared.stage.Stage.TheVariants.{Spelling, ReservationCheck, Fields, Device}
+use Rattle.audit_log.specs.declared.stage.Stage.TheVariants.{Decoding, ReservationCheck, Fields, Device}
 use Rattle.tape_medium.specs.Elements.{empty_elements}
 use Rattle.device_server.specs.View.{DeviceView, Drive, Changer}
 use Rattle.judgement.specs.declared.reply.Reply.{Reply}
 use Rattle.judgement.specs.declared.command.Command.TheVariants as command
-use Rattle.judgement.specs.KeptView.{KeptView}
+use Rattle.judgement.specs.UnitStateView.{UnitStateView}
 use Rattle.judgement.specs.Readings.{verdict_of}
 use Rattle.logical_unit.specs.declared.medium_fault.MediumFault.TheVariants.{NotADrive, Prevented, Empty, Full, Busy}
 use Rattle.logical_unit.specs.UnitView.{UnitView}
@@ -56,7 +56,7 @@ held = record { keys = (a, 1) ∷ []; reservation = Some (Ea, a); generation = 1
 abbrev pub slots_with : List Kind → Slots
 slots_with waiting = (a, []) ∷ (b, waiting) ∷ []
 
-abbrev pub kept_by_a : Slots → List Nexus → KeptView
+abbrev pub kept_by_a : Slots → List Nexus → UnitStateView
 kept_by_a slots preventers = record { lun = 1; units = 2; reservations = held; slots = slots; preventers = preventers }
 
 abbrev pub volume : VolumeTag → Volume
@@ -65,7 +65,7 @@ volume tag = record { tag = tag; protected = false; tape = blank 1000 }
 abbrev pub drive_of : Option Volume → Bool → DeviceView
 drive_of bay loaded = Drive (record { bay = bay; loaded = loaded; block_length = 0 })
 
-abbrev pub unit_with : DeviceView → KeptView → UnitView
+abbrev pub unit_with : DeviceView → UnitStateView → UnitView
 unit_with device kept = record { device = device; kept = kept; base = record { kept = kept; last = 0 }; records = [] }
 
 abbrev pub drive_held : VolumeTag → UnitView
@@ -152,7 +152,7 @@ pub record Sensing (tag : VolumeTag) : Type 0 where
 pub record FirstContact (tag : VolumeTag) : Type 0 where
   pub slot : (answered (drive_held tag) c (0xFF ∷ []) []).0.kept.slots ≡ slots_with [] ++ (c, PowerOn ∷ []) ∷ []
   pub told : asked (drive_held tag) c (0xFF ∷ []) []
-      ≡ Some (record { status = CheckCondition; sense = sense_with 5 0x20 0; payload = []; stage = Spelling; cell = None; rule = None })
+      ≡ Some (record { status = CheckCondition; sense = sense_with 5 0x20 0; payload = []; stage = Decoding; cell = None; rule = None })
   pub invalid : map (λ (e : Record). e.act) (answered (drive_held tag) c (0xFF ∷ []) []).0.records ≡ act.Invalid ∷ []
 
 -- PREVENT 1 prevents, 2 and 3 are refused fields, 0 allows

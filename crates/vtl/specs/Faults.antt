@@ -1,11 +1,11 @@
 -- The exit status of each fault of the program, and what it writes on standard error (profile).
 use Rattle.std.specs.Prelude.{ℕ, List, [], ◌∷◌, ◌++◌, Option, Some, Result, Ok, Err, codes, string_bytes}
 use Rattle.std.specs.Option.{option_map}
-use Rattle.command_line_fault.specs.Faults.{command_line_status, command_line_text}
-use Rattle.conversing.specs.Faults as session
-use Rattle.listening.specs.Faults.{serve_status, serve_text}
+use Rattle.command_line.specs.Faults.{command_line_status, command_line_text}
+use Rattle.client_session.specs.Faults as session
+use Rattle.server_socket.specs.Faults.{socket_status, socket_text}
 use Rattle.replay.specs.Faults as replay
-use Rattle.script_input.specs.Faults as input
+use Rattle.script_lines.specs.InputFaults as input
 use Rattle.vtl.specs.declared.client_fault.ClientFault.{ClientFault}
 use Rattle.vtl.specs.declared.client_fault.ClientFault.TheVariants as client
 use Rattle.vtl.specs.declared.program_fault.ProgramFault.{ProgramFault}
@@ -19,7 +19,7 @@ client_status (client.Session fault) = session.exit_status fault
 abbrev pub program_status : ProgramFault → ℕ
 program_status (CommandLine fault) = command_line_status fault
 program_status (Replay fault) = replay.exit_status fault
-program_status (Serve fault) = serve_status fault
+program_status (Serve fault) = socket_status fault
 program_status (Client fault) = client_status fault
 program_status Cells = 4
 
@@ -32,7 +32,7 @@ client_text (client.Session fault) = session.fault_text fault
 abbrev pub program_text : ProgramFault → Option (List ℕ)
 program_text (CommandLine fault) = command_line_text fault
 program_text (Replay fault) = Some (replay.fault_text fault)
-program_text (Serve fault) = Some (serve_text fault)
+program_text (Serve fault) = Some (socket_text fault)
 program_text (Client fault) = Some (client_text fault)
 program_text Cells = Some (codes "vtl: device fault\nvtl: the permission table could not be written")
 

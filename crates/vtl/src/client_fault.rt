@@ -1,5 +1,5 @@
-use conversing::ClientFault as SessionFault;
-use script_input::InputFault;
+use client_session::ClientSessionFault;
+use script_lines::InputFault;
 use std::fmt;
 use thiserror::Error;
 
@@ -10,7 +10,7 @@ pub enum ClientFault {
     Input(#[from] InputFault),
     /// Nobody listens at this path, or nobody that takes a connection.
     CannotConnect(String),
-    Session(#[from] SessionFault),
+    Session(#[from] ClientSessionFault),
 }
 
 impl ClientFault {

@@ -5,13 +5,12 @@ ghost use Rattle.vtl.specs.Faults.{ending_line, ending_status};
 
 use crate::client::client;
 use crate::program_fault::ProgramFault;
-use command_line::{Task, task_of};
-use command_line_fault::CommandLineFault;
-use listening::serve;
+use command_line::{CommandLineFault, Task, task_of};
+use output_lines::{Audit, Explanations};
 use permission_chart::write_cells;
-use program_options::LibraryOptions;
+use program_options::{LibraryOptions, MAX_READS};
 use replay::{ReplayFault, replay};
-use replay_output::{Audit, Explanations};
+use server_socket::serve;
 use std::fs::Files;
 use std::io::Write;
 use std::net::Net;
@@ -21,9 +20,6 @@ use std::thread::Threads;
 use std::{env, io};
 use stocked_library::library;
 
-/// The most reads of standard input.
-const TURNS: u64 = 0xFFFF_FFFF;
-
 /// Does what the command line asks for, writes on `errors` why it couldn't, and answers the exit status.
 pub fn run<R: AllocGlobal + Env + Files + Input + Net + Print + Sync + Threads + Wait, W: Write>(
     rt: &R,
@@ -31,7 +27,7 @@ pub fn run<R: AllocGlobal + Env + Files + Input + Net + Print + Sync + Threads +
 ) -> u8 {
     let outcome = perform(rt);
     // Where the line can't be written, the status alone tells.
-    let _ = tell(rt, errors, &outcome);
+    let _ = print_outcome(rt, errors, &outcome);
     status_of(&outcome)
 }
 
@@ -47,7 +43,7 @@ fn status_of(outcome: &Result<(), ProgramFault>) -> u8
 
 /// Writes a fault as its lines. What `clap` says of a command line has lines of its own, which go to
 /// standard output where they are help or the version.
-fn tell<R: Print, W: Write>(
+fn print_outcome<R: Print, W: Write>(
     rt: &R,
     errors: &mut W,
     outcome: &Result<(), ProgramFault>,
@@ -74,8 +70,8 @@ fn perform<R: AllocGlobal + Env + Files + Input + Net + Print + Sync + Threads +
         Task::Replay(options, explanations, audit) => {
             Ok(replay_standard_input(rt, options, explanations, audit)?)
         }
-        Task::Serve(options, place, audit) => { Ok(serve(rt, options, place, audit)?) }
-        Task::Client(contact, explanations) => Ok(client(rt, contact, explanations)?),
+        Task::Serve(options, serving, audit) => { Ok(serve(rt, options, serving, audit)?) }
+        Task::Client(host, explanations) => Ok(client(rt, host, explanations)?),
         Task::Cells(class) => {
             write_cells(&mut io::writer(rt), class).map_err(|_| ProgramFault::Cells)
         }
@@ -115,6 +111,6 @@ fn replay_standard_input<R: AllocGlobal + Input + Print>(
         &mut writer,
         explanations,
         audit,
-        TURNS,
+        MAX_READS,
     )
 }

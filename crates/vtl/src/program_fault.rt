@@ -1,7 +1,7 @@
 use crate::client_fault::ClientFault;
-use command_line_fault::CommandLineFault;
-use listening::ServeFault;
+use command_line::CommandLineFault;
 use replay::ReplayFault;
+use server_socket::SocketFault;
 use std::alloc::AllocError;
 use std::fmt;
 use thiserror::Error;
@@ -11,7 +11,7 @@ use thiserror::Error;
 pub enum ProgramFault {
     CommandLine(#[from] CommandLineFault),
     Replay(#[from] ReplayFault),
-    Serve(#[from] ServeFault),
+    Serve(#[from] SocketFault),
     Client(#[from] ClientFault),
     /// The permission table couldn't be written, or not all of it.
     Cells,

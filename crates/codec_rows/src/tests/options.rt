@@ -1,4 +1,4 @@
-use program_options::{OptionFault, Term, nexus_of};
+use program_options::{OptionFault, ServeUntil, nexus_of};
 use scsi_nexus::Nexus;
 use std::test::Fail;
 
@@ -37,8 +37,11 @@ fn tells_a_bad_nexus(rt: HostRuntime) -> Result<(), Fail> {
 
 #[test]
 fn serves_by_so_many_workers(rt: HostRuntime) {
-    let rows = [(Term::Sessions(3), 3, 3), (Term::InputEnds(5), 5, u64::MAX)];
-    for (term, workers, sessions) in rows {
-        assert_eq!(rt; (term.workers(), term.sessions()), (workers, sessions));
+    let rows = [
+        (ServeUntil::Sessions(3), 3, 3),
+        (ServeUntil::InputEnds(5), 5, u64::MAX),
+    ];
+    for (until, workers, sessions) in rows {
+        assert_eq!(rt; (until.workers(), until.sessions()), (workers, sessions));
     }
 }

@@ -1,4 +1,4 @@
-use replay_script::{LineFault, Request, ScriptFault, events_of, requests_of};
+use script_lines::{ClientRequest, LineFault, ScriptFault, events_of, requests_of};
 use scsi_nexus::Nexus;
 use std::test::Fail;
 use target_core::Event;
@@ -71,14 +71,14 @@ fn takes_the_requests_of_a_host(rt: HostRuntime) -> Result<(), Fail> {
     let text = "# a comment\n\n1 0a0000000200 00fF\nreset 255\n0 000000000000";
     let requests = requests_of(rt.alloc(), text.as_bytes())?;
     assert_eq!(rt; requests.len(), 3);
-    let Request::Command { lun, cdb, bytes } = &requests[0] else {
+    let ClientRequest::Command { lun, cdb, bytes } = &requests[0] else {
         return Err("no command".into());
     };
     assert_eq!(rt; *lun, 1);
     assert_eq!(rt; cdb.as_slice(), b"\x0a\0\0\0\x02\0".as_slice());
     assert_eq!(rt; bytes.as_slice(), b"\0\xff".as_slice());
-    assert!(rt; matches!(&requests[1], Request::Reset { lun: 255 }));
-    let Request::Command { bytes, .. } = &requests[2] else {
+    assert!(rt; matches!(&requests[1], ClientRequest::Reset { lun: 255 }));
+    let ClientRequest::Command { bytes, .. } = &requests[2] else {
         return Err("no command".into());
     };
     assert!(rt; bytes.is_empty());

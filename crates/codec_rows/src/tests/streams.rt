@@ -1,6 +1,6 @@
 use frames::{
-    Frame, FrameFault, Front, Inbox, LoginAnswer, ReplyFault, ReplyFrame, ReplyFront, await_reply,
-    front_of, reply_of, write_frame, write_reply,
+    FrameFault, FrameRef, LoginAnswer, ParsedFrame, ParsedReply, ReadBuffer, ReplyFault,
+    ReplyFrame, ReplyWait, await_reply, parse_frame, parse_reply, write_frame, write_reply,
 };
 use scsi_nexus::Nexus;
 use scsi_sense::{Condition, Sense, Status};
@@ -44,15 +44,18 @@ fn reads_frames_off_a_trickle(rt: HostRuntime) -> Result<(), Fail> {
         bytes: ONE_SESSION,
         place: 0,
     };
-    let mut inbox = Inbox::new(rt.alloc())?;
+    let mut read_buffer = ReadBuffer::new(rt.alloc())?;
     let mut lines = Vec::new(rt.alloc());
     for _ in 0..64 {
-        let Ok(count) = inbox.fill(&mut reader) else {
+        let Ok(count) = read_buffer.fill(&mut reader) else {
             return Err("a read failed".into());
         };
-        if let Front::Whole(frame, size) = front_of(!lines.is_empty(), inbox.pending()) {
+        if let ParsedFrame::Complete(frame, size) = parse_frame(
+            !lines.is_empty(),
+            read_buffer.pending(),
+        ) {
             lines.push(format!(in rt.alloc(); "{frame:?}")?)?;
-            inbox.pass(size);
+            read_buffer.consume(size);
         }
         if count == 0 {
             break;
@@ -68,35 +71,35 @@ fn reads_frames_off_a_trickle(rt: HostRuntime) -> Result<(), Fail> {
         "Command { lun: 0, cdb: [0, 0, 0, 0, 0, 0], bytes: [] }"
     );
     assert_eq!(rt; lines[2].as_str(), "Logout");
-    assert!(rt; inbox.pending().is_empty());
+    assert!(rt; read_buffer.pending().is_empty());
     Ok(())
 }
 
 #[test]
 fn tells_a_fault_by_its_first_byte(rt: HostRuntime) {
-    assert!(rt; matches!(front_of(false, &[0, 0, 0]), Front::Partial));
+    assert!(rt; matches!(parse_frame(false, &[0, 0, 0]), ParsedFrame::Partial));
     assert!(rt;
         matches!(
-            front_of(false, &[0, 0, 0, 0]),
-            Front::Faulty(FrameFault::BadFrame)
+            parse_frame(false, &[0, 0, 0, 0]),
+            ParsedFrame::Invalid(FrameFault::BadFrame)
         )
     );
     assert!(rt;
         matches!(
-            front_of(false, &[0, 2, 0, 1]),
-            Front::Faulty(FrameFault::TooLong)
+            parse_frame(false, &[0, 2, 0, 1]),
+            ParsedFrame::Invalid(FrameFault::TooLong)
         )
     );
     assert!(rt;
         matches!(
-            front_of(true, &[0, 0, 0, 0x0b, 1]),
-            Front::Faulty(FrameFault::BadFrame)
+            parse_frame(true, &[0, 0, 0, 0x0b, 1]),
+            ParsedFrame::Invalid(FrameFault::BadFrame)
         )
     );
     assert!(rt;
         matches!(
-            front_of(true, &[0, 0, 0, 0x13, 2, 0, 0x11]),
-            Front::Faulty(FrameFault::BadFrame)
+            parse_frame(true, &[0, 0, 0, 0x13, 2, 0, 0x11]),
+            ParsedFrame::Invalid(FrameFault::BadFrame)
         )
     );
 }
@@ -139,23 +142,23 @@ fn writes_each_reply(rt: HostRuntime) -> Result<(), Fail> {
 #[test]
 fn writes_each_frame(rt: HostRuntime) -> Result<(), Fail> {
     let mut out = Vec::new(rt.alloc());
-    let test_unit_ready = Frame::Command {
+    let test_unit_ready = FrameRef::Command {
         lun: 0,
         cdb: &[0; 6],
         bytes: &[],
     };
-    write_frame(&mut out, &Frame::Login { nexus: A })?;
+    write_frame(&mut out, &FrameRef::Login { nexus: A })?;
     write_frame(&mut out, &test_unit_ready)?;
-    write_frame(&mut out, &Frame::Logout)?;
+    write_frame(&mut out, &FrameRef::Logout)?;
     assert_eq!(rt; out.as_slice(), ONE_SESSION);
     let mut out = Vec::new(rt.alloc());
-    let write = Frame::Command {
+    let write = FrameRef::Command {
         lun: 1,
         cdb: &[0x0a, 0, 0, 0, 4, 0],
         bytes: b"abcd",
     };
     write_frame(&mut out, &write)?;
-    write_frame(&mut out, &Frame::Reset { lun: 7 })?;
+    write_frame(&mut out, &FrameRef::Reset { lun: 7 })?;
     let expected = b"\0\0\0\x0d\x02\x01\x06\x0a\0\0\0\x04\0abcd\0\0\0\x02\x03\x07";
     assert_eq!(rt; out.as_slice(), expected.as_slice());
     Ok(())
@@ -163,18 +166,18 @@ fn writes_each_frame(rt: HostRuntime) -> Result<(), Fail> {
 
 #[test]
 fn tells_what_a_client_may_send(rt: HostRuntime) -> Result<(), Fail> {
-    let sent = |lun, cdb, bytes| Frame::Command { lun, cdb, bytes }.is_sendable();
+    let sent = |lun, cdb, bytes| FrameRef::Command { lun, cdb, bytes }.is_sendable();
     let longest = vec![in rt.alloc(); 0u8; 131_072 - 3 - 16]?;
     let longer = vec![in rt.alloc(); 0u8; 131_072 - 3 - 15]?;
     assert!(rt; sent(0, &[0; 16], longest.as_slice()));
     assert!(rt; !sent(0, &[0; 16], longer.as_slice()));
     assert!(rt; !sent(0, &[], &[]));
     assert!(rt; !sent(0, &[0; 17], &[]));
-    assert!(rt; Frame::Login { nexus: A }.is_sendable());
+    assert!(rt; FrameRef::Login { nexus: A }.is_sendable());
     let fifth = Nexus { sas: 1, port: 5 };
-    assert!(rt; !Frame::Login { nexus: fifth }.is_sendable());
-    assert!(rt; Frame::Reset { lun: 255 }.is_sendable());
-    assert!(rt; Frame::Logout.is_sendable());
+    assert!(rt; !FrameRef::Login { nexus: fifth }.is_sendable());
+    assert!(rt; FrameRef::Reset { lun: 255 }.is_sendable());
+    assert!(rt; FrameRef::Logout.is_sendable());
     Ok(())
 }
 
@@ -189,12 +192,16 @@ fn reads_replies_off_a_trickle(rt: HostRuntime) -> Result<(), Fail> {
         bytes: TWO_REPLIES,
         place: 0,
     };
-    let mut inbox = Inbox::new(rt.alloc())?;
+    let mut read_buffer = ReadBuffer::new(rt.alloc())?;
     let mut places = Vec::new(rt.alloc());
+    let mut turns = 64;
     for _ in 0..2 {
-        assert!(rt; matches!(await_reply(&mut inbox, &mut reader), Ok(true)));
+        assert_eq!(rt;
+            await_reply(&mut read_buffer, &mut reader, &mut turns),
+            ReplyWait::Arrived
+        );
         places.push(reader.place)?;
-        let ReplyFront::Whole(
+        let ParsedReply::Complete(
             ReplyFrame::Command {
                 status,
                 sense,
@@ -202,7 +209,7 @@ fn reads_replies_off_a_trickle(rt: HostRuntime) -> Result<(), Fail> {
                 bytes,
             },
             size,
-        ) = reply_of(inbox.pending())
+        ) = parse_reply(read_buffer.pending())
         else {
             return Err("no reply to a command".into());
         };
@@ -216,11 +223,20 @@ fn reads_replies_off_a_trickle(rt: HostRuntime) -> Result<(), Fail> {
             assert!(rt; sense.is_none());
             assert_eq!(rt; bytes, b"ab".as_slice());
         }
-        inbox.pass(size);
+        read_buffer.consume(size);
     }
     // No byte more than the reply is read.
     assert_eq!(rt; places.as_slice(), [33, 50].as_slice());
-    assert!(rt; matches!(await_reply(&mut inbox, &mut reader), Ok(false)));
+    assert_eq!(rt;
+        await_reply(&mut read_buffer, &mut reader, &mut turns),
+        ReplyWait::Ended
+    );
+    assert_eq!(rt; turns, 64 - 51);
+    let mut none_left = 0;
+    assert_eq!(rt;
+        await_reply(&mut read_buffer, &mut reader, &mut none_left),
+        ReplyWait::Failed
+    );
     Ok(())
 }
 
@@ -228,34 +244,34 @@ fn reads_replies_off_a_trickle(rt: HostRuntime) -> Result<(), Fail> {
 fn reads_each_reply(rt: HostRuntime) {
     assert!(rt;
         matches!(
-            reply_of(b"\0\0\0\x02\x81\0\0\0"),
-            ReplyFront::Whole(ReplyFrame::Login(LoginAnswer::Accepted), 6)
+            parse_reply(b"\0\0\0\x02\x81\0\0\0"),
+            ParsedReply::Complete(ReplyFrame::Login(LoginAnswer::Accepted), 6)
         )
     );
     assert!(rt;
         matches!(
-            reply_of(b"\0\0\0\x02\x81\x01"),
-            ReplyFront::Whole(ReplyFrame::Login(LoginAnswer::AlreadyConnected), 6)
+            parse_reply(b"\0\0\0\x02\x81\x01"),
+            ParsedReply::Complete(ReplyFrame::Login(LoginAnswer::AlreadyConnected), 6)
         )
     );
     assert!(rt;
         matches!(
-            reply_of(b"\0\0\0\x02\x83\x18"),
-            ReplyFront::Whole(ReplyFrame::Reset(Status::ReservationConflict), 6)
+            parse_reply(b"\0\0\0\x02\x83\x18"),
+            ParsedReply::Complete(ReplyFrame::Reset(Status::ReservationConflict), 6)
         )
     );
     assert!(rt;
         matches!(
-            reply_of(b"\0\0\0\x01\x84"),
-            ReplyFront::Whole(ReplyFrame::Logout, 5)
+            parse_reply(b"\0\0\0\x01\x84"),
+            ParsedReply::Complete(ReplyFrame::Logout, 5)
         )
     );
-    assert!(rt; matches!(reply_of(b"\0\0\0\x02\x83"), ReplyFront::Partial));
+    assert!(rt; matches!(parse_reply(b"\0\0\0\x02\x83"), ParsedReply::Partial));
 }
 
 fn fault_of(bytes: &[u8]) -> Option<ReplyFault> {
-    match reply_of(bytes) {
-        ReplyFront::Faulty(fault) => Some(fault),
+    match parse_reply(bytes) {
+        ParsedReply::Invalid(fault) => Some(fault),
         _ => None,
     }
 }

@@ -2,9 +2,9 @@
 //! that are too long or generated.
 
 use library_device::Device;
+use output_lines::{Audit, Explanations};
 use program_options::LibraryOptions;
 use replay::{ReplayFault, replay};
-use replay_output::{Audit, Explanations};
 use std::alloc::{AllocError, Global};
 use std::io::{Read, Write};
 use std::test::Fail;
@@ -43,5 +43,5 @@ fn replayed(
 
 /// The library that is made where no option says another size.
 fn usual(alloc: Global) -> Result<TargetCore<Device>, AllocError> {
-    library(alloc, &LibraryOptions::USUAL)
+    library(alloc, &LibraryOptions::DEFAULT)
 }

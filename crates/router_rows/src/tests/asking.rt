@@ -1,6 +1,6 @@
 //! Commands of the tests, and what their answers are compared with.
 
-use kept_unit::{Asked, Site};
+use kept_unit::{EventKind, UnitLedger};
 use library_device::Device;
 use logical_unit::Receipt;
 use lun_router::{Gate, Histories, Library, Seat};
@@ -51,8 +51,8 @@ pub(super) enum Ask {
     FromDrive2,
 }
 
-const fn command(cdb: &'static [u8], bytes: &'static [u8]) -> Asked<'static> {
-    Asked::Command { cdb, bytes }
+const fn command(cdb: &'static [u8], bytes: &'static [u8]) -> EventKind<'static> {
+    EventKind::Command { cdb, bytes }
 }
 
 /// The parameter list of PERSISTENT RESERVE OUT: no key, and key 1 to register.
@@ -64,10 +64,10 @@ const KEY_2_TO_COME: &[u8] = b"\0\0\0\0\0\0\0\0\0\0\0\0\0\0\0\x02\0\0\0\0\0\0\0\
 const BY_KEY_1: &[u8] = b"\0\0\0\0\0\0\0\x01\0\0\0\0\0\0\0\0\0\0\0\0\0\0\0\0";
 
 /// What is asked, whole.
-const fn asked_of(ask: Ask) -> Asked<'static> {
+const fn event_of(ask: Ask) -> EventKind<'static> {
     match ask {
-        Ask::Loss => Asked::Loss,
-        Ask::Reset => Asked::Reset,
+        Ask::Loss => EventKind::Loss,
+        Ask::Reset => EventKind::Reset,
         Ask::Ready => command(&[0; 6], &[]),
         Ask::Inquiry => command(b"\x12\0\0\0\x04\0", &[]),
         Ask::Rewind => command(b"\x01\0\0\0\0\0", &[]),
@@ -167,7 +167,15 @@ fn assert_answer(
 }
 
 /// Makes the call of a row, and compares the answer.
-pub(super) fn ask_one<L0: Site, L1: Site, L2: Site, L3: Site, L4: Site, G: Gate, R: Abort + Wait>(
+pub(super) fn ask_one<
+    L0: UnitLedger,
+    L1: UnitLedger,
+    L2: UnitLedger,
+    L3: UnitLedger,
+    L4: UnitLedger,
+    G: Gate,
+    R: Abort + Wait,
+>(
     rt: &R,
     alloc: Global,
     library: &Library<L0, L1, L2, L3, L4, Device, G>,
@@ -175,16 +183,26 @@ pub(super) fn ask_one<L0: Site, L1: Site, L2: Site, L3: Site, L4: Site, G: Gate,
     row: &Row,
 ) {
     let (shows, nexus, lun, ask, answer, records) = *row;
-    let done = match asked_of(ask) {
-        Asked::Loss => library.lose(rt, alloc, seat, nexus, lun),
-        Asked::Reset => library.reset(rt, alloc, seat, lun),
-        Asked::Command { cdb, bytes } => library.submit(rt, alloc, seat, nexus, lun, cdb, bytes),
+    let done = match event_of(ask) {
+        EventKind::Loss => library.lose(rt, alloc, seat, nexus, lun),
+        EventKind::Reset => library.reset(rt, alloc, seat, lun),
+        EventKind::Command { cdb, bytes } => library.submit(
+            rt, alloc, seat, nexus, lun, cdb, bytes,
+        ),
     };
     assert_answer(rt, done.receipt(), shows, answer, records);
 }
 
 /// Makes the calls of some rows, one after another.
-pub(super) fn ask_all<L0: Site, L1: Site, L2: Site, L3: Site, L4: Site, G: Gate, R: Abort + Wait>(
+pub(super) fn ask_all<
+    L0: UnitLedger,
+    L1: UnitLedger,
+    L2: UnitLedger,
+    L3: UnitLedger,
+    L4: UnitLedger,
+    G: Gate,
+    R: Abort + Wait,
+>(
     rt: &R,
     alloc: Global,
     library: &Library<L0, L1, L2, L3, L4, Device, G>,
@@ -197,7 +215,14 @@ pub(super) fn ask_all<L0: Site, L1: Site, L2: Site, L3: Site, L4: Site, G: Gate,
 }
 
 /// Closes a library, which has to be closed.
-pub(super) fn close<L0: Site, L1: Site, L2: Site, L3: Site, L4: Site, G: Gate>(
+pub(super) fn close<
+    L0: UnitLedger,
+    L1: UnitLedger,
+    L2: UnitLedger,
+    L3: UnitLedger,
+    L4: UnitLedger,
+    G: Gate,
+>(
     alloc: Global,
     library: Library<L0, L1, L2, L3, L4, Device, G>,
     seats: Vec<Seat<L0, L1, L2, L3, L4>>,

@@ -5,7 +5,7 @@ ghost use Rattle.lun_router.specs.Opening.{IsSince};
 use super::gates::Flags;
 use super::targets::two_drives;
 use super::{rows, scenes};
-use kept_unit::Site;
+use kept_unit::UnitLedger;
 use library_device::Device;
 use lun_router::{Blanks, Gate, Library, Seat};
 use std::alloc::Global;
@@ -34,11 +34,11 @@ pub(super) enum Scene {
 const SEATS: usize = 2;
 
 fn play<
-    L0: Site + Send + Sync,
-    L1: Site + Send + Sync,
-    L2: Site + Send + Sync,
-    L3: Site + Send + Sync,
-    L4: Site + Send + Sync,
+    L0: UnitLedger + Send + Sync,
+    L1: UnitLedger + Send + Sync,
+    L2: UnitLedger + Send + Sync,
+    L3: UnitLedger + Send + Sync,
+    L4: UnitLedger + Send + Sync,
     G: Gate,
     R: Abort + Clock + Threads + Wait + Sync,
 >(
@@ -61,11 +61,11 @@ fn play<
 }
 
 fn day<
-    L0: Site + Send + Sync,
-    L1: Site + Send + Sync,
-    L2: Site + Send + Sync,
-    L3: Site + Send + Sync,
-    L4: Site + Send + Sync,
+    L0: UnitLedger + Send + Sync,
+    L1: UnitLedger + Send + Sync,
+    L2: UnitLedger + Send + Sync,
+    L3: UnitLedger + Send + Sync,
+    L4: UnitLedger + Send + Sync,
     G: Gate,
     R: Abort + Clock + Threads + Wait + Sync,
 >(

@@ -1,7 +1,7 @@
 //! Scenes of two hosts in one thread, with the bytes that they must be answered.
 
 use super::asking::{A, Answer, Ask, B, DONE, Data, NO_MEDIUM, POWER_ON, Row, ask_all, close};
-use kept_unit::Site;
+use kept_unit::UnitLedger;
 use library_device::Device;
 use lun_router::{Gate, Library, Seat};
 use std::alloc::Global;
@@ -87,11 +87,11 @@ const SHARING: [Row; 20] = [
 
 /// A loss is told to the nexus, a reset to both, and neither reaches a unit that isn't there.
 pub(super) fn lose_and_reset<
-    L0: Site,
-    L1: Site,
-    L2: Site,
-    L3: Site,
-    L4: Site,
+    L0: UnitLedger,
+    L1: UnitLedger,
+    L2: UnitLedger,
+    L3: UnitLedger,
+    L4: UnitLedger,
     G: Gate,
     R: Abort + Wait,
 >(
@@ -110,11 +110,11 @@ pub(super) fn lose_and_reset<
 
 /// Two hosts of one drive: what one wrote stays as it is while the other's WRITE is denied by the reservation.
 pub(super) fn share_a_drive<
-    L0: Site,
-    L1: Site,
-    L2: Site,
-    L3: Site,
-    L4: Site,
+    L0: UnitLedger,
+    L1: UnitLedger,
+    L2: UnitLedger,
+    L3: UnitLedger,
+    L4: UnitLedger,
     G: Gate,
     R: Abort + Wait,
 >(

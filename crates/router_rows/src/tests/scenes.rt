@@ -2,7 +2,7 @@
 
 use super::asking::{A, Ask, B, DONE, NO_MEDIUM, POWER_ON, Row, ask_all, ask_one, close, nexus_at};
 use super::gates::Flags;
-use kept_unit::Site;
+use kept_unit::UnitLedger;
 use library_device::Device;
 use logical_unit::LogicalUnit;
 use lun_router::{CloseFault, Gate, Library, Seat};
@@ -29,7 +29,15 @@ enum Part<'a> {
 
 /// One hundred TEST UNIT READYs, to drive 1 and drive 2 by turns, with a drain of both after the fiftieth if there is
 /// somewhere to note the numbers that it hands out.
-fn ask_100_times<L0: Site, L1: Site, L2: Site, L3: Site, L4: Site, G: Gate, R: Abort + Wait>(
+fn ask_100_times<
+    L0: UnitLedger,
+    L1: UnitLedger,
+    L2: UnitLedger,
+    L3: UnitLedger,
+    L4: UnitLedger,
+    G: Gate,
+    R: Abort + Wait,
+>(
     rt: &R,
     alloc: Global,
     library: &Library<L0, L1, L2, L3, L4, Device, G>,
@@ -63,7 +71,15 @@ struct Drained {
 }
 
 /// Drains a unit, and notes the numbers.
-fn note_drained<L0: Site, L1: Site, L2: Site, L3: Site, L4: Site, G: Gate, R: Abort + Wait>(
+fn note_drained<
+    L0: UnitLedger,
+    L1: UnitLedger,
+    L2: UnitLedger,
+    L3: UnitLedger,
+    L4: UnitLedger,
+    G: Gate,
+    R: Abort + Wait,
+>(
     rt: &R,
     alloc: Global,
     library: &Library<L0, L1, L2, L3, L4, Device, G>,
@@ -89,7 +105,15 @@ fn count_of(unit: &Option<LogicalUnit<Device>>) -> usize {
 
 /// One command of each thread: that of the first to drive 1, whose gate waits for the answer of the second at drive 2,
 /// which is asked once the first is at its gate.
-fn ask_in_turn<L0: Site, L1: Site, L2: Site, L3: Site, L4: Site, G: Gate, R: Abort + Clock + Wait>(
+fn ask_in_turn<
+    L0: UnitLedger,
+    L1: UnitLedger,
+    L2: UnitLedger,
+    L3: UnitLedger,
+    L4: UnitLedger,
+    G: Gate,
+    R: Abort + Clock + Wait,
+>(
     rt: &R,
     alloc: Global,
     library: &Library<L0, L1, L2, L3, L4, Device, G>,
@@ -129,7 +153,15 @@ const SECOND_MOVES: [Row; 2] = [
 
 /// Moves a volume into a drive and back, fifty times: thread 0 that of 0400h by drive 1, thread 1 that of 0401h by
 /// drive 2.
-fn move_back_and_forth<L0: Site, L1: Site, L2: Site, L3: Site, L4: Site, G: Gate, R: Abort + Wait>(
+fn move_back_and_forth<
+    L0: UnitLedger,
+    L1: UnitLedger,
+    L2: UnitLedger,
+    L3: UnitLedger,
+    L4: UnitLedger,
+    G: Gate,
+    R: Abort + Wait,
+>(
     rt: &R,
     alloc: Global,
     library: &Library<L0, L1, L2, L3, L4, Device, G>,
@@ -150,7 +182,15 @@ fn move_back_and_forth<L0: Site, L1: Site, L2: Site, L3: Site, L4: Site, G: Gate
 }
 
 /// What a thread does with the seat at a place.
-fn play_part<L0: Site, L1: Site, L2: Site, L3: Site, L4: Site, G: Gate, R: Abort + Clock + Wait>(
+fn play_part<
+    L0: UnitLedger,
+    L1: UnitLedger,
+    L2: UnitLedger,
+    L3: UnitLedger,
+    L4: UnitLedger,
+    G: Gate,
+    R: Abort + Clock + Wait,
+>(
     rt: &R,
     alloc: Global,
     library: &Library<L0, L1, L2, L3, L4, Device, G>,
@@ -169,11 +209,11 @@ fn play_part<L0: Site, L1: Site, L2: Site, L3: Site, L4: Site, G: Gate, R: Abort
 
 /// Two threads play their part, each with a seat.
 fn play_in_threads<
-    L0: Site + Send + Sync,
-    L1: Site + Send + Sync,
-    L2: Site + Send + Sync,
-    L3: Site + Send + Sync,
-    L4: Site + Send + Sync,
+    L0: UnitLedger + Send + Sync,
+    L1: UnitLedger + Send + Sync,
+    L2: UnitLedger + Send + Sync,
+    L3: UnitLedger + Send + Sync,
+    L4: UnitLedger + Send + Sync,
     G: Gate,
     R: Abort + Clock + Threads + Wait + Sync,
 >(
@@ -193,11 +233,11 @@ fn play_in_threads<
 
 /// Both threads ask both drives. The trails have a record for each command, and agree.
 pub(super) fn ready_at_two_drives<
-    L0: Site + Send + Sync,
-    L1: Site + Send + Sync,
-    L2: Site + Send + Sync,
-    L3: Site + Send + Sync,
-    L4: Site + Send + Sync,
+    L0: UnitLedger + Send + Sync,
+    L1: UnitLedger + Send + Sync,
+    L2: UnitLedger + Send + Sync,
+    L3: UnitLedger + Send + Sync,
+    L4: UnitLedger + Send + Sync,
     G: Gate,
     R: Abort + Clock + Threads + Wait + Sync,
 >(
@@ -236,11 +276,11 @@ fn assert_all_numbers<R: Abort>(
 
 /// The same with drains of both drives in each thread.
 pub(super) fn drain_between<
-    L0: Site + Send + Sync,
-    L1: Site + Send + Sync,
-    L2: Site + Send + Sync,
-    L3: Site + Send + Sync,
-    L4: Site + Send + Sync,
+    L0: UnitLedger + Send + Sync,
+    L1: UnitLedger + Send + Sync,
+    L2: UnitLedger + Send + Sync,
+    L3: UnitLedger + Send + Sync,
+    L4: UnitLedger + Send + Sync,
     G: Gate,
     R: Abort + Clock + Threads + Wait + Sync,
 >(
@@ -267,11 +307,11 @@ pub(super) fn drain_between<
 }
 
 pub(super) fn hold_one_unit<
-    L0: Site + Send + Sync,
-    L1: Site + Send + Sync,
-    L2: Site + Send + Sync,
-    L3: Site + Send + Sync,
-    L4: Site + Send + Sync,
+    L0: UnitLedger + Send + Sync,
+    L1: UnitLedger + Send + Sync,
+    L2: UnitLedger + Send + Sync,
+    L3: UnitLedger + Send + Sync,
+    L4: UnitLedger + Send + Sync,
     G: Gate,
     R: Abort + Clock + Threads + Wait + Sync,
 >(
@@ -300,11 +340,11 @@ const AT_EACH_SEAT: [Row; 2] = [
 
 /// A command at each seat; then the library is closed with one seat, which is refused, and with both.
 pub(super) fn close_with_a_seat_missing<
-    L0: Site,
-    L1: Site,
-    L2: Site,
-    L3: Site,
-    L4: Site,
+    L0: UnitLedger,
+    L1: UnitLedger,
+    L2: UnitLedger,
+    L3: UnitLedger,
+    L4: UnitLedger,
     G: Gate,
     R: Abort + Wait,
 >(
@@ -333,11 +373,11 @@ pub(super) fn close_with_a_seat_missing<
 
 /// Both threads move a volume. The changer has a record of each command, each drive one of each move.
 pub(super) fn move_volumes<
-    L0: Site + Send + Sync,
-    L1: Site + Send + Sync,
-    L2: Site + Send + Sync,
-    L3: Site + Send + Sync,
-    L4: Site + Send + Sync,
+    L0: UnitLedger + Send + Sync,
+    L1: UnitLedger + Send + Sync,
+    L2: UnitLedger + Send + Sync,
+    L3: UnitLedger + Send + Sync,
+    L4: UnitLedger + Send + Sync,
     G: Gate,
     R: Abort + Clock + Threads + Wait + Sync,
 >(

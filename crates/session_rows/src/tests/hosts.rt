@@ -1,6 +1,6 @@
-use conversing::{ClientFault, converse};
-use replay_output::Explanations;
-use replay_script::LineFault;
+use client_session::{ClientSessionFault, converse};
+use output_lines::Explanations;
+use script_lines::LineFault;
 use scsi_nexus::Nexus;
 use std::alloc::Global;
 use std::io::{self, Read, Write};
@@ -82,7 +82,7 @@ fn assert_session(
     alloc: Global,
     script: &str,
     replies: &[u8],
-    end: Result<(), ClientFault>,
+    end: Result<(), ClientSessionFault>,
     sent: &[u8],
     lines: &[u8],
 ) {
@@ -172,7 +172,7 @@ fn replies_in_words(rt: HostRuntime) {
 
 #[test]
 fn faulty_line(rt: HostRuntime) {
-    let fault = ClientFault::Line {
+    let fault = ClientSessionFault::Line {
         number: 2,
         what: LineFault::BadUnit,
     };
@@ -182,7 +182,7 @@ fn faulty_line(rt: HostRuntime) {
 
 #[test]
 fn refused_login(rt: HostRuntime) {
-    let refused = Err(ClientFault::Refused(A));
+    let refused = Err(ClientSessionFault::Refused(A));
     let replies = b"\0\0\0\x02\x81\x01";
     assert_session(&rt, rt.alloc(), SCRIPT, replies, refused, &SENT[..15], b"");
 }
@@ -205,7 +205,7 @@ fn every_prefix_of_the_replies(rt: HostRuntime) {
             rt.alloc(),
             SCRIPT,
             &REPLIES[..length],
-            Err(ClientFault::BadReply),
+            Err(ClientSessionFault::BadReply),
             &SENT[..sent],
             &LINES[..lines],
         );
@@ -214,7 +214,7 @@ fn every_prefix_of_the_replies(rt: HostRuntime) {
 
 #[test]
 fn bad_replies(rt: HostRuntime) {
-    let bad = Err(ClientFault::BadReply);
+    let bad = Err(ClientSessionFault::BadReply);
     let rows = [
         ("no body", b"\0\0\0\0".as_slice(), 15),
         ("a frame", b"\0\0\0\x02\x01\0", 15),
@@ -261,7 +261,7 @@ fn reads_fail(rt: HostRuntime) {
             Explanations::Off,
             99,
         );
-        assert_eq!(rt; ended, Err(ClientFault::Read));
+        assert_eq!(rt; ended, Err(ClientSessionFault::Read));
         let lines = if fails_at <= 39 {
             0
         } else if fails_at <= 54 {
@@ -288,7 +288,7 @@ fn reads_fail(rt: HostRuntime) {
         Explanations::Off,
         58,
     );
-    assert_eq!(rt; ended, Err(ClientFault::Read));
+    assert_eq!(rt; ended, Err(ClientSessionFault::Read));
     assert_eq!(rt; writer.as_slice(), SENT);
 }
 
@@ -312,7 +312,7 @@ fn writes_fail(rt: HostRuntime) {
             Explanations::Off,
             99,
         );
-        assert_eq!(rt; ended, Err(ClientFault::Write));
+        assert_eq!(rt; ended, Err(ClientSessionFault::Write));
     }
     for fails_at in 1..3 {
         let mut reader = REPLIES;
@@ -331,7 +331,7 @@ fn writes_fail(rt: HostRuntime) {
             Explanations::Off,
             99,
         );
-        assert_eq!(rt; ended, Err(ClientFault::Write));
+        assert_eq!(rt; ended, Err(ClientSessionFault::Write));
     }
 }
 
@@ -339,7 +339,7 @@ fn writes_fail(rt: HostRuntime) {
 fn faults_in_words(rt: HostRuntime) -> Result<(), Fail> {
     let rows = [
         (
-            ClientFault::Line {
+            ClientSessionFault::Line {
                 number: 7,
                 what: LineFault::BadHex,
             },
@@ -347,26 +347,26 @@ fn faults_in_words(rt: HostRuntime) -> Result<(), Fail> {
             "vtl: line 7: bad hex",
         ),
         (
-            ClientFault::Refused(A),
+            ClientSessionFault::Refused(A),
             4,
             "vtl: device fault\nvtl: 500000000000000a.1 has a session already",
         ),
         (
-            ClientFault::BadReply,
+            ClientSessionFault::BadReply,
             4,
             "vtl: device fault\nvtl: bad reply",
         ),
         (
-            ClientFault::Read,
+            ClientSessionFault::Read,
             4,
             "vtl: device fault\nvtl: a read failed",
         ),
         (
-            ClientFault::Write,
+            ClientSessionFault::Write,
             4,
             "vtl: device fault\nvtl: a write failed",
         ),
-        (ClientFault::NoMemory, 3, "vtl: want of memory"),
+        (ClientSessionFault::NoMemory, 3, "vtl: want of memory"),
     ];
     for (fault, status, text) in rows {
         assert_eq!(rt; fault.status(), status);

@@ -1,6 +1,6 @@
 use kept_unit::Done;
 use scsi_nexus::Nexus;
-use session::{Directory, End, SessionFault, Splitter, Station, serve};
+use session::{Directory, End, Service, SessionFault, Splitter, serve};
 use std::alloc::Global;
 use std::io::{self, Read, Write};
 use std::process::Abort;
@@ -21,19 +21,19 @@ const ONE_SESSION: &[u8] = b"\0\0\0\x0b\x01\x50\0\0\0\0\0\0\x0a\0\x01\
 
 const ACCEPTED: &[u8] = b"\0\0\0\x02\x81\0";
 
-/// The three replies, of a station that has no unit at all: 25h/00h, without a record.
+/// The three replies, of a service that has no unit at all: 25h/00h, without a record.
 const REPLIES: &[u8] = b"\0\0\0\x02\x81\0\
     \0\0\0\x1d\x82\x02\x12\x70\0\x05\0\0\0\0\x0a\0\0\0\0\x25\0\0\0\0\0\0\0\0\0\0\0\0\0\
     \0\0\0\x01\x84";
 
-/// A station whose units are absent. It counts what was lost, and may have a session of the nexus already.
+/// A service whose units are absent. It counts what was lost, and may have a session of the nexus already.
 #[derive(Drop)]
 struct Empty {
     losses: u64,
     is_connected: bool,
 }
 
-impl Station for Empty {
+impl Service for Empty {
     ghost notes = { λ _ _ _. Unit {0} };
 
     ghost count = { λ _. 2 };
@@ -119,7 +119,7 @@ impl Write for Failing {
     }
 }
 
-/// Serves a stream at a station: how it ends, and how often the nexus was lost.
+/// Serves a stream at a service: how it ends, and how often the nexus was lost.
 fn served<R: Read, W: Write>(
     alloc: Global,
     is_connected: bool,
@@ -127,12 +127,12 @@ fn served<R: Read, W: Write>(
     writer: &mut W,
     turns: u64,
 ) -> (Result<End, SessionFault>, u64) {
-    let mut station = Empty {
+    let mut service = Empty {
         losses: 0,
         is_connected,
     };
-    let ended = serve(alloc, &mut station, reader, writer, turns);
-    (ended, station.losses)
+    let ended = serve(alloc, &mut service, reader, writer, turns);
+    (ended, service.losses)
 }
 
 /// The same of a stream that comes byte by byte, and what it is answered.
@@ -232,9 +232,9 @@ const SECOND_LOGIN: &[u8] = b"\0\0\0\x0b\x01\x50\0\0\0\0\0\0\x0a\0\x01\0\0\0\x0b
 const LONG_CDB: &[u8] = b"\0\0\0\x0b\x01\x50\0\0\0\0\0\0\x0a\0\x01\0\0\0\x13\x02\0\x11";
 
 /// A stream, how it ends, what it is answered, and whether the nexus is lost.
-type Faulty = (&'static [u8], Result<End, SessionFault>, &'static [u8], u64);
+type Invalid = (&'static [u8], Result<End, SessionFault>, &'static [u8], u64);
 
-const FAULTY: [Faulty; 6] = [
+const FAULTY: [Invalid; 6] = [
     (b"\0\0\0\0", BAD_FRAME, b"", 0),
     (b"\0\x02\0\x01", TOO_LONG, b"", 0),
     (b"\0\0\0\x05\x09", BAD_FRAME, b"", 0),

@@ -6,9 +6,9 @@ use Rattle.logical_unit.specs.UnitView.{last_number}
 use Rattle.judgement.specs.Commands.{act_of}
 use Rattle.scsi_cdb.specs.declared.kind.Kind.TheVariants.{Changer}
 use Rattle.kept_unit.specs.Answers.{count_at}
-use Rattle.kept_unit.specs.Deeds.{deed_of, deed_if}
+use Rattle.kept_unit.specs.ActKinds.{act_kind_of, act_kind_if}
 use Rattle.kept_unit.specs.Keeping.{KeptValue}
-use Rattle.kept_unit.proofs.Carried.{told_deed}
+use Rattle.kept_unit.proofs.Carried.{recorded_kind}
 use Rattle.kept_unit.proofs.Counting.{same_kept}
 use Rattle.kept_unit.proofs.Moves.{one_move}
 use Rattle.kept_unit.proofs.carrying.move_kept_one.Goals as goal
@@ -31,17 +31,17 @@ pub returns-clause-step : goal.returns-clause-step
 returns-clause-step g c =
     rw (c.done_with.ensures.reply, ← ap (λ (v : KeptValue). v.unit) c.changer.view_is, ← ap (λ (v : KeptValue). v.unit) c.drive.view_is) c.move_one-receipt.ensures.units
 
-pub returns-clause-deed : goal.returns-clause-deed
-returns-clause-deed g c =
+pub returns-clause-act : goal.returns-clause-act
+returns-clause-act g c =
     let names = subst (λ (v : KeptValue). named (drives_of v.unit.device) c.args.cdb.now ≡ g.row.LUN ∷ []) (sym c.changer.view_is) c.requires.named in
     let m = one_move c.changer.inside.unit.unit c.drive.inside.unit.unit c.move_one-receipt.new.changer.unit c.move_one-receipt.new.drive.unit g.row.LUN c.args.nexus c.args.cdb.now c.args.bytes.now c.move_one-receipt.result.reply c.move_one-receipt.result.numbers.items names c.move_one-receipt.ensures.units c.move_one-receipt.ensures.numbers c.changer.invariant.kind c.changer.invariant.place c.drive.invariant.place c.requires.drive in
     let value = c.as_slice-numbers.ensures.value in
     let items = c.move_one-receipt.result.numbers.items in
-    c.done_with.ensures.deed
-    ∙ told_deed items c.changer.inside.unit.unit c.move_one-receipt.new.changer.unit (act_of Changer c.args.cdb.now c.args.bytes.now) c.move_one-receipt.result.reply c.records.result.now c.last_deed-deed.result m.told c.records.ensures.records
-    (λ none. c.last_deed-deed.ensures.none (value ∙ none))
-    (λ (before : List Record) (last : Record) is. c.last_deed-deed.ensures.deed before last is ∙ ap (λ (ns : List (ℕ × ℕ)). deed_if ns (deed_of last.act)) value)
-    ∙ ap (λ (ns : List (ℕ × ℕ)). deed_if ns (deed_of (act_of Changer c.args.cdb.now c.args.bytes.now))) (sym c.done_with.ensures.numbers)
+    c.done_with.ensures.act
+    ∙ recorded_kind items c.changer.inside.unit.unit c.move_one-receipt.new.changer.unit (act_of Changer c.args.cdb.now c.args.bytes.now) c.move_one-receipt.result.reply c.records.result.now c.last_act_kind-act.result m.told c.records.ensures.records
+    (λ none. c.last_act_kind-act.ensures.none (value ∙ none))
+    (λ (before : List Record) (last : Record) is. c.last_act_kind-act.ensures.act before last is ∙ ap (λ (ns : List (ℕ × ℕ)). act_kind_if ns (act_kind_of last.act)) value)
+    ∙ ap (λ (ns : List (ℕ × ℕ)). act_kind_if ns (act_kind_of (act_of Changer c.args.cdb.now c.args.bytes.now))) (sym c.done_with.ensures.numbers)
 
 pub returns-clause-unnumbered : goal.returns-clause-unnumbered
 returns-clause-unnumbered g c = λ none.

@@ -6,9 +6,9 @@ use Rattle.logical_unit.specs.UnitView.{last_number}
 use Rattle.judgement.specs.Commands.{act_of}
 use Rattle.scsi_cdb.specs.declared.kind.Kind.TheVariants.{Changer}
 use Rattle.kept_unit.specs.Answers.{count_at}
-use Rattle.kept_unit.specs.Deeds.{deed_of, deed_if}
+use Rattle.kept_unit.specs.ActKinds.{act_kind_of, act_kind_if}
 use Rattle.kept_unit.specs.Keeping.{KeptValue}
-use Rattle.kept_unit.proofs.Carried.{told_deed}
+use Rattle.kept_unit.proofs.Carried.{recorded_kind}
 use Rattle.kept_unit.proofs.Counting.{same_kept}
 use Rattle.kept_unit.proofs.Moves.{two_move}
 use Rattle.kept_unit.proofs.carrying.move_kept_two.Goals as goal
@@ -44,17 +44,17 @@ returns-clause-only g c =
     let m = two_move c.changer.inside.unit.unit c.move_two-receipt.new.changer.unit (record { low = c.low.inside.unit.unit; high = c.high.inside.unit.unit }) (record { low = c.move_two-receipt.new.low.unit; high = c.move_two-receipt.new.high.unit }) g.row.LOW g.row.HIGH c.args.nexus c.args.cdb.now c.args.bytes.now c.move_two-receipt.result.reply c.move_two-receipt.result.numbers.items names c.move_two-receipt.ensures.units c.move_two-receipt.ensures.numbers c.changer.invariant.kind c.changer.invariant.place c.low.invariant.place c.high.invariant.place c.requires.drives.0 c.requires.drives.1 in
     λ k apart beside behind. ap (count_at k) c.done_with.ensures.numbers ∙ m.counts.only k apart beside behind
 
-pub returns-clause-deed : goal.returns-clause-deed
-returns-clause-deed g c =
+pub returns-clause-act : goal.returns-clause-act
+returns-clause-act g c =
     let names = subst (λ (v : KeptValue). named (drives_of v.unit.device) c.args.cdb.now ≡ g.row.LOW ∷ g.row.HIGH ∷ []) (sym c.changer.view_is) c.requires.named in
     let m = two_move c.changer.inside.unit.unit c.move_two-receipt.new.changer.unit (record { low = c.low.inside.unit.unit; high = c.high.inside.unit.unit }) (record { low = c.move_two-receipt.new.low.unit; high = c.move_two-receipt.new.high.unit }) g.row.LOW g.row.HIGH c.args.nexus c.args.cdb.now c.args.bytes.now c.move_two-receipt.result.reply c.move_two-receipt.result.numbers.items names c.move_two-receipt.ensures.units c.move_two-receipt.ensures.numbers c.changer.invariant.kind c.changer.invariant.place c.low.invariant.place c.high.invariant.place c.requires.drives.0 c.requires.drives.1 in
     let value = c.as_slice-numbers.ensures.value in
     let items = c.move_two-receipt.result.numbers.items in
-    c.done_with.ensures.deed
-    ∙ told_deed items c.changer.inside.unit.unit c.move_two-receipt.new.changer.unit (act_of Changer c.args.cdb.now c.args.bytes.now) c.move_two-receipt.result.reply c.records.result.now c.last_deed-deed.result m.told c.records.ensures.records
-    (λ none. c.last_deed-deed.ensures.none (value ∙ none))
-    (λ (before : List Record) (last : Record) is. c.last_deed-deed.ensures.deed before last is ∙ ap (λ (ns : List (ℕ × ℕ)). deed_if ns (deed_of last.act)) value)
-    ∙ ap (λ (ns : List (ℕ × ℕ)). deed_if ns (deed_of (act_of Changer c.args.cdb.now c.args.bytes.now))) (sym c.done_with.ensures.numbers)
+    c.done_with.ensures.act
+    ∙ recorded_kind items c.changer.inside.unit.unit c.move_two-receipt.new.changer.unit (act_of Changer c.args.cdb.now c.args.bytes.now) c.move_two-receipt.result.reply c.records.result.now c.last_act_kind-act.result m.told c.records.ensures.records
+    (λ none. c.last_act_kind-act.ensures.none (value ∙ none))
+    (λ (before : List Record) (last : Record) is. c.last_act_kind-act.ensures.act before last is ∙ ap (λ (ns : List (ℕ × ℕ)). act_kind_if ns (act_kind_of last.act)) value)
+    ∙ ap (λ (ns : List (ℕ × ℕ)). act_kind_if ns (act_kind_of (act_of Changer c.args.cdb.now c.args.bytes.now))) (sym c.done_with.ensures.numbers)
 
 pub returns-clause-unnumbered : goal.returns-clause-unnumbered
 returns-clause-unnumbered g c = λ none.

@@ -1,7 +1,7 @@
 //! Replays in one library, with its records handed out in between.
 
 use super::{replayed, usual};
-use replay_output::Audit;
+use output_lines::Audit;
 use std::test::Fail;
 
 const BEFORE_THE_DRAIN: &str = "500000000000000a.1 0 000000000000\n\

@@ -1,8 +1,8 @@
 //! Readers and writers that fail, and what is told of each fault.
 
 use super::{replay_in, usual};
+use output_lines::Audit;
 use replay::ReplayFault;
-use replay_output::Audit;
 use std::alloc::Global;
 use std::io;
 use std::io::{Read, Write};

@@ -1,7 +1,7 @@
 //! A volume of the library that takes no more.
 
 use super::{replay_in, usual};
-use replay_output::Audit;
+use output_lines::Audit;
 use std::alloc::Global;
 use std::fmt::Write;
 use std::test::Fail;

@@ -4,8 +4,8 @@
 ghost use Rattle.std.specs.Prelude.{◌<◌};
 
 use super::replayed;
+use output_lines::Audit;
 use program_options::LibraryOptions;
-use replay_output::Audit;
 use std::alloc::Global;
 use std::fmt::Write;
 use std::process::Abort;

@@ -20,7 +20,7 @@ pub returns-in-Ok-clause-numbers : goal.returns-in-Ok-clause-numbers
 returns-in-Ok-clause-numbers g c =
     let same = ap (λ (x : UnitWithRoom). last_number x.unit) c.carry_two.ensures.changer ∙ ap last_number c.in-Left.ensures.unit in
     joined_two _ _ _ _ _ _ _ _ c.with-receipt.ensures.numbers c.with.ensures.numbers
-    (c.of-in-Ok.ensures.numbers ∙ ap (λ lun. noted lun c.finish-reply.result) c.lun-lun.ensures ∙ ends_noted c.args.changer.now.unit c.carry_two.new.changer c.finish-reply.new.changer c.args.nexus c.in-Left.act c.in-Left.finding None c.finish-reply.result same c.finish-reply.ensures)
+    (c.of-in-Ok.ensures.numbers ∙ ap (λ lun. noted lun c.finish-reply.result) c.lun-lun.ensures ∙ ends_noted c.args.changer.now.unit c.carry_two.new.changer c.finish-reply.new.changer c.args.nexus c.in-Left.act c.in-Left.decision None c.finish-reply.result same c.finish-reply.ensures)
     (drive_noted c.args.low.now.unit c.carry_two.new.low.unit _ _ c.lun-low_lun.ensures c.in-Ok.ensures.low.1 c.in-Ok.ensures.last_low)
     (drive_noted c.args.high.now.unit c.carry_two.new.high.unit _ _ c.lun-high_lun.ensures c.in-Ok.ensures.high.1 c.in-Ok.ensures.last_high)
 
@@ -29,7 +29,7 @@ returns-in-Err-clause-numbers g c =
     let same = ap (λ (x : UnitWithRoom). last_number x.unit) c.carry_two.ensures.changer ∙ ap last_number c.in-Left.ensures.unit in
     unmoved_two _ (noted c.args.changer.now.unit.kept.lun c.finish-reply-in-Err.result) _ c.args.low.now.unit c.carry_two.new.low.unit c.args.high.now.unit c.carry_two.new.high.unit
     (c.of-in-Err.ensures.numbers ∙ ap (λ lun. noted lun c.finish-reply-in-Err.result) c.lun-lun.ensures)
-    (ends_noted c.args.changer.now.unit c.carry_two.new.changer c.finish-reply-in-Err.new.changer c.args.nexus c.in-Left.act c.in-Left.finding (Some c.in-Err.halt) c.finish-reply-in-Err.result same c.finish-reply-in-Err.ensures) (ap last_number c.in-Err.ensures.same.1) (ap last_number c.in-Err.ensures.same.2)
+    (ends_noted c.args.changer.now.unit c.carry_two.new.changer c.finish-reply-in-Err.new.changer c.args.nexus c.in-Left.act c.in-Left.decision (Some c.in-Err.stop) c.finish-reply-in-Err.result same c.finish-reply-in-Err.ensures) (ap last_number c.in-Err.ensures.same.1) (ap last_number c.in-Err.ensures.same.2)
 
 -- nothing is carried for a sender that may change nothing here
 pub returns-in-Ok-clause-outsider : goal.returns-in-Ok-clause-outsider

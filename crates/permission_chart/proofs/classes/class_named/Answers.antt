@@ -2,7 +2,7 @@ use Rattle.std.proofs.Common.{ap, map, sym, ◌∙◌, rules}
 use Rattle.std.proofs.lemmas.List.{take_all}
 use Rattle.std.proofs.lemmas.List.Elements.{All-more, All-contains}
 use Rattle.std.specs.Char.{to_ascii_lowercase}
-use Rattle.permission_chart.proofs.ClassNames.{every_class_has}
+use Rattle.permission_chart.proofs.EachClass.{every_class_has}
 use Rattle.permission_chart.specs.Classes.{every_class}
 use Rattle.permission_chart.specs.Names.{IsNameOf}
 use Rattle.permit_tables.specs.declared.classes.Class.TheVariants.{TestUnitReady}

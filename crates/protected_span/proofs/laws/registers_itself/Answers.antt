@@ -1,4 +1,4 @@
-use Rattle.protected_span.proofs.Plain.{names_itself}
+use Rattle.protected_span.proofs.RegistersItself.{names_itself}
 use Rattle.protected_span.proofs.laws.registers_itself.Goals as goal
 
 pub returns : goal.returns

@@ -1,7 +1,7 @@
 use Rattle.std.proofs.Common.{◌≡◌, sym, ◌∙◌, ap, map-id, rules}
 use Rattle.std.proofs.lemmas.Iterator.Consumers.{YieldsList-end}
 use Rattle.std.proofs.lemmas.Iterator.Adapters.{YieldsList-from_vec}
-use Rattle.replay_script.specs.Events.{joined}
+use Rattle.script_lines.specs.Events.{joined}
 use Rattle.replay.proofs.RunLemmas.{piece_more, printed}
 use Rattle.replay.proofs.replaying.run.Goals as goal
 

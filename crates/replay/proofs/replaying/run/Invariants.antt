@@ -1,5 +1,5 @@
 use Rattle.std.proofs.Common.{Ok}
-use Rattle.replay_script.specs.Events.{joined}
+use Rattle.script_lines.specs.Events.{joined}
 use Rattle.replay.proofs.RunLemmas.{Printed}
 use Rattle.replay.proofs.replaying.run.Given as goal
 

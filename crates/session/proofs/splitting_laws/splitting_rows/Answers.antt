@@ -1,12 +1,12 @@
 use Rattle.std.proofs.Common.{◌∷◌, [], take, true, false, refl}
 use Rattle.frames.specs.declared.fault.FrameFault.TheVariants.{BadFrame}
-use Rattle.frames.specs.Frames.{Login, body_front, front_in}
+use Rattle.frames.specs.Frames.{Login, parsed_body, parsed_frame}
 use Rattle.frames.specs.Rows.{a, one_session, one_session_frames}
 use Rattle.frames.specs.Stream.{Waiting, Broken, partial, faulty, frame}
 use Rattle.session.proofs.splitting_laws.splitting_rows.Goals as goal
 
 pub returns-clause-at_once : goal.returns-clause-at_once
-unfolding body_front front_in
+unfolding parsed_body parsed_frame
 returns-clause-at_once c = (
   one_session_frames,
   [],
@@ -17,7 +17,7 @@ returns-clause-at_once c = (
 )
 
 pub returns-clause-in_the_login : goal.returns-clause-in_the_login
-unfolding body_front front_in
+unfolding parsed_body parsed_frame
 returns-clause-in_the_login c = (
   [],
   one_session_frames,
@@ -35,7 +35,7 @@ returns-clause-in_the_login c = (
 )
 
 pub returns-clause-cut_session : goal.returns-clause-cut_session
-unfolding body_front front_in
+unfolding parsed_body parsed_frame
 returns-clause-cut_session c = (
   Login a ∷ [],
   [],
@@ -53,7 +53,7 @@ returns-clause-cut_session c = (
 )
 
 pub returns-clause-behind_a_fault : goal.returns-clause-behind_a_fault
-unfolding body_front front_in
+unfolding parsed_body parsed_frame
 returns-clause-behind_a_fault c = (
   Login a ∷ [],
   [],

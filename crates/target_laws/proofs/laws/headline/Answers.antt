@@ -1,4 +1,4 @@
-use Rattle.target_laws.proofs.Served.{served}
+use Rattle.target_laws.proofs.CommandInARun.{served}
 use Rattle.target_laws.proofs.laws.headline.Goals as goal
 
 pub returns : goal.returns

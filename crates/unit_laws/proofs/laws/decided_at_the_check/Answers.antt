@@ -6,15 +6,15 @@ use Rattle.unit_laws.proofs.laws.decided_at_the_check.Goals as goal
 pub returns : goal.returns
 unfolding cdb.command_of keys_after
 returns c tag = record {
-  holder_comes = record { spells = refl; ready = refl };
+  holder_comes = record { decodes = refl; ready = refl };
   holder_verdict = refl;
   holder = refl;
-  other_comes = record { spells = refl; ready = refl };
+  other_comes = record { decodes = refl; ready = refl };
   other_verdict = refl;
   other = refl;
-  keyless_comes = record { spells = refl; ready = refl };
+  keyless_comes = record { decodes = refl; ready = refl };
   keyless_verdict = refl;
   keyless = refl;
-  passes_over = record { spells = refl; ready = refl };
+  passes_over = record { decodes = refl; ready = refl };
   told_before = λ comes. let told = comes.ready in absurd cc;
 }

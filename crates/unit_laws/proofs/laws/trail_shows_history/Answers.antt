@@ -1,4 +1,4 @@
-use Rattle.logical_unit.proofs.Shown.{trail_shows}
+use Rattle.logical_unit.proofs.HistoryOfRecords.{trail_shows}
 use Rattle.unit_laws.proofs.laws.trail_shows_history.Goals as goal
 
 pub returns : goal.returns

@@ -11,5 +11,5 @@ invariant_of-self g c =
 pub returns-clause-step : goal.returns-clause-step
 returns-clause-step g c = search rules
 
-pub returns-clause-deed : goal.returns-clause-deed
-returns-clause-deed g c = search rules
+pub returns-clause-act : goal.returns-clause-act
+returns-clause-act g c = search rules

@@ -1,5 +1,5 @@
 use Rattle.std.proofs.Common.{rules, refl, ap, ◌∙◌}
-use Rattle.logical_unit.specs.UnitView.{StateView, UnitWithRoom, unit_of}
+use Rattle.logical_unit.specs.UnitView.{RecordedUnitView, UnitWithRoom, unit_of}
 use Rattle.logical_unit.proofs.Contents.{changes_nothing}
 use Rattle.logical_unit.proofs.Executed.{executed, not_busy}
 use Rattle.logical_unit.proofs.unit.LogicalUnit.execute.Goals as goal
@@ -8,7 +8,7 @@ pub returns-clause-unit : goal.returns-clause-unit
 returns-clause-unit g c =
     let found = c.has_room.ensures.same in
     executed _ _ _ c.deref_mut-state.result.now c.reserve.new.self c.args.nexus c.args.cdb.now c.args.bytes.now c.in-Ok.reply
-    (ap (unit_of _) c.deref_mut-state.ensures.value ∙ ap (λ (x : UnitWithRoom). x.unit) c.self.view_is) (c.reserve.ensures.rest ∙ ap (λ (x : StateView). record x { room = c.reserve.new.self.room }) found) (search rules) (c.if-not-reserve.ensures.number refl) c.in-Ok.ensures.ok
+    (ap (unit_of _) c.deref_mut-state.ensures.value ∙ ap (λ (x : UnitWithRoom). x.unit) c.self.view_is) (c.reserve.ensures.rest ∙ ap (λ (x : RecordedUnitView). record x { room = c.reserve.new.self.room }) found) (search rules) (c.if-not-reserve.ensures.number refl) c.in-Ok.ensures.ok
 
 pub returns-clause-busy : goal.returns-clause-busy
 returns-clause-busy g c = not_busy c.args.self.now _ _ c.reserve.new.self c.args.nexus c.args.cdb.now c.args.bytes.now c.in-Ok.reply c.in-Ok.ensures.ok

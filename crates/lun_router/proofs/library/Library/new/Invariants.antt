@@ -7,5 +7,5 @@ invariant-loop-i g l =
     (vec_len l.all ≡ l._i)
     × All (λ s. s.entries ≡ []) l.all.items
     × (l.fn.seats ≤ vec_capacity l.all)
-    × (l.wholes.zero.parts + l._i ≡ l.fn.seats) × (l.wholes.one.parts + l._i ≡ l.fn.seats) × (l.wholes.two.parts + l._i ≡ l.fn.seats) × (l.wholes.three.parts + l._i ≡ l.fn.seats) × (l.wholes.four.parts + l._i ≡ l.fn.seats)
-    × (l.wholes.zero.amount ≡ 0) × (l.wholes.one.amount ≡ 0) × (l.wholes.two.amount ≡ 0) × (l.wholes.three.amount ≡ 0) × (l.wholes.four.amount ≡ 0)
+    × (l.shares.zero.parts + l._i ≡ l.fn.seats) × (l.shares.one.parts + l._i ≡ l.fn.seats) × (l.shares.two.parts + l._i ≡ l.fn.seats) × (l.shares.three.parts + l._i ≡ l.fn.seats) × (l.shares.four.parts + l._i ≡ l.fn.seats)
+    × (l.shares.zero.amount ≡ 0) × (l.shares.one.amount ≡ 0) × (l.shares.two.amount ≡ 0) × (l.shares.three.amount ≡ 0) × (l.shares.four.amount ≡ 0)

@@ -1,7 +1,7 @@
 use Rattle.std.proofs.Common.{sym, ap, ◌∙◌}
 use Rattle.std.specs.Prelude.{option_map}
 use Rattle.pr_core.specs.Acts.{act_shown}
-use Rattle.pr_core.proofs.Room.{room}
+use Rattle.pr_core.proofs.RoomForKeys.{room}
 use Rattle.pr_core.proofs.state.PrState.apply_to.Goals as goal
 
 pub accept-requires-clause-room : goal.accept-requires-clause-room

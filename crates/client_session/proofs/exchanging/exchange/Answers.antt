@@ -1,0 +1,18 @@
+use Rattle.std.proofs.Common.{subst, List, ℕ, length, ◌≤◌}
+use Rattle.std.specs.Io.KnownBytes.{Appends}
+use Rattle.frames.specs.ParsedReplies.{parsed_reply}
+use Rattle.frames.specs.Views.{frame_value}
+use Rattle.client_session.specs.Waiting.{Answers}
+use Rattle.client_session.proofs.Talked.{exchanged}
+use Rattle.client_session.proofs.exchanging.exchange.Goals as goal
+
+pub consume-requires : goal.consume-requires
+consume-requires g c = subst (λ (l : List ℕ). c.in_ok-count.count ≤ length l) c.pending.ensures c.in_ok-count.ensures.within
+
+pub returns-in-Ok-clause-ok : goal.returns-in-Ok-clause-ok
+returns-in-Ok-clause-ok g c =
+    let came = c.expect_reply.ensures.read in
+    exchanged c.args.words (frame_value c.args.frame.now) c.args.read_buffer.now came.0 c.expect_reply.new.read_buffer c.consume.new.self c.clear.new.self.items c.take_reply.new.line.items c.in_ok-count.count _ _ _ _ _ _ came.1 came.2
+    (subst (λ (l : List ℕ). Answers c.args.words (frame_value c.args.frame.now) (parsed_reply l) c.in_ok-count.count c.clear.new.self.items c.take_reply.new.line.items) c.pending.ensures c.in_ok-count.ensures.ok)
+    (subst (λ (l : List ℕ). c.in_ok-count.count ≤ length l) c.pending.ensures c.in_ok-count.ensures.within) c.consume.ensures c.clear.ensures.items c.in_ok-send.ensures.ok
+    (subst (λ (l : List ℕ). Appends (g.O.Write.contents c.args.out.now) (g.O.Write.contents c.write_out.new.writer) l) c.as_slice.ensures.value c.in-Ok.ensures)

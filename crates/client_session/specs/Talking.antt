@@ -1,0 +1,77 @@
+-- A host's session: what is sent, what is read, and the lines of the replies.
+use Rattle.std.specs.Prelude.{◌≡◌, ℕ, List, [], ◌∷◌, ◌++◌, map, length, Option, None, Ok}
+use Rattle.std.specs.List.{flat_map}
+use Rattle.std.specs.Io.KnownBytes.{Consumes, Appends}
+use Rattle.scsi_nexus.specs.declared.nexus.Nexus.{Nexus}
+use Rattle.frames.specs.declared.reply_frame.LoginAnswer.TheVariants.{Accepted}
+use Rattle.frames.specs.Frames.{FrameValue, Login, Command, Reset, Logout}
+use Rattle.frames.specs.Replies.{ReplyFrameValue, LoginReply, CommandReply, ResetReply, LogoutReply}
+use Rattle.frames.specs.ParsedReplies.{Complete, parsed_reply}
+use Rattle.frames.specs.Sending.{frame_bytes}
+use Rattle.output_lines.specs.declared.explained.Explanations.{Explanations}
+use Rattle.output_lines.specs.Explained.{answer_text}
+use Rattle.script_lines.specs.Requests.{ClientRequestValue}
+use Rattle.script_lines.specs.Requests as host
+use Rattle.script_lines.specs.Script.{requests_in}
+
+-- the frame of a request
+abbrev pub frame_of : ClientRequestValue → FrameValue
+frame_of (host.Command lun cdb bytes) = Command lun cdb bytes
+frame_of (host.Reset lun) = Reset lun
+
+-- the frames of a session: LOGIN, those of the requests in their order, LOGOUT
+abbrev pub frames_of : Nexus → List ClientRequestValue → List FrameValue
+frames_of nexus requests = Login nexus ∷ map frame_of requests ++ Logout ∷ []
+
+-- as they are sent
+abbrev pub stream_of : List FrameValue → List ℕ
+stream_of frames = flat_map frame_bytes frames
+
+-- a reply is of the kind of the frame, and a LOGIN was accepted
+abbrev pub IsReplyTo : FrameValue → ReplyFrameValue → Type 0
+IsReplyTo (Login nexus) (LoginReply answer) = answer ≡ Accepted
+IsReplyTo (Command lun cdb bytes) (CommandReply status sense number payload) = Unit {0}
+IsReplyTo (Reset lun) (ResetReply status) = Unit {0}
+IsReplyTo Logout LogoutReply = Unit {0}
+IsReplyTo _ _ = ⊥
+
+-- one reply to each frame, in their order
+abbrev pub AreRepliesTo : List FrameValue → List ReplyFrameValue → Type 0
+AreRepliesTo [] [] = Unit {0}
+AreRepliesTo (frame ∷ frames) (reply ∷ replies) = IsReplyTo frame reply × AreRepliesTo frames replies
+AreRepliesTo _ _ = ⊥
+
+-- bytes begin with these replies, one behind another, and this is the rest
+abbrev pub Tells : List ℕ → List ReplyFrameValue → (rest : List ℕ) → Type 0
+Tells bytes [] rest = rest ≡ bytes
+Tells bytes (reply ∷ replies) rest =
+    (piece others : List ℕ) × (bytes ≡ piece ++ others) × (parsed_reply bytes ≡ Complete reply (length piece)) × Tells others replies rest
+
+-- what is written of the reply to a frame, as a replay writes it; of those to LOGIN and LOGOUT nothing is
+abbrev pub told_text : Explanations → FrameValue → ReplyFrameValue → List ℕ
+told_text explanations (Command lun cdb bytes) (CommandReply status sense number payload) = answer_text explanations cdb status sense payload
+told_text explanations (Reset lun) (ResetReply status) = answer_text explanations [] status None []
+told_text explanations _ _ = []
+
+-- and of the replies to frames, in their order
+abbrev pub session_text : Explanations → List FrameValue → List ReplyFrameValue → List ℕ
+session_text explanations (frame ∷ frames) (reply ∷ replies) = told_text explanations frame reply ++ session_text explanations frames replies
+session_text explanations _ _ = []
+
+-- these frames were sent, a reply to each of them was read, in their order, and the lines of the replies were written, with their
+-- words where they are wanted; the rest is what was read behind them
+pub record Talks (explanations : Explanations) (frames : List FrameValue) (left left' written written' shown shown' : Option (List ℕ)) (rest : List ℕ) : Type 0 where
+  pub read : List ℕ
+  pub replies : List ReplyFrameValue
+  pub consumed : Consumes left left' read
+  pub told : Tells read replies rest
+  pub answered : AreRepliesTo frames replies
+  pub sent : Appends written written' (stream_of frames)
+  pub lines : Appends shown shown' (session_text explanations frames replies)
+
+-- a session whole
+pub record Converses (explanations : Explanations) (nexus : Nexus) (text : List ℕ) (left left' written written' shown shown' : Option (List ℕ)) : Type 0 where
+  pub requests : List ClientRequestValue
+  pub rest : List ℕ
+  pub script : requests_in text ≡ Ok requests
+  pub talked : Talks explanations (frames_of nexus requests) left left' written written' shown shown' rest

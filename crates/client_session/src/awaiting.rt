@@ -1,0 +1,27 @@
+ghost use Rattle.std.specs.Prelude.{◌≡◌, OnOk, IfErr};
+ghost use Rattle.frames.specs.Reading.{Added};
+ghost use Rattle.frames.specs.ParsedReplies.{Partial, parsed_reply};
+ghost use Rattle.client_session.specs.Waiting.{EndsBeforeReply};
+
+use crate::client_session_fault::ClientSessionFault;
+use frames::{ReadBuffer, ReplyWait, await_reply};
+use std::io::Read;
+
+/// Waits for a reply, and takes each read off `turns`.
+///
+/// `BadReply`: the reader is at its end before that. `Read`: a read failed, or one more was needed than `turns`.
+pub(crate) fn expect_reply<R: Read>(
+    read_buffer: &mut ReadBuffer,
+    reader: &mut R,
+    turns: &mut u64,
+) -> Result<(), ClientSessionFault>
+    ensures read { Added read_buffer.old read_buffer.new (R.remaining reader.old) (R.remaining reader.new) }
+    ensures ok { OnOk result (parsed_reply read_buffer.new ≡ Partial → ⊥) }
+    ensures err { IfErr result (λ fault. EndsBeforeReply fault read_buffer.new (R.remaining reader.new)) }
+{
+    match await_reply(read_buffer, reader, turns) {
+        ReplyWait::Arrived => Ok(()),
+        ReplyWait::Ended => Err(ClientSessionFault::BadReply),
+        ReplyWait::Failed => Err(ClientSessionFault::Read),
+    }
+}

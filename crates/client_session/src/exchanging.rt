@@ -1,0 +1,102 @@
+ghost use Rattle.std.specs.Prelude.{◌≡◌, ◌≤◌, length, OnOk, IfOk, IfErr};
+ghost use Rattle.std.specs.Io.KnownBytes.{Appends};
+ghost use Rattle.frames.specs.Sending.{IsSendable, frame_bytes};
+ghost use Rattle.frames.specs.ParsedReplies.{Partial, parsed_reply};
+ghost use Rattle.frames.specs.Views.{frame_value};
+ghost use Rattle.client_session.specs.Waiting.{Answers, Exchanges, IsOfSending, IsWhy, Stops};
+
+use crate::awaiting::expect_reply;
+use crate::client_session_fault::ClientSessionFault;
+use frames::{
+    FrameRef, LoginAnswer, ParsedReply, ReadBuffer, ReplyFrame, parse_reply, write_frame,
+};
+use output_lines::{Explanations, write_explained, write_out};
+use std::io::{Read, Write};
+
+/// Sends a frame.
+fn send<W: Write>(
+    frame: &FrameRef<'_>,
+    buffer: &mut Vec<u8>,
+    writer: &mut W,
+) -> Result<(), ClientSessionFault>
+    requires { IsSendable (frame_value frame.now) }
+    ensures ok { OnOk result (Appends (W.contents writer.old) (W.contents writer.new) (frame_bytes (frame_value frame.now))) }
+    ensures err { IfErr result IsOfSending }
+{
+    buffer.clear();
+    write_frame(buffer, frame)?;
+    match write_out(writer, buffer.as_slice()) {
+        Ok(()) => Ok(()),
+        Err(_) => Err(ClientSessionFault::Write),
+    }
+}
+
+/// Takes the reply to a frame that is pending, adds what is written of it, and answers how many bytes the reply has.
+fn take_reply(
+    words: Explanations,
+    frame: &FrameRef<'_>,
+    pending: &[u8],
+    line: &mut Vec<u8>,
+) -> Result<usize, ClientSessionFault>
+    requires { parsed_reply pending.now ≡ Partial → ⊥ }
+    ensures within { IfOk result (λ count. count ≤ length pending.now) }
+    ensures ok { IfOk result (λ count. Answers words (frame_value frame.now) (parsed_reply pending.now) count line.old.items line.new.items) }
+    ensures err { IfErr result (λ fault. IsWhy fault (frame_value frame.now) (parsed_reply pending.now)) }
+{
+    let (reply, count) = match parse_reply(pending) {
+        ParsedReply::Complete(reply, count) => (reply, count),
+        ParsedReply::Partial => return Err(ClientSessionFault::BadReply),
+        ParsedReply::Invalid(_) => return Err(ClientSessionFault::BadReply),
+    };
+    match (frame, reply) {
+        (FrameRef::Login { .. }, ReplyFrame::Login(LoginAnswer::Accepted)) => {}
+        (FrameRef::Login { nexus }, ReplyFrame::Login(LoginAnswer::AlreadyConnected)) => {
+            return Err(ClientSessionFault::Refused(*nexus));
+        }
+        (
+            FrameRef::Command { cdb, .. },
+            ReplyFrame::Command {
+                status,
+                sense,
+                bytes,
+                ..
+            },
+        ) => {
+            write_explained(line, words, cdb, status, &sense, bytes)?;
+        }
+        (FrameRef::Reset { .. }, ReplyFrame::Reset(status)) => {
+            write_explained(line, words, b"", status, &None, b"")?;
+        }
+        (FrameRef::Logout, ReplyFrame::Logout) => {}
+        _ => return Err(ClientSessionFault::BadReply),
+    }
+    Ok(count)
+}
+
+/// Sends a frame, waits for its reply and writes what is written of it.
+pub(crate) fn exchange<R: Read, W: Write, O: Write>(
+    words: Explanations,
+    frame: &FrameRef<'_>,
+    read_buffer: &mut ReadBuffer,
+    buffer: &mut Vec<u8>,
+    turns: &mut u64,
+    reader: &mut R,
+    writer: &mut W,
+    out: &mut O,
+) -> Result<(), ClientSessionFault>
+    requires { IsSendable (frame_value frame.now) }
+    ensures ok { OnOk result (Exchanges words (frame_value frame.now) read_buffer.old read_buffer.new (R.remaining reader.old) (R.remaining reader.new)
+        (W.contents writer.old) (W.contents writer.new) (O.contents out.old) (O.contents out.new)) }
+    ensures err { IfErr result (λ fault. Stops fault (frame_value frame.now) read_buffer.old (R.remaining reader.old) (R.remaining reader.new)
+        (W.contents writer.old) (W.contents writer.new) (O.contents out.old) (O.contents out.new)) }
+{
+    send(frame, buffer, writer)?;
+    expect_reply(read_buffer, reader, turns)?;
+    buffer.clear();
+    let count = take_reply(words, frame, read_buffer.pending(), buffer)?;
+    read_buffer.consume(count);
+    match write_out(out, buffer.as_slice()) {
+        Ok(()) => Ok(()),
+        Err(_) => Err(ClientSessionFault::Write),
+    }
+}

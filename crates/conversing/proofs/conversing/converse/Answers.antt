@@ -1,5 +1,0 @@
-use Rattle.conversing.proofs.Sessions.{each_within}
-use Rattle.conversing.proofs.conversing.converse.Goals as goal
-
-pub talk-requires-clause-within : goal.talk-requires-clause-within
-talk-requires-clause-within g c = rw c.deref.ensures.value (each_within c.in_ok-requests.requests.items c.in_ok-requests.ensures.within)

@@ -1,9 +1,0 @@
-use Rattle.pr_core.specs.Outcome.{act_of, raised_by}
-use Rattle.judgement.proofs.PreventerLaws.{told_have}
-use Rattle.judgement.proofs.kept.Kept.reserve.Goals as goal
-
-pub invariant_of-self : goal.invariant_of-self
-invariant_of-self c =
-    let v = c.self.inside.reservations in
-    let told = raised_by v c.args.nexus (act_of v c.args.nexus c.args.params.now) in
-    told_have c.apply.result c.self.inside.queues c.apply.new.queues told c.self.inside.preventers c.apply.ensures.attentions c.apply.ensures.silent c.self.invariant

@@ -1,8 +1,0 @@
--- What commands are judged by.
-use Rattle.device_server.specs.View.{DeviceView}
-use Rattle.judgement.specs.KeptView.{KeptView}
-
--- a device, and what its unit keeps beside it: what commands are judged by
-pub record Present : Type 0 where
-  pub device : DeviceView
-  pub kept : KeptView

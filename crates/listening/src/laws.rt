@@ -1,9 +1,0 @@
-//! Worked rows that the definitions compute to.
-
-ghost use Rattle.listening.specs.Rows.{StatusesOfServing, LinesOfServing};
-
-/// How serving ends by a fault.
-pub fn worked_rows()
-    ensures statuses { StatusesOfServing }
-    ensures lines { LinesOfServing }
-{}

@@ -1,7 +1,0 @@
-use Rattle.logical_unit.proofs.Legal.{reset_stands}
-use Rattle.logical_unit.proofs.state.UnitState.reset.Goals as goal
-
-pub invariant_of-self : goal.invariant_of-self
-invariant_of-self c =
-    rw (c.reset.ensures, c.note_event.ensures.records)
-    (reset_stands c.self.inside.base c.self.inside.kept c.self.inside.trail.records _ c.self.invariant)

@@ -1,0 +1,36 @@
+ghost use Rattle.std.specs.Prelude.{◌≡◌, ◌++◌, OnOk};
+ghost use Rattle.output_lines.specs.Explained.{answer_text};
+
+use crate::reply_line::write_answer;
+use explanations::explain;
+use scsi_sense::{Sense, Status};
+use std::alloc::AllocError;
+
+/// Whether replies are said in words, too.
+#[derive(Clone, Copy, Debug, Default, PartialEq, Eq)]
+pub enum Explanations {
+    /// Their lines alone.
+    #[default]
+    Off,
+    /// Behind the line of each a line that begins with `# `, which is a comment of a script.
+    On,
+}
+
+/// Adds the line of an answer to a command and, where it is wanted, the line behind it that says it in words. After an
+/// error some of them may have been added.
+pub fn write_explained(
+    text: &mut Vec<u8>,
+    explanations: Explanations,
+    cdb: &[u8],
+    status: Status,
+    sense: &Option<Sense>,
+    payload: &[u8],
+) -> Result<(), AllocError>
+    ensures { OnOk result (text.new.items ≡ text.old.items ++ answer_text explanations cdb.now status sense.now payload.now) }
+{
+    write_answer(text, status, sense, payload)?;
+    match explanations {
+        Explanations::Off => Ok(()),
+        Explanations::On => explain(text, cdb, status, sense, payload),
+    }
+}

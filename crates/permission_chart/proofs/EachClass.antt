@@ -1,0 +1,69 @@
+-- Each class is in the list of them, so a test that all in the list pass, which computes, holds of each class.
+use Rattle.std.proofs.Common.{◌≡◌, ℕ, true, false, Bool, ◌==◌, length, List, Option, Some, None, refl, sym, ap, subst, ◌∙◌, lit<, get_or}
+use Rattle.std.proofs.lemmas.Bool.{eqb-true}
+use Rattle.std.proofs.lemmas.List.{get_or_default}
+use Rattle.std.proofs.lemmas.List.Sums.{AllPass-from_list_all}
+use Rattle.std.specs.List.{Contains, list_all}
+use Rattle.permission_chart.specs.Classes.{every_class}
+use Rattle.permit_tables.specs.declared.classes.Class.{Class}
+use Rattle.permit_tables.specs.declared.classes.Class.TheVariants.{TestUnitReady, RequestSense, Inquiry, ReportLuns, PersistentReserveIn, AllowRemoval, ReadBlockLimits, ReadPosition, ReadElementStatusCurdata, ModeSense, Read, Space, Locate, Rewind, ReadElementStatus, ModeSelect, PreventRemoval, Write, WriteFilemarks, Erase, LoadUnload, MoveMedium, InitializeElementStatus, Register, RegisterAndIgnoreExistingKey, Clear, Preempt, PreemptAndAbort, Release, Reserve, RegisterAndMove}
+
+-- each class at its place
+abbrev pub every_class_has : (c : Class) → Contains every_class c
+every_class_has TestUnitReady = (0, lit< tt, refl)
+every_class_has RequestSense = (1, lit< tt, refl)
+every_class_has Inquiry = (2, lit< tt, refl)
+every_class_has ReportLuns = (3, lit< tt, refl)
+every_class_has PersistentReserveIn = (4, lit< tt, refl)
+every_class_has AllowRemoval = (5, lit< tt, refl)
+every_class_has ReadBlockLimits = (6, lit< tt, refl)
+every_class_has ReadPosition = (7, lit< tt, refl)
+every_class_has ReadElementStatusCurdata = (8, lit< tt, refl)
+every_class_has ModeSense = (9, lit< tt, refl)
+every_class_has Read = (10, lit< tt, refl)
+every_class_has Space = (11, lit< tt, refl)
+every_class_has Locate = (12, lit< tt, refl)
+every_class_has Rewind = (13, lit< tt, refl)
+every_class_has ReadElementStatus = (14, lit< tt, refl)
+every_class_has ModeSelect = (15, lit< tt, refl)
+every_class_has PreventRemoval = (16, lit< tt, refl)
+every_class_has Write = (17, lit< tt, refl)
+every_class_has WriteFilemarks = (18, lit< tt, refl)
+every_class_has Erase = (19, lit< tt, refl)
+every_class_has LoadUnload = (20, lit< tt, refl)
+every_class_has MoveMedium = (21, lit< tt, refl)
+every_class_has InitializeElementStatus = (22, lit< tt, refl)
+every_class_has Register = (23, lit< tt, refl)
+every_class_has RegisterAndIgnoreExistingKey = (24, lit< tt, refl)
+every_class_has Clear = (25, lit< tt, refl)
+every_class_has Preempt = (26, lit< tt, refl)
+every_class_has PreemptAndAbort = (27, lit< tt, refl)
+every_class_has Release = (28, lit< tt, refl)
+every_class_has Reserve = (29, lit< tt, refl)
+every_class_has RegisterAndMove = (30, lit< tt, refl)
+
+-- a test that each class of the list passes
+pub each_class : (test : Class → Bool) → list_all test every_class ≡ true → (c : Class) → test c ≡ true
+each_class test passes c =
+    let at = every_class_has c in
+    subst (λ (x : Class). test x ≡ true) at.2 (AllPass-from_list_all test every_class passes at.0 c at.1)
+
+-- the place of a class in the list, by which classes are told apart
+abbrev pub place : Class → ℕ
+place c = (every_class_has c).0
+
+same_place : (a b : Class) → place a ≡ place b → a ≡ b
+same_place a b e =
+    sym (every_class_has a).2
+    ∙ get_or_default every_class (place a) a b (every_class_has a).1
+    ∙ ap (λ (k : ℕ). get_or every_class k b) e
+    ∙ (every_class_has b).2
+
+-- whether this class was found
+abbrev pub is_found : Class → Option Class → Bool
+is_found c None = false
+is_found c (Some other) = place other == place c
+
+pub found : (c : Class) (o : Option Class) → is_found c o ≡ true → o ≡ Some c
+found c None h = absurd cc
+found c (Some other) h = ap (λ (x : Class). Some x) (same_place other c (eqb-true _ _ h))

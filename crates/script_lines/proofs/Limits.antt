@@ -1,0 +1,106 @@
+-- What a host's script gives is within the limits of its words.
+use Rattle.std.proofs.Common.{◌≡◌, ℕ, ◌+◌, ◌<◌, ◌≤◌, Bool, true, false, cond, ltb, leb, eqb, ◌&&◌, List, [], ◌∷◌, length, get_or, Option, Some, None, Result, Ok, Err, refl, subst, arith}
+use Rattle.std.specs.Prelude.{All, codes}
+use Rattle.std.specs.Str.{bytes_eq}
+use Rattle.std.proofs.lemmas.Bool.{and_parts, ltb-true, leb-true}
+use Rattle.std.proofs.lemmas.List.Elements.{All-nil, All-cons}
+use Rattle.hex.specs.Hex.{decode_of}
+use Rattle.script_lines.specs.declared.line_fault.LineFault.{LineFault}
+use Rattle.script_lines.specs.declared.line_fault.LineFault.TheVariants.{BadHex, TooLong}
+use Rattle.script_lines.specs.Lines.{CommandWords, words_in, bytes_in, sole_unit_in, some_said, ◌>>=◌}
+use Rattle.script_lines.specs.Requests.{ClientRequestValue, command_request_in, reset_request_in, request_in, request_line_in, IsWithinLimits}
+use Rattle.script_lines.specs.Script.{lines_in, by_line}
+use Rattle.script_lines.specs.Text.{pieces}
+use Rattle.script_lines.specs.Words.{hex_bytes, hex_in, within, unit_in}
+
+-- what was read has a property, unless it was a fault
+abbrev pub Reads : {A E : Type 0} → (A → Type 0) → Result A E → Type 0
+Reads P (Ok x) = P x
+Reads P (Err e) = Unit {0}
+
+abbrev pub Has : {A : Type 0} → (A → Type 0) → Option A → Type 0
+Has P None = Unit {0}
+Has P (Some x) = P x
+
+reads_any : {A E : Type 0} (r : Result A E) → Reads (λ x. Unit {0}) r
+reads_any (Ok x) = tt
+reads_any (Err e) = tt
+
+reads_then : {A B : Type 0} (P : A → Type 0) (Q : B → Type 0) (r : Result A LineFault) (f : A → Result B LineFault) → Reads P r
+    → ((x : A) → P x → Reads Q (f x)) → Reads Q (r >>= f)
+reads_then P Q (Ok x) f p next = next x p
+reads_then P Q (Err e) f p next = tt
+
+reads_either : {A : Type 0} (Q : A → Type 0) (b : Bool) (r s : Result A LineFault) → Reads Q r → Reads Q s → Reads Q (cond b r s)
+reads_either Q true r s p q = p
+reads_either Q false r s p q = q
+
+abbrev pub IsSized : ℕ → List ℕ → Type 0
+IsSized limit bytes = (0 < length bytes) × (length bytes ≤ limit)
+
+sized_if : (limit : ℕ) (bytes : List ℕ) (b : Bool) → (ltb 0 (length bytes) && leb (length bytes) limit) ≡ b → Reads (IsSized limit) (cond b (Ok bytes) (Err BadHex))
+sized_if limit bytes true e =
+    let both = and_parts (ltb 0 (length bytes)) (leb (length bytes) limit) e in
+    (ltb-true _ _ both.0, leb-true _ _ both.1)
+sized_if limit bytes false e = tt
+
+sized_by : (limit : ℕ) (read : Option (List ℕ)) → Reads (IsSized limit) (within limit read)
+sized_by limit None = tt
+sized_by limit (Some bytes) = sized_if limit bytes _ refl
+
+hex_sized : (limit : ℕ) (word : List ℕ) → Reads (IsSized limit) (hex_in limit word)
+unfolding hex_in
+hex_sized limit word = sized_by limit (hex_bytes (decode_of word))
+
+at_most_by : (r : Result (List ℕ) LineFault) → Reads (IsSized 131053) r → Reads (λ bytes. length bytes ≤ 131053) r
+at_most_by (Ok bytes) h = h.1
+at_most_by (Err e) h = tt
+
+data_at_most : (word : Option (List ℕ)) → Reads (λ bytes. length bytes ≤ 131053) (bytes_in word)
+data_at_most None = omega arith
+data_at_most (Some word) = at_most_by (hex_in 131053 word) (hex_sized 131053 word)
+
+command_within : (words : Option CommandWords) → Reads IsWithinLimits (command_request_in words)
+command_within None = tt
+command_within (Some w) =
+    reads_then (λ lun. Unit {0}) IsWithinLimits (unit_in w.lun) _ (reads_any (unit_in w.lun))
+    (λ lun any. reads_then (IsSized 16) IsWithinLimits (hex_in 16 w.cdb) _ (hex_sized 16 w.cdb)
+    (λ cdb sized. reads_then (λ bytes. length bytes ≤ 131053) IsWithinLimits (bytes_in w.bytes) _ (data_at_most w.bytes)
+    (λ bytes short. (sized.0, sized.1, short))))
+
+reset_within : (words : List (List ℕ)) → Reads IsWithinLimits (reset_request_in words)
+reset_within words = reads_then (λ lun. Unit {0}) IsWithinLimits (sole_unit_in words) _ (reads_any (sole_unit_in words)) (λ lun any. tt)
+
+request_within : (words : List (List ℕ)) → Reads IsWithinLimits (request_in words)
+request_within [] = tt
+request_within (first ∷ words) =
+    reads_either IsWithinLimits (bytes_eq first (codes "reset")) (reset_request_in words) (command_request_in (words_in ([] ∷ first ∷ words)))
+    (reset_within words) (command_within (words_in ([] ∷ first ∷ words)))
+
+some_within : (r : Result ClientRequestValue LineFault) → Reads IsWithinLimits r → Reads (Has IsWithinLimits) (some_said r)
+some_within (Ok x) h = h
+some_within (Err e) h = tt
+
+line_within : (line : List ℕ) → Reads (Has IsWithinLimits) (request_line_in line)
+unfolding request_line_in
+line_within line =
+    reads_either (Has IsWithinLimits) (ltb 270000 (length line)) (Err TooLong) _ tt
+    (reads_either (Has IsWithinLimits) (eqb (length line) 0) (Ok None) _ tt
+    (reads_either (Has IsWithinLimits) (eqb (get_or line 0 0) 35) (Ok None) _ tt
+    (some_within (request_in (pieces 32 line)) (request_within (pieces 32 line)))))
+
+one_line : (n : ℕ) (read : Result (Option ClientRequestValue) LineFault) (others : Result (List ClientRequestValue) (ℕ × LineFault)) → Reads (Has IsWithinLimits) read
+    → Reads (All IsWithinLimits) others → Reads (All IsWithinLimits) (by_line n read others)
+one_line n (Err fault) others one more = tt
+one_line n (Ok None) others one more = more
+one_line n (Ok (Some said)) (Ok saids) one more = All-cons IsWithinLimits said saids one more
+one_line n (Ok (Some said)) (Err e) one more = tt
+
+lines_within : (n : ℕ) (lines : List (List ℕ)) → Reads (All IsWithinLimits) (lines_in request_line_in n lines)
+lines_within n [] = All-nil IsWithinLimits
+lines_within n (line ∷ lines) =
+    one_line n (request_line_in line) (lines_in request_line_in (n + 1) lines) (line_within line) (lines_within (n + 1) lines)
+
+-- each request of a script
+pub requests_within : (text : List ℕ) (requests : List ClientRequestValue) → lines_in request_line_in 1 (pieces 10 text) ≡ Ok requests → All IsWithinLimits requests
+requests_within text requests read = subst (Reads (All IsWithinLimits)) read (lines_within 1 (pieces 10 text))

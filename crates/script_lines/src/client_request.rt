@@ -1,0 +1,14 @@
+/// What a host asks of a logical unit.
+#[derive(Debug, Drop)]
+pub enum ClientRequest {
+    /// A command: its CDB, 1 to 16 bytes, and the data sent with it, at most 131,053 bytes.
+    Command {
+        lun: u8,
+        cdb: Vec<u8>,
+        bytes: Vec<u8>,
+    },
+    /// A reset of the logical unit.
+    Reset {
+        lun: u8,
+    },
+}

@@ -1,0 +1,202 @@
+ghost use Rattle.std.specs.Prelude.{◌≡◌, ◌∷◌, ℕ, List, true, false, codes, OnOk, IfErr};
+ghost use Rattle.std.specs.Str.{bytes_eq};
+ghost use denote.Ref.{Bor};
+ghost use Rattle.std.specs.Option.{option_map};
+ghost use Rattle.script_lines.specs.Words.{Gives, Fails, hex_in};
+ghost use Rattle.script_lines.specs.Text.{pieces_after};
+ghost use Rattle.script_lines.specs.Lines.{said, some_said, words_seen, words_in, bytes_in, command_in, loss_in, sole_unit_in, event_in, line_in};
+ghost use Rattle.script_lines.specs.Script.{TakesLine, saids};
+
+use crate::cutting::{cut, is_end};
+use crate::events::Events;
+use crate::line_fault::LineFault;
+use crate::words::{bytes_of, cdb_of, nexus_of, unit_of};
+use std::alloc::{AllocError, Global};
+use target_core::Event;
+
+/// The longest line, without its line feed.
+pub const MAX_LINE: usize = 270_000;
+
+/// The most data that a command may bring.
+const MAX_DATA: usize = 131_053;
+
+/// Why a line gave no event.
+#[derive(Clone, Copy, Debug, PartialEq, Eq)]
+pub enum LineError {
+    NoMemory,
+    Fault(LineFault),
+}
+
+impl From<LineFault> for LineError {
+    ghost use Rattle.std.specs.Prelude.{◌≡◌};
+    ghost use Rattle.script_lines.specs.declared.line.LineError.TheVariants.{Fault};
+
+    ghost from_gives = { λ fault error. error ≡ Fault fault };
+
+    fn from(fault: LineFault) -> LineError {
+        LineError::Fault(fault)
+    }
+}
+
+impl From<AllocError> for LineError {
+    ghost use Rattle.std.specs.Prelude.{◌≡◌};
+    ghost use Rattle.script_lines.specs.declared.line.LineError.TheVariants.{NoMemory};
+
+    ghost from_gives = { λ _ error. error ≡ NoMemory };
+
+    fn from(_: AllocError) -> LineError {
+        LineError::NoMemory
+    }
+}
+
+/// The words of a command's line.
+#[derive(Clone, Copy)]
+pub struct Words<'a> {
+    pub nexus: &'a [u8],
+    pub lun: &'a [u8],
+    pub cdb: &'a [u8],
+    pub data: Option<&'a [u8]>,
+}
+
+/// Adds the event of a line: none for an empty one and for a comment. An event is added where it is made, since what
+/// holds it in between would be copied.
+#[tactic(auto, unfolding(crate::specs::Lines::line_in))]
+pub fn take_event(alloc: Global, events: &mut Events, line: &[u8]) -> Result<(), LineError>
+    ensures ok { OnOk result (TakesLine (saids events.old) (saids events.new) (line_in line.now)) }
+    ensures err { IfErr result (λ error. Fails error (line_in line.now)) }
+{
+    if line.len() > MAX_LINE {
+        return Err(LineError::Fault(LineFault::TooLong));
+    }
+    if line.is_empty() || line[0] == b'#' {
+        return Ok(());
+    }
+    let (first, rest) = cut(line, b' ');
+    if first == b"loss".as_slice() || first == b"reset".as_slice() {
+        return take_other(alloc, events, first, rest);
+    }
+    take_command(alloc, events, first, rest)
+}
+
+/// Adds the event of a line whose first word is `loss` or `reset`, from that word and those behind it.
+fn take_other(
+    alloc: Global,
+    events: &mut Events,
+    first: &[u8],
+    others: Option<&[u8]>,
+) -> Result<(), LineError>
+    requires { bytes_eq first.now (codes "loss") ≡ false → bytes_eq first.now (codes "reset") ≡ true }
+    ensures ok { OnOk result (TakesLine (saids events.old) (saids events.new)
+        (some_said (event_in (first.now ∷ pieces_after 32 others.entry)))) }
+    ensures err { IfErr result (λ error. Fails error (event_in (first.now ∷ pieces_after 32 others.entry))) }
+{
+    let event = if first == b"loss".as_slice() {
+        loss_of(others)?
+    } else {
+        let lun = sole_unit_of(others)?;
+        Event::Reset { lun }
+    };
+    events.push(alloc, event)?;
+    Ok(())
+}
+
+/// The loss of a line `loss SAS.PORT LUN`, from the words behind the first.
+fn loss_of(words: Option<&[u8]>) -> Result<Event, LineError>
+    ensures { Gives said result (loss_in (pieces_after 32 words.entry)) }
+{
+    let Some(rest) = words else {
+        return Err(LineError::Fault(LineFault::WordCount));
+    };
+    let (nexus, rest) = cut(rest, b' ');
+    let Some(rest) = rest else {
+        return Err(LineError::Fault(LineFault::WordCount));
+    };
+    let (lun, rest) = cut(rest, b' ');
+    if !is_end(rest) {
+        return Err(LineError::Fault(LineFault::WordCount));
+    }
+    let nexus = nexus_of(nexus)?;
+    let lun = unit_of(lun)?;
+    Ok(Event::Loss { nexus, lun })
+}
+
+/// The unit of a line `reset LUN`, from the words behind the first.
+pub fn sole_unit_of(words: Option<&[u8]>) -> Result<u8, LineError>
+    ensures { Gives (λ lun. lun) result (sole_unit_in (pieces_after 32 words.entry)) }
+{
+    let Some(rest) = words else {
+        return Err(LineError::Fault(LineFault::WordCount));
+    };
+    let (lun, rest) = cut(rest, b' ');
+    if !is_end(rest) {
+        return Err(LineError::Fault(LineFault::WordCount));
+    }
+    let lun = unit_of(lun)?;
+    Ok(lun)
+}
+
+/// Adds the command of a line `SAS.PORT LUN CDB [DATA]`, from its first word and those behind it.
+fn take_command(
+    alloc: Global,
+    events: &mut Events,
+    first: &[u8],
+    others: Option<&[u8]>,
+) -> Result<(), LineError>
+    ensures ok { OnOk result (TakesLine (saids events.old) (saids events.new)
+        (some_said (command_in (words_in (first.now ∷ pieces_after 32 others.entry))))) }
+    ensures err { IfErr result (λ error. Fails error
+        (command_in (words_in (first.now ∷ pieces_after 32 others.entry)))) }
+{
+    let Some(words) = words_of(first, others) else {
+        return Err(LineError::Fault(LineFault::WordCount));
+    };
+    let nexus = nexus_of(words.nexus)?;
+    let lun = unit_of(words.lun)?;
+    let cdb = cdb_of(words.cdb)?;
+    let bytes = data_of(alloc, words.data)?;
+    let command = Event::Command {
+        nexus,
+        lun,
+        cdb,
+        bytes,
+    };
+    events.push(alloc, command)?;
+    Ok(())
+}
+
+/// The three or four words of a line, the first of them its nexus.
+pub fn words_of<'a>(nexus: &'a [u8], others: Option<&'a [u8]>) -> Option<Words<'a>>
+    ensures { option_map words_seen result ≡ words_in (nexus.now ∷ pieces_after 32 others.entry) }
+{
+    let (lun, rest) = cut(others?, b' ');
+    let (cdb, rest) = cut(rest?, b' ');
+    let Some(rest) = rest else {
+        return Some(Words {
+            nexus,
+            lun,
+            cdb,
+            data: None,
+        });
+    };
+    let (data, rest) = cut(rest, b' ');
+    match rest {
+        None => Some(Words {
+            nexus,
+            lun,
+            cdb,
+            data: Some(data),
+        }),
+        Some(_) => None,
+    }
+}
+
+/// The bytes of the fourth word, none where there is no such word.
+pub fn data_of(alloc: Global, word: Option<&[u8]>) -> Result<Vec<u8>, LineError>
+    ensures { Gives (λ bytes. bytes.items) result
+        (bytes_in (option_map (λ (b : Bor (List ℕ)). b.now) word.entry)) }
+{
+    match word {
+        None => Ok(Vec::new(alloc)),
+        Some(word) => bytes_of(alloc, word, MAX_DATA),
+    }
+}

@@ -1,0 +1,51 @@
+-- The length of each command's CDB is that of its group code.
+use Rattle.std.proofs.Common.{◌≡◌, ◌==◌, ◌&&◌, ◌/◌, ℕ, Bool, true, false, cond, List, [], ◌∷◌, Option, Some, None, refl, sym, ap, ◌∙◌, IfSome, is_some}
+use Rattle.std.proofs.lemmas.Bool.{and_parts, eqb-true}
+use Rattle.std.specs.List.{find, list_all}
+use Rattle.std.specs.Option.{option_map}
+use Rattle.scsi_cdb.specs.Commands.{Row, table, command_of, row_of, where_had, has, length_of_group}
+use Rattle.scsi_cdb.specs.declared.kind.Kind.{Kind}
+
+abbrev agrees : Row → Bool
+agrees r = r.length == length_of_group (r.opcode / 32)
+
+-- the row that is found agrees at the code that was looked for
+here : (r : Row) (opcode : ℕ) → agrees r ≡ true → (r.opcode == opcode) ≡ true → r.length ≡ length_of_group (opcode / 32)
+here r opcode a is = eqb-true r.length (length_of_group (r.opcode / 32)) a ∙ ap (λ (k : ℕ). length_of_group (k / 32)) (eqb-true r.opcode opcode is)
+
+by_test : (r : Row) (rest : Option Row) (opcode : ℕ) (b : Bool) → (r.opcode == opcode) ≡ b → agrees r ≡ true → IfSome rest (λ (x : Row). x.length ≡ length_of_group (opcode / 32))
+    → IfSome (cond b (Some r) rest) (λ (x : Row). x.length ≡ length_of_group (opcode / 32))
+by_test r rest opcode true is a others = here r opcode a is
+by_test r rest opcode false is a others = others
+
+among : (rows : List Row) (opcode : ℕ) → list_all agrees rows ≡ true
+    → IfSome (find (λ (r : Row). r.opcode == opcode) rows) (λ (r : Row). r.length ≡ length_of_group (opcode / 32))
+among [] opcode all = tt
+among (r ∷ rows) opcode all =
+    let parts = and_parts (agrees r) (list_all agrees rows) all in
+    by_test r (find (λ (x : Row). x.opcode == opcode) rows) opcode (r.opcode == opcode) refl parts.0 (among rows opcode parts.1)
+
+length_of_command : (opcode : ℕ) → IfSome (command_of opcode) (λ (r : Row). r.length ≡ length_of_group (opcode / 32))
+unfolding command_of
+length_of_command opcode = among table opcode refl
+
+of_had : (b : Bool) (r : Row) (n : ℕ) → r.length ≡ n → is_some (cond b (Some r) None) ≡ true → Some n ≡ option_map (λ (x : Row). x.length) (cond b (Some r) None)
+of_had true r n e h = ap (λ (k : ℕ). Some k) (sym e)
+of_had false r n e h = absurd cc
+
+of_row : (kind : Kind) (o : Option Row) (n : ℕ) → IfSome o (λ (r : Row). r.length ≡ n) → is_some (where_had kind o) ≡ true
+    → Some n ≡ option_map (λ (x : Row). x.length) (where_had kind o)
+of_row kind None n e h = absurd cc
+of_row kind (Some r) n e h = of_had (has r.units kind) r n e h
+
+-- of a command that the kind of unit has, and of none
+pub length_where_had : (kind : Kind) (opcode : ℕ) → is_some (row_of kind opcode) ≡ true
+    → Some (length_of_group (opcode / 32)) ≡ option_map (λ (x : Row). x.length) (row_of kind opcode)
+length_where_had kind opcode h = of_row kind (command_of opcode) _ (length_of_command opcode) h
+
+none_of : (o : Option Row) → is_some o ≡ false → None ≡ option_map (λ (x : Row). x.length) o
+none_of None h = refl
+none_of (Some r) h = absurd cc
+
+pub no_length : (kind : Kind) (opcode : ℕ) → is_some (row_of kind opcode) ≡ false → None ≡ option_map (λ (x : Row). x.length) (row_of kind opcode)
+no_length kind opcode h = none_of (row_of kind opcode) h

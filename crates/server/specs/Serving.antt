@@ -1,0 +1,70 @@
+-- What a host has served, and what it wrote at its end.
+use Rattle.std.specs.Prelude.{◌≡◌, ℕ, List, [], ◌∷◌, ◌++◌, Option, Some, None, IfSome}
+use Rattle.std.specs.Io.KnownBytes.{Appends}
+use Rattle.kept_unit.specs.Agreeing.{Agrees}
+use Rattle.logical_unit.specs.UnitView.{UnitView}
+use Rattle.lun_router.specs.Opening.{IsSince}
+use Rattle.lun_router.specs.Seats.{SeatValue}
+use Rattle.output_lines.specs.declared.audit_lines.Audit.{Audit}
+use Rattle.output_lines.specs.declared.audit_lines.Audit.TheVariants.{Lines}
+use Rattle.output_lines.specs.AuditLines.{audit_text}
+use Rattle.session.specs.declared.fault.End.{End}
+use Rattle.session.specs.Serving.{Serves}
+use Rattle.server.specs.declared.serving.RecordOutput.{RecordOutput}
+use Rattle.server.specs.declared.serving.RecordOutput.TheVariants.{AtTheEnd, AfterEachSession}
+use Rattle.server.specs.LibraryService.{LibraryServiceValue, DoesToService}
+
+-- a session that had no fault
+abbrev pub ServesSome : LibraryServiceValue → (left left' written written' : Option (List ℕ)) → LibraryServiceValue → Type 0
+ServesSome s left left' written written' t = (end : End) × Serves DoesToService (λ (p : LibraryServiceValue). p.units) s left left' written written' end t
+
+-- a unit that may be absent
+abbrev pub if_there : Option UnitView → List UnitView
+if_there None = []
+if_there (Some u) = u ∷ []
+
+-- the numbers of a unit since the library was opened stand in the seats' entries, each once, with what its record says
+abbrev pub AgreesAt : (lun since : ℕ) → UnitView → List SeatValue → Type 0
+AgreesAt lun since u seats = Agrees (λ (s : SeatValue). s.entries) lun since u.base.last u.records seats
+
+-- a library that was closed: what the seats were told agrees with each trail, and the lines that are wanted of the records were written, LUN 0
+-- first
+pub record IsClosed (audit : Audit) (zero one two three four : ℕ) (written written' : Option (List ℕ)) : Type 0 where
+  pub seats : List SeatValue
+  pub changer : UnitView
+  pub first : UnitView
+  pub second : Option UnitView
+  pub third : Option UnitView
+  pub fourth : Option UnitView
+  pub changer_agrees : AgreesAt 0 zero changer seats
+  pub first_agrees : AgreesAt 1 one first seats
+  pub second_agrees : IfSome second (λ u. AgreesAt 2 two u seats)
+  pub third_agrees : IfSome third (λ u. AgreesAt 3 three u seats)
+  pub fourth_agrees : IfSome fourth (λ u. AgreesAt 4 four u seats)
+  pub lines : Appends written written' (audit_text audit (changer ∷ first ∷ if_there second ++ if_there third ++ if_there fourth))
+
+-- the same of the target that the library was opened over
+pub record ClosesOver (core : List UnitView) (audit : Audit) (written written' : Option (List ℕ)) : Type 0 where
+  pub zero : ℕ
+  pub one : ℕ
+  pub two : ℕ
+  pub three : ℕ
+  pub four : ℕ
+  pub since : IsSince core zero one two three four
+  pub closed : IsClosed audit zero one two three four written written'
+
+-- what is written of the records that are left at the end
+abbrev pub of_the_rest : RecordOutput → Audit
+of_the_rest (AtTheEnd audit) = audit
+of_the_rest AfterEachSession = Lines
+
+-- whether what is written at the end is all that is written
+abbrev pub IsAllAtTheEnd : RecordOutput → Type 0
+IsAllAtTheEnd (AtTheEnd audit) = Unit {0}
+IsAllAtTheEnd AfterEachSession = ⊥
+
+-- a host that wrote its lines at the end, behind those that it wrote after its sessions, if it was to write some then
+pub record ServesLibrary (core : List UnitView) (records : RecordOutput) (written written' : Option (List ℕ)) : Type 0 where
+  pub before : Option (List ℕ)
+  pub none_before : IsAllAtTheEnd records → before ≡ written
+  pub rest : ClosesOver core (of_the_rest records) before written'

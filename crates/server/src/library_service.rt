@@ -1,0 +1,138 @@
+use kept_unit::{Done, UnitLedger};
+use library_device::Device;
+use lun_router::{Library, Pass, Seat};
+use scsi_nexus::Nexus;
+use session::{Directory, Service, SessionFault};
+use std::alloc::Global;
+use std::marker::Model;
+use std::sync::{Mutex, Wait};
+
+/// A seat at a library, and the directory of its sessions beside it. Contracts see what the seat holds, and how many
+/// units the library has.
+#[derive(Drop)]
+pub struct LibraryService<
+    'a,
+    L0: UnitLedger,
+    L1: UnitLedger,
+    L2: UnitLedger,
+    L3: UnitLedger,
+    L4: UnitLedger,
+    R: Wait,
+> {
+    pub(crate) rt: &'a R,
+    pub(crate) library: &'a Library<L0, L1, L2, L3, L4, Device, Pass>,
+    pub(crate) directory: &'a Mutex<Directory>,
+    pub(crate) seat: Seat<L0, L1, L2, L3, L4>,
+    /// Who asked last for a session.
+    pub(crate) nexus: Option<Nexus>,
+}
+
+impl<
+    'a,
+    L0: UnitLedger,
+    L1: UnitLedger,
+    L2: UnitLedger,
+    L3: UnitLedger,
+    L4: UnitLedger,
+    R: Wait,
+> Model for LibraryService<'a, L0, L1, L2, L3, L4, R> {
+    ghost use Rattle.server.specs.LibraryService.{LibraryServiceValue};
+
+    ghost Value = { LibraryServiceValue };
+
+    ghost view = { λ p. record { seat = p.seat; units = p.library.now.units } };
+}
+
+impl<
+    'a,
+    L0: UnitLedger,
+    L1: UnitLedger,
+    L2: UnitLedger,
+    L3: UnitLedger,
+    L4: UnitLedger,
+    R: Wait,
+> LibraryService<'a, L0, L1, L2, L3, L4, R> {
+    ghost use Rattle.std.specs.Prelude.{◌≡◌};
+
+    /// A place for one session after another.
+    pub fn new(
+        rt: &'a R,
+        library: &'a Library<L0, L1, L2, L3, L4, Device, Pass>,
+        directory: &'a Mutex<Directory>,
+        seat: Seat<L0, L1, L2, L3, L4>,
+    ) -> LibraryService<'a, L0, L1, L2, L3, L4, R>
+        ensures { result ≡ record { seat = seat; units = library.now.units } }
+    {
+        LibraryService {
+            rt,
+            library,
+            directory,
+            seat,
+            nexus: None,
+        }
+    }
+
+    /// The seat, with which the library is closed.
+    pub fn into_seat(self) -> Seat<L0, L1, L2, L3, L4>
+        ensures { result ≡ self.entry.seat }
+    {
+        let LibraryService {
+            rt: _,
+            library: _,
+            directory: _,
+            seat,
+            nexus: _,
+        } = self;
+        seat
+    }
+}
+
+impl<
+    'a,
+    L0: UnitLedger,
+    L1: UnitLedger,
+    L2: UnitLedger,
+    L3: UnitLedger,
+    L4: UnitLedger,
+    R: Wait,
+> Service for LibraryService<'a, L0, L1, L2, L3, L4, R> {
+    ghost use Rattle.server.specs.LibraryService.{DoesToService};
+
+    ghost notes = { DoesToService };
+
+    ghost count = { λ p. p.units };
+
+    fn submit<'b>(
+        &mut self,
+        alloc: Global,
+        nexus: Nexus,
+        lun: u8,
+        cdb: &'b [u8],
+        bytes: &'b [u8],
+    ) -> Done<'b> {
+        self.library
+            .submit(self.rt, alloc, &mut self.seat, nexus, lun, cdb, bytes)
+    }
+
+    fn reset(&mut self, alloc: Global, lun: u8) -> Done<'static> {
+        self.library.reset(self.rt, alloc, &mut self.seat, lun)
+    }
+
+    fn lose(&mut self, alloc: Global, nexus: Nexus, lun: u8) -> Done<'static> {
+        self.library
+            .lose(self.rt, alloc, &mut self.seat, nexus, lun)
+    }
+
+    fn units(&self) -> u8 {
+        self.library.units()
+    }
+
+    fn login(&mut self, nexus: Nexus) -> Result<usize, SessionFault> {
+        self.nexus = Some(nexus);
+        self.directory.lock(self.rt).login(nexus)
+    }
+
+    fn logout(&mut self, key: usize) {
+        self.directory.lock(self.rt).logout(key)
+    }
+}

@@ -1,0 +1,169 @@
+ghost use Rattle.std.specs.Prelude.{◌≡◌};
+ghost use Rattle.server.specs.Faults.{close_words, earlier, is_before, rank, session_words};
+
+use lun_router::CloseFault;
+use scsi_nexus::Nexus;
+use session::SessionFault;
+use std::alloc::{AllocError, AllocFailed};
+use std::fmt;
+use thiserror::Error;
+
+/// A session that had a fault.
+#[derive(Clone, Copy, Debug, PartialEq, Eq)]
+pub struct FaultySession {
+    /// Its place in the order of accepting, from 1 on.
+    pub number: u64,
+    /// Whose it was, or was to be. `None` where it ended before its LOGIN.
+    pub nexus: Option<Nexus>,
+    pub fault: SessionFault,
+}
+
+/// Why a host has a fault. Of several that happened the first of this list is told, and of sessions the one
+/// that was accepted first.
+#[derive(Clone, Copy, Debug, PartialEq, Eq, Error)]
+pub enum ServerFault {
+    /// A connection couldn't be accepted.
+    Accept,
+    Session(FaultySession),
+    /// The library couldn't be closed, so that there are no lines of its records.
+    Close(CloseFault),
+    /// The lines of the records couldn't be written, or not all of them.
+    Write,
+    NoMemory,
+}
+
+impl ServerFault {
+    ghost use Rattle.server.specs.Faults.{exit_status};
+
+    /// The exit status of a program that ends by it: 3 for want of memory, else 4 (profile).
+    pub fn status(&self) -> u8
+        ensures { result ≡ exit_status self.now }
+    {
+        match self {
+            ServerFault::NoMemory => 3,
+            ServerFault::Accept
+            | ServerFault::Session(_)
+            | ServerFault::Close(_)
+            | ServerFault::Write => 4,
+        }
+    }
+
+    /// Whether it is told in place of another.
+    fn is_before(&self, other: &ServerFault) -> bool
+        ensures { result ≡ is_before self.now other.now }
+    {
+        match (self, other) {
+            (ServerFault::Session(this), ServerFault::Session(that)) => this.number < that.number,
+            _ => self.rank() < other.rank(),
+        }
+    }
+
+    /// Its place in the list.
+    fn rank(&self) -> u8
+        ensures { result ≡ rank self.now }
+    {
+        match self {
+            ServerFault::Accept => 1,
+            ServerFault::Session(_) => 2,
+            ServerFault::Close(_) => 3,
+            ServerFault::Write => 4,
+            ServerFault::NoMemory => 5,
+        }
+    }
+}
+
+/// The one of two faults that is told, where either has happened.
+pub fn earlier(first: Option<ServerFault>, second: Option<ServerFault>) -> Option<ServerFault>
+    ensures { result ≡ earlier first second }
+{
+    match (first, second) {
+        (None, _) => second,
+        (_, None) => first,
+        (Some(this), Some(that)) => { if that.is_before(&this) { second } else { first } }
+    }
+}
+
+impl fmt::Display for ServerFault {
+    ghost use Rattle.std.specs.Prelude.{Some};
+    ghost use Rattle.server.specs.Faults.{fault_text};
+
+    ghost output = { λ fault. Some (fault_text fault) };
+
+    fn fmt<W: fmt::Write>(&self, f: &mut fmt::Formatter<W>) -> fmt::Result {
+        match self {
+            ServerFault::Accept => {
+                f.write_str("vtl: device fault\nvtl: a connection could not be accepted")
+            }
+            ServerFault::Session(session) => {
+                write!(f, "vtl: device fault\nvtl: session {session}")
+            }
+            ServerFault::Close(fault) => {
+                f.write_str("vtl: device fault\nvtl: the library could not be closed: ")?;
+                f.write_str(close_words(*fault))
+            }
+            ServerFault::Write => {
+                f.write_str("vtl: device fault\nvtl: the lines of the records could not be written")
+            }
+            ServerFault::NoMemory => f.write_str("vtl: want of memory"),
+        }
+    }
+}
+
+impl fmt::Display for FaultySession {
+    ghost use Rattle.std.specs.Prelude.{Some};
+    ghost use Rattle.server.specs.Faults.{faulty_session_text};
+
+    ghost output = { λ session. Some (faulty_session_text session) };
+
+    fn fmt<W: fmt::Write>(&self, f: &mut fmt::Formatter<W>) -> fmt::Result {
+        let number = self.number;
+        let words = session_words(self.fault);
+        match self.nexus {
+            None => write!(f, "{number} before its LOGIN: {words}"),
+            Some(nexus) => write!(f, "{number} of {nexus}: {words}"),
+        }
+    }
+}
+
+fn session_words(fault: SessionFault) -> &'static str
+    ensures { result.now ≡ session_words fault }
+{
+    match fault {
+        SessionFault::BadFrame => "bad frame",
+        SessionFault::TooLong => "frame too long",
+        SessionFault::AlreadyConnected => "already connected",
+        SessionFault::Read => "a read failed",
+        SessionFault::Write => "a write failed",
+        SessionFault::NoMemory => "want of memory",
+    }
+}
+
+fn close_words(fault: CloseFault) -> &'static str
+    ensures { result.now ≡ close_words fault }
+{
+    match fault {
+        CloseFault::Mismatch => "what the sessions were told is not what the records say",
+        CloseFault::SeatMissing => "a seat is missing",
+        CloseFault::NoMemory => "want of memory",
+    }
+}
+
+impl From<AllocError> for ServerFault {
+    ghost use Rattle.server.specs.declared.server_fault.ServerFault.TheVariants.{NoMemory};
+
+    ghost from_gives = { λ _ fault. fault ≡ NoMemory };
+
+    fn from(_error: AllocError) -> ServerFault {
+        ServerFault::NoMemory
+    }
+}
+
+impl<T: Drop> From<AllocFailed<T>> for ServerFault {
+    ghost use Rattle.server.specs.declared.server_fault.ServerFault.TheVariants.{NoMemory};
+
+    ghost from_gives = { λ _ fault. fault ≡ NoMemory };
+
+    fn from(_error: AllocFailed<T>) -> ServerFault {
+        ServerFault::NoMemory
+    }
+}

@@ -1,0 +1,110 @@
+//! A host and a served library, over a socket.
+
+use client_session::{ClientSessionFault, converse};
+use output_lines::{Audit, Explanations};
+use program_options::{LibraryOptions, MAX_READS};
+use scsi_nexus::Nexus;
+use server::{RecordOutput, ServeLimits, ServerFault, serve_library};
+use std::fs::Files;
+use std::net::Net;
+use std::os::unix::net::{SocketAddr, SocketAddrExt, UnixListener, UnixStream};
+use std::sync::Wait;
+use std::sync::atomic::AtomicBool;
+use std::test::Fail;
+use std::thread::{self, Threads};
+use std::{io, process};
+use stocked_library::library;
+
+const A: Nexus = Nexus {
+    sas: 0x5000_0000_0000_000A,
+    port: 1,
+};
+
+/// What came of both ends of a session, and what each wrote.
+#[derive(Drop)]
+struct Met {
+    hosted: Result<(), ServerFault>,
+    conversed: Result<(), ClientSessionFault>,
+    records: Vec<u8>,
+    replies: Vec<u8>,
+}
+
+/// Sends a script as A.
+fn send<R: AllocGlobal + Net>(
+    rt: &R,
+    address: &SocketAddr,
+    script: &str,
+    replies: &mut Vec<u8>,
+) -> io::Result<Result<(), ClientSessionFault>> {
+    let stream = UnixStream::connect_addr(rt, address)?;
+    let mut reader = &stream;
+    let mut writer = &stream;
+    Ok(converse(
+        rt.alloc(),
+        &mut reader,
+        &mut writer,
+        A,
+        script.as_bytes(),
+        replies,
+        Explanations::Off,
+        1000,
+    ))
+}
+
+/// Serves the usual library for a session of A's, in a second thread, at an address that is no file.
+fn meet<R: AllocGlobal + Files + Net + Sync + Threads + Wait>(
+    rt: &R,
+    id: u32,
+    script: &str,
+) -> Result<Met, Fail> {
+    let alloc = rt.alloc();
+    let name = format!(in alloc; "vtl-host-{id}")?;
+    let address = SocketAddr::from_abstract_name(name.as_bytes())?;
+    let listener = UnixListener::bind_addr(rt, &address)?;
+    let core = library(alloc, &LibraryOptions::DEFAULT)?;
+    let mut records = Vec::new(alloc);
+    let mut replies = Vec::new(alloc);
+    let closed = AtomicBool::new(false);
+    let (hosted, sent) = thread::join(
+        rt,
+        || {
+            let limits = ServeLimits {
+                workers: 1,
+                sessions: 1,
+                closed: &closed,
+                reads: MAX_READS,
+            };
+            serve_library(
+                rt,
+                alloc,
+                core,
+                &listener,
+                limits,
+                RecordOutput::AtTheEnd(Audit::Lines),
+                &mut records,
+            )
+        },
+        || send(rt, &address, script, &mut replies),
+    );
+    Ok(Met {
+        hosted,
+        conversed: sent?,
+        records,
+        replies,
+    })
+}
+
+#[test]
+fn a_host_meets_a_served_library(rt: HostRuntime) -> Result<(), Fail> {
+    let id = process::id(rt.process());
+    let met = meet(&rt, id, "0 000000000000\n0 000000000000\n")?;
+    assert_eq!(rt; met.conversed, Ok(()));
+    assert_eq!(rt; met.hosted, Ok(()));
+    let replies = b"02 700006000000000a00000000290000000000 -\n00 - -\n";
+    assert_eq!(rt; met.replies.as_slice(), replies.as_slice());
+    let records = b"1 500000000000000a.1 TEST-UNIT-READY 2 - - 02\n\
+        2 500000000000000a.1 TEST-UNIT-READY 6 TEST-UNIT-READY/NONE/OTHER - 00\n\
+        3 500000000000000a.1 LOSS 6 - - 00\n";
+    assert_eq!(rt; met.records.as_slice(), records.as_slice());
+    Ok(())
+}

@@ -1,0 +1,27 @@
+use Rattle.std.proofs.Common.{◌≡◌, ◌∙◌, true, ap, sym, length, arith}
+use Rattle.std.specs.Prelude.{Ok}
+use Rattle.std.proofs.lemmas.List.{length-drop}
+use Rattle.frames.specs.Frames.{Complete, parsed_frame}
+use Rattle.frames.specs.Views.{frame_value}
+use Rattle.session.proofs.Answered.{one_more, then_logout}
+use Rattle.session.proofs.batching.answer_some.Goals as goal
+
+pub frames-preserved : goal.frames-preserved
+frames-preserved g c =
+    let e : parsed_frame true c.frames.read_buffer ≡ Complete (frame_value c.in-Complete.frame) c.in-Complete.count = sym (ap (parsed_frame true) c.pending.ensures) ∙ sym c.in-Complete.ensures.parsed in
+    let said = c.in_ok-next-in-Complete.ensures.goes_on (ap Ok c.in-Frames.is) in (
+      one_more g.S.Service.notes c.args.nexus c.args.service.now c.frames.service c.answer.new.service c.args.read_buffer.now c.args.out.now.items c.frames.out.items c.answer.new.out.items c.frames.read_buffer c.consume.new.self (frame_value c.in-Complete.frame) c.in-Complete.count c.frames.invariant.0 e c.consume.ensures said,
+      omega (arith, c.frames.invariant.1, ap length c.consume.ensures, length-drop c.in-Complete.count c.frames.read_buffer),
+    )
+
+pub returns-then-len-ge-BATCH-clause-goes_on : goal.returns-then-len-ge-BATCH-clause-goes_on
+returns-then-len-ge-BATCH-clause-goes_on g c _ =
+    let e : parsed_frame true c.frames.read_buffer ≡ Complete (frame_value c.in-Complete.frame) c.in-Complete.count = sym (ap (parsed_frame true) c.pending.ensures) ∙ sym c.in-Complete.ensures.parsed in
+    let said = c.in_ok-next-in-Complete.ensures.goes_on (ap Ok c.in-Frames.is) in
+    one_more g.S.Service.notes c.args.nexus c.args.service.now c.frames.service c.answer.new.service c.args.read_buffer.now c.args.out.now.items c.frames.out.items c.answer.new.out.items c.frames.read_buffer c.consume.new.self (frame_value c.in-Complete.frame) c.in-Complete.count c.frames.invariant.0 e c.consume.ensures said
+
+pub returns-in-Nothing-clause-leaves : goal.returns-in-Nothing-clause-leaves
+returns-in-Nothing-clause-leaves g c _ =
+    let e : parsed_frame true c.frames.read_buffer ≡ Complete (frame_value c.in-Complete.frame) c.in-Complete.count = sym (ap (parsed_frame true) c.pending.ensures) ∙ sym c.in-Complete.ensures.parsed in
+    let said = c.in_ok-next-in-Complete.ensures.logout (ap Ok c.in-Nothing.is) in
+    then_logout g.S.Service.notes c.args.nexus c.args.service.now c.frames.service c.answer.new.service c.args.read_buffer.now c.args.out.now.items c.frames.out.items c.answer.new.out.items c.frames.read_buffer c.consume.new.self (frame_value c.in-Complete.frame) c.in-Complete.count c.frames.invariant.0 e c.consume.ensures said

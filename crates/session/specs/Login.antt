@@ -1,0 +1,20 @@
+-- How a session begins, and how the end of input ends it.
+use Rattle.std.specs.Prelude.{◌≡◌, ◌≤◌, ℕ, false, List, [], ◌∷◌, drop, Option}
+use Rattle.std.specs.Io.KnownBytes.{Consumes, IsAtEnd}
+use Rattle.frames.specs.Frames.{Login, Partial, Complete, parsed_frame}
+use Rattle.session.specs.declared.fault.End.{End}
+use Rattle.session.specs.declared.fault.End.TheVariants.{Closed, Cut}
+use Rattle.session.specs.declared.login.LoginWait.{LoginWait}
+use Rattle.session.specs.declared.login.LoginWait.TheVariants as wait
+
+-- between frames, or within one
+abbrev pub end_of : (pending : List ℕ) → End
+end_of [] = Closed
+end_of (byte ∷ bytes) = Cut
+
+-- what was read begins with a LOGIN, behind which the rest is pending; or the reader is at its end before one has come whole
+abbrev pub Awaits : (turns : ℕ) → (left left' : Option (List ℕ)) → (pending : List ℕ) → LoginWait → Type 0
+Awaits turns left left' pending (wait.Login nexus others) =
+    (read : List ℕ) × (count : ℕ) × Consumes left left' read × (parsed_frame false read ≡ Complete (Login nexus) count) × (pending ≡ drop count read) × (others ≤ turns)
+Awaits turns left left' pending (wait.Ended end) =
+    Consumes left left' pending × IsAtEnd left' × (parsed_frame false pending ≡ Partial) × (end ≡ end_of pending)

@@ -1,0 +1,57 @@
+ghost use Rattle.std.specs.Prelude.{◌≡◌, ◌≤◌, [], IfOk};
+ghost use Rattle.session.specs.Login.{Awaits, end_of};
+
+use crate::fault::{End, SessionFault};
+use frames::{FrameRef, ParsedFrame, ReadBuffer, parse_frame};
+use scsi_nexus::Nexus;
+use std::io::Read;
+
+/// What came of waiting for a LOGIN.
+#[derive(Clone, Copy)]
+pub(crate) enum LoginWait {
+    /// A LOGIN, with how many reads may follow.
+    Login { nexus: Nexus, turns: u64 },
+    /// The end of input before it.
+    Ended(End),
+}
+
+/// Reads until a LOGIN has come whole, and takes it off what is pending.
+pub(crate) fn await_login<R: Read>(
+    read_buffer: &mut ReadBuffer,
+    reader: &mut R,
+    turns: u64,
+) -> Result<LoginWait, SessionFault>
+    requires { read_buffer.old ≡ [] }
+    ensures { IfOk result (λ wait. Awaits turns (R.remaining reader.old) (R.remaining reader.new) read_buffer.new wait) }
+{
+    'reads: for turn in 0..turns {
+        match read_buffer.fill(reader) {
+            Ok(0) => return Ok(LoginWait::Ended(end_of(read_buffer.pending()))),
+            Ok(_) => {}
+            Err(_) => return Err(SessionFault::Read),
+        }
+        match parse_frame(false, read_buffer.pending()) {
+            ParsedFrame::Partial => {}
+            ParsedFrame::Invalid(fault) => return Err(fault.into()),
+            ParsedFrame::Complete(FrameRef::Login { nexus }, count) => {
+                read_buffer.consume(count);
+                let turns = turns - turn - 1;
+                return Ok(LoginWait::Login { nexus, turns });
+            }
+            // Before a LOGIN there is no other frame.
+            ParsedFrame::Complete(_, _) => return Err(SessionFault::BadFrame),
+        }
+    }
+    Err(SessionFault::Read)
+}
+
+/// How the end of input ends a session: between frames, or within one.
+pub(crate) fn end_of(pending: &[u8]) -> End
+    ensures { result ≡ end_of pending.now }
+{
+    if pending.is_empty() {
+        End::Closed
+    } else {
+        End::Cut
+    }
+}

@@ -1,0 +1,54 @@
+ghost use Rattle.std.specs.Prelude.{◌≡◌, Some, None};
+ghost use Rattle.kept_unit.specs.Answers as event;
+ghost use Rattle.kept_unit.specs.Answers.{IsAnswer};
+
+use crate::fault::SessionFault;
+use kept_unit::Done;
+use scsi_nexus::Nexus;
+use std::alloc::Global;
+
+/// Where a session stands: a seat in a library, and a directory of the nexuses that have a session.
+pub trait Service {
+    ghost use Rattle.std.specs.Prelude.{ℕ};
+    ghost use Rattle.kept_unit.specs.Answers.{DoneValue};
+
+    /// What a call with this answer does to the service.
+    ghost notes: { Self → DoneValue → Self → Type 0 };
+
+    /// How many logical units there are.
+    ghost count: { Self → ℕ };
+
+    /// A command to a logical unit, by its CDB and the data sent with it.
+    fn submit<'a>(
+        &mut self,
+        alloc: Global,
+        nexus: Nexus,
+        lun: u8,
+        cdb: &'a [u8],
+        bytes: &'a [u8],
+    ) -> Done<'a>
+        ensures answer { IsAnswer result (Some nexus) lun (event.Command cdb.now bytes.now) }
+        ensures notes { notes self.old result self.new };
+
+    /// A reset of a logical unit.
+    fn reset(&mut self, alloc: Global, lun: u8) -> Done<'static>
+        ensures answer { IsAnswer result None lun event.Reset }
+        ensures notes { notes self.old result self.new };
+
+    /// The loss of a nexus at a logical unit.
+    fn lose(&mut self, alloc: Global, nexus: Nexus, lun: u8) -> Done<'static>
+        ensures answer { IsAnswer result (Some nexus) lun event.Loss }
+        ensures notes { notes self.old result self.new };
+
+    /// How many logical units there are.
+    fn units(&self) -> u8
+        ensures { result ≡ count self.now };
+
+    /// Notes that a nexus has a session, and gives its key. The library isn't concerned.
+    fn login(&mut self, nexus: Nexus) -> Result<usize, SessionFault>
+        ensures { self.new ≡ self.old };
+
+    /// Forgets a nexus, by its key.
+    fn logout(&mut self, key: usize)
+        ensures { self.new ≡ self.old };
+}
