@@ -2,7 +2,7 @@ use permit_tables::{ResType, word};
 use scsi_cdb::Class;
 
 #[test]
-fn permission_words_of_classes(rt: HostRuntime) {
+fn word_has_the_cells_of_a_class(rt: HostRuntime) {
     let rows = [
         (Class::TestUnitReady, 0x1F_FFFF),
         (Class::Register, 0x1F_FFFF),
@@ -17,7 +17,7 @@ fn permission_words_of_classes(rt: HostRuntime) {
 }
 
 #[test]
-fn codes_of_types(rt: HostRuntime) {
+fn from_code_knows_six_reservation_types(rt: HostRuntime) {
     for code in 0..=255u8 {
         let known = match code {
             1 | 3 | 5 | 6 | 7 | 8 => true,

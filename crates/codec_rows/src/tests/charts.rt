@@ -39,14 +39,14 @@ REGISTER-MOVE                  A A  A C C  A C C  A C C  A C C  A   C  A   C
 ";
 
 #[test]
-fn prints_the_whole_chart(rt: HostRuntime) -> Result<(), Fail> {
+fn write_cells_prints_the_whole_chart(rt: HostRuntime) -> Result<(), Fail> {
     let text = Chart::whole().text(rt.alloc())?;
     assert_eq!(rt; text.as_str(), WHOLE);
     Ok(())
 }
 
 #[test]
-fn prints_the_line_of_a_class(rt: HostRuntime) -> Result<(), Fail> {
+fn write_cells_prints_the_line_of_a_class(rt: HostRuntime) -> Result<(), Fail> {
     let chart = Chart {
         classes: &[Class::RegisterAndMove],
     };
@@ -61,7 +61,7 @@ REGISTER-MOVE                  A A  A C C  A C C  A C C  A C C  A   C  A   C
 }
 
 #[test]
-fn finds_a_class_by_its_name(rt: HostRuntime) {
+fn class_named_finds_a_class_in_either_case(rt: HostRuntime) {
     let rows = [
         ("READ(6)", Some(Class::Read)),
         ("read-element-status", Some(Class::ReadElementStatus)),
@@ -80,7 +80,7 @@ fn finds_a_class_by_its_name(rt: HostRuntime) {
 }
 
 #[test]
-fn prints_cells(rt: HostRuntime) -> Result<(), Fail> {
+fn write_cells_writes_one_class_or_all(rt: HostRuntime) -> Result<(), Fail> {
     let mut written = Vec::new(rt.alloc());
     write_cells(&mut written, Some(Class::Read))?;
     let wanted = "\

@@ -1,7 +1,7 @@
 use scsi_cdb::{Class, InServiceAction, Kind, Request, class, decode, encode};
 
 #[test]
-fn encodes_what_a_host_would_send(rt: HostRuntime) {
+fn encode_gives_the_bytes_of_the_standards(rt: HostRuntime) {
     let all_elements = Request::ReadElementStatus {
         volume_tags: false,
         element_type_code: 0,
@@ -22,7 +22,7 @@ fn encodes_what_a_host_would_send(rt: HostRuntime) {
 }
 
 #[test]
-fn decodes_a_write_of_64_kib(rt: HostRuntime) {
+fn decode_reads_a_write_of_64_kib(rt: HostRuntime) {
     let expected = Request::Write {
         fixed: false,
         transfer_length: 65536,

@@ -140,7 +140,9 @@ fn compare(rt: &impl Abort, state: &PrState, walked: &WalkedState) {
 }
 
 #[test]
-fn both_bodies_agree_over_generated_commands(rt: HostRuntime) -> Result<(), Fail> {
+fn reservations_agree_with_a_plain_program_over_generated_commands(
+    rt: HostRuntime,
+) -> Result<(), Fail> {
     let mut numbers = Numbers(1);
     let mut carried_out = 0u32;
     for _ in 0..50 {
@@ -160,7 +162,7 @@ fn both_bodies_agree_over_generated_commands(rt: HostRuntime) -> Result<(), Fail
 }
 
 #[test]
-fn both_bodies_agree_over_a_shared_key(rt: HostRuntime) -> Result<(), Fail> {
+fn reservations_agree_with_a_plain_program_over_a_shared_key(rt: HostRuntime) -> Result<(), Fail> {
     let first = Nexus { sas: 10, port: 1 };
     let second = Nexus { sas: 11, port: 1 };
     let alone = [first];

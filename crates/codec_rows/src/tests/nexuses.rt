@@ -1,7 +1,7 @@
 use scsi_nexus::*;
 
 #[test]
-fn refuses_other_lengths_before_other_formats(rt: HostRuntime) {
+fn transport_id_refuses_other_lengths_before_other_formats(rt: HostRuntime) {
     let rows = [
         ("short and not SAS", &[5; 23][..], TransportIdFault::Length),
         ("not SAS", &[0x46; 24][..], TransportIdFault::Format),
@@ -13,7 +13,7 @@ fn refuses_other_lengths_before_other_formats(rt: HostRuntime) {
 }
 
 #[test]
-fn keeps_nexuses_in_the_order_of_their_coming(rt: HostRuntime) {
+fn nexus_list_keeps_the_order_of_coming(rt: HostRuntime) {
     let mut list = NexusList::new();
     for port in 0..256u16 {
         assert_eq!(rt;

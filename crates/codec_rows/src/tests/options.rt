@@ -3,7 +3,7 @@ use scsi_nexus::Nexus;
 use std::test::Fail;
 
 #[test]
-fn reads_the_address_of_a_host(rt: HostRuntime) -> Result<(), Fail> {
+fn nexus_of_reads_sixteen_digits(rt: HostRuntime) -> Result<(), Fail> {
     let a = Nexus {
         sas: 0x5000_0000_0000_000A,
         port: 4,
@@ -29,14 +29,14 @@ fn reads_the_address_of_a_host(rt: HostRuntime) -> Result<(), Fail> {
 }
 
 #[test]
-fn tells_a_bad_nexus(rt: HostRuntime) -> Result<(), Fail> {
+fn nexus_of_refuses_other_digits(rt: HostRuntime) -> Result<(), Fail> {
     let bad = OptionFault::BadNexus.to_string(rt.alloc())?;
     assert_eq!(rt; bad.as_str(), "vtl: bad nexus");
     Ok(())
 }
 
 #[test]
-fn serves_by_so_many_workers(rt: HostRuntime) {
+fn serve_until_has_its_workers_and_sessions(rt: HostRuntime) {
     let rows = [
         (ServeUntil::Sessions(3), 3, 3),
         (ServeUntil::InputEnds(5), 5, u64::MAX),

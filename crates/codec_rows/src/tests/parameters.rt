@@ -9,7 +9,7 @@ const LISTING: [u8; 52] = [
 ];
 
 #[test]
-fn keeps_a_command_with_its_addresses(rt: HostRuntime) -> Result<(), Fail> {
+fn keep_has_the_listed_addresses(rt: HostRuntime) -> Result<(), Fail> {
     let Ok(params) = read_out(OutServiceAction::Register, 0, 52, &LISTING) else {
         return Err("a wrong length".into());
     };

@@ -68,14 +68,14 @@ fn event(number: u64, nexus: Option<Nexus>, act: Act) -> Record {
 }
 
 #[test]
-fn writes_the_line_of_the_last_number(rt: HostRuntime) -> Result<(), Fail> {
+fn line_of_the_last_number(rt: HostRuntime) -> Result<(), Fail> {
     let text = line(rt.alloc(), &event(u64::MAX, None, Act::MediumOut))?;
     assert_eq!(rt; text.as_str(), "18446744073709551615 - MEDIUM-OUT 6 - - 00");
     Ok(())
 }
 
 #[test]
-fn adds_a_line_to_a_text(rt: HostRuntime) -> Result<(), Fail> {
+fn write_line_adds_to_a_text(rt: HostRuntime) -> Result<(), Fail> {
     let mut text = String::from_str(rt.alloc(), "7\n")?;
     write_line(rt.alloc(), &mut text, &event(8, None, Act::Reset))?;
     assert_eq!(rt; text.as_str(), "7\n8 - RESET 6 - - 00");
@@ -83,7 +83,7 @@ fn adds_a_line_to_a_text(rt: HostRuntime) -> Result<(), Fail> {
 }
 
 #[test]
-fn hands_out_its_records_and_goes_on_counting(rt: HostRuntime) -> Result<(), Fail> {
+fn drain_hands_out_records_and_goes_on_counting(rt: HostRuntime) -> Result<(), Fail> {
     let mut trail = Trail::new(rt.alloc(), 0);
     assert_eq!(rt; trail.last(), 0);
     trail.reserve_one()?;
@@ -120,7 +120,7 @@ fn hands_out_its_records_and_goes_on_counting(rt: HostRuntime) -> Result<(), Fai
 }
 
 #[test]
-fn goes_on_in_the_room_of_the_vector_that_it_drains_into(rt: HostRuntime) -> Result<(), Fail> {
+fn drain_into_goes_on_in_the_room_of_the_vector(rt: HostRuntime) -> Result<(), Fail> {
     let mut trail = Trail::new(rt.alloc(), 0);
     trail.reserve_one()?;
     trail.push(Record {
@@ -153,7 +153,7 @@ fn goes_on_in_the_room_of_the_vector_that_it_drains_into(rt: HostRuntime) -> Res
 }
 
 #[test]
-fn only_commands_have_a_class(rt: HostRuntime) -> Result<(), Fail> {
+fn act_has_a_class_only_of_a_command(rt: HostRuntime) -> Result<(), Fail> {
     let rows = [
         (first_contact().act, Some(Class::TestUnitReady)),
         (wrong_key(&rt, rt.alloc())?.act, Some(Class::Register)),

@@ -9,7 +9,7 @@ const A: Nexus = Nexus {
 };
 
 #[test]
-fn refuses_a_comment_above_the_longest_line(rt: HostRuntime) -> Result<(), Fail> {
+fn events_of_refuses_a_comment_above_the_longest_line(rt: HostRuntime) -> Result<(), Fail> {
     let longest = vec![in rt.alloc(); b'#'; 270_000]?;
     assert!(rt; events_of(rt.alloc(), &longest).is_ok());
     let longer = vec![in rt.alloc(); b'#'; 270_001]?;
@@ -20,7 +20,7 @@ fn refuses_a_comment_above_the_longest_line(rt: HostRuntime) -> Result<(), Fail>
 }
 
 #[test]
-fn takes_commands_with_and_without_data(rt: HostRuntime) -> Result<(), Fail> {
+fn events_of_takes_commands_with_and_without_data(rt: HostRuntime) -> Result<(), Fail> {
     let text = "500000000000000A.1 255 5F0000000000000018aB 00fF\n500000000000000a.2 0 00";
     let pieces = events_of(rt.alloc(), text.as_bytes())?.into_pieces();
     assert_eq!(rt; pieces.len(), 1);
@@ -48,7 +48,7 @@ fn takes_commands_with_and_without_data(rt: HostRuntime) -> Result<(), Fail> {
 }
 
 #[test]
-fn takes_more_events_than_a_piece_has(rt: HostRuntime) -> Result<(), Fail> {
+fn events_of_takes_more_events_than_a_piece_has(rt: HostRuntime) -> Result<(), Fail> {
     let mut text = String::new(rt.alloc());
     for number in 0..8_193 {
         text.push_str(if number % 4_096 == 0 {
@@ -67,7 +67,7 @@ fn takes_more_events_than_a_piece_has(rt: HostRuntime) -> Result<(), Fail> {
 }
 
 #[test]
-fn takes_the_requests_of_a_host(rt: HostRuntime) -> Result<(), Fail> {
+fn requests_of_takes_the_lines_of_a_host(rt: HostRuntime) -> Result<(), Fail> {
     let text = "# a comment\n\n1 0a0000000200 00fF\nreset 255\n0 000000000000";
     let requests = requests_of(rt.alloc(), text.as_bytes())?;
     assert_eq!(rt; requests.len(), 3);
@@ -86,7 +86,7 @@ fn takes_the_requests_of_a_host(rt: HostRuntime) -> Result<(), Fail> {
 }
 
 #[test]
-fn refuses_the_first_fault_of_a_host(rt: HostRuntime) -> Result<(), Fail> {
+fn requests_of_refuses_the_first_faulty_line(rt: HostRuntime) -> Result<(), Fail> {
     let rows = [
         ("one word", "0", LineFault::WordCount),
         ("four words", "256 x 00 00", LineFault::WordCount),

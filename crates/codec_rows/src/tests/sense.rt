@@ -4,7 +4,7 @@ use std::test::Fail;
 const FIRST_CONTACT: &[u8; 18] = b"\x70\0\x06\0\0\0\0\x0a\0\0\0\0\x29\0\0\0\0\0";
 
 #[test]
-fn reads_what_a_host_gets(rt: HostRuntime) {
+fn from_bytes_reads_a_first_contact(rt: HostRuntime) {
     let sense = Sense::of(Condition::PowerOnOrResetOccurred);
     assert_eq!(rt; Sense::from_bytes(FIRST_CONTACT), Ok(sense));
     assert!(rt; sense.is(&Sense::of(Condition::PowerOnOrResetOccurred)));
@@ -17,7 +17,7 @@ fn reads_what_a_host_gets(rt: HostRuntime) {
 }
 
 #[test]
-fn says_statuses_keys_and_conditions(rt: HostRuntime) -> Result<(), Fail> {
+fn statuses_keys_and_conditions_have_the_standards_words(rt: HostRuntime) -> Result<(), Fail> {
     let reset = Condition::PowerOnOrResetOccurred;
     let key = SenseKey::UnitAttention;
     let status = Status::CheckCondition;
@@ -32,7 +32,7 @@ fn says_statuses_keys_and_conditions(rt: HostRuntime) -> Result<(), Fail> {
 }
 
 #[test]
-fn finds_the_condition_of_sense_data(rt: HostRuntime) {
+fn condition_is_that_of_the_sense_data(rt: HostRuntime) {
     let rows = [
         Condition::NoAdditionalSenseInformation,
         Condition::InitializingCommandRequired,
@@ -64,7 +64,7 @@ fn finds_the_condition_of_sense_data(rt: HostRuntime) {
 }
 
 #[test]
-fn codes_of_keys(rt: HostRuntime) {
+fn sense_key_of_knows_eight_codes(rt: HostRuntime) {
     for code in 0..=255u8 {
         let known = match code {
             0 | 2 | 4 | 5 | 6 | 7 | 8 | 13 => true,

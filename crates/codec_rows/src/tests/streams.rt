@@ -39,7 +39,7 @@ impl Read for Trickle {
 }
 
 #[test]
-fn reads_frames_off_a_trickle(rt: HostRuntime) -> Result<(), Fail> {
+fn parse_frame_reads_off_a_trickle(rt: HostRuntime) -> Result<(), Fail> {
     let mut reader = Trickle {
         bytes: ONE_SESSION,
         place: 0,
@@ -76,7 +76,7 @@ fn reads_frames_off_a_trickle(rt: HostRuntime) -> Result<(), Fail> {
 }
 
 #[test]
-fn tells_a_fault_by_its_first_byte(rt: HostRuntime) {
+fn parse_frame_tells_a_fault_by_its_first_byte(rt: HostRuntime) {
     assert!(rt; matches!(parse_frame(false, &[0, 0, 0]), ParsedFrame::Partial));
     assert!(rt;
         matches!(
@@ -105,7 +105,7 @@ fn tells_a_fault_by_its_first_byte(rt: HostRuntime) {
 }
 
 #[test]
-fn writes_each_reply(rt: HostRuntime) -> Result<(), Fail> {
+fn write_reply_writes_each_reply(rt: HostRuntime) -> Result<(), Fail> {
     let mut out = Vec::new(rt.alloc());
     write_reply(&mut out, &ReplyFrame::Login(LoginAnswer::Accepted))?;
     write_reply(&mut out, &ReplyFrame::Login(LoginAnswer::AlreadyConnected))?;
@@ -140,7 +140,7 @@ fn writes_each_reply(rt: HostRuntime) -> Result<(), Fail> {
 }
 
 #[test]
-fn writes_each_frame(rt: HostRuntime) -> Result<(), Fail> {
+fn write_frame_writes_each_frame(rt: HostRuntime) -> Result<(), Fail> {
     let mut out = Vec::new(rt.alloc());
     let test_unit_ready = FrameRef::Command {
         lun: 0,
@@ -165,7 +165,7 @@ fn writes_each_frame(rt: HostRuntime) -> Result<(), Fail> {
 }
 
 #[test]
-fn tells_what_a_client_may_send(rt: HostRuntime) -> Result<(), Fail> {
+fn is_sendable_goes_by_the_limits_of_a_frame(rt: HostRuntime) -> Result<(), Fail> {
     let sent = |lun, cdb, bytes| FrameRef::Command { lun, cdb, bytes }.is_sendable();
     let longest = vec![in rt.alloc(); 0u8; 131_072 - 3 - 16]?;
     let longer = vec![in rt.alloc(); 0u8; 131_072 - 3 - 15]?;
@@ -187,7 +187,7 @@ const TWO_REPLIES: &[u8] =
 \0\0\0\x0d\x82\0\0\0\0\0\0\0\0\x01\x02ab";
 
 #[test]
-fn reads_replies_off_a_trickle(rt: HostRuntime) -> Result<(), Fail> {
+fn parse_reply_reads_off_a_trickle(rt: HostRuntime) -> Result<(), Fail> {
     let mut reader = Trickle {
         bytes: TWO_REPLIES,
         place: 0,
@@ -241,7 +241,7 @@ fn reads_replies_off_a_trickle(rt: HostRuntime) -> Result<(), Fail> {
 }
 
 #[test]
-fn reads_each_reply(rt: HostRuntime) {
+fn parse_reply_reads_each_reply(rt: HostRuntime) {
     assert!(rt;
         matches!(
             parse_reply(b"\0\0\0\x02\x81\0\0\0"),
@@ -277,7 +277,7 @@ fn fault_of(bytes: &[u8]) -> Option<ReplyFault> {
 }
 
 #[test]
-fn tells_a_bad_reply_by_its_first_byte(rt: HostRuntime) {
+fn parse_reply_tells_a_fault_by_its_first_byte(rt: HostRuntime) {
     assert!(rt; fault_of(b"\0\0\0\0") == Some(ReplyFault::NoBody));
     assert!(rt; fault_of(b"\0\x01\0\x1d").is_none());
     assert!(rt; fault_of(b"\0\x01\0\x1e") == Some(ReplyFault::TooLong));

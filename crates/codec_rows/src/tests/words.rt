@@ -3,7 +3,7 @@ use scsi_sense::Status;
 use std::test::Fail;
 
 #[test]
-fn explains_any_bytes(rt: HostRuntime) -> Result<(), Fail> {
+fn explain_takes_any_bytes(rt: HostRuntime) -> Result<(), Fail> {
     let commands: [&[u8]; 9] = [
         b"\x12\0\0\0\xff\0",
         b"\x12\x01\x80\0\xff\0",

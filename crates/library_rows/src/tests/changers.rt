@@ -58,7 +58,7 @@ fn assert_refused(
 
 /// What goes into a drive or out of it is the target's to move, not the changer's.
 #[test]
-fn knows_what_its_drive_holds(rt: HostRuntime) -> Result<(), Fail> {
+fn move_medium_goes_by_the_marks_of_drives(rt: HostRuntime) -> Result<(), Fail> {
     let alloc = rt.alloc();
     let mut changer = changer(alloc)?;
     assert_refused(&rt, alloc, &mut changer, 0x400, 0x100, INTERNAL_FAILURE)?;
@@ -75,7 +75,7 @@ fn knows_what_its_drive_holds(rt: HostRuntime) -> Result<(), Fail> {
 }
 
 #[test]
-fn volumes_go_in_and_out(rt: HostRuntime) -> Result<(), Fail> {
+fn put_and_take_volume_at_the_elements_of_a_changer(rt: HostRuntime) -> Result<(), Fail> {
     let mut changer = changer(rt.alloc())?;
     assert_eq!(rt; (changer.kind(), changer.drives()), (Kind::Changer, 1));
     assert_eq!(rt; changer.take_volume(0x401).err(), Some(TakeFault::Empty));

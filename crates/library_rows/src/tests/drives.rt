@@ -119,7 +119,7 @@ impl Host {
 }
 
 #[test]
-fn refuses_what_does_not_fit(rt: HostRuntime) -> Result<(), Fail> {
+fn write_of_more_than_fits_loses_nothing(rt: HostRuntime) -> Result<(), Fail> {
     let mut host = Host::with_volume(&rt, rt.alloc(), 4, false);
     host.send(&rt, write(false, 3), &[1, 2, 3], &[], GOOD)?;
     host.send(&rt, Request::Rewind, &[], &[], GOOD)?;
@@ -130,7 +130,7 @@ fn refuses_what_does_not_fit(rt: HostRuntime) -> Result<(), Fail> {
 }
 
 #[test]
-fn refuses_to_change_what_is_protected(rt: HostRuntime) -> Result<(), Fail> {
+fn write_and_erase_leave_a_protected_volume(rt: HostRuntime) -> Result<(), Fail> {
     let mut host = Host::with_volume(&rt, rt.alloc(), 4, true);
     host.send(&rt, write(false, 1), &[1], &[], WRITE_PROTECTED)?;
     host.send(&rt, filemarks(1), &[], &[], WRITE_PROTECTED)?;
@@ -142,7 +142,7 @@ fn refuses_to_change_what_is_protected(rt: HostRuntime) -> Result<(), Fail> {
 }
 
 #[test]
-fn answers_where_there_is_no_room_for_blocks(rt: HostRuntime) -> Result<(), Fail> {
+fn fixed_write_of_more_than_fits_is_a_volume_overflow(rt: HostRuntime) -> Result<(), Fail> {
     let mut host = Host::with_volume(&rt, rt.alloc(), 1000, false);
     host.send(&rt, SELECT, BLOCKS_OF_512, &[], GOOD)?;
     host.send(&rt, write(true, 2), &[9; 1024], &[], OVERFLOW_OF_2)?;
@@ -206,7 +206,7 @@ fn assert_taken(rt: &impl Abort, drive: &mut TapeDrive) {
 }
 
 #[test]
-fn volumes_go_in_and_out(rt: HostRuntime) -> Result<(), Fail> {
+fn put_and_take_volume_at_a_drive(rt: HostRuntime) -> Result<(), Fail> {
     let mut host = Host {
         alloc: rt.alloc(),
         drive: TapeDrive::new(),

@@ -28,7 +28,9 @@ fn of_all_types(alloc: Global) -> Result<Elements, AllocError> {
 }
 
 #[test]
-fn status_of_a_type_that_there_is_not_is_a_header_of_zeros(rt: HostRuntime) -> Result<(), Fail> {
+fn read_element_status_of_an_unknown_type_is_a_header_of_zeros(
+    rt: HostRuntime,
+) -> Result<(), Fail> {
     let elements = of_all_types(rt.alloc())?;
     let status = elements.status(rt.alloc(), 5, 0, 9, true)?;
     assert_eq!(rt; status.as_slice(), [0; 8].as_slice());
@@ -41,7 +43,7 @@ fn read(elements: &Elements, address: u16) -> Result<Option<VolumeTag>, MapFault
 
 /// A volume that goes into a drive leaves the elements.
 #[test]
-fn moves_no_volume_into_a_drive(rt: HostRuntime) -> Result<(), Fail> {
+fn move_volume_refuses_a_drive(rt: HostRuntime) -> Result<(), Fail> {
     let mut elements = one_drive(rt.alloc())?;
     let moved = elements.move_volume(0x400, 0x100);
     assert_eq!(rt; moved, Err(MapFault::BadAddress));
@@ -50,7 +52,7 @@ fn moves_no_volume_into_a_drive(rt: HostRuntime) -> Result<(), Fail> {
 }
 
 #[test]
-fn full_element_hands_back_the_same_volume(rt: HostRuntime) -> Result<(), Fail> {
+fn put_hands_back_the_volume_at_a_full_element(rt: HostRuntime) -> Result<(), Fail> {
     let mut elements = one_drive(rt.alloc())?;
     let other = VolumeTag([b'Z'; 32]);
     match elements.put(0x400, volume(rt.alloc(), other)) {
@@ -92,7 +94,7 @@ const KEPT: [Kept; 3] = [
 ];
 
 #[test]
-fn takes_and_reads(rt: HostRuntime) -> Result<(), Fail> {
+fn read_take_and_mark_go_by_the_kind_of_element(rt: HostRuntime) -> Result<(), Fail> {
     let mut elements = of_all_types(rt.alloc())?;
     assert_eq!(rt; elements.drives(), 2);
     for row in &HELD {

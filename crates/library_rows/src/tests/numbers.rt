@@ -6,7 +6,7 @@ use scsi_sense::Status;
 use std::test::Fail;
 
 #[test]
-fn is_busy_behind_the_last_number(rt: HostRuntime) -> Result<(), Fail> {
+fn test_unit_ready_is_busy_behind_the_last_number(rt: HostRuntime) -> Result<(), Fail> {
     let alloc = rt.alloc();
     let server = Box::new(alloc, empty_changer(alloc)?)?;
     let Ok(mut unit) = LogicalUnit::new_after(alloc, 0, 1, server, u64::MAX - 1) else {

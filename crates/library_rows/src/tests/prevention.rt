@@ -32,7 +32,7 @@ fn assert_good(
 }
 
 #[test]
-fn outlasts_a_drain(rt: HostRuntime) -> Result<(), Fail> {
+fn prevention_outlasts_a_drain(rt: HostRuntime) -> Result<(), Fail> {
     let mut unit = unit(rt.alloc())?;
     assert!(rt; !unit.prevented());
     assert_good(&rt, &mut unit, B, PREVENT);

@@ -32,7 +32,7 @@ fn rewind(tape: &mut Tape) {
 }
 
 #[test]
-fn overflow_keeps_tape(rt: HostRuntime) {
+fn write_block_beyond_the_capacity_keeps_the_tape(rt: HostRuntime) {
     let mut tape = Tape::new(rt.alloc(), 10);
     assert_eq!(rt; write_block(&mut tape, &[1; 6]), Ok(()));
     assert_eq!(rt; write_block(&mut tape, &[2; 5]), Err(TapeFault::Overflow));
@@ -65,7 +65,7 @@ fn block_and_mark(alloc: Global, block: &[u8]) -> Result<Tape, Fail> {
 
 /// A read of the first 300 bytes of a block of 400 passes over the rest.
 #[test]
-fn reads_of_less_than_a_block(rt: HostRuntime) -> Result<(), Fail> {
+fn read_of_less_than_a_block_passes_over_the_rest(rt: HostRuntime) -> Result<(), Fail> {
     let bytes = mixed(rt.alloc(), 400, 251)?;
     let mut tape = block_and_mark(rt.alloc(), &bytes)?;
     let mut into = Vec::from_slice(rt.alloc(), &bytes)?;
@@ -77,7 +77,7 @@ fn reads_of_less_than_a_block(rt: HostRuntime) -> Result<(), Fail> {
 
 /// No SPACE(6) has so low a count.
 #[test]
-fn spaces_back_by_the_lowest_count(rt: HostRuntime) -> Result<(), Fail> {
+fn space_goes_back_by_the_lowest_count(rt: HostRuntime) -> Result<(), Fail> {
     let mut tape = block_and_mark(rt.alloc(), &[7; 400])?;
     assert!(rt; tape.locate(2));
     let end = tape.space(SpaceCode::Marks, i32::MIN);
@@ -128,7 +128,7 @@ fn assert_blocks(rt: &impl Abort, tape: &mut Tape, bytes: &[u8], row: &Blocks) {
 }
 
 #[test]
-fn refuses_blocks_of_a_bad_length(rt: HostRuntime) -> Result<(), Fail> {
+fn write_blocks_refuses_a_bad_length(rt: HostRuntime) -> Result<(), Fail> {
     let mut tape = Tape::new(rt.alloc(), 200_000);
     let long = vec![in rt.alloc(); 0u8; 131_074]?;
     for row in &BLOCKS {
@@ -142,7 +142,7 @@ fn refuses_blocks_of_a_bad_length(rt: HostRuntime) -> Result<(), Fail> {
 
 /// Filemarks take no bytes, but there are at most so many objects.
 #[test]
-fn a_million_filemarks_in_a_byte(rt: HostRuntime) -> Result<(), Fail> {
+fn write_marks_puts_a_million_into_a_byte(rt: HostRuntime) -> Result<(), Fail> {
     let mut tape = Tape::new(rt.alloc(), 1);
     write_marks(&mut tape, 1_000_000)?;
     assert_eq!(rt; write_marks(&mut tape, 1), Err(TapeFault::Overflow));
@@ -152,7 +152,7 @@ fn a_million_filemarks_in_a_byte(rt: HostRuntime) -> Result<(), Fail> {
 }
 
 #[test]
-fn a_volume_has_its_tag(rt: HostRuntime) {
+fn volume_keeps_its_tag(rt: HostRuntime) {
     let tag = VolumeTag([b' '; 32]);
     let volume = Volume {
         tag,
@@ -324,7 +324,7 @@ fn assert_same(rt: &impl Abort, alloc: Global, bytes: &[u8], seed: u64, capacity
 }
 
 #[test]
-fn byte_store_does_as_the_plain_list(rt: HostRuntime) -> Result<(), Fail> {
+fn tape_does_as_a_plain_list_of_objects(rt: HostRuntime) -> Result<(), Fail> {
     let bytes = mixed(rt.alloc(), 200_000, 253)?;
     assert_same(&rt, rt.alloc(), &bytes, 1, 40, 12);
     assert_same(&rt, rt.alloc(), &bytes, 2, 1_000, 60);

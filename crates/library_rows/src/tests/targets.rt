@@ -121,7 +121,7 @@ const REFUSALS: [(Units, Option<(CoreFault, usize)>); 5] = [
 ];
 
 #[test]
-fn units_that_make_no_target_are_handed_back(rt: HostRuntime) -> Result<(), Fail> {
+fn new_hands_back_units_that_make_no_target(rt: HostRuntime) -> Result<(), Fail> {
     for (units, refused) in &REFUSALS {
         assert_eq!(rt; refusal(rt.alloc(), *units)?, *refused, "{units:?}");
     }
@@ -129,7 +129,7 @@ fn units_that_make_no_target_are_handed_back(rt: HostRuntime) -> Result<(), Fail
 }
 
 #[test]
-fn names_the_drives_of_a_move(rt: HostRuntime) -> Result<(), Fail> {
+fn move_medium_names_its_drives(rt: HostRuntime) -> Result<(), Fail> {
     let to_drive = [0xa5, 0, 0, 0, 4, 0, 1, 0, 0, 0, 0, 0];
     let between = [0xa5, 0, 0, 0, 1, 1, 1, 0, 0, 0, 0, 0];
     let shelves = [0xa5, 0, 0, 0, 4, 0, 4, 1, 0, 0, 0, 0];

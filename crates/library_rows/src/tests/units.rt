@@ -47,7 +47,7 @@ fn assert_status(
 }
 
 #[test]
-fn only_a_mode_that_has_changed_is_recorded_as_changed(rt: HostRuntime) -> Result<(), Fail> {
+fn mode_select_is_recorded_as_a_change_only_where_it_is_one(rt: HostRuntime) -> Result<(), Fail> {
     let mut unit = drive(rt.alloc())?;
     let told = Status::CheckCondition;
     assert_status(&rt, &mut unit, A, MODE_SELECT, BLOCKS_OF_512, Status::Good);
@@ -64,7 +64,7 @@ fn only_a_mode_that_has_changed_is_recorded_as_changed(rt: HostRuntime) -> Resul
 }
 
 #[test]
-fn a_volume_comes_out_as_it_was_written(rt: HostRuntime) -> Result<(), Fail> {
+fn medium_out_gives_the_volume_as_it_was_written(rt: HostRuntime) -> Result<(), Fail> {
     let mut unit = drive(rt.alloc())?;
     assert_status(&rt, &mut unit, A, MODE_SELECT, BLOCKS_OF_512, Status::Good);
     assert_status(&rt, &mut unit, A, WRITE_2, &[5; 1024], Status::Good);
@@ -82,7 +82,7 @@ fn a_volume_comes_out_as_it_was_written(rt: HostRuntime) -> Result<(), Fail> {
 }
 
 #[test]
-fn a_command_to_an_absent_unit_has_no_number(rt: HostRuntime) -> Result<(), Fail> {
+fn test_unit_ready_to_an_absent_unit_has_no_number(rt: HostRuntime) -> Result<(), Fail> {
     let alloc = rt.alloc();
     let mut core = target(alloc, changer(alloc)?, empty_drive(alloc, 0)?)?;
     let event = Event::Command {

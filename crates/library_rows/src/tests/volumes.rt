@@ -44,7 +44,7 @@ fn put_back(
 }
 
 #[test]
-fn are_handed_back_where_they_cannot_go(rt: HostRuntime) -> Result<(), Fail> {
+fn medium_in_hands_back_what_it_refuses(rt: HostRuntime) -> Result<(), Fail> {
     let alloc = rt.alloc();
     let mut drive = loaded_drive(alloc, TAG)?;
     assert_eq!(rt;
@@ -64,7 +64,7 @@ fn are_handed_back_where_they_cannot_go(rt: HostRuntime) -> Result<(), Fail> {
 }
 
 #[test]
-fn stay_while_removal_is_prevented(rt: HostRuntime) -> Result<(), Fail> {
+fn medium_out_is_refused_while_removal_is_prevented(rt: HostRuntime) -> Result<(), Fail> {
     let alloc = rt.alloc();
     let mut unit = empty_drive(alloc, 0)?;
     assert_eq!(rt; unit.medium_out().err(), Some(MediumFault::Empty));
@@ -86,7 +86,7 @@ fn stay_while_removal_is_prevented(rt: HostRuntime) -> Result<(), Fail> {
 }
 
 #[test]
-fn neither_come_nor_go_behind_the_last_number(rt: HostRuntime) -> Result<(), Fail> {
+fn medium_in_and_out_are_busy_behind_the_last_number(rt: HostRuntime) -> Result<(), Fail> {
     let alloc = rt.alloc();
     let mut unit = empty_drive(alloc, 18_446_744_073_709_551_614)?;
     let reply = unit.execute(alloc, A, TEST_UNIT_READY, &[]);

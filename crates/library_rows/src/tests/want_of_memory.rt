@@ -97,7 +97,7 @@ fn wanting_target(alloc: Global) -> Result<TargetCore<WantingDevice>, Fail> {
 }
 
 #[test]
-fn want_of_memory_is_busy(rt: HostRuntime) -> Result<(), Fail> {
+fn execute_is_busy_for_want_of_memory(rt: HostRuntime) -> Result<(), Fail> {
     let alloc = rt.alloc();
     let mut core = wanting_target(alloc)?;
     let mut events = Vec::new(alloc);
@@ -170,7 +170,7 @@ const RESERVING_RECORDS: &str = "02 700006000000000a00000000290000000000 -\n\
     12 500000000000000b.1 PR-IN 6 PR-IN/WE/REGISTERED - 00\n";
 
 #[test]
-fn the_reservation_check_comes_before_the_device(rt: HostRuntime) -> Result<(), Fail> {
+fn reservation_conflict_comes_before_want_of_memory(rt: HostRuntime) -> Result<(), Fail> {
     let alloc = rt.alloc();
     let mut core = wanting_target(alloc)?;
     let mut reader = RESERVING.as_bytes();

@@ -18,7 +18,7 @@ const REPLIES_BEHIND_THE_DRAIN: &str = "00 - -\n\
     3 500000000000000a.1 TEST-UNIT-READY 6 TEST-UNIT-READY/NONE/OTHER - 00\n";
 
 #[test]
-fn goes_on_counting_after_a_drain(rt: HostRuntime) -> Result<(), Fail> {
+fn drain_leaves_the_numbers_going_on(rt: HostRuntime) -> Result<(), Fail> {
     let alloc = rt.alloc();
     let mut core = usual(alloc)?;
     let output = replayed(alloc, &mut core, Audit::Lines, BEFORE_THE_DRAIN)?;

@@ -90,7 +90,7 @@ const TURNS: [(u64, u64, u64, Result<(), ReplayFault>); 5] = [
 ];
 
 #[test]
-fn reads_no_more_often_than_it_may(rt: HostRuntime) -> Result<(), Fail> {
+fn replay_reads_no_more_often_than_it_may(rt: HostRuntime) -> Result<(), Fail> {
     for row in &TURNS {
         let (turns, fails_at, reads, outcome) = *row;
         let (result, count) = trickled(rt.alloc(), turns, fails_at)?;
@@ -101,7 +101,7 @@ fn reads_no_more_often_than_it_may(rt: HostRuntime) -> Result<(), Fail> {
 }
 
 #[test]
-fn tells_a_closed_output(rt: HostRuntime) -> Result<(), Fail> {
+fn replay_ends_by_a_write_that_fails(rt: HostRuntime) -> Result<(), Fail> {
     let mut reader = b"".as_slice();
     let result = replayed_usual(rt.alloc(), &mut reader, &mut Closed, 9)?;
     assert_eq!(rt; result, Err(ReplayFault::Write));
@@ -137,7 +137,7 @@ const OF_THE_SCRIPT: &str = "vtl: device fault\nvtl: the script could not be rea
 const OF_THE_REPLIES: &str = "vtl: device fault\nvtl: the replies could not be written";
 
 #[test]
-fn shows_faults(rt: HostRuntime) -> Result<(), Fail> {
+fn faults_of_a_replay_have_their_lines(rt: HostRuntime) -> Result<(), Fail> {
     let alloc = rt.alloc();
     let fault = fault_of_a_line(alloc)?;
     assert_told(&rt, alloc, fault, "vtl: line 1: bad nexus", 2)?;

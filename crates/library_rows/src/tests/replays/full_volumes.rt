@@ -47,7 +47,7 @@ fn push_blocks(alloc: Global, script: &mut String, expected: &mut String) -> Res
 }
 
 #[test]
-fn takes_a_million_filemarks_and_then_256_blocks(rt: HostRuntime) -> Result<(), Fail> {
+fn write_filemarks_takes_a_million_and_write_256_blocks(rt: HostRuntime) -> Result<(), Fail> {
     let alloc = rt.alloc();
     let mut script = String::new(alloc);
     let mut expected = String::new(alloc);

@@ -377,7 +377,7 @@ fn generated(alloc: Global, seed: u64) -> Result<Scripts, Fail> {
 }
 
 #[test]
-fn those_inside_see_no_difference(rt: HostRuntime) -> Result<(), Fail> {
+fn holder_and_group_see_no_difference_without_outsiders(rt: HostRuntime) -> Result<(), Fail> {
     let mut struck = 0u64;
     let mut good = 0u64;
     for seed in 0..300 {
@@ -397,7 +397,7 @@ fn those_inside_see_no_difference(rt: HostRuntime) -> Result<(), Fail> {
 /// D writes, registers, and prevents and allows removal, while A holds the drive. D's WRITE and PREVENT conflict, its
 /// REGISTER and ALLOW are GOOD; A writes one block, sees where it stands, and reads it.
 #[test]
-fn outsiders_struck_out(rt: HostRuntime) -> Result<(), Fail> {
+fn replies_are_the_same_with_outsiders_struck_out(rt: HostRuntime) -> Result<(), Fail> {
     let alloc = rt.alloc();
     let mut scripts = Scripts {
         whole: String::new(alloc),
