@@ -61,6 +61,7 @@ impl ReadBuffer {
     /// read, leaves what is pending as it was.
     pub fn fill<R: Read>(&mut self, reader: &mut R) -> io::Result<usize>
         ensures ok { IfOk result (λ count. Filled count self.old self.new (R.remaining reader.old) (R.remaining reader.new)) }
+        ensures most { IfOk result (λ count. count ≤ 262144) }
         ensures end { IfOk result (λ count. count ≡ 0 → length self.old < 262144 → IsAtEnd (R.remaining reader.new)) }
         ensures err { OnErr result ((self.new ≡ self.old) × Keeps (R.remaining reader.old) (R.remaining reader.new)) }
     {

@@ -1,4 +1,4 @@
-ghost use Rattle.std.specs.Prelude.{◌≡◌, ◌≤◌, ◌++◌, length, OnOk};
+ghost use Rattle.std.specs.Prelude.{◌≡◌, ◌≤◌, ◌<◌, ◌+◌, ◌++◌, length, vec_len, vec_capacity, OnOk, OnErr};
 ghost use Rattle.frames.specs.Replies.{IsShort, reply_bytes, sense_bytes, login_code, CommandReply};
 ghost use Rattle.frames.specs.Views.{reply_value};
 
@@ -50,10 +50,14 @@ fn code_of(answer: LoginAnswer) -> u8
 }
 
 /// Adds a reply frame: four bytes of length, then a body whose first byte is its kind. Room for all of it is
-/// made first; where memory is refused, nothing that counts was added.
+/// made first; where memory is refused, nothing that counts was added. No reply has more than 65,569 bytes, so none takes
+/// memory where there is room for as many.
 pub fn write_reply(out: &mut Vec<u8>, reply: &ReplyFrame<'_>) -> Result<(), AllocError>
     requires { IsShort (reply_value reply.now) }
-    ensures { OnOk result (out.new.items ≡ out.old.items ++ reply_bytes (reply_value reply.now)) }
+    ensures added { OnOk result (out.new.items ≡ out.old.items ++ reply_bytes (reply_value reply.now)) }
+    ensures most { OnOk result (vec_len out.new ≤ vec_len out.old + 65569) }
+    ensures capacity { vec_capacity out.old ≤ vec_capacity out.new }
+    ensures full { OnErr result (vec_capacity out.old < vec_len out.old + 65569) }
 {
     match reply {
         ReplyFrame::Login(answer) => {
@@ -81,7 +85,10 @@ fn write_command_reply(
     bytes: &[u8],
 ) -> Result<(), AllocError>
     requires { length bytes.now ≤ 65536 }
-    ensures { OnOk result (out.new.items ≡ out.old.items ++ reply_bytes (CommandReply status sense.now number bytes.now)) }
+    ensures added { OnOk result (out.new.items ≡ out.old.items ++ reply_bytes (CommandReply status sense.now number bytes.now)) }
+    ensures most { OnOk result (vec_len out.new ≤ vec_len out.old + 65569) }
+    ensures capacity { vec_capacity out.old ≤ vec_capacity out.new }
+    ensures full { OnErr result (vec_capacity out.old < vec_len out.old + 65569) }
 {
     let size = COMMAND_REPLY_FIELDS + sense_length(sense) as usize + bytes.len();
     out.reserve(LENGTH_FIELD + size)?;
@@ -95,7 +102,8 @@ fn write_command_reply(
 }
 
 fn sense_length(sense: &Option<Sense>) -> u8
-    ensures { result ≡ length (sense_bytes sense.now) }
+    ensures value { result ≡ length (sense_bytes sense.now) }
+    ensures most { result ≤ 18 }
 {
     match sense {
         None => 0,

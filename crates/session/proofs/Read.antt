@@ -1,7 +1,8 @@
 -- What several reads take, one after another.
-use Rattle.std.proofs.Common.{◌≡◌, ℕ, Option, Some, None, List, [], ◌∷◌, ◌++◌, length, refl, sym, ap, ◌∙◌, append_assoc, append-nil}
-use Rattle.std.specs.Io.KnownBytes.{Consumes}
+use Rattle.std.proofs.Common.{◌≡◌, ◌≤◌, ◌<◌, ◌+◌, ◌-◌, ◌*◌, ℕ, Option, Some, None, List, [], ◌∷◌, ◌++◌, length, length-append, refl, sym, ap, subst, ◌∙◌, append_assoc, append-nil, arith}
+use Rattle.std.specs.Io.KnownBytes.{Consumes, Keeps}
 use Rattle.frames.specs.Reading.{Filled}
+use Rattle.session.specs.Login.{ReadsAtMost}
 
 pub consumes_none : (left : Option (List ℕ)) → Consumes left left []
 consumes_none None = tt
@@ -21,3 +22,35 @@ empty (x ∷ xs) e = absurd cc
 pub nothing_more : (read_buffer inbox' : List ℕ) (n : ℕ) (left left' : Option (List ℕ)) → Filled n read_buffer inbox' left left' → n ≡ 0 → inbox' ≡ read_buffer
 nothing_more read_buffer inbox' n left left' got none =
     got.1 ∙ ap (λ (xs : List ℕ). read_buffer ++ xs) (empty got.0 (got.2 ∙ none)) ∙ append-nil read_buffer
+
+-- no read at all
+pub reads_none : (most : ℕ) (left : Option (List ℕ)) → ReadsAtMost most left left
+reads_none most left = ([], consumes_none left, omega arith)
+
+-- one read more
+pub reads_more : (turn count : ℕ) (pending pending' : List ℕ) (a b c : Option (List ℕ)) → ReadsAtMost (turn * 262144) a b → Filled count pending pending' b c → count ≤ 262144
+    → ReadsAtMost ((turn + 1) * 262144) a c
+reads_more turn count pending pending' a b c so got most =
+    (so.0 ++ got.0, consumes_more a b c so.0 got.0 so.1 got.3, omega (arith, so.2, got.2, length-append so.0 got.0))
+
+-- a read that failed took nothing
+pub reads_kept : (most : ℕ) (a b c : Option (List ℕ)) → ReadsAtMost most a b → Keeps b c → ReadsAtMost most a c
+reads_kept most None b c so kept = (so.0, tt, so.2)
+reads_kept most (Some xs) None c so kept = absurd so.1
+reads_kept most (Some xs) (Some ys) None so kept = absurd kept
+reads_kept most (Some xs) (Some ys) (Some zs) so kept = (so.0, subst (λ (l : List ℕ). xs ≡ so.0 ++ l) (sym kept) so.1, so.2)
+
+-- fewer reads are no more
+pub reads_within : (few most : ℕ) (a b : Option (List ℕ)) → few ≤ most → ReadsAtMost (few * 262144) a b → ReadsAtMost (most * 262144) a b
+reads_within few most a b le so = (so.0, so.1, omega (arith, so.2))
+
+-- the reads up to a LOGIN, and those behind it
+pub reads_then : (turns others : ℕ) (a b c : Option (List ℕ)) → others ≤ turns → ReadsAtMost ((turns - others) * 262144) a b → ReadsAtMost (others * 262144) b c → ReadsAtMost (turns * 262144) a c
+reads_then turns others a b c le first rest =
+    (first.0 ++ rest.0, consumes_more a b c first.0 rest.0 first.1 rest.1, omega (arith, first.2, rest.2, length-append first.0 rest.0))
+
+-- one read more, of those that there may be
+pub reads_on : (turn turns count : ℕ) (pending pending' : List ℕ) (a b c : Option (List ℕ)) → turn < turns → ReadsAtMost (turn * 262144) a b → Filled count pending pending' b c → count ≤ 262144
+    → ReadsAtMost (turns * 262144) a c
+reads_on turn turns count pending pending' a b c lt so got most =
+    reads_within (turn + 1) turns a c (omega arith) (reads_more turn count pending pending' a b c so got most)

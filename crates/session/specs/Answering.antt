@@ -1,5 +1,5 @@
 -- What a session does with its frames. `notes s d t` says that a call with the answer d makes t of the service s.
-use Rattle.std.specs.Prelude.{◌≡◌, ℕ, true, List, [], ◌∷◌, ◌++◌, Option, Some, None}
+use Rattle.std.specs.Prelude.{◌≡◌, ◌≤◌, ℕ, true, List, [], ◌∷◌, ◌++◌, Option, Some, None}
 use Rattle.std.specs.Io.KnownBytes.{Appends}
 use Rattle.scsi_nexus.specs.declared.nexus.Nexus.{Nexus}
 use Rattle.kept_unit.specs.Answers as event
@@ -50,3 +50,7 @@ AnswersOut notes n s pending out written written' out' pending' t =
 abbrev pub AnswersAllOut : {S : Type 0} → (S → DoneValue → S → Type 0) → Nexus → S → (pending out : List ℕ) → (written written' : Option (List ℕ)) → (out' pending' : List ℕ) → S → Type 0
 AnswersAllOut notes n s pending out written written' out' pending' t =
     (gone : List ℕ) × Appends written written' gone × AnswersAll notes n s pending out (gone ++ out') pending' t
+
+-- what waits to be written is no more than one reply of the largest, and there is room for another behind it
+abbrev pub HasRoom : (waiting capacity : ℕ) → Type 0
+HasRoom waiting capacity = (waiting ≤ 65569) × (131138 ≤ capacity)

@@ -1,5 +1,5 @@
 -- How a session begins, and how the end of input ends it.
-use Rattle.std.specs.Prelude.{◌≡◌, ◌≤◌, ℕ, false, List, [], ◌∷◌, drop, Option}
+use Rattle.std.specs.Prelude.{◌≡◌, ◌≤◌, ◌-◌, ◌*◌, ℕ, false, List, [], ◌∷◌, length, drop, Option}
 use Rattle.std.specs.Io.KnownBytes.{Consumes, IsAtEnd}
 use Rattle.frames.specs.Frames.{Login, Partial, Complete, parsed_frame}
 use Rattle.session.specs.declared.fault.End.{End}
@@ -11,6 +11,15 @@ use Rattle.session.specs.declared.login.LoginWait.TheVariants as wait
 abbrev pub end_of : (pending : List ℕ) → End
 end_of [] = Closed
 end_of (byte ∷ bytes) = Cut
+
+-- so many bytes were read at most
+abbrev pub ReadsAtMost : (most : ℕ) → (left left' : Option (List ℕ)) → Type 0
+ReadsAtMost most left left' = (read : List ℕ) × Consumes left left' read × (length read ≤ most)
+
+-- a LOGIN came by so many of the reads that there may be, and others may follow
+abbrev pub LeavesReads : (turns : ℕ) → (left left' : Option (List ℕ)) → LoginWait → Type 0
+LeavesReads turns left left' (wait.Login nexus others) = (others ≤ turns) × ReadsAtMost ((turns - others) * 262144) left left'
+LeavesReads turns left left' (wait.Ended end) = Unit {0}
 
 -- what was read begins with a LOGIN, behind which the rest is pending; or the reader is at its end before one has come whole
 abbrev pub Awaits : (turns : ℕ) → (left left' : Option (List ℕ)) → (pending : List ℕ) → LoginWait → Type 0

@@ -1,18 +1,21 @@
 -- A whole session.
-use Rattle.std.specs.Prelude.{◌≡◌, ◌⊎◌, ℕ, zero, suc, Bool, true, false, not, ◌&&◌, List, [], ◌∷◌, ◌++◌, length, ◌<◌, Option, Some}
+use Rattle.std.specs.Prelude.{◌≡◌, ◌≢◌, ◌⊎◌, MatchBool, ℕ, zero, suc, Bool, true, false, not, ◌&&◌, List, [], ◌∷◌, ◌++◌, length, ◌<◌, Option, Some}
 use Rattle.std.specs.Io.KnownBytes.{Consumes, Appends, IsAtEnd}
 use Rattle.scsi_nexus.specs.declared.nexus.Nexus.{Nexus}
 use Rattle.scsi_sense.specs.declared.status.Status.{Status}
 use Rattle.scsi_sense.specs.declared.status.Status.TheVariants.{Good, CheckCondition, Busy, ReservationConflict}
 use Rattle.kept_unit.specs.Answers as event
 use Rattle.kept_unit.specs.Answers.{DoneValue, IsAnswer}
-use Rattle.frames.specs.declared.reply_frame.LoginAnswer.TheVariants.{Accepted}
-use Rattle.frames.specs.Frames.{FrameValue, Login, Logout, Partial, parsed_frame}
+use Rattle.frames.specs.declared.reply_frame.LoginAnswer.TheVariants.{Accepted, AlreadyConnected}
+use Rattle.frames.specs.Frames.{FrameValue, Login, Logout, Partial, Complete, parsed_frame}
 use Rattle.frames.specs.Replies.{LoginReply, LogoutReply, reply_bytes}
 use Rattle.frames.specs.Stream.{Takes}
 use Rattle.session.specs.declared.fault.End.{End}
 use Rattle.session.specs.declared.fault.End.TheVariants as end
+use Rattle.session.specs.declared.fault.SessionFault.{SessionFault}
+use Rattle.session.specs.declared.fault.SessionFault.TheVariants as session
 use Rattle.session.specs.Answering.{Talks, Answers, AnswersAll}
+use Rattle.session.specs.Faults.{IsOfStream}
 use Rattle.session.specs.Login.{end_of}
 
 -- what was pending is answered as far as it is whole, and all replies are written; and so with a LOGOUT at its end
@@ -68,15 +71,33 @@ IsLostBelow {S} notes n (suc lun) s t all =
     (m : S) × (before : Bool) × (d : DoneValue) × IsLostBelow notes n lun s m before × IsAnswer d (Some n) lun event.Loss × notes m d t
     × (all ≡ (before && not (is_busy d.reply.status)))
 
--- a session that ended early did nothing at the service; or the last thing that it did there was to lose its nexus at every unit
-abbrev pub IsUntouched : {S : Type 0} → S → S → Type 0
-IsUntouched s t = t ≡ s
+-- what a host is told whose LOGIN isn't taken
+abbrev pub refusal : SessionFault → List ℕ
+refusal session.AlreadyConnected = reply_bytes (LoginReply AlreadyConnected)
+refusal session.BadFrame = []
+refusal session.TooLong = []
+refusal session.Read = []
+refusal session.Write = []
+refusal session.NoMemory = []
 
-pub record IsLost {S : Type 0} (notes : S → DoneValue → S → Type 0) (count : S → ℕ) (t : S) : Type 0 where
+-- a session that ended before it was let in did nothing at the service, and wrote its refusal alone
+pub record IsKeptOut {S : Type 0} (s : S) (written written' : Option (List ℕ)) (fault : SessionFault) (t : S) : Type 0 where
+  pub service : t ≡ s
+  pub said : fault ≢ session.Write → Appends written written' (refusal fault)
+
+-- a session that ended early later on: what was read first is its LOGIN, and the last thing that it did at the service was to lose the nexus of
+-- that LOGIN at every unit. It ended for want of memory only where such a loss was BUSY
+pub record BreaksOff {S : Type 0} (notes : S → DoneValue → S → Type 0) (count : S → ℕ) (left : Option (List ℕ)) (fault : SessionFault) (t : S) : Type 0 where
   pub nexus : Nexus
+  pub read : List ℕ
+  pub middle : Option (List ℕ)
+  pub size : ℕ
   pub before : S
   pub all : Bool
+  pub consumed : Consumes left middle read
+  pub login : parsed_frame false read ≡ Complete (Login nexus) size
   pub lost : IsLostBelow notes nexus (count before) before t all
+  pub ended : MatchBool all (IsOfStream fault) (fault ≡ session.NoMemory)
 
 -- a session that never logged in: nothing was written, and nothing has changed
 pub record NeverLogsIn {S : Type 0} (s : S) (left left' written written' : Option (List ℕ)) (end : End) (t : S) : Type 0 where

@@ -1,4 +1,4 @@
-ghost use Rattle.std.specs.Prelude.{◌≡◌, ◌≢◌, ◌++◌, Ok, OnOk};
+ghost use Rattle.std.specs.Prelude.{◌≡◌, ◌≢◌, ◌≤◌, ◌<◌, ◌+◌, ◌++◌, Ok, OnOk, OnErr, vec_len, vec_capacity};
 ghost use Rattle.frames.specs.Frames as frames;
 ghost use Rattle.frames.specs.Views.{frame_value};
 ghost use Rattle.frames.specs.Replies.{LogoutReply, reply_bytes};
@@ -19,7 +19,10 @@ fn command<S: Service>(
     bytes: &[u8],
     out: &mut Vec<u8>,
 ) -> Result<(), AllocError>
-    ensures { OnOk result (Commanded S.notes service.old nexus lun cdb.now bytes.now out.old.items out.new.items service.new) }
+    ensures said { OnOk result (Commanded S.notes service.old nexus lun cdb.now bytes.now out.old.items out.new.items service.new) }
+    ensures most { OnOk result (vec_len out.new ≤ vec_len out.old + 65569) }
+    ensures capacity { vec_capacity out.old ≤ vec_capacity out.new }
+    ensures full { OnErr result (vec_capacity out.old < vec_len out.old + 65569) }
 {
     let done = service.submit(alloc, nexus, lun, cdb, bytes);
     let reply = &done.receipt().reply;
@@ -39,7 +42,10 @@ fn reset<S: Service>(
     lun: u8,
     out: &mut Vec<u8>,
 ) -> Result<(), AllocError>
-    ensures { OnOk result (WasReset S.notes service.old lun out.old.items out.new.items service.new) }
+    ensures said { OnOk result (WasReset S.notes service.old lun out.old.items out.new.items service.new) }
+    ensures most { OnOk result (vec_len out.new ≤ vec_len out.old + 65569) }
+    ensures capacity { vec_capacity out.old ≤ vec_capacity out.new }
+    ensures full { OnErr result (vec_capacity out.old < vec_len out.old + 65569) }
 {
     let done = service.reset(alloc, lun);
     write_reply(out, &ReplyFrame::Reset(done.receipt().reply.status))
@@ -66,6 +72,9 @@ pub(crate) fn answer<S: Service>(
 ) -> Result<AfterFrame, AllocError>
     ensures goes_on { result ≡ Ok AfterFrame.Frames → Says S.notes nexus service.old (frame_value frame.entry) out.old.items out.new.items service.new }
     ensures logout { result ≡ Ok AfterFrame.Nothing → (frame_value frame.entry ≡ frames.Logout) × (out.new.items ≡ out.old.items ++ reply_bytes LogoutReply) × (service.new ≡ service.old) }
+    ensures most { OnOk result (vec_len out.new ≤ vec_len out.old + 65569) }
+    ensures capacity { vec_capacity out.old ≤ vec_capacity out.new }
+    ensures full { OnErr result (vec_capacity out.old < vec_len out.old + 65569) }
 {
     match frame {
         FrameRef::Login { .. } => Ok(AfterFrame::Again),

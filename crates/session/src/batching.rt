@@ -1,7 +1,8 @@
-ghost use Rattle.std.specs.Prelude.{◌≡◌, ◌<◌, ◌≤◌, ◌⊎◌, Ok, OnOk, [], length, true, false};
+ghost use Rattle.std.specs.Prelude.{◌≡◌, ◌<◌, ◌≤◌, ◌⊎◌, Ok, OnOk, IfErr, IsOkUnless, [], length, vec_len, vec_capacity, true, false};
 ghost use Rattle.std.specs.Io.KnownBytes.{Appends};
 ghost use Rattle.frames.specs.Frames.{parsed_frame, Partial};
-ghost use Rattle.session.specs.Answering.{Answers, AnswersAll, AnswersOut, AnswersAllOut};
+ghost use Rattle.session.specs.Answering.{Answers, AnswersAll, AnswersOut, AnswersAllOut, HasRoom};
+ghost use Rattle.session.specs.Faults.{IsOfStream};
 
 use crate::answering::{AfterFrame, answer};
 use crate::fault::SessionFault;
@@ -12,11 +13,17 @@ use std::alloc::Global;
 use std::io::Write;
 
 /// Room for the largest reply frame: past this the replies are written.
-pub(crate) const BATCH: usize = LENGTH_FIELD + MAX_REPLY;
+const BATCH: usize = LENGTH_FIELD + MAX_REPLY;
+
+/// Room for what waits to be written and for the largest reply behind it, so that no reply takes memory.
+pub(crate) const ROOM: usize = 2 * BATCH;
 
 /// Writes what was answered.
 pub(crate) fn flush<W: Write>(out: &mut Vec<u8>, writer: &mut W) -> Result<(), SessionFault>
-    ensures { OnOk result (Appends (W.contents writer.old) (W.contents writer.new) out.old.items × (out.new.items ≡ [])) }
+    ensures written { OnOk result (Appends (W.contents writer.old) (W.contents writer.new) out.old.items) }
+    ensures empty { (out.new.items ≡ []) × (vec_len out.new ≡ 0) }
+    ensures capacity { vec_capacity out.new ≡ vec_capacity out.old }
+    ensures fault { IsOkUnless result SessionFault.Write }
 {
     let written = writer.write_all(out.as_slice());
     out.clear();
@@ -45,6 +52,10 @@ fn answer_some<S: Service>(
     read_buffer: &mut ReadBuffer,
     out: &mut Vec<u8>,
 ) -> Result<Pause, SessionFault>
+    requires { HasRoom (vec_len out.old) (vec_capacity out.old) }
+    ensures capacity { vec_capacity out.old ≤ vec_capacity out.new }
+    ensures waits { result ≡ Ok Pause.NeedsInput → vec_len out.new ≤ 65569 }
+    ensures fault { IfErr result IsOfStream }
     ensures goes_on { (result ≡ Ok Pause.NeedsInput) ⊎ (result ≡ Ok Pause.FlushDue) → Answers S.notes nexus service.old read_buffer.old out.old.items out.new.items read_buffer.new service.new }
     ensures dry { result ≡ Ok Pause.NeedsInput → (parsed_frame true read_buffer.new ≡ Partial) × (length read_buffer.new < 131076) }
     ensures full { result ≡ Ok Pause.FlushDue → length read_buffer.new < length read_buffer.old }
@@ -80,6 +91,9 @@ pub(crate) fn answer_all<S: Service, W: Write>(
     out: &mut Vec<u8>,
     writer: &mut W,
 ) -> Result<bool, SessionFault>
+    requires { HasRoom (vec_len out.old) (vec_capacity out.old) }
+    ensures capacity { vec_capacity out.old ≤ vec_capacity out.new }
+    ensures fault { IfErr result IsOfStream }
     ensures goes_on { result ≡ Ok true → AnswersOut S.notes nexus service.old read_buffer.old out.old.items (W.contents writer.old) (W.contents writer.new) out.new.items read_buffer.new service.new }
     ensures dry { result ≡ Ok true → (parsed_frame true read_buffer.new ≡ Partial) × (length read_buffer.new < 131076) }
     ensures leaves { result ≡ Ok false → AnswersAllOut S.notes nexus service.old read_buffer.old out.old.items (W.contents writer.old) (W.contents writer.new) out.new.items read_buffer.new service.new }

@@ -1,5 +1,6 @@
-ghost use Rattle.std.specs.Prelude.{◌≡◌, ◌≤◌, [], IfOk};
-ghost use Rattle.session.specs.Login.{Awaits, end_of};
+ghost use Rattle.std.specs.Prelude.{◌≡◌, ◌≤◌, ◌*◌, [], IfOk, IfErr};
+ghost use Rattle.session.specs.Faults.{IsOfStream};
+ghost use Rattle.session.specs.Login.{Awaits, LeavesReads, ReadsAtMost, end_of};
 
 use crate::fault::{End, SessionFault};
 use frames::{FrameRef, ParsedFrame, ReadBuffer, parse_frame};
@@ -22,7 +23,10 @@ pub(crate) fn await_login<R: Read>(
     turns: u64,
 ) -> Result<LoginWait, SessionFault>
     requires { read_buffer.old ≡ [] }
-    ensures { IfOk result (λ wait. Awaits turns (R.remaining reader.old) (R.remaining reader.new) read_buffer.new wait) }
+    ensures wait { IfOk result (λ wait. Awaits turns (R.remaining reader.old) (R.remaining reader.new) read_buffer.new wait) }
+    ensures reads { ReadsAtMost (turns * 262144) (R.remaining reader.old) (R.remaining reader.new) }
+    ensures rest { IfOk result (λ wait. LeavesReads turns (R.remaining reader.old) (R.remaining reader.new) wait) }
+    ensures fault { IfErr result IsOfStream }
 {
     'reads: for turn in 0..turns {
         match read_buffer.fill(reader) {

@@ -1,4 +1,5 @@
-ghost use Rattle.std.specs.Prelude.{◌≡◌, Some, None};
+ghost use Rattle.std.specs.Prelude.{◌≡◌, ◌⊎◌, Some, None, IfErr};
+ghost use Rattle.session.specs.declared.fault.SessionFault.TheVariants.{AlreadyConnected, NoMemory};
 ghost use Rattle.kept_unit.specs.Answers as event;
 ghost use Rattle.kept_unit.specs.Answers.{IsAnswer};
 
@@ -44,9 +45,12 @@ pub trait Service {
     fn units(&self) -> u8
         ensures { result ≡ count self.now };
 
-    /// Notes that a nexus has a session, and gives its key. The library isn't concerned.
+    /// Notes that a nexus has a session, and gives its key. The library isn't concerned. `AlreadyConnected` where it has one already,
+    /// `NoMemory` where memory is refused. What the directory has afterwards `Directory::login` says; where sessions share one, others
+    /// come and go there at any time.
     fn login(&mut self, nexus: Nexus) -> Result<usize, SessionFault>
-        ensures { self.new ≡ self.old };
+        ensures library { self.new ≡ self.old }
+        ensures faults { IfErr result (λ fault. (fault ≡ AlreadyConnected) ⊎ (fault ≡ NoMemory)) };
 
     /// Forgets a nexus, by its key.
     fn logout(&mut self, key: usize)

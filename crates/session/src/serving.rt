@@ -1,9 +1,13 @@
-ghost use Rattle.std.specs.Prelude.{◌≡◌, ◌⊎◌, Ok, IfOk, IfErr, [], true, false};
+ghost use Rattle.std.specs.Prelude.{◌≡◌, ◌≢◌, ◌⊎◌, ◌≤◌, ◌*◌, Ok, IfOk, IfErr, OnOk, IsOkUnless, [], vec_len, vec_capacity, true, false};
+ghost use Rattle.std.specs.Io.KnownBytes.{Appends};
 ghost use Rattle.frames.specs.Replies.{LoginReply, reply_bytes};
 ghost use Rattle.frames.specs.declared.reply_frame.LoginAnswer.TheVariants.{Accepted};
-ghost use Rattle.session.specs.Serving.{Writes, WritesAll, Converses, IsLostBelow, IsUntouched, IsLost, Serves};
+ghost use Rattle.session.specs.Answering.{HasRoom};
+ghost use Rattle.session.specs.Faults.{IsOfStream};
+ghost use Rattle.session.specs.Login.{ReadsAtMost};
+ghost use Rattle.session.specs.Serving.{Writes, WritesAll, Converses, IsLostBelow, IsKeptOut, BreaksOff, Serves, refusal};
 
-use crate::batching::{BATCH, answer_all, flush};
+use crate::batching::{ROOM, answer_all, flush};
 use crate::fault::{End, SessionFault};
 use crate::login::{LoginWait, await_login, end_of};
 use crate::service::Service;
@@ -23,9 +27,12 @@ fn answer_and_write<S: Service, W: Write>(
     out: &mut Vec<u8>,
     writer: &mut W,
 ) -> Result<bool, SessionFault>
+    requires { HasRoom (vec_len out.old) (vec_capacity out.old) }
     ensures goes_on { result ≡ Ok true → Writes S.notes nexus service.old read_buffer.old out.old.items (W.contents writer.old) (W.contents writer.new) read_buffer.new service.new }
     ensures leaves { result ≡ Ok false → WritesAll S.notes nexus service.old read_buffer.old out.old.items (W.contents writer.old) (W.contents writer.new) read_buffer.new service.new }
-    ensures written { IfOk result (λ _. out.new.items ≡ []) }
+    ensures written { out.new.items ≡ [] }
+    ensures room { HasRoom (vec_len out.new) (vec_capacity out.new) }
+    ensures fault { IfErr result IsOfStream }
 {
     let came = answer_all(alloc, service, nexus, read_buffer, out, writer);
     flush(out, writer)?;
@@ -43,7 +50,10 @@ fn converse<S: Service, R: Read, W: Write>(
     writer: &mut W,
     turns: u64,
 ) -> Result<End, SessionFault>
-    ensures { IfOk result (λ end. Converses S.notes nexus service.old read_buffer.old out.old.items (R.remaining reader.old) (R.remaining reader.new) (W.contents writer.old) (W.contents writer.new) end read_buffer.new service.new) }
+    requires { HasRoom (vec_len out.old) (vec_capacity out.old) }
+    ensures fault { IfErr result IsOfStream }
+    ensures reads { ReadsAtMost (turns * 262144) (R.remaining reader.old) (R.remaining reader.new) }
+    ensures talk { IfOk result (λ end. Converses S.notes nexus service.old read_buffer.old out.old.items (R.remaining reader.old) (R.remaining reader.new) (W.contents writer.old) (W.contents writer.new) end read_buffer.new service.new) }
 {
     if !answer_and_write(alloc, service, nexus, read_buffer, out, writer)? {
         return Ok(End::Logout);
@@ -78,12 +88,23 @@ fn refuse<W: Write>(
     fault: SessionFault,
     out: &mut Vec<u8>,
     writer: &mut W,
-) -> Result<SessionFault, SessionFault> {
-    if fault == SessionFault::AlreadyConnected {
-        write_reply(out, &ReplyFrame::Login(LoginAnswer::AlreadyConnected))?;
-        flush(out, writer)?;
+) -> Result<(), SessionFault>
+    requires empty { (out.old.items ≡ []) × (vec_len out.old ≡ 0) }
+    requires room { 131138 ≤ vec_capacity out.old }
+    ensures said { OnOk result (Appends (W.contents writer.old) (W.contents writer.new) (refusal fault)) }
+    ensures fault { IsOkUnless result SessionFault.Write }
+{
+    match fault {
+        SessionFault::AlreadyConnected => {
+            write_reply(out, &ReplyFrame::Login(LoginAnswer::AlreadyConnected))?;
+            flush(out, writer)
+        }
+        SessionFault::BadFrame
+        | SessionFault::TooLong
+        | SessionFault::Read
+        | SessionFault::Write
+        | SessionFault::NoMemory => Ok(()),
     }
-    Ok(fault)
 }
 
 /// The life of a session:
@@ -99,11 +120,12 @@ fn refuse<W: Write>(
 /// ```
 ///
 /// One session: its frames, however the stream is cut, and a reply frame for each, in order, from the answer to that
-/// very frame's call; the reader is read at most `turns` times. Room for the largest reply is made before a LOGIN
-/// is answered.
+/// very frame's call; the reader is read at most `turns` times, 262,144 bytes at most each. Room for the largest reply, behind what
+/// waits to be written, is made before a LOGIN is answered: from then on no reply takes memory.
 ///
 /// However a session that logged in ends, its nexus is lost at every unit, also where another has no
-/// room for the loss, and then leaves the directory. Where a loss was BUSY the end is `NoMemory`.
+/// room for the loss, and then leaves the directory. Where a loss was BUSY the end is `NoMemory`. A session that isn't let in
+/// changes nothing, and is told so where its nexus has a session already.
 pub fn serve<S: Service, R: Read, W: Write>(
     alloc: Global,
     service: &mut S,
@@ -112,17 +134,21 @@ pub fn serve<S: Service, R: Read, W: Write>(
     turns: u64,
 ) -> Result<End, SessionFault>
     ensures session { IfOk result (λ end. Serves S.notes S.count service.old (R.remaining reader.old) (R.remaining reader.new) (W.contents writer.old) (W.contents writer.new) end service.new) }
-    ensures lost { IfErr result (λ _. IsUntouched service.old service.new ⊎ IsLost S.notes S.count service.new) }
+    ensures broken { IfErr result (λ fault. IsKeptOut service.old (W.contents writer.old) (W.contents writer.new) fault service.new ⊎ BreaksOff S.notes S.count (R.remaining reader.old) fault service.new) }
+    ensures reads { ReadsAtMost (turns * 262144) (R.remaining reader.old) (R.remaining reader.new) }
 {
     let mut read_buffer = ReadBuffer::new(alloc)?;
-    let mut out = Vec::with_capacity(alloc, BATCH)?;
+    let mut out = Vec::with_capacity(alloc, ROOM)?;
     let (nexus, left) = match await_login(&mut read_buffer, reader, turns)? {
         LoginWait::Login { nexus, turns } => (nexus, turns),
         LoginWait::Ended(end) => return Ok(end),
     };
     let key = match service.login(nexus) {
         Ok(key) => key,
-        Err(fault) => return Err(refuse(fault, &mut out, writer)?),
+        Err(fault) => {
+            refuse(fault, &mut out, writer)?;
+            return Err(fault);
+        }
     };
     let ended = greet_and_converse(
         alloc,
@@ -140,7 +166,10 @@ pub fn serve<S: Service, R: Read, W: Write>(
     if !is_lost {
         return Err(SessionFault::NoMemory);
     }
-    Ok(ended?)
+    match ended {
+        Ok(end) => Ok(end),
+        Err(fault) => Err(fault),
+    }
 }
 
 /// Answers the LOGIN, and then what comes behind it.
@@ -154,8 +183,11 @@ fn greet_and_converse<S: Service, R: Read, W: Write>(
     writer: &mut W,
     turns: u64,
 ) -> Result<End, SessionFault>
-    requires { out.old.items ≡ [] }
-    ensures { IfOk result (λ end. Converses S.notes nexus service.old read_buffer.old (reply_bytes (LoginReply Accepted)) (R.remaining reader.old) (R.remaining reader.new) (W.contents writer.old) (W.contents writer.new) end read_buffer.new service.new) }
+    requires empty { (out.old.items ≡ []) × (vec_len out.old ≡ 0) }
+    requires room { 131138 ≤ vec_capacity out.old }
+    ensures fault { IfErr result IsOfStream }
+    ensures reads { ReadsAtMost (turns * 262144) (R.remaining reader.old) (R.remaining reader.new) }
+    ensures talk { IfOk result (λ end. Converses S.notes nexus service.old read_buffer.old (reply_bytes (LoginReply Accepted)) (R.remaining reader.old) (R.remaining reader.new) (W.contents writer.old) (W.contents writer.new) end read_buffer.new service.new) }
 {
     write_reply(out, &ReplyFrame::Login(LoginAnswer::Accepted))?;
     converse(

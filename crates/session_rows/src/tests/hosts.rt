@@ -125,12 +125,12 @@ fn assert_session(
 }
 
 #[test]
-fn first_contact_and_good(rt: HostRuntime) {
+fn converse_writes_a_line_for_each_test_unit_ready(rt: HostRuntime) {
     assert_session(&rt, rt.alloc(), SCRIPT, REPLIES, Ok(()), SENT, LINES);
 }
 
 #[test]
-fn data_and_a_reset(rt: HostRuntime) {
+fn converse_reads_writes_and_resets(rt: HostRuntime) {
     let script = "1 080000000200\n1 0a0000000200 6162\nreset 1";
     let sent = b"\0\0\0\x0b\x01\x50\0\0\0\0\0\0\x0a\0\x01\
         \0\0\0\x09\x02\x01\x06\x08\0\0\0\x02\0\
@@ -148,7 +148,7 @@ fn data_and_a_reset(rt: HostRuntime) {
 
 /// With words, a line stands behind each line; the stream is the same.
 #[test]
-fn replies_in_words(rt: HostRuntime) {
+fn converse_says_replies_in_words(rt: HostRuntime) {
     let mut reader = REPLIES;
     let mut writer = Vec::new(rt.alloc());
     let mut out = Vec::new(rt.alloc());
@@ -171,7 +171,7 @@ fn replies_in_words(rt: HostRuntime) {
 }
 
 #[test]
-fn faulty_line(rt: HostRuntime) {
+fn converse_sends_nothing_of_a_script_with_a_faulty_line(rt: HostRuntime) {
     let fault = ClientSessionFault::Line {
         number: 2,
         what: LineFault::BadUnit,
@@ -181,7 +181,7 @@ fn faulty_line(rt: HostRuntime) {
 }
 
 #[test]
-fn refused_login(rt: HostRuntime) {
+fn converse_ends_where_its_login_is_refused(rt: HostRuntime) {
     let refused = Err(ClientSessionFault::Refused(A));
     let replies = b"\0\0\0\x02\x81\x01";
     assert_session(&rt, rt.alloc(), SCRIPT, replies, refused, &SENT[..15], b"");
@@ -189,7 +189,7 @@ fn refused_login(rt: HostRuntime) {
 
 /// Where the stream ends before a reply, what was sent ends with its frame, and the lines with the one before.
 #[test]
-fn every_prefix_of_the_replies(rt: HostRuntime) {
+fn converse_ends_within_each_prefix_of_the_replies(rt: HostRuntime) {
     for length in 0..REPLIES.len() {
         let (sent, lines) = if length < 6 {
             (15, 0)
@@ -213,7 +213,7 @@ fn every_prefix_of_the_replies(rt: HostRuntime) {
 }
 
 #[test]
-fn bad_replies(rt: HostRuntime) {
+fn converse_stops_at_a_bad_reply(rt: HostRuntime) {
     let bad = Err(ClientSessionFault::BadReply);
     let rows = [
         ("no body", b"\0\0\0\0".as_slice(), 15),
@@ -242,7 +242,7 @@ fn bad_replies(rt: HostRuntime) {
 
 /// A read that fails at each place, and one read too few, end a session as its input's fault.
 #[test]
-fn reads_fail(rt: HostRuntime) {
+fn converse_ends_by_a_read_that_fails(rt: HostRuntime) {
     for fails_at in 1..60 {
         let mut reader = Trickle {
             bytes: REPLIES,
@@ -294,7 +294,7 @@ fn reads_fail(rt: HostRuntime) {
 
 /// A write that fails at each place, to the server or of a line, ends a session.
 #[test]
-fn writes_fail(rt: HostRuntime) {
+fn converse_ends_by_a_write_that_fails(rt: HostRuntime) {
     for fails_at in 1..5 {
         let mut reader = REPLIES;
         let mut writer = Failing {
@@ -336,7 +336,7 @@ fn writes_fail(rt: HostRuntime) {
 }
 
 #[test]
-fn faults_in_words(rt: HostRuntime) -> Result<(), Fail> {
+fn faults_of_a_host_have_their_lines(rt: HostRuntime) -> Result<(), Fail> {
     let rows = [
         (
             ClientSessionFault::Line {

@@ -183,12 +183,12 @@ fn assert_session(
 }
 
 #[test]
-fn one_session(rt: HostRuntime) {
+fn serve_answers_login_test_unit_ready_and_logout(rt: HostRuntime) {
     assert_session(&rt, rt.alloc(), ONE_SESSION, Ok(End::Logout), REPLIES, 2);
 }
 
 #[test]
-fn reset_of_a_unit(rt: HostRuntime) {
+fn serve_answers_a_reset_and_ends_without_logout(rt: HostRuntime) {
     let input = b"\0\0\0\x0b\x01\x50\0\0\0\0\0\0\x0a\0\x01\0\0\0\x02\x03\0";
     let replies = b"\0\0\0\x02\x81\0\0\0\0\x02\x83\x02";
     assert_session(&rt, rt.alloc(), input, Ok(End::Closed), replies, 2);
@@ -212,7 +212,7 @@ fn end_of_prefix(length: usize) -> (End, &'static [u8], u64) {
 
 /// Each proper prefix of a session ends within a frame or between two.
 #[test]
-fn every_prefix_of_a_session(rt: HostRuntime) {
+fn serve_ends_each_prefix_of_a_session_closed_or_cut(rt: HostRuntime) {
     for length in 0..ONE_SESSION.len() {
         let (end, replies, losses) = end_of_prefix(length);
         let prefix = &ONE_SESSION[..length];
@@ -244,7 +244,7 @@ const FAULTY: [Invalid; 6] = [
 ];
 
 #[test]
-fn faulty_streams(rt: HostRuntime) {
+fn serve_stops_at_the_first_fault_of_a_stream(rt: HostRuntime) {
     for row in &FAULTY {
         let (input, end, replies, losses) = *row;
         assert_session(&rt, rt.alloc(), input, end, replies, losses);
@@ -253,7 +253,7 @@ fn faulty_streams(rt: HostRuntime) {
 
 /// A read that fails at each place, and one read too few, end a session as its input's fault.
 #[test]
-fn reads_fail(rt: HostRuntime) {
+fn serve_ends_by_a_read_that_fails(rt: HostRuntime) {
     for fails_at in 1..34 {
         let (ended, losses, _) = trickled(rt.alloc(), ONE_SESSION, fails_at);
         let expected = if fails_at < 16 { 0 } else { 2 };
@@ -283,7 +283,7 @@ fn cut_off(alloc: Global, fails_at: u64) -> (Result<End, SessionFault>, u64) {
 
 /// A write that fails ends a session, and the nexus is lost all the same.
 #[test]
-fn writes_fail(rt: HostRuntime) {
+fn serve_loses_the_nexus_where_a_write_fails(rt: HostRuntime) {
     for fails_at in 1..4 {
         let found = cut_off(rt.alloc(), fails_at);
         assert_eq!(rt; found, (Err(SessionFault::Write), 2), "at {fails_at}");
@@ -291,14 +291,14 @@ fn writes_fail(rt: HostRuntime) {
 }
 
 #[test]
-fn second_session_of_a_nexus(rt: HostRuntime) {
+fn login_of_a_nexus_with_a_session_is_refused(rt: HostRuntime) {
     let (ended, losses, output) = poured(rt.alloc(), true, ONE_SESSION, 9);
     assert_eq!(rt; (ended, losses), (Err(SessionFault::AlreadyConnected), 0));
     assert_eq!(rt; output.as_slice(), b"\0\0\0\x02\x81\x01".as_slice());
 }
 
 #[test]
-fn directory_forgets(rt: HostRuntime) -> Result<(), Fail> {
+fn logout_frees_a_nexus_of_the_directory(rt: HostRuntime) -> Result<(), Fail> {
     let mut directory = Directory::new(rt.alloc());
     let key = directory.login(A)?;
     assert_eq!(rt; directory.login(A), Err(SessionFault::AlreadyConnected));
@@ -315,7 +315,7 @@ const FRAMES: &str = "[Login { nexus: Nexus { sas: 5764607523034234890, port: 1 
 
 /// A session has the same frames in pieces of any length.
 #[test]
-fn splits_a_session(rt: HostRuntime) -> Result<(), Fail> {
+fn splitter_gives_the_same_frames_in_pieces_of_any_length(rt: HostRuntime) -> Result<(), Fail> {
     for length in 1..34 {
         let mut splitter = Splitter::new(rt.alloc());
         let mut frames = Vec::new(rt.alloc());
@@ -330,7 +330,7 @@ fn splits_a_session(rt: HostRuntime) -> Result<(), Fail> {
 
 /// A fault comes behind the frames before it, and again at each later piece.
 #[test]
-fn splits_faulty_streams(rt: HostRuntime) {
+fn splitter_repeats_its_fault(rt: HostRuntime) {
     for row in &FAULTY {
         let (input, end, _, losses) = *row;
         let mut splitter = Splitter::new(rt.alloc());

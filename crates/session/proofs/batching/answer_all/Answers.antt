@@ -1,4 +1,4 @@
-use Rattle.std.proofs.Common.{◌≡◌, ◌∙◌, ◌++◌, ap, sym, subst, inl, inr, List, ℕ, append-nil}
+use Rattle.std.proofs.Common.{◌≡◌, ◌∙◌, ◌++◌, ap, sym, subst, inl, inr, List, ℕ, append-nil, arith}
 use Rattle.std.specs.Prelude.{Ok}
 use Rattle.session.specs.Answering.{Answers}
 use Rattle.session.proofs.Answered.{batch, last_batch, appends_more}
@@ -6,25 +6,30 @@ use Rattle.session.proofs.batching.answer_all.Goals as goal
 
 pub returns-in-NeedsInput-clause-goes_on : goal.returns-in-NeedsInput-clause-goes_on
 returns-in-NeedsInput-clause-goes_on g c _ =
-    let so = c.batches.invariant in
+    let so = c.batches.invariant.0 in
     let here = c.in_ok-answer_some.ensures.goes_on (inl (ap Ok c.in-NeedsInput.is)) in
     (so.0, so.1, batch g.S.Service.notes c.args.nexus c.args.service.now c.batches.service c.answer_some.new.service c.args.read_buffer.now c.batches.read_buffer c.answer_some.new.read_buffer c.args.out.now.items so.0 c.batches.out.items c.answer_some.new.out.items so.2 here)
 
 pub returns-in-LoggedOut-clause-leaves : goal.returns-in-LoggedOut-clause-leaves
 returns-in-LoggedOut-clause-leaves g c _ =
-    let so = c.batches.invariant in
+    let so = c.batches.invariant.0 in
     let here = c.in_ok-answer_some.ensures.leaves (ap Ok c.in-LoggedOut.is) in
     (so.0, so.1, last_batch g.S.Service.notes c.args.nexus c.args.service.now c.batches.service c.answer_some.new.service c.args.read_buffer.now c.batches.read_buffer c.answer_some.new.read_buffer c.args.out.now.items so.0 c.batches.out.items c.answer_some.new.out.items so.2 here)
 
 pub batches-preserved : goal.batches-preserved
 batches-preserved g c =
-    let so = c.batches.invariant in
+    let so = c.batches.invariant.0 in
     let here = c.in_ok-answer_some.ensures.goes_on (inr (ap Ok c.in-FlushDue.is)) in
-    let wrote = c.in_ok-flush-in-FlushDue.ensures in
+    let wrote = c.in_ok-flush-in-FlushDue.ensures.written in
+    let empty = c.flush.ensures.empty in
     let all = batch g.S.Service.notes c.args.nexus c.args.service.now c.batches.service c.answer_some.new.service c.args.read_buffer.now c.batches.read_buffer c.answer_some.new.read_buffer c.args.out.now.items so.0 c.batches.out.items c.answer_some.new.out.items so.2 here in
     let gone = so.0 ++ c.answer_some.new.out.items in
-    let none : gone ++ c.flush.new.out.items ≡ gone = ap (λ (x : List ℕ). gone ++ x) wrote.1 ∙ append-nil gone in (
-      gone,
-      appends_more _ (g.W.Write.contents c.batches.writer) _ so.0 c.answer_some.new.out.items so.1 wrote.0,
-      subst (λ (x : List ℕ). Answers g.S.Service.notes c.args.nexus c.args.service.now c.args.read_buffer.now c.args.out.now.items x c.answer_some.new.read_buffer c.answer_some.new.service) (sym none) all,
+    let none : gone ++ c.flush.new.out.items ≡ gone = ap (λ (x : List ℕ). gone ++ x) empty.0 ∙ append-nil gone in (
+      (
+        gone,
+        appends_more _ (g.W.Write.contents c.batches.writer) _ so.0 c.answer_some.new.out.items so.1 wrote,
+        subst (λ (x : List ℕ). Answers g.S.Service.notes c.args.nexus c.args.service.now c.args.read_buffer.now c.args.out.now.items x c.answer_some.new.read_buffer c.answer_some.new.service) (sym none) all,
+      ),
+      (omega arith, omega arith),
+      omega arith,
     )

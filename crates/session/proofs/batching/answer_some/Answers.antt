@@ -12,6 +12,8 @@ frames-preserved g c =
     let said = c.in_ok-next-in-Complete.ensures.goes_on (ap Ok c.in-Frames.is) in (
       one_more g.S.Service.notes c.args.nexus c.args.service.now c.frames.service c.answer.new.service c.args.read_buffer.now c.args.out.now.items c.frames.out.items c.answer.new.out.items c.frames.read_buffer c.consume.new.self (frame_value c.in-Complete.frame) c.in-Complete.count c.frames.invariant.0 e c.consume.ensures said,
       omega (arith, c.frames.invariant.1, ap length c.consume.ensures, length-drop c.in-Complete.count c.frames.read_buffer),
+      (omega arith, omega arith),
+      omega arith,
     )
 
 pub returns-then-len-ge-BATCH-clause-goes_on : goal.returns-then-len-ge-BATCH-clause-goes_on

@@ -6,6 +6,6 @@ pub returns-clause-leaves : goal.returns-clause-leaves
 returns-clause-leaves g c leaves =
     let all = c.answer_all-came.ensures.leaves leaves in record {
       said = all.0 ++ c.answer_all-came.new.out.items;
-      appended = appends_more _ (g.W.Write.contents c.answer_all-came.new.writer) _ all.0 c.answer_all-came.new.out.items all.1 c.in_ok-flush.ensures.0;
+      appended = appends_more _ (g.W.Write.contents c.answer_all-came.new.writer) _ all.0 c.answer_all-came.new.out.items all.1 c.in_ok-flush.ensures.written;
       answered = all.2;
     }

@@ -1,14 +1,15 @@
-use Rattle.std.proofs.Common.{inr, subst, sym, drop, true, Bool, List, ℕ}
+use Rattle.std.proofs.Common.{inr, refl, subst, sym, drop, true, false, Bool, List, ℕ}
 use Rattle.frames.specs.Replies.{LoginReply, reply_bytes}
 use Rattle.frames.specs.declared.reply_frame.LoginAnswer.TheVariants.{Accepted}
 use Rattle.session.specs.declared.login.LoginWait.{LoginWait}
-use Rattle.session.specs.Login.{Awaits}
+use Rattle.session.specs.Login.{Awaits, LeavesReads}
 use Rattle.session.specs.Serving.{Converses, IsLostBelow}
 use Rattle.session.proofs.Conversed.{held}
+use Rattle.session.proofs.Read.{reads_then}
 use Rattle.session.proofs.serving.serve.Goals as goal
 
-pub returns-clause-session : goal.returns-clause-session
-returns-clause-session g c =
+pub returns-in-Ok-ended-clause-session : goal.returns-in-Ok-ended-clause-session
+returns-in-Ok-ended-clause-session g c =
     let notes = g.S.Service.notes in
     let before = g.R.Read.remaining c.await_login.new.reader in
     let after = g.R.Read.remaining c.greet_and_converse-ended.new.reader in
@@ -16,14 +17,77 @@ returns-clause-session g c =
     let written' = g.W.Write.contents c.greet_and_converse-ended.new.writer in
     let talk = c.greet_and_converse-ended.new in
     let nexus = c.in-Login.nexus in
-    let came = subst (λ (e : LoginWait). Awaits c.args.turns (g.R.Read.remaining c.args.reader.now) before c.await_login.new.read_buffer e) c.in-Login.is c.in_ok-nexus.ensures in
-    let so : Converses notes nexus c.login.new.self c.await_login.new.read_buffer (reply_bytes (LoginReply Accepted)) before after written written' c.in_ok-ended.field-0 talk.read_buffer talk.service = c.in_ok-ended.ensures in
-    let from_login : Converses notes nexus c.args.service.now (drop came.1 came.0) (reply_bytes (LoginReply Accepted)) before after written written' c.in_ok-ended.field-0 talk.read_buffer talk.service =
-    subst (λ (p : List ℕ). Converses notes nexus c.args.service.now p (reply_bytes (LoginReply Accepted)) before after written written' c.in_ok-ended.field-0 talk.read_buffer talk.service) came.4
-    (subst (λ s. Converses notes nexus s c.await_login.new.read_buffer (reply_bytes (LoginReply Accepted)) before after written written' c.in_ok-ended.field-0 talk.read_buffer talk.service) c.login.ensures so) in
+    let came = subst (λ (e : LoginWait). Awaits c.args.turns (g.R.Read.remaining c.args.reader.now) before c.await_login.new.read_buffer e) c.in-Login.is c.in_ok-nexus.ensures.wait in
+    let so : Converses notes nexus c.login.new.self c.await_login.new.read_buffer (reply_bytes (LoginReply Accepted)) before after written written' c.in-Ok-ended.end talk.read_buffer talk.service = c.in-Ok-ended.ensures.talk in
+    let from_login : Converses notes nexus c.args.service.now (drop came.1 came.0) (reply_bytes (LoginReply Accepted)) before after written written' c.in-Ok-ended.end talk.read_buffer talk.service =
+    subst (λ (p : List ℕ). Converses notes nexus c.args.service.now p (reply_bytes (LoginReply Accepted)) before after written written' c.in-Ok-ended.end talk.read_buffer talk.service) came.4
+    (subst (λ s. Converses notes nexus s c.await_login.new.read_buffer (reply_bytes (LoginReply Accepted)) before after written written' c.in-Ok-ended.end talk.read_buffer talk.service) c.login.ensures.library so) in
     let gone : IsLostBelow notes nexus c.units-units.result talk.service c.lose_all-is_lost.new.service c.lose_all-is_lost.result = c.lose_all-is_lost.ensures in
     let all : IsLostBelow notes nexus (g.S.Service.count talk.service) talk.service c.logout.new.self true =
     subst (λ (k : ℕ). IsLostBelow notes nexus k talk.service c.logout.new.self true) c.units-units.ensures
     (subst (λ (b : Bool). IsLostBelow notes nexus c.units-units.result talk.service c.logout.new.self b) c.if-not-is_lost.false
     (subst (λ t. IsLostBelow notes nexus c.units-units.result talk.service t c.lose_all-is_lost.result) (sym c.logout.ensures) gone)) in
-    inr (held notes nexus c.args.service.now talk.service c.logout.new.self came.0 talk.read_buffer came.1 g.S.Service.count (g.R.Read.remaining c.args.reader.now) before after written written' c.in_ok-ended.field-0 came.2 came.3 from_login all)
+    inr (held notes nexus c.args.service.now talk.service c.logout.new.self came.0 talk.read_buffer came.1 g.S.Service.count (g.R.Read.remaining c.args.reader.now) before after written written' c.in-Ok-ended.end came.2 came.3 from_login all)
+
+pub returns-in-Ok-ended-clause-reads : goal.returns-in-Ok-ended-clause-reads
+returns-in-Ok-ended-clause-reads g c =
+    let rest = subst (λ (e : LoginWait). LeavesReads c.args.turns (g.R.Read.remaining c.args.reader.now) (g.R.Read.remaining c.await_login.new.reader) e) c.in-Login.is c.in_ok-nexus.ensures.rest in
+    reads_then c.args.turns c.in-Login.turns (g.R.Read.remaining c.args.reader.now) (g.R.Read.remaining c.await_login.new.reader) (g.R.Read.remaining c.greet_and_converse-ended.new.reader) rest.0 rest.1 c.greet_and_converse-ended.ensures.reads
+
+pub returns-then-not-is_lost-clause-reads : goal.returns-then-not-is_lost-clause-reads
+returns-then-not-is_lost-clause-reads g c =
+    let rest = subst (λ (e : LoginWait). LeavesReads c.args.turns (g.R.Read.remaining c.args.reader.now) (g.R.Read.remaining c.await_login.new.reader) e) c.in-Login.is c.in_ok-nexus.ensures.rest in
+    reads_then c.args.turns c.in-Login.turns (g.R.Read.remaining c.args.reader.now) (g.R.Read.remaining c.await_login.new.reader) (g.R.Read.remaining c.greet_and_converse-ended.new.reader) rest.0 rest.1 c.greet_and_converse-ended.ensures.reads
+
+pub returns-clause-reads : goal.returns-clause-reads
+returns-clause-reads g c =
+    let rest = subst (λ (e : LoginWait). LeavesReads c.args.turns (g.R.Read.remaining c.args.reader.now) (g.R.Read.remaining c.await_login.new.reader) e) c.in-Login.is c.in_ok-nexus.ensures.rest in
+    reads_then c.args.turns c.in-Login.turns (g.R.Read.remaining c.args.reader.now) (g.R.Read.remaining c.await_login.new.reader) (g.R.Read.remaining c.greet_and_converse-ended.new.reader) rest.0 rest.1 c.greet_and_converse-ended.ensures.reads
+
+pub returns-then-not-is_lost-clause-broken : goal.returns-then-not-is_lost-clause-broken
+returns-then-not-is_lost-clause-broken g c =
+    let notes = g.S.Service.notes in
+    let talk = c.greet_and_converse-ended.new in
+    let nexus = c.in-Login.nexus in
+    let came = subst (λ (e : LoginWait). Awaits c.args.turns (g.R.Read.remaining c.args.reader.now) (g.R.Read.remaining c.await_login.new.reader) c.await_login.new.read_buffer e) c.in-Login.is c.in_ok-nexus.ensures.wait in
+    let gone : IsLostBelow notes nexus c.units-units.result talk.service c.lose_all-is_lost.new.service c.lose_all-is_lost.result = c.lose_all-is_lost.ensures in
+    let all : IsLostBelow notes nexus (g.S.Service.count talk.service) talk.service c.logout.new.self false =
+    subst (λ (k : ℕ). IsLostBelow notes nexus k talk.service c.logout.new.self false) c.units-units.ensures
+    (subst (λ (b : Bool). IsLostBelow notes nexus c.units-units.result talk.service c.logout.new.self b) c.if-not-is_lost.true
+    (subst (λ t. IsLostBelow notes nexus c.units-units.result talk.service t c.lose_all-is_lost.result) (sym c.logout.ensures) gone)) in
+    inr (record {
+      nexus = nexus;
+      read = came.0;
+      middle = g.R.Read.remaining c.await_login.new.reader;
+      size = came.1;
+      before = talk.service;
+      all = false;
+      consumed = came.2;
+      login = came.3;
+      lost = all;
+      ended = refl;
+    })
+
+pub returns-clause-broken : goal.returns-clause-broken
+returns-clause-broken g c =
+    let notes = g.S.Service.notes in
+    let talk = c.greet_and_converse-ended.new in
+    let nexus = c.in-Login.nexus in
+    let came = subst (λ (e : LoginWait). Awaits c.args.turns (g.R.Read.remaining c.args.reader.now) (g.R.Read.remaining c.await_login.new.reader) c.await_login.new.read_buffer e) c.in-Login.is c.in_ok-nexus.ensures.wait in
+    let gone : IsLostBelow notes nexus c.units-units.result talk.service c.lose_all-is_lost.new.service c.lose_all-is_lost.result = c.lose_all-is_lost.ensures in
+    let all : IsLostBelow notes nexus (g.S.Service.count talk.service) talk.service c.logout.new.self true =
+    subst (λ (k : ℕ). IsLostBelow notes nexus k talk.service c.logout.new.self true) c.units-units.ensures
+    (subst (λ (b : Bool). IsLostBelow notes nexus c.units-units.result talk.service c.logout.new.self b) c.if-not-is_lost.false
+    (subst (λ t. IsLostBelow notes nexus c.units-units.result talk.service t c.lose_all-is_lost.result) (sym c.logout.ensures) gone)) in
+    inr (record {
+      nexus = nexus;
+      read = came.0;
+      middle = g.R.Read.remaining c.await_login.new.reader;
+      size = came.1;
+      before = talk.service;
+      all = true;
+      consumed = came.2;
+      login = came.3;
+      lost = all;
+      ended = c.in-Err-ended.ensures.fault;
+    })
