@@ -50,9 +50,9 @@ absent_answer cdb =
     else if byte cdb 0 == 0x03 then good (take (byte cdb 4) (sense_data LogicalUnitNotSupported))
     else check LogicalUnitNotSupported
 
--- BUSY for want of memory, or that answer
+-- that answer; or BUSY for want of memory, which only data take: the sense data of CHECK CONDITION stand in the reply
 abbrev pub AnswersAbsent : List ℕ → Reply → Type 0
-AnswersAbsent cdb reply = (reply ≡ busy) ⊎ (reply ≡ absent_answer cdb)
+AnswersAbsent cdb reply = ((reply ≡ busy) × ((absent_answer cdb).status ≡ Good)) ⊎ (reply ≡ absent_answer cdb)
 
 -- GOOD without sense data, or CHECK CONDITION with it
 abbrev pub IsWhole : Status → Option Sense → Type 0

@@ -48,8 +48,11 @@ pub record AbsentUnit : Type 0 where
   pub report_luns : sense_bytes (absent_answer (0xA0 ∷ 0 ∷ 0 ∷ 0 ∷ 0 ∷ 0 ∷ 0 ∷ 0 ∷ 0 ∷ 0xFF ∷ 0 ∷ 0 ∷ [])) ≡ not_supported
   pub short_inquiry : sense_bytes (absent_answer (0x12 ∷ 0 ∷ 0 ∷ 0 ∷ 0x24 ∷ [])) ≡ not_supported
   pub refused : (absent_answer (replicate 6 0)).status ≡ CheckCondition
-  -- or BUSY, with no number
-  pub wants_memory : AnswersAbsent (replicate 6 0) busy
+  -- or BUSY, with no number, where data take memory: those of INQUIRY and REQUEST SENSE
+  pub wants_memory : AnswersAbsent (0x12 ∷ 0 ∷ 0 ∷ 0 ∷ 0x24 ∷ 0 ∷ []) busy
+  pub sense_wants_memory : AnswersAbsent (0x03 ∷ 0 ∷ 0 ∷ 0 ∷ 0x12 ∷ 0 ∷ []) busy
+  pub wants_none : AnswersAbsent (replicate 6 0) busy → ⊥
+  pub short_wants_none : AnswersAbsent (0x12 ∷ 0 ∷ 0 ∷ 0 ∷ 0x24 ∷ []) busy → ⊥
   pub no_conflict : AnswersAbsent (replicate 6 0) conflict → ⊥
   -- or that answer and no other
   pub answered : AnswersAbsent (replicate 6 0) refusal

@@ -1,4 +1,5 @@
-ghost use Rattle.std.specs.Prelude.{◌≡◌, IfOk};
+ghost use Rattle.std.specs.Prelude.{◌≡◌, IfOk, OnErr};
+ghost use Rattle.scsi_sense.specs.declared.status.Status.TheVariants.{Good};
 ghost use Rattle.judgement.specs.Replies.{absent_answer, AnswersAbsent};
 
 use crate::reply::Reply;
@@ -10,8 +11,8 @@ use std::alloc::{AllocError, Global};
 
 /// The answer of a logical unit that doesn't exist: standard INQUIRY data that says so, its own sense
 /// as REQUEST SENSE data, both cut at the allocation length, and 25h/00h LOGICAL UNIT NOT SUPPORTED
-/// to all else, also to a CDB below 6 bytes; or BUSY for want of memory (SPC-4, "Incorrect logical
-/// unit selection").
+/// to all else, also to a CDB below 6 bytes; or, where there are data, BUSY for want of memory (SPC-4,
+/// "Incorrect logical unit selection").
 pub fn absent(alloc: Global, cdb: &[u8]) -> Reply
     ensures { AnswersAbsent cdb.now result }
 {
@@ -22,7 +23,8 @@ pub fn absent(alloc: Global, cdb: &[u8]) -> Reply
 }
 
 fn absent_reply(alloc: Global, cdb: &[u8]) -> Result<Reply, AllocError>
-    ensures { IfOk result (λ reply. reply ≡ absent_answer cdb.now) }
+    ensures answer { IfOk result (λ reply. reply ≡ absent_answer cdb.now) }
+    ensures err { OnErr result ((absent_answer cdb.now).status ≡ Good) }
 {
     if cdb.len() < 6 {
         return Ok(Reply::check(alloc, Condition::LogicalUnitNotSupported));

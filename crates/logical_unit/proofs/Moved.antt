@@ -1,9 +1,10 @@
 -- What became of a MOVE MEDIUM with the drives that it names: the changer answered it alone, and the drives are as they were; or it was left
 -- to the drives, and ended with nothing carried, or with the volume carried.
 use Rattle.std.proofs.Common.{◌≡◌, ℕ, Bool, true, false, List, [], ◌∷◌, Option, Some, Result, Ok, Err, refl, sym, ap, ◌∙◌, subst, inl, inr}
-use Rattle.std.specs.Prelude.{◌⊎◌, cond}
+use Rattle.std.specs.Prelude.{◌⊎◌, ◌≢◌, cond}
 use Rattle.scsi_nexus.specs.declared.nexus.Nexus.{Nexus}
 use Rattle.scsi_sense.specs.declared.condition.Condition.{Condition}
+use Rattle.scsi_sense.specs.declared.status.Status.TheVariants.{Busy}
 use Rattle.device_server.specs.View.{DeviceView, kind_of, drives_of}
 use Rattle.judgement.specs.JudgedUnit.{JudgedUnit}
 use Rattle.judgement.specs.declared.decision.Decision.{Decision}
@@ -31,9 +32,10 @@ pub record Ends (c v : UnitView) (n : Nexus) (cdb bytes : List ℕ) (r : Reply) 
   pub ways : (route : Route) → route_at c cdb ≡ Some route → HasWays c.device route
   pub unit : (v, r) ≡ recorded c n (act_of (kind_of c.device) cdb bytes) (record { device = device; kept = c.kept }, decision, reply)
 
--- the three ways, with the drives before and after
+-- the three ways, with the drives before and after; what the changer answered alone, but for BUSY, wasn't left
 abbrev pub IsAlone : {A : Type 0} → UnitView → UnitView → Nexus → (cdb bytes : List ℕ) → Reply → (drives after : A) → Type 0
-IsAlone c v n cdb bytes r drives after = Executes c n cdb bytes (v, r) × (after ≡ drives)
+IsAlone c v n cdb bytes r drives after =
+    Executes c n cdb bytes (v, r) × (after ≡ drives) × (r.status ≢ Busy → is_left (judged_at c n cdb bytes).2.sense ≡ false)
 
 pub record IsStopped {A : Type 0} (c v : UnitView) (n : Nexus) (cdb bytes : List ℕ) (r : Reply) (drives after : A) (carried : Result (DeviceView × A) Condition) : Type 0 where
   pub condition : Condition
@@ -100,14 +102,15 @@ module _ {A : Type 0} (c v : UnitView) (n : Nexus) (cdb bytes : List ℕ) (r : R
       → ((v, r), after) ≡ concluded_by b (recorded c n (act_of (kind_of c.device) cdb bytes) (judged_at c n cdb bytes), drives) (ended c n cdb bytes drives (judged_at c n cdb bytes) carried) → Became c v n cdb bytes r drives after carried
   became_by l more true carried left route room number e = became_left l more carried carried refl route room number left e
   became_by l more false carried left route room number e =
-      inl (inr (room, number, ap (λ (x : (UnitView × Reply) × A). x.0) e), ap (λ (x : (UnitView × Reply) × A). x.1) e)
+      inl (inr (room, number, ap (λ (x : (UnitView × Reply) × A). x.0) e), ap (λ (x : (UnitView × Reply) × A). x.1) e, λ free. left)
 
   pub became : (l : ℕ) (more : List ℕ) (carried : Result (DeviceView × A) Condition) → named (drives_of c.device) cdb ≡ l ∷ more → has_room c.kept n ≡ true → HasNumber c
       → ((v, r), after) ≡ concluded c n cdb bytes drives (judged_at c n cdb bytes) carried → Became c v n cdb bytes r drives after carried
   became l more carried names room number e = became_by l more (is_left (judged_at c n cdb bytes).2.sense) carried refl (has_route c.device cdb l more names) room number e
 
   pub became_busy : (carried : Result (DeviceView × A) Condition) → ◌≡◌ {A = (UnitView × Reply) × A} ((v, r), after) ((c, busy), drives) → Became c v n cdb bytes r drives after carried
-  became_busy carried e = inl (inl (ap (λ (x : (UnitView × Reply) × A). x.0) e), ap (λ (x : (UnitView × Reply) × A). x.1) e)
+  became_busy carried e =
+      inl (inl (ap (λ (x : (UnitView × Reply) × A). x.0) e), ap (λ (x : (UnitView × Reply) × A). x.1) e, λ free. absurd (free (ap (λ (x : (UnitView × Reply) × A). x.0.1.status) e)))
 
 pub one_became : (c d v e : UnitView) (n : Nexus) (cdb bytes : List ℕ) (r : Reply) (l : ℕ) (more : List ℕ) → named (drives_of c.device) cdb ≡ l ∷ more → MovesOne c d n cdb bytes ((v, r), e)
     → Became c v n cdb bytes r d e (carried_one c.device d (route_at c cdb))

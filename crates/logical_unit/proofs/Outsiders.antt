@@ -40,7 +40,7 @@ pub alone_one : (c d v e : UnitView) (n : Nexus) (cdb bytes : List ℕ) (r : Rep
     → MovesOne c d n cdb bytes ((v, r), e) → Executes c n cdb bytes (v, r) × (e ≡ d)
 alone_one c d v e n cdb bytes r l more names closed moves =
     elim (one_became c d v e n cdb bytes r l more names moves) [
-      | inl alone ↦ alone
+      | inl alone ↦ (alone.0, alone.1)
       | inr left ↦ elim left [
         | inl halted ↦ absurd (never_left c n cdb bytes l more names closed halted.ends.left)
         | inr moved ↦ absurd (never_left c n cdb bytes l more names closed moved.ends.left)
@@ -51,7 +51,7 @@ pub alone_two : (c v : UnitView) (ds es : TwoDrives) (n : Nexus) (cdb bytes : Li
     → MovesTwo c ds n cdb bytes ((v, r), es) → Executes c n cdb bytes (v, r) × (es ≡ ds)
 alone_two c v ds es n cdb bytes r l more names closed moves =
     elim (two_became c v ds es n cdb bytes r l more names moves) [
-      | inl alone ↦ alone
+      | inl alone ↦ (alone.0, alone.1)
       | inr left ↦ elim left [
         | inl halted ↦ absurd (never_left c n cdb bytes l more names closed halted.ends.left)
         | inr moved ↦ absurd (never_left c n cdb bytes l more names closed moved.ends.left)
