@@ -1,2 +1,4 @@
 pub mod Check
+pub mod CheckRows
 pub mod Conflicts
+pub mod TrailRows

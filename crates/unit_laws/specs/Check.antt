@@ -9,6 +9,7 @@ use Rattle.pr_core.specs.State.{cell}
 use Rattle.pr_core.specs.declared.verdict.Verdict.TheVariants.{Allowed}
 use Rattle.device_server.specs.View.{kind_of}
 use Rattle.judgement.specs.declared.decision.Decision.{Decision}
+use Rattle.judgement.specs.declared.reply.Reply.{Reply}
 use Rattle.judgement.specs.declared.command.Command.{Command}
 use Rattle.judgement.specs.Commands.{decoded_command, class_of_command, act_of_command}
 use Rattle.judgement.specs.Decisions.{rule_of, in_conflict}
@@ -29,12 +30,16 @@ abbrev pub conflict_decision : UnitView → Nexus → Command → Decision
 conflict_decision u n command =
     in_conflict (cell u.kept.reservations n (class_of_command command)) (rule_of (verdict_of u.kept.reservations n command))
 
-pub record IsDecided (u : UnitView) (n : Nexus) (cdb bytes : List ℕ) (command : Command) : Type 0 where
-  pub conflicts : ((answered u n cdb bytes).1.status ≡ ReservationConflict) ↔ (verdict_of u.kept.reservations n command ≢ Allowed)
+-- an answer of the unit to such a command
+pub record IsDecidedAs (u : UnitView) (n : Nexus) (command : Command) (bytes : List ℕ) (answer : UnitView × Reply) : Type 0 where
+  pub conflicts : (answer.1.status ≡ ReservationConflict) ↔ (verdict_of u.kept.reservations n command ≢ Allowed)
   pub carried_out : verdict_of u.kept.reservations n command ≡ Allowed
-      → answered u n cdb bytes ≡ recorded u n (act_of_command command) (let_through (contacted_present u n) n command bytes)
+      → answer ≡ recorded u n (act_of_command command) (let_through (contacted_present u n) n command bytes)
   pub unchanged : verdict_of u.kept.reservations n command ≢ Allowed
-      → answered u n cdb bytes ≡ recorded u n (act_of_command command) (contacted_present u n, conflict_decision u n command, conflict)
+      → answer ≡ recorded u n (act_of_command command) (contacted_present u n, conflict_decision u n command, conflict)
+
+abbrev pub IsDecided : UnitView → Nexus → (cdb bytes : List ℕ) → Command → Type 0
+IsDecided u n cdb bytes command = IsDecidedAs u n command bytes (answered u n cdb bytes)
 
 abbrev pub ReservationCheck : Type 0
 ReservationCheck = (u : UnitView) (n : Nexus) (cdb bytes : List ℕ) (command : Command) → ComesToTheCheck u n cdb bytes command → IsDecided u n cdb bytes command

@@ -1,4 +1,7 @@
 pub mod Check
+pub mod CheckRows
 pub mod Rows
+pub mod AttentionRows
+pub mod TrailRows
 pub mod MoveRows
 pub mod AuditRows

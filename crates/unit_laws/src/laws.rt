@@ -60,6 +60,16 @@ pub fn decided_at_the_check()
     ensures { (tag : VolumeTag) → AtTheCheck tag }
 {}
 
+ghost use Rattle.unit_laws.specs.CheckRows.{BarredWrite, BarredRegister, AllowedWrite};
+
+/// The answers to B's WRITE, to its REGISTER with a wrong key and to A's WRITE, each beside answers that
+/// the reservation check doesn't give.
+pub fn answers_at_the_check()
+    ensures write { (tag : VolumeTag) → BarredWrite tag }
+    ensures register { (tag : VolumeTag) → BarredRegister tag }
+    ensures allowed { (tag : VolumeTag) → AllowedWrite tag }
+{}
+
 /// LOAD UNLOAD where removal is prevented, and PREVENT ALLOW MEDIUM REMOVAL by each of its values.
 pub fn preventions()
     ensures unloading { (tag : VolumeTag) → Unloading tag }
@@ -72,6 +82,22 @@ pub fn attentions()
     ensures contact { (tag : VolumeTag) → FirstContact tag }
 {}
 
+ghost use Rattle.unit_laws.specs.AttentionRows.{SenseOfAttentions, RaisedByEvents, RaisedByModeSelect, RaisedByReservations, PreventionsEnd};
+
+/// The sense data of each attention, and whom a contact, a loss, a reset, a volume, a MODE SELECT and a
+/// PERSISTENT RESERVE OUT tell of which.
+pub fn told_attentions()
+    ensures senses { (tag : VolumeTag) → SenseOfAttentions tag }
+    ensures events { (tag : VolumeTag) → RaisedByEvents tag }
+    ensures mode { (tag : VolumeTag) → RaisedByModeSelect tag }
+    ensures reservations { (tag : VolumeTag) → RaisedByReservations tag }
+{}
+
+/// What ends a prevention of removal, and what doesn't.
+pub fn preventions_end()
+    ensures { (tag : VolumeTag) → PreventionsEnd tag }
+{}
+
 /// Volumes that aren't taken out, or put in.
 pub fn refused_media()
     ensures faults { (tag : VolumeTag) → RefusedMedia tag }
@@ -82,6 +108,22 @@ pub fn refused_media()
 pub fn legal_and_illegal_records()
     ensures legal { LegalRecords }
     ensures illegal { IllegalRecords }
+{}
+
+ghost use Rattle.unit_laws.specs.TrailRows.{ConflictRecords, ReportsFirst, ReportsLater, ReportsAndConflicts, InvalidRecords, ModeRecords, RoomForSenders, MediumRecords, Trails};
+
+/// Records of a legal trail, each beside neighbours that none has: conflicts, reports of attentions, bytes
+/// that spell no command, changed mode parameters, the sender that finds no slot, volumes; and whole trails.
+pub fn records_of_legal_trails()
+    ensures conflicts { ConflictRecords }
+    ensures first { ReportsFirst }
+    ensures later { ReportsLater }
+    ensures both { ReportsAndConflicts }
+    ensures invalid { InvalidRecords }
+    ensures mode { ModeRecords }
+    ensures room { RoomForSenders }
+    ensures volumes { MediumRecords }
+    ensures trails { Trails }
 {}
 
 ghost use Rattle.unit_laws.specs.MoveRows.{NamedDrives, IntoADrive, OutOfAReservedDrive, CarriedOrNot, MemoryOfCommands, RefusedMoves, AtAHeldChanger, BetweenDrives, NumbersOfRecords};
