@@ -1,19 +1,16 @@
 -- A command at its place in a run.
-use Rattle.std.proofs.Common.{◌≡◌, ◌≢◌, ℕ, zero, suc, Bool, true, false, List, [], ◌∷◌, ◌++◌, Option, Some, None, Result, Ok, Err, inl, inr, refl, sym, ap, ◌∙◌, subst, take, eq-eqb, arith}
-use Rattle.std.specs.Prelude.{◌↔◌, ◌⊎◌, slice_get, slice_set}
-use Rattle.std.specs.Prelude.{cond, ◌==◌}
+use Rattle.std.proofs.Common.{◌≡◌, ◌≢◌, ℕ, zero, suc, true, false, List, [], ◌∷◌, ◌++◌, Option, Some, None, Result, Ok, Err, inl, inr, refl, sym, ap, ◌∙◌, subst, take, eq-eqb, arith}
+use Rattle.std.specs.Prelude.{◌↔◌, ◌⊎◌, ◌==◌, slice_get, slice_set, IsSome}
 use Rattle.std.proofs.lemmas.Map.Views.{exact_unsigned_eq}
 use Rattle.scsi_sense.specs.declared.sense.Sense.{Sense}
 use Rattle.scsi_sense.specs.declared.status.Status.{Status}
-use Rattle.tape_medium.specs.declared.volume.Volume.{Volume}
 use Rattle.judgement.specs.Commands.{act_of, act_of_decoded}
 use Rattle.judgement.specs.Replies.{good, check, IsWhole}
 use Rattle.judgement.proofs.Ways.{let_by}
-use Rattle.logical_unit.specs.Medium.{taken_out, put_in}
-use Rattle.logical_unit.specs.Move.{TwoDrives, is_left, judged_at, route_at, passed, carried_by_one, carried_one, upward, downward, carried_two, MovesOne, MovesTwo, IsSameUnit}
-use Rattle.logical_unit.specs.Route.{is_upward, named}
+use Rattle.logical_unit.specs.Move.{TwoDrives, is_left, judged_at, route_at, carried_one, carried_two, MovesOne, MovesTwo, IsSameUnit}
+use Rattle.logical_unit.specs.Route.{named}
 use Rattle.logical_unit.specs.declared.route.Route.{Route}
-use Rattle.logical_unit.proofs.Halves.{is_unloaded, is_loaded, is_passed}
+use Rattle.logical_unit.proofs.NamedDrives.{has_route}
 use Rattle.logical_unit.proofs.LeftToDrives.{attention_ends, by_reset, by_other, is_allowed}
 use Rattle.logical_unit.proofs.Moved.{Ends, Became, one_became, two_became}
 use Rattle.logical_unit.proofs.SameUnits.{one_same, two_same}
@@ -47,8 +44,9 @@ use Rattle.judgement.specs.History.{accepted_by, after_history}
 use Rattle.target_core.specs.declared.event.Event.TheVariants as event
 use Rattle.target_core.specs.Run.{AtUnit, AtDrive, AtDrives, MovesWith, MovesBetween, CommandsNaming, CommandsAt}
 use Rattle.target_core.proofs.History.{get-set_same, get-set_other, adds_nothing}
-use Rattle.target_laws.specs.Headline.{by_history, refusal_entry, IsRefused, IsLetIn, IsDecidedBy, IsBusy, IsBarred, IsAnswered, IsMovedAt, IsServed, Headline}
+use Rattle.target_laws.specs.Headline.{by_history, refusal_entry, IsRefused, AreThere, IsWithDrives, GoesBy, EndsWith, IsCarriedOut, IsStopped, IsLetIn, IsDecidedBy, IsBusy, IsBarred, IsAnswered, IsMovedAt, IsServed, Headline}
 use Rattle.judgement.proofs.Carried.{judged_free}
+use Rattle.target_laws.proofs.MoveWays.{Stops, one_goes, two_goes, one_stops, two_stop, end_one, ends_two, no_more}
 use Rattle.target_laws.proofs.Parts.{parts, run_grows, set-same}
 
 -- a PERSISTENT RESERVE IN that ends GOOD was carried out
@@ -74,7 +72,8 @@ from_the_check u n (Ok c) bytes =
       | None ↦ λ w e. record { command = c; decodes = refl; ready = w }
     ] refl
 
-module _ (h : State) (now left : UnitView) (n : Nexus) (cdb bytes : List ℕ) (r : Reply) (same : now.kept.reservations ≡ h) (is : ◌≡◌ {A = UnitView × Reply} (left, r) (answered now n cdb bytes)) where
+module _ (h : State) (mid next : List UnitView) (lun : ℕ) (now left : UnitView) (n : Nexus) (cdb bytes : List ℕ) (r : Reply) (same : now.kept.reservations ≡ h) (is : ◌≡◌ {A = UnitView × Reply} (left, r) (answered now n cdb bytes))
+    (alone : IsWithDrives mid lun now cdb → is_left (judged_at now n cdb bytes).2.sense ≡ false) where
   refused : (command : Command) → IsDecided now n cdb bytes command → verdict_of h n command ≢ Allowed → IsRefused h now left n command r
   refused command d barred =
       let e = is ∙ d.unchanged (subst (λ (w : State). verdict_of w n command ≢ Allowed) (sym same) barred) in
@@ -87,12 +86,13 @@ module _ (h : State) (now left : UnitView) (n : Nexus) (cdb bytes : List ℕ) (r
         entry = ap (λ (x : UnitView × Reply). x.0.records) e ∙ ap (λ (w : State). now.records ++ refusal_entry w now n command ∷ []) same;
       }
 
-  let_in_by : (command : Command) → IsDecided now n cdb bytes command → verdict_of h n command ≡ Allowed → IsLetIn h now left n command bytes r
+  let_in_by : (command : Command) → IsDecided now n cdb bytes command → verdict_of h n command ≡ Allowed → IsLetIn h mid next lun now left n cdb bytes command r
   let_in_by command d allowed =
-      let e = is ∙ d.carried_out (subst (λ (w : State). verdict_of w n command ≡ Allowed) (sym same) allowed) in
+      let through = d.carried_out (subst (λ (w : State). verdict_of w n command ≡ Allowed) (sym same) allowed) in
+      let e = is ∙ through in
       let u = contacted_present now n in
       record {
-        goes_on = inl e;
+        goes_on = inl (record { ends = e; not_left = λ w. ap (λ (x : UnitView × Reply). is_left x.1.sense) (sym through) ∙ alone w });
         shows = λ a l c good.
             let f = e ∙ ap (λ (k : Command). recorded now n (act_of_command k) (let_through u n k bytes)) c in
             ap (λ (x : UnitView × Reply). x.1.payload) f
@@ -100,7 +100,7 @@ module _ (h : State) (now left : UnitView) (n : Nexus) (cdb bytes : List ℕ) (r
             ∙ ap (λ (w : State). take l (status_data w a)) same;
       }
 
-  decided : (command : Command) → ComesToTheCheck now n cdb bytes command → IsDecidedBy h now left n command bytes r
+  pub decided : (command : Command) → ComesToTheCheck now n cdb bytes command → IsDecidedBy h mid next lun now left n cdb bytes command r
   decided command comes =
       let d = is_decided now n cdb bytes command comes in
       record {
@@ -118,7 +118,7 @@ module _ (h : State) (now left : UnitView) (n : Nexus) (cdb bytes : List ℕ) (r
       let d = decided f.command comes in
       record { command = f.command; comes = comes; verdict = d.conflicts.0 conflict }
 
-  pub is_answered : has_room now.kept n ≡ true → HasNumber now → IsAnswered h now left n cdb bytes r
+  pub is_answered : has_room now.kept n ≡ true → HasNumber now → IsAnswered h mid next lun now left n cdb bytes r
   is_answered room number = record { room = room; number = number; not_busy = λ e. judged_free (contacted_present now n) n (decoded_command (kind_of now.device) cdb bytes) bytes (sym (ap (λ (x : UnitView × Reply). x.1.status) is) ∙ e); decided = decided; only_there = only_there }
 
 -- A MOVE THAT WAS LEFT to the drives. PERSISTENT RESERVE IN isn't
@@ -134,14 +134,16 @@ whole_busy : (s : Status) (o : Option Sense) → IsWhole s o → s ≢ Busy
 whole_busy s o (inl w) e = let is = w.0 in cc
 whole_busy s o (inr w) e = let is = w.0 in cc
 
-module _ (h : State) (now left : UnitView) (n : Nexus) (cdb bytes : List ℕ) (r : Reply) (same : now.kept.reservations ≡ h) (device : DeviceView) (reply : Reply) (ends : Ends now left n cdb bytes r device reply) (whole : IsWhole reply.status reply.sense) (refuses : reply.status ≢ Good → device ≡ now.device) where
+module _ (h : State) (mid next : List UnitView) (lun : ℕ) (now left : UnitView) (n : Nexus) (cdb bytes : List ℕ) (r : Reply) (same : now.kept.reservations ≡ h) (device : DeviceView) (reply : Reply) (ends : Ends now left n cdb bytes r device reply) (whole : IsWhole reply.status reply.sense)
+    (with_drives : IsWithDrives mid lun now cdb) (way : Route) (asked : route_at now cdb ≡ Some way)
+    (decides : (command : Command) → EndsWith now left n bytes command r device reply → IsCarriedOut mid next now left n bytes command r way ⊎ IsStopped mid now left n bytes command r way) where
   told : r.status ≡ reply.status
   told = ap (λ (x : UnitView × Reply). x.1.status) ends.unit
 
   no_conflict : r.status ≢ ReservationConflict
   no_conflict = λ e. whole_conflict reply.status reply.sense whole (sym told ∙ e)
 
-  decided_left : (command : Command) → ComesToTheCheck now n cdb bytes command → IsDecidedBy h now left n command bytes r
+  decided_left : (command : Command) → ComesToTheCheck now n cdb bytes command → IsDecidedBy h mid next lun now left n cdb bytes command r
   decided_left command comes =
       let u = contacted_present now n in
       let judged : judged_at now n cdb bytes ≡ checked u n command bytes = ap (λ (s : Result Command Condition). judged_as u n s bytes) comes.decodes ∙ ap (by_reset u n command bytes) comes.ready in
@@ -155,21 +157,21 @@ module _ (h : State) (now left : UnitView) (n : Nexus) (cdb bytes : List ℕ) (r
         refused = λ barred. absurd (barred by_history);
         let_in = λ is. record {
           goes_on = inr (record {
+            with_drives = with_drives;
             left_to_drives = left_on;
-            device = device;
-            reply = reply;
-            whole = whole;
-            refused = refuses;
-            ends = ends.unit
+            way = way;
+            asked = asked;
+            ends = decides command
+                (ends.unit
                 ∙ ap (λ (f : Decision). recorded now n (act_of (kind_of now.device) cdb bytes) (record { device = device; kept = now.kept }, f, reply)) (sym ends.found ∙ ap (λ (x : JudgedUnit × Decision × Reply). x.1) through)
-                ∙ ap (λ (s : Result Command Condition). recorded now n (act_of_decoded s) (record { device = device; kept = now.kept }, (let_through u n command bytes).1, reply)) comes.decodes;
+                ∙ ap (λ (s : Result Command Condition). recorded now n (act_of_decoded s) (record { device = device; kept = now.kept }, (let_through u n command bytes).1, reply)) comes.decodes);
           });
           shows = λ a l c good.
               absurd (reads_end u n a l bytes (waiting (class_of_command (ReserveIn a l)) (first_other_of u.kept.slots n)) (subst (λ (x : Command). is_left (let_through u n x bytes).2.sense ≡ true) c left_on));
         };
       }
 
-  pub is_answered_left : IsAnswered h now left n cdb bytes r
+  pub is_answered_left : IsAnswered h mid next lun now left n cdb bytes r
   is_answered_left = record {
     room = ends.room;
     number = ends.number;
@@ -178,63 +180,37 @@ module _ (h : State) (now left : UnitView) (n : Nexus) (cdb bytes : List ℕ) (r
     only_there = λ e. absurd (no_conflict e);
   }
 
+-- what is judged isn't BUSY
+free : (now left : UnitView) (n : Nexus) (cdb bytes : List ℕ) (r : Reply) → ◌≡◌ {A = UnitView × Reply} (left, r) (answered now n cdb bytes) → r.status ≢ Busy
+free now left n cdb bytes r is e = judged_free (contacted_present now n) n (decoded_command (kind_of now.device) cdb bytes) bytes (sym (ap (λ (x : UnitView × Reply). x.1.status) is) ∙ e)
+
 -- the answer of a unit alone
-answer : (mid next : List UnitView) (h : State) (now left : UnitView) (n : Nexus) (cdb bytes : List ℕ) (r : Reply) → now.kept.reservations ≡ h → (left ≡ now → next ≡ mid)
-    → Executes now n cdb bytes (left, r) → IsBusy mid next r ⊎ IsAnswered h now left n cdb bytes r
-answer mid next h now left n cdb bytes r same units (inl e) =
+answer : (mid next : List UnitView) (h : State) (lun : ℕ) (now left : UnitView) (n : Nexus) (cdb bytes : List ℕ) (r : Reply) → now.kept.reservations ≡ h → (left ≡ now → next ≡ mid)
+    → (r.status ≢ Busy → IsWithDrives mid lun now cdb → is_left (judged_at now n cdb bytes).2.sense ≡ false) → Executes now n cdb bytes (left, r) → IsBusy mid next r ⊎ IsAnswered h mid next lun now left n cdb bytes r
+answer mid next h lun now left n cdb bytes r same units alone (inl e) =
     inl (record { reply = ap (λ (x : UnitView × Reply). x.1) e; units = units (ap (λ (x : UnitView × Reply). x.0) e) })
-answer mid next h now left n cdb bytes r same units (inr e) = inr (is_answered h now left n cdb bytes r same e.2 e.0 e.1)
+answer mid next h lun now left n cdb bytes r same units alone (inr e) = inr (is_answered h mid next lun now left n cdb bytes r same e.2 (alone (free now left n cdb bytes r e.2)) e.0 e.1)
 
 -- the answer of the changer with drives, which are as they were where it answers alone
-answer_by : {A : Type 0} (mid next : List UnitView) (h : State) (now left : UnitView) (n : Nexus) (cdb bytes : List ℕ) (r : Reply) (drives after : A) (carried : Result (DeviceView × A) Condition) → now.kept.reservations ≡ h
-    → (left ≡ now → after ≡ drives → next ≡ mid) → Became now left n cdb bytes r drives after carried → IsBusy mid next r ⊎ IsAnswered h now left n cdb bytes r
-answer_by mid next h now left n cdb bytes r drives after carried same units (inl alone) = answer mid next h now left n cdb bytes r same (λ is. units is alone.1) alone.0
-answer_by mid next h now left n cdb bytes r drives after carried same units (inr (inl halted)) =
-    inr (is_answered_left h now left n cdb bytes r same now.device (check halted.condition) halted.ends (inr (refl, refl)) (λ bad. refl))
-answer_by mid next h now left n cdb bytes r drives after carried same units (inr (inr moved)) =
-    inr (is_answered_left h now left n cdb bytes r same moved.device (good []) moved.ends (inl (refl, refl)) (λ bad. absurd (bad refl)))
+answer_by : {A : Type 0} (mid next : List UnitView) (h : State) (now left : UnitView) (n : Nexus) (cdb bytes : List ℕ) (r : Reply) (drives after : A) (carried : Result (DeviceView × A) Condition) (way : Route) → now.kept.reservations ≡ h
+    → (left ≡ now → after ≡ drives → next ≡ mid) → IsWithDrives mid 0 now cdb → route_at now cdb ≡ Some way
+    → ((device : DeviceView) → carried ≡ Ok (device, after) → GoesBy mid next now.device device way)
+    → ((condition : Condition) → carried ≡ Err condition → Stops mid now.device way condition way.from way.to)
+    → Became now left n cdb bytes r drives after carried → IsBusy mid next r ⊎ IsAnswered h mid next 0 now left n cdb bytes r
+answer_by mid next h now left n cdb bytes r drives after carried way same units with_drives asked goes stops (inl alone) = answer mid next h 0 now left n cdb bytes r same (λ is. units is alone.1) (λ free w. alone.2 free) alone.0
+answer_by mid next h now left n cdb bytes r drives after carried way same units with_drives asked goes stops (inr (inl halted)) =
+    let stop = stops halted.condition halted.refused in
+    inr (is_answered_left h mid next 0 now left n cdb bytes r same now.device (check halted.condition) halted.ends (inr (refl, refl)) with_drives way asked
+    (λ command e. inr (record { none = stop.1; ends = subst (λ (x : Condition). EndsWith now left n bytes command r now.device (check x)) stop.0 e })))
+answer_by mid next h now left n cdb bytes r drives after carried way same units with_drives asked goes stops (inr (inr moved)) =
+    inr (is_answered_left h mid next 0 now left n cdb bytes r same moved.device (good []) moved.ends (inl (refl, refl)) with_drives way asked
+    (λ command e. inl (record { device = moved.device; goes = goes moved.device moved.is; ends = e })))
 
 -- where there is no slot or no number it was BUSY
-busy_where_full : (mid next : List UnitView) (h : State) (now left : UnitView) (n : Nexus) (cdb bytes : List ℕ) (r : Reply) → IsBusy mid next r ⊎ IsAnswered h now left n cdb bytes r → (has_room now.kept n ≡ false) ⊎ ¬ HasNumber now → IsBusy mid next r
-busy_where_full mid next h now left n cdb bytes r (inl busy) full = busy
-busy_where_full mid next h now left n cdb bytes r (inr answered) (inl slots) = let room = answered.room in absurd cc
-busy_where_full mid next h now left n cdb bytes r (inr answered) (inr number) = absurd (number answered.number)
-
--- WHAT A DRIVE GAVE, or took in
-abbrev pub Half : UnitView → UnitView → Type 0
-Half d e = (v : Volume) × ((taken_out d ≡ Ok (v, e)) ⊎ (put_in d v ≡ Ok e))
-
-by_one_half : (c : DeviceView) (d : UnitView) (q : Route) (from to : Option ℕ) (device : DeviceView) (e : UnitView) → carried_by_one c d q from to ≡ Ok (device, e) → Half d e
-by_one_half c d q None None device e h = absurd cc
-by_one_half c d q (Some l) None device e h = let u = is_unloaded c d q device e h in (u.volume, inl u.gives.out)
-by_one_half c d q None (Some m) device e h = let u = is_loaded c d q device e h in (u.volume, inr u.comes)
-by_one_half c d q (Some l) (Some m) device e h = absurd cc
-
-one_half : (c : DeviceView) (d : UnitView) (o : Option Route) (device : DeviceView) (e : UnitView) → carried_one c d o ≡ Ok (device, e) → Half d e
-one_half c d None device e h = absurd cc
-one_half c d (Some q) device e h = by_one_half c d q q.from q.to device e h
-
-upward_halves : (c : DeviceView) (ds : TwoDrives) (q : Route) (device : DeviceView) (es : TwoDrives) (o : Result (DeviceView × UnitView × UnitView) Condition) → passed c ds.low ds.high q ≡ o → upward o ≡ Ok (device, es) → Half ds.low es.low × Half ds.high es.high
-upward_halves c ds q device es (Ok it) h e =
-    let is : ◌≡◌ {A = DeviceView × TwoDrives} (it.0, record { low = it.1; high = it.2 }) (device, es) = cc in
-    let u = is_passed c ds.low ds.high q it.0 it.1 it.2 h in
-    subst (λ (x : DeviceView × TwoDrives). Half ds.low x.1.low × Half ds.high x.1.high) is ((u.volume, inl u.gives.out), (u.volume, inr u.comes))
-upward_halves c ds q device es (Err condition) h e = absurd cc
-
-downward_halves : (c : DeviceView) (ds : TwoDrives) (q : Route) (device : DeviceView) (es : TwoDrives) (o : Result (DeviceView × UnitView × UnitView) Condition) → passed c ds.high ds.low q ≡ o → downward o ≡ Ok (device, es) → Half ds.low es.low × Half ds.high es.high
-downward_halves c ds q device es (Ok it) h e =
-    let is : ◌≡◌ {A = DeviceView × TwoDrives} (it.0, record { low = it.2; high = it.1 }) (device, es) = cc in
-    let u = is_passed c ds.high ds.low q it.0 it.1 it.2 h in
-    subst (λ (x : DeviceView × TwoDrives). Half ds.low x.1.low × Half ds.high x.1.high) is ((u.volume, inr u.comes), (u.volume, inl u.gives.out))
-downward_halves c ds q device es (Err condition) h e = absurd cc
-
-by_way_halves : (c : DeviceView) (ds : TwoDrives) (q : Route) (up : Bool) (device : DeviceView) (es : TwoDrives) → cond up (upward (passed c ds.low ds.high q)) (downward (passed c ds.high ds.low q)) ≡ Ok (device, es) → Half ds.low es.low × Half ds.high es.high
-by_way_halves c ds q true device es h = upward_halves c ds q device es (passed c ds.low ds.high q) refl h
-by_way_halves c ds q false device es h = downward_halves c ds q device es (passed c ds.high ds.low q) refl h
-
-two_halves : (c : DeviceView) (ds : TwoDrives) (o : Option Route) (device : DeviceView) (es : TwoDrives) → carried_two c ds o ≡ Ok (device, es) → Half ds.low es.low × Half ds.high es.high
-two_halves c ds None device es h = absurd cc
-two_halves c ds (Some q) device es h = by_way_halves c ds q (is_upward q.from q.to) device es h
+busy_where_full : (mid next : List UnitView) (h : State) (lun : ℕ) (now left : UnitView) (n : Nexus) (cdb bytes : List ℕ) (r : Reply) → IsBusy mid next r ⊎ IsAnswered h mid next lun now left n cdb bytes r → (has_room now.kept n ≡ false) ⊎ ¬ HasNumber now → IsBusy mid next r
+busy_where_full mid next h lun now left n cdb bytes r (inl busy) full = busy
+busy_where_full mid next h lun now left n cdb bytes r (inr answered) (inl slots) = let room = answered.room in absurd cc
+busy_where_full mid next h lun now left n cdb bytes r (inr answered) (inr number) = absurd (number answered.number)
 
 abbrev pub some_unit : UnitView → Option UnitView
 some_unit u = Some u
@@ -244,16 +220,17 @@ record Serves (h : State) (mid next : List UnitView) (lun : ℕ) (now : UnitView
   left : UnitView
   stays : slice_get next lun ≡ Some left
   leaves : left.kept.reservations ≡ after_history now.kept.reservations (accepted_by (kind_of now.device) n cdb bytes r.status)
-  others : (k : ℕ) → k ≢ lun → (slice_get next k ≡ slice_get mid k) ⊎ IsMovedAt mid next k r
-  answers : IsBusy mid next r ⊎ IsAnswered h now left n cdb bytes r
+  others : (k : ℕ) → k ≢ lun → (slice_get next k ≡ slice_get mid k) ⊎ IsMovedAt mid next lun now left cdb r k
+  answers : IsBusy mid next r ⊎ IsAnswered h mid next lun now left n cdb bytes r
 
-alone_serves : (h : State) (mid next : List UnitView) (lun : ℕ) (now : UnitView) (n : Nexus) (cdb bytes : List ℕ) (r : Reply) → slice_get mid lun ≡ Some now → now.kept.reservations ≡ h → AtUnit mid lun (Executes now n cdb bytes) (next, r) → Serves h mid next lun now n cdb bytes r
-alone_serves h mid next lun now n cdb bytes r there same a = record {
+alone_serves : (h : State) (mid next : List UnitView) (lun : ℕ) (now : UnitView) (n : Nexus) (cdb bytes : List ℕ) (r : Reply) → slice_get mid lun ≡ Some now → now.kept.reservations ≡ h → ¬ IsWithDrives mid lun now cdb → AtUnit mid lun (Executes now n cdb bytes) (next, r)
+    → Serves h mid next lun now n cdb bytes r
+alone_serves h mid next lun now n cdb bytes r there same alone a = record {
   left = a.unit;
   stays = ap (λ (xs : List UnitView). slice_get xs lun) a.units ∙ get-set_same mid lun a.unit now there;
   leaves = executes_keeps now a.unit n cdb bytes r a.step;
   others = λ k apart. inl (ap (λ (xs : List UnitView). slice_get xs k) a.units ∙ get-set_other mid lun k a.unit (λ e. apart (sym e)));
-  answers = answer mid next h now a.unit n cdb bytes r same (λ is. a.units ∙ ap (slice_set mid lun) is ∙ set-same mid lun now there) a.step;
+  answers = answer mid next h lun now a.unit n cdb bytes r same (λ is. a.units ∙ ap (slice_set mid lun) is ∙ set-same mid lun now there) (λ free w. absurd (alone w)) a.step;
 }
 
 -- a move leaves the registrations as they were, and adds nothing to the history
@@ -261,17 +238,32 @@ move_leaves : (now left : UnitView) (n : Nexus) (cdb bytes : List ℕ) (r : Repl
     → left.kept.reservations ≡ after_history now.kept.reservations (accepted_by (kind_of now.device) n cdb bytes r.status)
 move_leaves now left n cdb bytes r l more names same = same.reservations ∙ sym (ap (after_history now.kept.reservations) (adds_nothing now.device n cdb bytes r l more names))
 
-moved_at : (mid next : List UnitView) (k : ℕ) (r : Reply) (d e : UnitView) → r.status ≡ Good → slice_get mid k ≡ Some d → slice_get next k ≡ Some e → Half d e → IsMovedAt mid next k r
-moved_at mid next k r d e good there stays half = record { good = good; was = d; is = e; there = there; stays = stays; volume = half.0; half = half.1 }
-
 -- a drive of a move, by whether the volume was carried
 module _ {A : Type 0} where
-  beside : (mid next : List UnitView) (k : ℕ) (now left : UnitView) (n : Nexus) (cdb bytes : List ℕ) (r : Reply) (drives after : A) (carried : Result (DeviceView × A) Condition) (of : A → UnitView) → slice_get mid k ≡ Some (of drives) → slice_get next k ≡ Some (of after)
-      → ((device : DeviceView) → carried ≡ Ok (device, after) → Half (of drives) (of after)) → Became now left n cdb bytes r drives after carried → (slice_get next k ≡ slice_get mid k) ⊎ IsMovedAt mid next k r
-  beside mid next k now left n cdb bytes r drives after carried of there stays half (inl alone) = inl (stays ∙ ap (λ (a : A). some_unit (of a)) alone.1 ∙ sym there)
-  beside mid next k now left n cdb bytes r drives after carried of there stays half (inr (inl halted)) = inl (stays ∙ ap (λ (a : A). some_unit (of a)) halted.drives_stay ∙ sym there)
-  beside mid next k now left n cdb bytes r drives after carried of there stays half (inr (inr moved)) =
-      inr (moved_at mid next k r (of drives) (of after) (ap (λ (x : UnitView × Reply). x.1.status) moved.ends.unit) there stays (half moved.device moved.is))
+  beside : (mid next : List UnitView) (k : ℕ) (now left : UnitView) (n : Nexus) (cdb bytes : List ℕ) (r : Reply) (drives after : A) (carried : Result (DeviceView × A) Condition) (way : Route) (of : A → UnitView) → slice_get mid k ≡ Some (of drives) → slice_get next k ≡ Some (of after)
+      → route_at now cdb ≡ Some way → (way.from ≡ Some k) ⊎ (way.to ≡ Some k) → ((device : DeviceView) → carried ≡ Ok (device, after) → GoesBy mid next now.device device way)
+      → Became now left n cdb bytes r drives after carried → (slice_get next k ≡ slice_get mid k) ⊎ IsMovedAt mid next 0 now left cdb r k
+  beside mid next k now left n cdb bytes r drives after carried way of there stays asked end goes (inl alone) = inl (stays ∙ ap (λ (a : A). some_unit (of a)) alone.1 ∙ sym there)
+  beside mid next k now left n cdb bytes r drives after carried way of there stays asked end goes (inr (inl halted)) = inl (stays ∙ ap (λ (a : A). some_unit (of a)) halted.drives_stay ∙ sym there)
+  beside mid next k now left n cdb bytes r drives after carried way of there stays asked end goes (inr (inr moved)) =
+      inr (record {
+        changer = refl;
+        good = ap (λ (x : UnitView × Reply). x.1.status) moved.ends.unit;
+        way = way;
+        asked = asked;
+        end = end;
+        goes = subst (λ (x : DeviceView). GoesBy mid next now.device x way) (sym (ap (λ (x : UnitView × Reply). x.0.device) moved.ends.unit)) (goes moved.device moved.is);
+      })
+
+-- the drives of a move are there, or not
+there_is : (us : List UnitView) (l : ℕ) (d : UnitView) → slice_get us l ≡ Some d → IsSome (slice_get us l)
+there_is us l d there = subst (λ (o : Option UnitView). IsSome o) (sym there) refl
+
+gone : (us : List UnitView) (l : ℕ) → slice_get us l ≡ None → IsSome (slice_get us l) → ⊥
+gone us l none h = let no : false ≡ true = subst (λ (o : Option UnitView). IsSome o) none h in cc
+
+some_named : (names : List ℕ) (l : ℕ) (more : List ℕ) → names ≡ l ∷ more → names ≢ []
+some_named names l more is none = let no = sym is ∙ none in cc
 
 one_serves : (h : State) (mid next : List UnitView) (l : ℕ) (now d : UnitView) (n : Nexus) (cdb bytes : List ℕ) (r : Reply) → slice_get mid 0 ≡ Some now → now.kept.reservations ≡ h → slice_get mid l ≡ Some d → named (drives_of now.device) cdb ≡ l ∷ []
     → AtDrive mid l (MovesOne now d n cdb bytes) (next, r) → Serves h mid next 0 now n cdb bytes r
@@ -283,21 +275,27 @@ one_serves h mid next l now d n cdb bytes r there same drive names a =
     let first = slice_set mid 0 a.changer in
     let drive_there : slice_get first l ≡ Some d = get-set_other mid 0 l a.changer apart ∙ drive in
     let drive_stays : slice_get next l ≡ Some a.other = ap (λ (xs : List UnitView). slice_get xs l) a.units ∙ get-set_same first l a.other d drive_there in
+    let q = has_route now.device cdb l [] names in
+    let carried = carried_one now.device d (route_at now cdb) in
+    let by_route : carried_one now.device d (Some q.route) ≡ carried = sym (ap (carried_one now.device d) q.is) in
+    let goes : (device : DeviceView) → carried ≡ Ok (device, a.other) → GoesBy mid next now.device device q.route = λ device is. one_goes mid next now.device device q.route l d a.other q.names drive drive_stays (by_route ∙ is) in
     record {
       left = a.changer;
       stays = ap (λ (xs : List UnitView). slice_get xs 0) a.units ∙ get-set_other first l 0 a.other (λ e. apart (sym e)) ∙ get-set_same mid 0 a.changer now there;
       leaves = move_leaves now a.changer n cdb bytes r l [] names s.0;
-      others = λ k off. elim (l == k) as (λ t. (l == k) ≡ t → (slice_get next k ≡ slice_get mid k) ⊎ IsMovedAt mid next k r) [
+      others = λ k off. elim (l == k) as (λ t. (l == k) ≡ t → (slice_get next k ≡ slice_get mid k) ⊎ IsMovedAt mid next 0 now a.changer cdb r k) [
         | true ↦ λ t.
             let is : l ≡ k = exact_unsigned_eq l k t in
-            subst (λ i. (slice_get next i ≡ slice_get mid i) ⊎ IsMovedAt mid next i r) is
-            (beside mid next l now a.changer n cdb bytes r d a.other (carried_one now.device d (route_at now cdb)) (λ x. x) drive drive_stays (λ device is. one_half now.device d (route_at now cdb) device a.other is) b)
+            subst (λ i. (slice_get next i ≡ slice_get mid i) ⊎ IsMovedAt mid next 0 now a.changer cdb r i) is
+            (beside mid next l now a.changer n cdb bytes r d a.other carried q.route (λ x. x) drive drive_stays q.is (end_one q.route l q.names) goes b)
         | false ↦ λ t.
             let other : l ≢ k = λ is. let yes : (l == k) ≡ true = eq-eqb l k is in cc in
             inl (ap (λ (xs : List UnitView). slice_get xs k) a.units ∙ get-set_other first l k a.other other ∙ get-set_other mid 0 k a.changer (λ e. off (sym e)))
       ] refl;
-      answers = answer_by mid next h now a.changer n cdb bytes r d a.other (carried_one now.device d (route_at now cdb)) same
-          (λ is kept. a.units ∙ ap (λ (u : UnitView). slice_set (slice_set mid 0 u) l a.other) is ∙ ap (λ (xs : List UnitView). slice_set xs l a.other) (set-same mid 0 now there) ∙ ap (slice_set mid l) kept ∙ set-same mid l d drive) b;
+      answers = answer_by mid next h now a.changer n cdb bytes r d a.other carried q.route same
+          (λ is kept. a.units ∙ ap (λ (u : UnitView). slice_set (slice_set mid 0 u) l a.other) is ∙ ap (λ (xs : List UnitView). slice_set xs l a.other) (set-same mid 0 now there) ∙ ap (slice_set mid l) kept ∙ set-same mid l d drive)
+          (record { changer = refl; some = some_named (named (drives_of now.device) cdb) l [] names; there = subst (AreThere mid) (sym names) (there_is mid l d drive, tt) }) q.is goes
+          (λ condition is. one_stops mid now.device q.route condition l d q.names drive (by_route ∙ is)) b;
     }
 
 two_serves : (h : State) (mid next : List UnitView) (l m : ℕ) (more : List ℕ) (now : UnitView) (ds : TwoDrives) (n : Nexus) (cdb bytes : List ℕ) (r : Reply) → slice_get mid 0 ≡ Some now → now.kept.reservations ≡ h → slice_get mid l ≡ Some ds.low → slice_get mid m ≡ Some ds.high
@@ -311,77 +309,102 @@ two_serves h mid next l m more now ds n cdb bytes r there same low high names a 
     let s = two_same now a.changer ds a.drives n cdb bytes r l (m ∷ more) names a.step in
     let first = slice_set mid 0 a.changer in
     let second = slice_set first l a.drives.low in
+    let q = has_route now.device cdb l (m ∷ more) names in
     let carried = carried_two now.device ds (route_at now cdb) in
+    let by_route : carried_two now.device ds (Some q.route) ≡ carried = sym (ap (carried_two now.device ds) q.is) in
+    let ends = ends_two q.route l m more q.names in
     let low_there : slice_get first l ≡ Some ds.low = get-set_other mid 0 l a.changer one ∙ low in
     let high_there : slice_get second m ≡ Some ds.high = get-set_other first l m a.drives.low three ∙ get-set_other mid 0 m a.changer two ∙ high in
     let low_stays : slice_get next l ≡ Some a.drives.low
     = ap (λ (xs : List UnitView). slice_get xs l) a.units ∙ get-set_other second m l a.drives.high (λ e. three (sym e)) ∙ get-set_same first l a.drives.low ds.low low_there in
     let high_stays : slice_get next m ≡ Some a.drives.high = ap (λ (xs : List UnitView). slice_get xs m) a.units ∙ get-set_same second m a.drives.high ds.high high_there in
+    let goes : (device : DeviceView) → carried ≡ Ok (device, a.drives) → GoesBy mid next now.device device q.route =
+    λ device is. two_goes mid next now.device device q.route l m more ds a.drives q.names low low_stays high high_stays (by_route ∙ is) in
     record {
       left = a.changer;
       stays = ap (λ (xs : List UnitView). slice_get xs 0) a.units ∙ get-set_other second m 0 a.drives.high (λ e. two (sym e)) ∙ get-set_other first l 0 a.drives.low (λ e. one (sym e)) ∙ get-set_same mid 0 a.changer now there;
       leaves = move_leaves now a.changer n cdb bytes r l (m ∷ more) names s.0;
-      others = λ k off. elim (l == k) as (λ t. (l == k) ≡ t → (slice_get next k ≡ slice_get mid k) ⊎ IsMovedAt mid next k r) [
+      others = λ k off. elim (l == k) as (λ t. (l == k) ≡ t → (slice_get next k ≡ slice_get mid k) ⊎ IsMovedAt mid next 0 now a.changer cdb r k) [
         | true ↦ λ t.
             let is : l ≡ k = exact_unsigned_eq l k t in
-            subst (λ i. (slice_get next i ≡ slice_get mid i) ⊎ IsMovedAt mid next i r) is
-            (beside mid next l now a.changer n cdb bytes r ds a.drives carried (λ (x : TwoDrives). x.low) low low_stays (λ device is. (two_halves now.device ds (route_at now cdb) device a.drives is).0) b)
+            subst (λ i. (slice_get next i ≡ slice_get mid i) ⊎ IsMovedAt mid next 0 now a.changer cdb r i) is
+            (beside mid next l now a.changer n cdb bytes r ds a.drives carried q.route (λ (x : TwoDrives). x.low) low low_stays q.is ends.0 goes b)
         | false ↦ λ t.
             let other : l ≢ k = λ is. let yes : (l == k) ≡ true = eq-eqb l k is in cc in
-            elim (m == k) as (λ u. (m == k) ≡ u → (slice_get next k ≡ slice_get mid k) ⊎ IsMovedAt mid next k r) [
+            elim (m == k) as (λ u. (m == k) ≡ u → (slice_get next k ≡ slice_get mid k) ⊎ IsMovedAt mid next 0 now a.changer cdb r k) [
               | true ↦ λ u.
                   let is : m ≡ k = exact_unsigned_eq m k u in
-                  subst (λ i. (slice_get next i ≡ slice_get mid i) ⊎ IsMovedAt mid next i r) is
-                  (beside mid next m now a.changer n cdb bytes r ds a.drives carried (λ (x : TwoDrives). x.high) high high_stays (λ device is. (two_halves now.device ds (route_at now cdb) device a.drives is).1) b)
+                  subst (λ i. (slice_get next i ≡ slice_get mid i) ⊎ IsMovedAt mid next 0 now a.changer cdb r i) is
+                  (beside mid next m now a.changer n cdb bytes r ds a.drives carried q.route (λ (x : TwoDrives). x.high) high high_stays q.is ends.1 goes b)
               | false ↦ λ u.
                   let far : m ≢ k = λ is. let yes : (m == k) ≡ true = eq-eqb m k is in cc in
                   inl (ap (λ (xs : List UnitView). slice_get xs k) a.units ∙ get-set_other second m k a.drives.high far ∙ get-set_other first l k a.drives.low other ∙ get-set_other mid 0 k a.changer (λ e. off (sym e)))
             ] refl
       ] refl;
-      answers = answer_by mid next h now a.changer n cdb bytes r ds a.drives carried same
+      answers = answer_by mid next h now a.changer n cdb bytes r ds a.drives carried q.route same
           (λ is kept.
           a.units ∙ ap (λ (u : UnitView). slice_set (slice_set (slice_set mid 0 u) l a.drives.low) m a.drives.high) is
           ∙ ap (λ (xs : List UnitView). slice_set (slice_set xs l a.drives.low) m a.drives.high) (set-same mid 0 now there)
-          ∙ ap (λ (x : TwoDrives). slice_set (slice_set mid l x.low) m x.high) kept ∙ ap (λ (xs : List UnitView). slice_set xs m ds.high) (set-same mid l ds.low low) ∙ set-same mid m ds.high high) b;
+          ∙ ap (λ (x : TwoDrives). slice_set (slice_set mid l x.low) m x.high) kept ∙ ap (λ (xs : List UnitView). slice_set xs m ds.high) (set-same mid l ds.low low) ∙ set-same mid m ds.high high)
+          (record {
+            changer = refl;
+            some = some_named (named (drives_of now.device) cdb) l (m ∷ more) names;
+            there = subst (AreThere mid) (sym names) (there_is mid l ds.low low, (there_is mid m ds.high high, subst (AreThere mid) (sym (no_more q.route.from q.route.to l m more q.names)) tt));
+          }) q.is goes
+          (λ condition is. two_stop mid now.device q.route condition l m more ds q.names low high (by_route ∙ is)) b;
     }
 
 with_serves : (h : State) (mid next : List UnitView) (l : ℕ) (now : UnitView) (n : Nexus) (cdb bytes : List ℕ) (r : Reply) (d : Option UnitView) → slice_get mid 0 ≡ Some now → now.kept.reservations ≡ h → slice_get mid l ≡ d → named (drives_of now.device) cdb ≡ l ∷ []
     → MovesWith mid now l d n cdb bytes (next, r) → Serves h mid next 0 now n cdb bytes r
-with_serves h mid next l now n cdb bytes r None there same drive names step = alone_serves h mid next 0 now n cdb bytes r there same step
+with_serves h mid next l now n cdb bytes r None there same drive names step =
+    alone_serves h mid next 0 now n cdb bytes r there same (λ w. gone mid l drive (subst (AreThere mid) names w.there).0) step
 with_serves h mid next l now n cdb bytes r (Some d) there same drive names step = one_serves h mid next l now d n cdb bytes r there same drive names step
 
 between_serves : (h : State) (mid next : List UnitView) (l m : ℕ) (more : List ℕ) (now : UnitView) (n : Nexus) (cdb bytes : List ℕ) (r : Reply) (d e : Option UnitView) → slice_get mid 0 ≡ Some now → now.kept.reservations ≡ h → slice_get mid l ≡ d → slice_get mid m ≡ e
     → named (drives_of now.device) cdb ≡ l ∷ m ∷ more → MovesBetween mid now l m d e n cdb bytes (next, r) → Serves h mid next 0 now n cdb bytes r
-between_serves h mid next l m more now n cdb bytes r None e there same low high names step = alone_serves h mid next 0 now n cdb bytes r there same step
-between_serves h mid next l m more now n cdb bytes r (Some d) None there same low high names step = alone_serves h mid next 0 now n cdb bytes r there same step
+between_serves h mid next l m more now n cdb bytes r None e there same low high names step =
+    alone_serves h mid next 0 now n cdb bytes r there same (λ w. gone mid l low (subst (AreThere mid) names w.there).0) step
+between_serves h mid next l m more now n cdb bytes r (Some d) None there same low high names step =
+    alone_serves h mid next 0 now n cdb bytes r there same (λ w. gone mid m high (subst (AreThere mid) names w.there).1.0) step
 between_serves h mid next l m more now n cdb bytes r (Some d) (Some e) there same low high names step = two_serves h mid next l m more now (record { low = d; high = e }) n cdb bytes r there same low high names step
 
 naming_serves : (h : State) (mid next : List UnitView) (names : List ℕ) (now : UnitView) (n : Nexus) (cdb bytes : List ℕ) (r : Reply) → slice_get mid 0 ≡ Some now → now.kept.reservations ≡ h → named (drives_of now.device) cdb ≡ names
     → CommandsNaming mid now names n cdb bytes (next, r) → Serves h mid next 0 now n cdb bytes r
-naming_serves h mid next [] now n cdb bytes r there same is step = alone_serves h mid next 0 now n cdb bytes r there same step
+naming_serves h mid next [] now n cdb bytes r there same is step = alone_serves h mid next 0 now n cdb bytes r there same (λ w. w.some is) step
 naming_serves h mid next (l ∷ []) now n cdb bytes r there same is step = with_serves h mid next l now n cdb bytes r (slice_get mid l) there same refl is step
 naming_serves h mid next (l ∷ m ∷ more) now n cdb bytes r there same is step = between_serves h mid next l m more now n cdb bytes r (slice_get mid l) (slice_get mid m) there same refl refl is step
 
 serves : (h : State) (mid next : List UnitView) (lun : ℕ) (now : UnitView) (n : Nexus) (cdb bytes : List ℕ) (r : Reply) → slice_get mid lun ≡ Some now → now.kept.reservations ≡ h → CommandsAt mid lun (Some now) n cdb bytes (next, r) → Serves h mid next lun now n cdb bytes r
 serves h mid next zero now n cdb bytes r there same step = naming_serves h mid next (named (drives_of now.device) cdb) now n cdb bytes r there same refl step
-serves h mid next (suc k) now n cdb bytes r there same step = alone_serves h mid next (suc k) now n cdb bytes r there same step
+serves h mid next (suc k) now n cdb bytes r there same step = alone_serves h mid next (suc k) now n cdb bytes r there same (λ w. let no = w.changer in cc) step
 
-pub served : Headline
-served us vs before after rs qs n lun cdb bytes r u same here run =
-    let p = parts us vs before (event.Command n lun cdb bytes ∷ after) rs (r ∷ qs) same run in
-    let next = p.rest.0 in
-    let g = run_grows us p.mid before rs lun u p.first here in
-    let h = by_history u lun before rs in
-    let s = serves h p.mid next lun g.unit n cdb.items bytes.items r g.place g.history (subst (λ (o : Option UnitView). CommandsAt p.mid lun o n cdb.items bytes.items (next, r)) g.place p.rest.1) in
-    let it : IsServed h p.mid next lun n cdb.items bytes.items r = record {
-      now = g.unit;
+-- a command that is made is served by the registrations, the reservation and the generation that stand at its unit
+pub is_served : (h : State) (mid next : List UnitView) (lun : ℕ) (now : UnitView) (n : Nexus) (cdb bytes : List ℕ) (r : Reply) → slice_get mid lun ≡ Some now → now.kept.reservations ≡ h → CommandsAt mid lun (Some now) n cdb bytes (next, r) → IsServed h mid next lun n cdb bytes r
+is_served h mid next lun now n cdb bytes r there same step =
+    let s = serves h mid next lun now n cdb bytes r there same step in
+    record {
+      now = now;
       left = s.left;
-      there = g.place;
+      there = there;
       stays = s.stays;
-      history = g.history;
-      leaves = s.leaves ∙ ap (λ (w : State). after_history w (accepted_by (kind_of g.unit.device) n cdb.items bytes.items r.status)) g.history;
+      history = same;
+      leaves = s.leaves ∙ ap (λ (w : State). after_history w (accepted_by (kind_of now.device) n cdb bytes r.status)) same;
       others = s.others;
       answer = s.answers;
-      full = busy_where_full p.mid next h g.unit s.left n cdb.items bytes.items r s.answers;
-    } in
-    (p.mid, next, p.first, p.rest.1, p.rest.2, it)
+      full = busy_where_full mid next h lun now s.left n cdb bytes r s.answers;
+    }
+
+pub served : Headline
+served us vs before after rs qs n lun cdb bytes r u asked =
+    let p = parts us vs before (event.Command n lun cdb bytes ∷ after) rs (r ∷ qs) asked.place asked.run in
+    let next = p.rest.0 in
+    let g = run_grows us p.mid before rs lun u p.first asked.there in
+    record {
+      mid = p.mid;
+      next = next;
+      first = p.first;
+      step = p.rest.1;
+      rest = p.rest.2;
+      served = is_served (by_history u lun before rs) p.mid next lun g.unit n cdb.items bytes.items r g.place g.history
+          (subst (λ (o : Option UnitView). CommandsAt p.mid lun o n cdb.items bytes.items (next, r)) g.place p.rest.1);
+    }

@@ -2,17 +2,20 @@
 use Rattle.std.proofs.Common.{◌≡◌, ℕ, ◌<◌, ◌^◌, true, List, [], ◌∷◌, Option, Some, None, inl, inr, refl, ap, ◌∙◌, subst, arith}
 use Rattle.std.specs.Prelude.{◌⊎◌, map}
 use Rattle.tape_medium.specs.declared.volume.VolumeTag.{VolumeTag}
+use Rattle.scsi_cdb.specs.Commands as commands
 use Rattle.scsi_nexus.specs.declared.nexus.Nexus.{Nexus}
 use Rattle.unit_attention.specs.declared.kind.Kind.TheVariants.{NexusLoss, BusDeviceReset}
 use Rattle.judgement.specs.declared.reply.Reply.{Reply}
 use Rattle.judgement.specs.UnitState.{has_room}
 use Rattle.judgement.specs.Replies.{busy}
-use Rattle.logical_unit.specs.Step.{HasNumber, Executes, IsLost, IsReset, event_reply, number_or_0}
+use Rattle.logical_unit.specs.Step.{HasNumber, Executes, IsLost, IsReset, loses, resets, event_reply, number_or_0}
 use Rattle.logical_unit.specs.UnitView.{UnitView}
+use Rattle.target_laws.proofs.Row.{step}
 use Rattle.target_laws.proofs.Sending.{busy_run}
+use Rattle.target_core.specs.declared.event.Event.{Event}
 use Rattle.target_core.specs.declared.event.Event.TheVariants as event
 use Rattle.target_core.specs.Run.{AtUnit, Commands, Steps, Runs}
-use Rattle.target_laws.specs.Rows.{a, changer, drive, units, last_number_used, with_slots, IsBusyToA, BusyRuns, good_with, not_supported, met_a, LossesAndResets}
+use Rattle.target_laws.specs.Rows.{a, Sends, test_unit_ready, HasRun, attention_29, changer, drive, units, last_number_used, with_slots, IsBusyToA, BusyRuns, good_with, not_supported, met_a, LossesAndResets}
 
 never : (u : UnitView) → (has_room u.kept a ≡ true → HasNumber u → ⊥) → IsBusyToA u
 never u closed (event.Command n lun cdb bytes ∷ []) (r ∷ []) vs h run =
@@ -67,6 +70,24 @@ reset_row (r ∷ []) vs run =
 reset_row [] vs run = absurd run
 reset_row (r ∷ q ∷ rs) vs run = absurd run.2
 
+told_loss : (e : Event) → Sends e (a, test_unit_ready, []) → HasRun (changer ∷ met_a ∷ []) (event.Loss a 1 ∷ e ∷ []) (good_with 2 ∷ attention_29 0x07 3 ∷ [])
+unfolding commands.command_of
+told_loss e sends =
+    let u = loses met_a a in
+    record {
+      units = _;
+      run = (changer ∷ u ∷ [], record { unit = u; step = inr (Some 2, (omega arith, refl), refl); units = refl }, (_, step u e (a, test_unit_ready, []) sends refl refl, refl));
+    }
+
+told_reset : (e : Event) → Sends e (a, test_unit_ready, []) → HasRun (changer ∷ met_a ∷ []) (event.Reset 1 ∷ e ∷ []) (good_with 2 ∷ attention_29 0x03 3 ∷ [])
+unfolding commands.command_of
+told_reset e sends =
+    let u = resets met_a in
+    record {
+      units = _;
+      run = (changer ∷ u ∷ [], record { unit = u; step = inr (2, (omega arith, refl), refl); units = refl }, (_, step u e (a, test_unit_ready, []) sends refl refl, refl));
+    }
+
 absent_row : (tag : VolumeTag) (rs : List Reply) (vs : List UnitView) → Runs (units tag) (event.Loss a 2 ∷ event.Reset 255 ∷ []) rs vs
     → (rs ≡ not_supported ∷ not_supported ∷ []) × (vs ≡ units tag)
 absent_row tag (r ∷ q ∷ []) vs run =
@@ -88,6 +109,8 @@ losses_and_resets tag = record {
   has_lost = record { units = _; run = (_, record { unit = _; step = inr (Some 2, (omega arith, refl), refl); units = refl }, refl) };
   was_reset = reset_row;
   has_reset = record { units = _; run = (_, record { unit = _; step = inr (2, (omega arith, refl), refl); units = refl }, refl) };
+  told_loss = told_loss;
+  told_reset = told_reset;
   absent = absent_row tag;
   has_absent = (units tag, refl, (units tag, refl, refl));
 }

@@ -1,6 +1,8 @@
 pub mod Parts
+pub mod MoveWays
 pub mod CommandInARun
 pub mod Row
+pub mod WorkedHeadline
 pub mod Sending
 pub mod EventRows
 pub mod Devices
@@ -12,5 +14,6 @@ pub mod VolumePlaces
 pub mod VolumeCarries
 pub mod VolumeSteps
 pub mod MovedRun
+pub mod CarriedHeadline
 pub mod CartridgeDevices
 pub mod CartridgeSteps

@@ -203,7 +203,7 @@ either_answer true x y p q = p
 either_answer false x y p q = q
 
 absent_free : (cdb : List ℕ) (r : Reply) → AnswersAbsent cdb r → is_failure r.sense ≡ false
-absent_free cdb r (inl busy) = ap (λ (x : Reply). is_failure x.sense) busy
+absent_free cdb r (inl busy) = ap (λ (x : Reply). is_failure x.sense) busy.0
 absent_free cdb r (inr answer) =
     ap (λ (x : Reply). is_failure x.sense) answer
     ∙ either_answer (nat_lt (length cdb) 6) (check LogicalUnitNotSupported) _ refl

@@ -45,7 +45,7 @@ abbrev added : Kind → List Sending → List Reply → List Accepted
 added kind (s ∷ l) (r ∷ rs) = accepted_by kind s.0 s.1 s.2 r.status ++ added kind l rs
 added kind l rs = []
 
-step : (u : UnitView) (e : Event) (s : Sending) → Sends e s → has_room u.kept s.0 ≡ true → ltb (last_number u + 1) (2 ^ 64) ≡ true → Steps (changer ∷ u ∷ []) e (changer ∷ (answered u s.0 s.1 s.2).0 ∷ [], (answered u s.0 s.1 s.2).1)
+pub step : (u : UnitView) (e : Event) (s : Sending) → Sends e s → has_room u.kept s.0 ≡ true → ltb (last_number u + 1) (2 ^ 64) ≡ true → Steps (changer ∷ u ∷ []) e (changer ∷ (answered u s.0 s.1 s.2).0 ∷ [], (answered u s.0 s.1 s.2).1)
 step u (event.Command n lun cdb bytes) s h room number =
     let x = answered u s.0 s.1 s.2 in
     rw (h.0, h.1, h.2, h.3) (record { unit = x.0; step = inr (room, ltb-true (last_number u + 1) (2 ^ 64) number, refl); units = refl })

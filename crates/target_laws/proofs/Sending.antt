@@ -1,5 +1,5 @@
 -- Events that send given commands, and the runs of some of them.
-use Rattle.std.proofs.Common.{◌≡◌, ℕ, ◌<◌, ◌^◌, List, [], ◌∷◌, length, inl, inr, refl, arith}
+use Rattle.std.proofs.Common.{ℕ, ◌<◌, ◌^◌, List, [], ◌∷◌, length, inl, refl, arith}
 use Rattle.std.specs.Global.{Global}
 use denote.RawPtr.{null_ptr}
 use Rattle.scsi_nexus.specs.declared.nexus.Nexus.{Nexus}

@@ -28,7 +28,7 @@ noted_still : (device : DeviceView) (address : ℕ) (tag : Option VolumeTag) (o 
 noted_still device address tag (Ok after) h place = marks_move_nothing device after address tag h place
 noted_still device address tag (Err fault) h place = refl
 
-noting_still : (device : DeviceView) (address : ℕ) (tag : Option VolumeTag) (place : ℕ) → volume_at (noting device address tag) place ≡ volume_at device place
+pub noting_still : (device : DeviceView) (address : ℕ) (tag : Option VolumeTag) (place : ℕ) → volume_at (noting device address tag) place ≡ volume_at device place
 noting_still device address tag place = noted_still device address tag (marked device address tag) refl place
 
 -- what goes out of a drive, and comes in

@@ -196,6 +196,15 @@ not_supported = record {
   number = 0;
 }
 
+-- and with UNIT ATTENTION, ASC 29h, by the qualifier
+abbrev pub attention_29 : (ascq number : ℕ) → Reply
+attention_29 ascq number = record {
+  status = CheckCondition;
+  sense = Some (record { valid = false; filemark = false; eom = false; ili = false; key = 6; information = 0; asc = 0x29; ascq = ascq });
+  payload = [];
+  number = number;
+}
+
 -- a drive whose record 1 is of A's contact
 abbrev pub met_a : UnitView
 met_a = let u = made (Drive empty_drive) 1 2 1 in record u { kept = record u.kept { slots = (a, []) ∷ [] } }
@@ -216,6 +225,9 @@ pub record LossesAndResets (tag : VolumeTag) : Type 0 where
   pub was_reset : (rs : List Reply) (vs : List UnitView) → Runs (changer ∷ met_a ∷ []) (event.Reset 1 ∷ []) rs vs
       → (rs ≡ busy ∷ []) ⊎ ((rs ≡ good_with 2 ∷ []) × (map (λ (u : UnitView). u.kept.slots) vs ≡ [] ∷ ((a, BusDeviceReset ∷ []) ∷ []) ∷ []))
   pub has_reset : HasRun (changer ∷ met_a ∷ []) (event.Reset 1 ∷ []) (good_with 2 ∷ [])
+  -- what A's next command is told then: 29h/07h of the loss, and 29h/03h of the reset
+  pub told_loss : (e : Event) → Sends e (a, test_unit_ready, []) → HasRun (changer ∷ met_a ∷ []) (event.Loss a 1 ∷ e ∷ []) (good_with 2 ∷ attention_29 0x07 3 ∷ [])
+  pub told_reset : (e : Event) → Sends e (a, test_unit_ready, []) → HasRun (changer ∷ met_a ∷ []) (event.Reset 1 ∷ e ∷ []) (good_with 2 ∷ attention_29 0x03 3 ∷ [])
   -- of a unit that isn't there they are refused
   pub absent : (rs : List Reply) (vs : List UnitView) → Runs (units tag) (event.Loss a 2 ∷ event.Reset 255 ∷ []) rs vs
       → (rs ≡ not_supported ∷ not_supported ∷ []) × (vs ≡ units tag)

@@ -1,4 +1,6 @@
 ghost use Rattle.target_laws.specs.Headline.{Headline};
+ghost use Rattle.target_laws.specs.HeadlineRows.{FourAreAsked, AreDecided, NotRefused, NotDecided, NotServed};
+ghost use Rattle.target_laws.specs.CarriedRows.{VolumeGoes, VolumeDoesNotGo, MoveIsNotServed, MoveStops, NoDriveMoves};
 ghost use Rattle.target_laws.specs.Rows.{sent, IsSent, WorkedRun, BusyRuns, LossesAndResets, UnitsOfATarget, MarksOfATarget, MarksByTag};
 ghost use Rattle.std.specs.Global.{Global};
 ghost use Rattle.tape_medium.specs.declared.volume.VolumeTag.{VolumeTag};
@@ -19,7 +21,8 @@ pub fn runs_one_after_another()
 /// In every run each command to a unit that is there is answered BUSY, with nothing changed, as it
 /// must be where no slot or no number is left, or is decided by what the accepted acts before it left
 /// at that unit, by the permission table and the rules on keys: RESERVATION CONFLICT comes exactly
-/// where they don't allow it, and changes nothing but the contact and the record.
+/// where they don't allow it, and changes nothing but the contact and the record. A MOVE MEDIUM that
+/// names drives ends as they decide: one volume goes from its source to its destination, or none can.
 pub fn headline()
     ensures { Headline }
 {}
@@ -31,6 +34,27 @@ pub fn worked_run()
     ensures run { WorkedRun }
     ensures busy { BusyRuns }
     ensures events { (tag : VolumeTag) → LossesAndResets tag }
+{}
+
+/// What the headline says of four commands where A holds Exclusive Access: one of A's is allowed, one of
+/// B's denied, one barred by a rule on keys, and one shows what stands. Their run is one that it speaks
+/// of; each is decided so, and isn't where the reply, the device, what is kept or a record is another.
+pub fn worked_headline()
+    ensures asked { FourAreAsked }
+    ensures decided { (tag : VolumeTag) → AreDecided tag }
+    ensures not_refused { (tag : VolumeTag) → NotRefused tag }
+    ensures not_decided { (tag : VolumeTag) → NotDecided tag }
+    ensures not_served { (tag : VolumeTag) → NotServed tag }
+{}
+
+/// What it says of a move with a drive: which volume goes, from which element to which, and that the
+/// changer's other elements stay; what isn't such a move; and what is reported where none can go.
+pub fn worked_carrying()
+    ensures goes { VolumeGoes }
+    ensures does_not_go { VolumeDoesNotGo }
+    ensures not_served { MoveIsNotServed }
+    ensures stops { MoveStops }
+    ensures no_drive { NoDriveMoves }
 {}
 
 /// Units that make a target, and why others don't.
