@@ -24,3 +24,4 @@ pub mod StruckRunIsServed
 pub mod Reaching
 pub mod Theorems
 pub mod RowLemmas
+pub mod StruckRowLemmas

@@ -19,19 +19,20 @@ use Rattle.pr_core.specs.declared.verdict.Verdict.TheVariants.{Allowed, Denied, 
 use Rattle.pr_core.proofs.KeyLaws.{proper-power_on}
 use Rattle.pr_laws.proofs.CommandLaws.{holder_is_registered}
 use Rattle.tape_medium.specs.declared.volume.Volume.{Volume}
+use Rattle.audit_log.specs.declared.record.Record.{Record}
 use Rattle.device_server.specs.View.{DeviceView, drives_of}
 use Rattle.judgement.specs.declared.reply.Reply.{Reply}
 use Rattle.logical_unit.specs.Medium.{taken_out, put_in}
 use Rattle.logical_unit.specs.Move.{TwoDrives, is_left, judged_at, route_at, carried_one, carried_two, MovesOne, MovesTwo}
-use Rattle.logical_unit.specs.Step.{Executes, IsLost, IsReset, HasNumber, answered, resets}
+use Rattle.logical_unit.specs.Step.{Executes, IsLost, IsReset, HasNumber, answered, resets, drained}
 use Rattle.logical_unit.specs.UnitView.{UnitView}
 use Rattle.logical_unit.specs.declared.medium_fault.MediumFault.{MediumFault}
 use Rattle.logical_unit.proofs.SameUnits.{out_same, in_same}
 use Rattle.target_core.specs.declared.event.Event.{Event}
 use Rattle.target_core.specs.declared.event.Event.TheVariants as event
-use Rattle.target_core.specs.Run.{AtUnit, MovesWith, MovesBetween, CommandsNaming, CommandsAt, LosesAt, ResetsAt, Steps}
+use Rattle.target_core.specs.Run.{AtUnit, MovesWith, MovesBetween, CommandsNaming, CommandsAt, LosesAt, ResetsAt, Steps, DrainsAt}
 use Rattle.target_core.proofs.History.{get-set_other}
-use Rattle.protected_span.specs.Reached.{IsReached, AreReached, PowerOnIsReached, DrainedIsReached, RunsReach}
+use Rattle.protected_span.specs.Reached.{IsReached, AreReached, PowerOnIsReached, DrainedIsReached, RunsReach, began, ran, drained_one, AllAreReached}
 use Rattle.protected_span.proofs.InsidersView.{IsTable}
 use Rattle.protected_span.proofs.Carry.{Same, With, Takes, BothDrives, one_alike, two_alike}
 use Rattle.protected_span.proofs.Changes.{Change, executes_changes, change_table}
@@ -255,3 +256,14 @@ runs_reach us vs [] [] h run = are us vs run h
 runs_reach us vs (e ∷ es) (r ∷ rs) h run = runs_reach run.0 vs es rs (step_reaches us run.0 e r h run.1) run.2
 runs_reach us vs [] (r ∷ rs) h run = absurd run
 runs_reach us vs (e ∷ es) [] h run = absurd run
+
+drains_reach : (us vs : List UnitView) (at : ℕ) (o : Option UnitView) (records : Option (List Record)) → slice_get us at ≡ o → AreReached us → DrainsAt us at o (vs, records) → AreReached vs
+drains_reach us vs at None records here h d = are us vs (ap (λ (x : List UnitView × Option (List Record)). x.0) d) h
+drains_reach us vs at (Some u) records here h d = are _ vs (ap (λ (x : List UnitView × Option (List Record)). x.0) d.0) (set_reaches us at (drained u) h (drained_is_reached u (h at u here)))
+
+pub all_are_reached : AllAreReached
+all_are_reached us (began ms made) lun u here =
+    let m = made lun u here in
+    subst IsReached (sym m.is) (power_on_is_reached m.device m.lun m.units m.last)
+all_are_reached us (ran ms vs es rs came run) lun u here = runs_reach ms vs es rs (all_are_reached ms came) run lun u here
+all_are_reached us (drained_one ms vs at records came d) lun u here = drains_reach ms vs at (slice_get ms at) records refl (all_are_reached ms came) d lun u here

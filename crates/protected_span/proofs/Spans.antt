@@ -45,7 +45,7 @@ use Rattle.protected_span.proofs.Medium as medium
 use Rattle.protected_span.proofs.StruckRuns.{runs_alike}
 
 -- lists that are related at the unit end alike
-ends_alike : (lun : ℕ) (vs ws : List UnitView) (f g : UnitView) → slice_get vs lun ≡ Some f → slice_get ws lun ≡ Some g → f.device ≡ g.device → ((k : ℕ) → lun ≢ k → slice_get vs k ≡ slice_get ws k) → EndsAlike lun vs ws
+pub ends_alike : (lun : ℕ) (vs ws : List UnitView) (f g : UnitView) → slice_get vs lun ≡ Some f → slice_get ws lun ≡ Some g → f.device ≡ g.device → ((k : ℕ) → lun ≢ k → slice_get vs k ≡ slice_get ws k) → EndsAlike lun vs ws
 ends_alike lun vs ws f g here there device rest = record {
   device = λ v w e d. ap (λ (u : UnitView). u.device) (same_some v f (sym e ∙ here)) ∙ device ∙ ap (λ (u : UnitView). u.device) (same_some g w (sym there ∙ d));
   others = λ k apart. rest k (λ e. apart (sym e));

@@ -24,7 +24,7 @@ use Rattle.logical_unit.proofs.OutsiderLeavesContents.{barred}
 use Rattle.protected_span.proofs.Units.{not_busy}
 
 absent_is : (cdb : List ℕ) (r : Reply) → r.status ≢ Busy → AnswersAbsent cdb r → r ≡ absent_answer cdb
-absent_is cdb r free (inl e) = absurd (not_busy r busy e refl free)
+absent_is cdb r free (inl e) = absurd (not_busy r busy e.0 refl free)
 absent_is cdb r free (inr e) = e
 
 loss_one : (known : Bool) (w x y : UnitView) (n : Nexus) (a b : Option ℕ) → LosesAs known w n (x, a) → LosesAs known w n (y, b) → (x ≡ y) × (a ≡ b)

@@ -1,5 +1,5 @@
 -- The laws of protected spans: what every unit that is reached has is found, and the spans of the proofs are used.
-use Rattle.std.proofs.Common.{◌≡◌, ℕ, Bool, true, false, cond, not, ◌==◌, List, [], ◌∷◌, Option, Some, None, inl, inr, refl, sym, ap, ◌∙◌, subst}
+use Rattle.std.proofs.Common.{◌≡◌, ℕ, Bool, true, false, cond, not, ◌==◌, List, [], ◌∷◌, Option, Some, None, inl, inr, sym, ap, ◌∙◌, subst}
 use Rattle.std.proofs.lemmas.Bool.{not-true}
 use Rattle.std.specs.Prelude.{◌⊎◌, length}
 use Rattle.scsi_nexus.specs.declared.nexus.Nexus.{Nexus}
@@ -70,18 +70,22 @@ group_through lun inside us vs es rs reached run = through lun (λ v. IsSharedBy
 
 -- THE LAWS
 pub holder_span : HolderSpan
-holder_span us vs ws es rs qs lun h u reached here b run race = spans.holder_span us vs ws es rs qs lun h u here (begins u h (reached lun u here) b) (holder_through lun h us vs es rs reached run) race
+holder_span us vs ws es rs qs lun h u s race =
+    spans.holder_span us vs ws es rs qs lun h u s.place (begins u h (s.reached lun u s.place) s.begins) (holder_through lun h us vs es rs s.reached s.run) race
 
 pub group_span : GroupSpan
-group_span us vs ws es rs qs lun inside u reached here b run race =
-    spans.group_span us vs ws es rs qs lun inside u here (shared_of u inside (reached lun u here) b.shared) b.alone (group_through lun inside us vs es rs reached run) race
+group_span us vs ws es rs qs lun inside u s race =
+    spans.group_span us vs ws es rs qs lun inside u s.place (shared_of u inside (s.reached lun u s.place) s.begins.shared) s.begins.alone (group_through lun inside us vs es rs s.reached s.run) race
 
 pub spans_serve : SpansServe
-spans_serve us vs es rs lun u reached here =
-    let r = reached lun u here in (
-      λ h b run. (served.spans_serve us vs es rs lun u here (has_slots u r)).0 h (begins u h r b) (holder_through lun h us vs es rs reached run),
-      λ inside b run. (served.spans_serve us vs es rs lun u here (has_slots u r)).1 inside (shared_of u inside r b.shared) b.alone (group_through lun inside us vs es rs reached run),
-    )
+spans_serve us vs es rs lun u = (
+  λ h s.
+      let r = s.reached lun u s.place in
+      (served.spans_serve us vs es rs lun u s.place (has_slots u r)).0 h (begins u h r s.begins) (holder_through lun h us vs es rs s.reached s.run),
+  λ inside s.
+      let r = s.reached lun u s.place in
+      (served.spans_serve us vs es rs lun u s.place (has_slots u r)).1 inside (shared_of u inside r s.begins.shared) s.begins.alone (group_through lun inside us vs es rs s.reached s.run),
+)
 
 pub spans_are_runs : SpansAreRuns
 spans_are_runs us vs es rs lun h inside = (through_is_run _ us vs es rs, through_is_run _ us vs es rs, through_is_run _ us vs es rs)

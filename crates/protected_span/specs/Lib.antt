@@ -3,3 +3,4 @@ pub mod Struck
 pub mod Span
 pub mod Contents
 pub mod Rows
+pub mod StruckRows

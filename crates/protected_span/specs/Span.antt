@@ -68,12 +68,19 @@ abbrev pub is_read : Result Command Condition → Bool
 is_read (Ok (ReserveIn action allocation_length)) = true
 is_read c = false
 
+-- a span of h, from units as they can be: it begins at the unit u, and each step is one of it
+pub record IsHolderSpan (lun : ℕ) (h : Nexus) (us : List UnitView) (u : UnitView) (es : List Event) (rs : List Reply) (vs : List UnitView) : Type 0 where
+  pub reached : AreReached us
+  pub place : slice_get us lun ≡ Some u
+  pub begins : BeginsFor h u
+  pub run : RunsThrough (HolderStep lun h) us es rs vs
+
 -- in a span of h the other nexuses' commands to the unit may be struck out: device and units end the same, and every other event is
 -- answered the same, but for the data of PERSISTENT RESERVE IN and for the numbers of the unit's records
 abbrev pub HolderSpan : Type 0
 HolderSpan =
-    (us vs ws : List UnitView) (es : List Event) (rs qs : List Reply) (lun : ℕ) (h : Nexus) (u : UnitView) → AreReached us → slice_get us lun ≡ Some u → BeginsFor h u
-    → RunsThrough (HolderStep lun h) us es rs vs → RunsThrough IsServed us (struck lun (is_the_holder h) es) qs ws
+    (us vs ws : List UnitView) (es : List Event) (rs qs : List Reply) (lun : ℕ) (h : Nexus) (u : UnitView) → IsHolderSpan lun h us u es rs vs
+    → RunsThrough IsServed us (struck lun (is_the_holder h) es) qs ws
     → EndsAlike lun vs ws × Tells lun (is_the_holder h) (is_exact lun (λ n cdb bytes. not (is_read (decoded_command (kind_of u.device) cdb bytes)))) es rs qs
 
 -- THE SPAN OF A GROUP, those inside: Exclusive Access of registrants, and the registered nexuses are those inside
@@ -89,11 +96,18 @@ pub record BeginsForGroup (inside : Nexus → Bool) (u : UnitView) : Type 0 wher
 abbrev pub GroupStep : (lun : ℕ) (inside : Nexus → Bool) → List UnitView → Event → Reply → List UnitView → Type 0
 GroupStep lun inside us e r ms = InSpan lun (λ v. IsSharedBy inside v.kept.reservations) (λ n cdb bytes u v. Unit {0}) us e r ms
 
+-- a span of a group, as one of a holder
+pub record IsGroupSpan (lun : ℕ) (inside : Nexus → Bool) (us : List UnitView) (u : UnitView) (es : List Event) (rs : List Reply) (vs : List UnitView) : Type 0 where
+  pub reached : AreReached us
+  pub place : slice_get us lun ≡ Some u
+  pub begins : BeginsForGroup inside u
+  pub run : RunsThrough (GroupStep lun inside) us es rs vs
+
 -- in a span of a group the commands to the unit of all others may be struck out, and PERSISTENT RESERVE IN too is answered the same
 abbrev pub GroupSpan : Type 0
 GroupSpan =
-    (us vs ws : List UnitView) (es : List Event) (rs qs : List Reply) (lun : ℕ) (inside : Nexus → Bool) (u : UnitView) → AreReached us → slice_get us lun ≡ Some u → BeginsForGroup inside u
-    → RunsThrough (GroupStep lun inside) us es rs vs → RunsThrough IsServed us (struck lun inside es) qs ws
+    (us vs ws : List UnitView) (es : List Event) (rs qs : List Reply) (lun : ℕ) (inside : Nexus → Bool) (u : UnitView) → IsGroupSpan lun inside us u es rs vs
+    → RunsThrough IsServed us (struck lun inside es) qs ws
     → EndsAlike lun vs ws × Tells lun inside (is_exact lun (λ n cdb bytes. true)) es rs qs
 
 -- WHAT IS LEFT CAN BE SERVED
@@ -101,9 +115,9 @@ GroupSpan =
 -- there is such a run of what is left of a span: struck commands only free slots and numbers
 abbrev pub SpansServe : Type 0
 SpansServe =
-    (us vs : List UnitView) (es : List Event) (rs : List Reply) (lun : ℕ) (u : UnitView) → AreReached us → slice_get us lun ≡ Some u
-    → ((h : Nexus) → BeginsFor h u → RunsThrough (HolderStep lun h) us es rs vs → Serves us (struck lun (is_the_holder h) es))
-    × ((inside : Nexus → Bool) → BeginsForGroup inside u → RunsThrough (GroupStep lun inside) us es rs vs → Serves us (struck lun inside es))
+    (us vs : List UnitView) (es : List Event) (rs : List Reply) (lun : ℕ) (u : UnitView)
+    → ((h : Nexus) → IsHolderSpan lun h us u es rs vs → Serves us (struck lun (is_the_holder h) es))
+    × ((inside : Nexus → Bool) → IsGroupSpan lun inside us u es rs vs → Serves us (struck lun inside es))
 
 -- a span is a run of the target
 abbrev pub SpansAreRuns : Type 0

@@ -1,6 +1,7 @@
 ghost use Rattle.protected_span.specs.Contents.{OutsiderChangesNothing};
-ghost use Rattle.protected_span.specs.Reached.{PowerOnIsReached, DrainedIsReached, RunsReach};
+ghost use Rattle.protected_span.specs.Reached.{PowerOnIsReached, DrainedIsReached, RunsReach, AllAreReached};
 ghost use Rattle.protected_span.specs.Rows.{WorkedSpan, StruckOut, ConditionsAreNeeded, ConditionsSay, MayNot, Contents};
+ghost use Rattle.protected_span.specs.StruckRows.{WorkedRuns, WorkedGroupRuns, NoSteps, SameReplies, ToldAlike, EndingAlike};
 ghost use Rattle.arrayvec.specs.ArrayVec.{ArrayVec};
 ghost use Rattle.std.specs.Global.{Vec};
 ghost use Rattle.std.specs.Prelude.{ℕ};
@@ -41,11 +42,13 @@ pub fn outsider_changes_nothing()
 
 /// A unit is at power on, after each event of each run, and once its records are handed out, as the laws
 /// of spans ask it to be: its registrations and its reservation are what some PERSISTENT RESERVE OUT
-/// commands leave from power on, and its slots ascend and are no more than 128.
+/// commands leave from power on, and its slots ascend and are no more than 128. So are all units that a
+/// target can have: those at power on, and what events and drained records, in any order, make of them.
 pub fn units_are_reached()
     ensures power_on { PowerOnIsReached }
     ensures drained { DrainedIsReached }
     ensures runs { RunsReach }
+    ensures all { AllAreReached }
 {}
 
 /// A span with its commands struck out, step by step; what each condition of a span rules out, and
@@ -57,6 +60,17 @@ pub fn span_rows()
     ensures conditions { (tag : VolumeTag) → ConditionsSay tag }
     ensures may_not { MayNot }
     ensures contents { (tag : VolumeTag) → Contents tag }
+{}
+
+/// A run of a changer and a drive that is a span, of A and of a group, with its struck run; beside it what
+/// is no step of a span, and replies, answers and endings that aren't alike.
+pub fn struck_rows()
+    ensures holder { (tag : VolumeTag) (bytes : Vec ℕ) → WorkedRuns tag bytes }
+    ensures group { (tag : VolumeTag) (bytes : Vec ℕ) → WorkedGroupRuns tag bytes }
+    ensures steps { (tag : VolumeTag) (bytes : Vec ℕ) → NoSteps tag bytes }
+    ensures replies { SameReplies }
+    ensures told { (bytes : Vec ℕ) → ToldAlike bytes }
+    ensures ending { (tag : VolumeTag) → EndingAlike tag }
 {}
 
 /// A REGISTER list with neither SPEC_I_PT nor ALL_TG_PT names its sender alone, as a span's holder may

@@ -6,5 +6,5 @@ mod laws;
 
 pub use laws::{
     group_span, holder_span, outsider_changes_nothing, registers_itself, span_rows, spans_are_runs,
-    spans_serve, units_are_reached,
+    spans_serve, struck_rows, units_are_reached,
 };
