@@ -1,35 +1,23 @@
--- What the entries of all seats and the trail of one unit have in common: each number that was used since stands in exactly one entry,
--- each entry's record is that of its call, and along one seat the numbers rise. Records that were handed out are compared by number alone.
-use Rattle.std.specs.Prelude.{◌≡◌, ◌⊎◌, ℕ, zero, suc, ◌+◌, ◌-◌, ◌≤◌, List, [], ◌∷◌, length, Some, None, Bool, true, ◌&&◌, ◌==◌, nat_lt, MatchBool, All, slice_get, IsPermutation}
+-- What all seats have noted and the trail of one unit have in common: each number that was used since stands in exactly one entry or settled
+-- range, each entry's record is that of its call, and along one seat the numbers rise. Records that were handed out are compared by number
+-- alone, and only their numbers are settled.
+use Rattle.std.specs.Prelude.{◌≡◌, ◌⊎◌, ℕ, ◌+◌, ◌-◌, ◌≤◌, List, [], ◌∷◌, length, Some, None, Bool, true, ◌&&◌, ◌==◌, nat_lt, MatchBool, All, slice_get, IsPermutation}
 use Rattle.std.specs.List.{flat_map}
 use Rattle.audit_log.specs.declared.record.Record.{Record}
 use Rattle.kept_unit.specs.declared.act_kind.ActKind.TheVariants.{Medium}
 use Rattle.kept_unit.specs.declared.entry.Entry.{Entry}
 use Rattle.kept_unit.specs.ActKinds.{act_kind_of}
-use Rattle.kept_unit.specs.Answers.{at}
+use Rattle.kept_unit.specs.Listing.{NotesValue, numbers_in}
+use Rattle.kept_unit.specs.Ranges.{span}
 
--- the numbers at one unit that a seat was told, in order
-abbrev pub numbers_in : (lun : ℕ) → List Entry → List ℕ
-numbers_in lun es = at lun (flat_map (λ e. e.numbers) es)
-
--- those of all seats, of each of which `of` gives the entries
-abbrev pub numbers_of : {S : Type 0} → (of : S → List Entry) → (lun : ℕ) → List S → List ℕ
+-- the numbers of all seats, of each of which `of` gives what it has noted
+abbrev pub numbers_of : {S : Type 0} → (of : S → NotesValue) → (lun : ℕ) → List S → List ℕ
 numbers_of of lun seats = flat_map (λ s. numbers_in lun (of s)) seats
-
--- so many numbers after the first
-abbrev pub span : (first count : ℕ) → List ℕ
-span first zero = []
-span first (suc k) = (first + 1) ∷ span (first + 1) k
 
 -- whether each number is above the one before
 abbrev pub rises : (low : ℕ) → List ℕ → Bool
 rises low [] = true
 rises low (n ∷ ns) = nat_lt low n && rises n ns
-
--- whether a list is such a span
-abbrev pub is_span : (first : ℕ) → List ℕ → Bool
-is_span first [] = true
-is_span first (n ∷ ns) = (n == first + 1) && is_span (first + 1) ns
 
 -- the record of a call at the unit that it was for
 abbrev pub IsOwn : Entry → Record → Type 0
@@ -50,12 +38,14 @@ Stands lun base records e n = (n ≤ base) ⊎ ((r : Record) × (slice_get recor
 unfoldable pub IsTold : (lun base : ℕ) → List Record → Entry → Type 0
 IsTold lun base records e = All (λ n. n.0 ≡ lun → Stands lun base records e n.1) e.numbers
 
--- each record that a seat was told of is that of its call, and the seat's numbers rise
-pub record SeatFits (lun first base : ℕ) (records : List Record) (es : List Entry) : Type 0 where
-  pub told : All (IsTold lun base records) es
-  pub rise : rises first (numbers_in lun es) ≡ true
+-- each record that an entry of a seat tells of is that of its call, the records of the settled numbers were handed out, and the seat's numbers
+-- rise
+pub record SeatFits (lun first base : ℕ) (records : List Record) (n : NotesValue) : Type 0 where
+  pub told : All (IsTold lun base records) n.listed
+  pub handed_out : All (λ r. r.last ≤ base) n.settled
+  pub rise : rises first (numbers_in lun n) ≡ true
 
 -- the seats' numbers are those from the first to the trail's last, each once, and each seat fits
-pub record Agrees {S : Type 0} (of : S → List Entry) (lun first base : ℕ) (records : List Record) (seats : List S) : Type 0 where
+pub record Agrees {S : Type 0} (of : S → NotesValue) (lun first base : ℕ) (records : List Record) (seats : List S) : Type 0 where
   pub once : IsPermutation (numbers_of of lun seats) (span first (base + length records - first))
   pub each : All (λ s. SeatFits lun first base records (of s)) seats

@@ -1,4 +1,4 @@
--- Worked rows: entries that agree with a trail of drive 1, and entries that don't. Five numbers were used before; the trail has record 6, of
+-- Worked rows: what seats have noted that agrees with a trail of drive 1, and what doesn't. Five numbers were used before; the trail has record 6, of
 -- A's TEST UNIT READY, and record 7, of a volume that came in by B's move at the changer.
 use Rattle.std.specs.Prelude.{ℕ, false, List, [], ◌∷◌, Some, None}
 use Rattle.permit_tables.specs.declared.classes.Class.TheVariants as class
@@ -10,7 +10,10 @@ use Rattle.audit_log.specs.declared.record.Record.{Record}
 use Rattle.audit_log.specs.declared.stage.Stage.TheVariants.{Device}
 use Rattle.kept_unit.specs.declared.act_kind.ActKind.TheVariants as kind
 use Rattle.kept_unit.specs.declared.entry.Entry.{Entry}
+use Rattle.kept_unit.specs.declared.number_range.NumberRange.{NumberRange}
 use Rattle.kept_unit.specs.Agreeing.{Agrees}
+use Rattle.kept_unit.specs.Listing.{NotesValue}
+use Rattle.kept_unit.specs.RangeRows.{six, six_to_seven, seven}
 
 abbrev pub a : Nexus
 a = record { sas = 0x500000000000000A; port = 1 }
@@ -34,19 +37,36 @@ asked = record { nexus = Some a; lun = 1; act = Some (kind.Command class.TestUni
 abbrev pub moved : Entry
 moved = record { nexus = Some b; lun = 0; act = Some (kind.Command class.MoveMedium); status = Good; sense = None; numbers = (0, 9) ∷ (1, 7) ∷ [] }
 
--- the entries of each seat agree with the records of drive 1 behind a base
-abbrev pub AgreesBehind : (base : ℕ) → List Record → List (List Entry) → Type 0
-AgreesBehind base records seats = Agrees (λ (es : List Entry). es) 1 5 base records seats
+-- a seat that has only entries
+abbrev pub listing : List Entry → NotesValue
+listing es = record { settled = []; listed = es }
+
+-- and one with a range that was settled before
+abbrev pub behind : NumberRange → List Entry → NotesValue
+behind r es = record { settled = r ∷ []; listed = es }
+
+-- what each seat has noted agrees with the records of drive 1 behind a base
+abbrev pub AgreesBehind : (base : ℕ) → List Record → List NotesValue → Type 0
+AgreesBehind base records seats = Agrees (λ (n : NotesValue). n) 1 5 base records seats
 
 pub record AgreementRows : Type 0 where
-  pub two_seats : AgreesBehind 5 trail ((asked ∷ []) ∷ (moved ∷ []) ∷ [])
-  pub other_order : AgreesBehind 5 trail ((moved ∷ []) ∷ (asked ∷ []) ∷ [])
-  pub one_seat : AgreesBehind 5 trail ((asked ∷ moved ∷ []) ∷ [])
+  pub two_seats : AgreesBehind 5 trail (listing (asked ∷ []) ∷ listing (moved ∷ []) ∷ [])
+  pub other_order : AgreesBehind 5 trail (listing (moved ∷ []) ∷ listing (asked ∷ []) ∷ [])
+  pub one_seat : AgreesBehind 5 trail (listing (asked ∷ moved ∷ []) ∷ [])
   -- records that were handed out
-  pub handed_out : AgreesBehind 7 [] ((asked ∷ []) ∷ (moved ∷ []) ∷ [])
-  -- a number that falls along a seat, one that nobody was told, and one that was told twice
-  pub falling : AgreesBehind 5 trail ((moved ∷ asked ∷ []) ∷ []) → ⊥
-  pub untold : AgreesBehind 5 trail ((asked ∷ []) ∷ []) → ⊥
-  pub told_twice : AgreesBehind 5 trail ((asked ∷ []) ∷ (asked ∷ []) ∷ (moved ∷ []) ∷ []) → ⊥
+  pub handed_out : AgreesBehind 7 [] (listing (asked ∷ []) ∷ listing (moved ∷ []) ∷ [])
+  -- and numbers of such that were settled: 6 behind an entry, at another seat, and both
+  pub settled : AgreesBehind 6 (came_in ∷ []) (behind six (moved ∷ []) ∷ [])
+  pub settled_apart : AgreesBehind 6 (came_in ∷ []) (listing (moved ∷ []) ∷ behind six [] ∷ [])
+  pub all_settled : AgreesBehind 7 [] (behind six_to_seven [] ∷ [])
+  -- a number that falls along a seat, also below a settled one, one that nobody was told, and one that was told twice
+  pub falling : AgreesBehind 5 trail (listing (moved ∷ asked ∷ []) ∷ []) → ⊥
+  pub falling_below : AgreesBehind 7 [] (behind seven (asked ∷ []) ∷ []) → ⊥
+  pub untold : AgreesBehind 5 trail (listing (asked ∷ []) ∷ []) → ⊥
+  pub gap : AgreesBehind 7 [] (behind seven [] ∷ []) → ⊥
+  pub told_twice : AgreesBehind 5 trail (listing (asked ∷ []) ∷ listing (asked ∷ []) ∷ listing (moved ∷ []) ∷ []) → ⊥
+  pub settled_twice : AgreesBehind 7 [] (behind six [] ∷ listing (asked ∷ moved ∷ []) ∷ []) → ⊥
+  -- a settled number whose record wasn't handed out
+  pub not_handed_out : AgreesBehind 5 trail (behind six (moved ∷ []) ∷ []) → ⊥
   -- a record with another status
-  pub other_status : AgreesBehind 5 (ready ReservationConflict ∷ came_in ∷ []) ((asked ∷ []) ∷ (moved ∷ []) ∷ []) → ⊥
+  pub other_status : AgreesBehind 5 (ready ReservationConflict ∷ came_in ∷ []) (listing (asked ∷ []) ∷ listing (moved ∷ []) ∷ []) → ⊥

@@ -2,6 +2,10 @@ pub mod ActKinds
 pub mod Answers
 pub mod EventValue
 pub mod Keeping
+pub mod Ranges
+pub mod Listing
+pub mod SeatNotes
 pub mod Agreeing
 pub mod Rows
+pub mod RangeRows
 pub mod AgreementRows

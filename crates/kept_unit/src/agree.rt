@@ -1,126 +1,107 @@
-ghost use Rattle.std.specs.Prelude.{◌≡◌, MatchOption, ◌≤◌, ◌+◌, ◌<◌, ◌^◌, ◌++◌, ◌↔◌, All, IsTrue, OnOk, IfOk, length};
-ghost use Rattle.kept_unit.specs.Answers.{at};
-ghost use Rattle.kept_unit.specs.Agreeing.{numbers_in, numbers_of, rises, is_span, SeatFits, Agrees};
+ghost use Rattle.std.specs.Prelude.{◌≡◌, MatchOption, ◌≤◌, ◌+◌, ◌<◌, ◌^◌, ◌++◌, ◌↔◌, All, IsTrue, OnOk, IfOk, length, true, false};
+ghost use Rattle.kept_unit.specs.Agreeing.{numbers_of, rises, SeatFits, Agrees};
+ghost use Rattle.kept_unit.specs.Listing.{listed_at};
+ghost use Rattle.kept_unit.specs.Ranges.{numbers_in_ranges};
+ghost use Rattle.kept_unit.specs.SeatNotes.{notes_value};
 
 use crate::entry::Entry;
 use crate::fitting::are_told;
+use crate::number_range::NumberRange;
+use crate::ranges::{end_by, follows, listed_ranges, rise_to};
+use crate::seat_notes::SeatNotes;
 use audit_log::Record;
 use std::alloc::{AllocError, Global};
 
-/// Adds the numbers of one unit.
-fn add_numbers(lun: u8, pairs: &[(u8, u64)], numbers: &mut Vec<u64>) -> Result<(), AllocError>
-    ensures { OnOk result (numbers.new.items ≡ numbers.old.items ++ at lun pairs.now) }
+/// The ranges of the numbers of one unit in entries, if they rise above a number.
+fn rising_ranges(
+    alloc: Global,
+    lun: u8,
+    low: u64,
+    entries: &[Entry],
+) -> Result<Option<Vec<NumberRange>>, AllocError>
+    ensures { IfOk result (λ found. MatchOption found (rises low (listed_at lun entries.now) ≡ false) (λ own. (rises low (listed_at lun entries.now) ≡ true) × (numbers_in_ranges own.items ≡ listed_at lun entries.now))) }
 {
-    for pair in pairs {
-        if pair.0 == lun {
-            numbers.push(pair.1)?;
-        }
+    let ranges = listed_ranges(alloc, lun, entries)?;
+    match rise_to(low, ranges.as_slice()) {
+        Some(_) => Ok(Some(ranges)),
+        None => Ok(None),
     }
-    Ok(())
 }
 
-/// The numbers of one unit that a seat was told, in order.
-fn numbers_in(alloc: Global, lun: u8, entries: &[Entry]) -> Result<Vec<u64>, AllocError>
-    ensures { IfOk result (λ numbers. numbers.items ≡ numbers_in lun entries.now) }
-{
-    let mut numbers = Vec::new(alloc);
-    for entry in entries {
-        add_numbers(lun, entry.numbers.as_slice(), &mut numbers)?;
-    }
-    Ok(numbers)
-}
-
-/// Whether each number is above the one before.
-fn rises(low: u64, numbers: &[u64]) -> bool
-    ensures { result ≡ rises low numbers.now }
-{
-    let mut low = low;
-    for number in numbers {
-        if *number <= low {
-            return false;
-        }
-        low = *number;
-    }
-    true
-}
-
-/// Whether numbers are those that follow the first, one by one.
-fn is_span(first: u64, numbers: &[u64]) -> bool
-    requires { first + length numbers.now < 2 ^ 64 }
-    ensures { result ≡ is_span first numbers.now }
-{
-    let mut next = first;
-    for number in numbers {
-        if *number != next + 1 {
-            return false;
-        }
-        next += 1;
-    }
-    true
-}
-
-/// The numbers of one unit that a seat was told, if all its entries fit the trail and they rise.
-fn seat_numbers(
+/// The ranges of the numbers of one unit in a seat's entries, if all that the seat has noted fits the trail and rises.
+fn fitting_ranges(
     alloc: Global,
     lun: u8,
     first: u64,
     base: u64,
     records: &[Record],
-    entries: &[Entry],
-) -> Result<Option<Vec<u64>>, AllocError>
-    ensures { IfOk result (λ found. MatchOption found (¬ SeatFits lun first base records.now entries.now) (λ own. SeatFits lun first base records.now entries.now × (own.items ≡ numbers_in lun entries.now))) }
+    seat: &SeatNotes<'_>,
+) -> Result<Option<Vec<NumberRange>>, AllocError>
+    ensures { IfOk result (λ found. MatchOption found (¬ SeatFits lun first base records.now (notes_value seat.now)) (λ own. SeatFits lun first base records.now (notes_value seat.now) × (numbers_in_ranges own.items ≡ listed_at lun seat.now.listed.now))) }
 {
-    if !are_told(lun, base, records, entries) {
+    if !are_told(lun, base, records, seat.listed) {
         return Ok(None);
     }
-    let own = numbers_in(alloc, lun, entries)?;
-    if !rises(first, own.as_slice()) {
+    if !end_by(base, seat.settled) {
         return Ok(None);
     }
-    Ok(Some(own))
+    match rise_to(first, seat.settled) {
+        Some(low) => rising_ranges(alloc, lun, low, seat.listed),
+        None => Ok(None),
+    }
 }
 
-/// Those of all seats, if each fits.
+/// Adds what a seat has noted of one unit: ranges that were settled, and those of its entries.
+fn add_noted(
+    all: &mut Vec<NumberRange>,
+    settled: &[NumberRange],
+    listed: &[NumberRange],
+) -> Result<(), AllocError>
+    ensures { OnOk result (all.new.items ≡ all.old.items ++ settled.now ++ listed.now) }
+{
+    all.extend_from_slice(settled)?;
+    all.extend_from_slice(listed)?;
+    Ok(())
+}
+
+/// The ranges of all seats, if each fits.
 fn gathered(
     alloc: Global,
     lun: u8,
     first: u64,
     base: u64,
     records: &[Record],
-    seats: &[&[Entry]],
-) -> Result<Option<Vec<u64>>, AllocError>
-    ensures { IfOk result (λ found. MatchOption found (¬ All (λ s. SeatFits lun first base records.now s.now) seats.now) (λ all. All (λ s. SeatFits lun first base records.now s.now) seats.now × (all.items ≡ numbers_of (λ s. s.now) lun seats.now))) }
+    seats: &[SeatNotes<'_>],
+) -> Result<Option<Vec<NumberRange>>, AllocError>
+    ensures { IfOk result (λ found. MatchOption found (¬ All (λ s. SeatFits lun first base records.now (notes_value s)) seats.now) (λ all. All (λ s. SeatFits lun first base records.now (notes_value s)) seats.now × (numbers_in_ranges all.items ≡ numbers_of notes_value lun seats.now))) }
 {
     let mut all = Vec::new(alloc);
     for seat in seats {
-        match seat_numbers(alloc, lun, first, base, records, seat)? {
+        match fitting_ranges(alloc, lun, first, base, records, seat)? {
             None => return Ok(None),
-            Some(own) => all.extend_from_slice(own.as_slice())?,
+            Some(listed) => add_noted(&mut all, seat.settled, listed.as_slice())?,
         }
     }
     Ok(Some(all))
 }
 
-/// Whether the entries of all seats agree with the trail of one unit, whose numbers are told from the first on.
+/// Whether what all seats have noted agrees with the trail of one unit, whose numbers are told from the first on.
 pub(crate) fn agree(
     alloc: Global,
     lun: u8,
     first: u64,
     base: u64,
     records: &[Record],
-    seats: &[&[Entry]],
+    seats: &[SeatNotes<'_>],
 ) -> Result<bool, AllocError>
     requires first { first ≤ base + length records.now }
     requires fits { base + length records.now < 2 ^ 64 }
-    ensures { IfOk result (λ agreed. IsTrue agreed ↔ Agrees (λ s. s.now) lun first base records.now seats.now) }
+    ensures { IfOk result (λ agreed. IsTrue agreed ↔ Agrees notes_value lun first base records.now seats.now) }
 {
     let Some(mut all) = gathered(alloc, lun, first, base, records, seats)? else {
         return Ok(false);
     };
-    let used = base + records.len() as u64 - first;
-    if all.len() as u64 != used {
-        return Ok(false);
-    }
-    all.sort()?;
-    Ok(is_span(first, all.as_slice()))
+    all.sort_by_key(|range| range.first)?;
+    let last = base + records.len() as u64;
+    Ok(follows(first, last, all.as_slice()))
 }

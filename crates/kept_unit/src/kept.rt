@@ -10,12 +10,13 @@ ghost use Rattle.kept_unit.specs.Answers as event;
 ghost use Rattle.kept_unit.specs.Answers.{IsAnswer, count_at, own_number, OnlyAt};
 ghost use Rattle.kept_unit.specs.ActKinds.{act_kind_of, act_kind_if};
 ghost use Rattle.kept_unit.specs.Keeping.{kind_at};
+ghost use Rattle.kept_unit.specs.SeatNotes.{notes_value};
 
 use crate::act_kind::{ActKind, last_act_kind};
 use crate::agree::agree;
 use crate::done::{Done, EventKind, done_with};
-use crate::entry::Entry;
 use crate::numbers::{count_at, own_number};
+use crate::seat_notes::SeatNotes;
 use audit_log::Record;
 use device_server::DeviceServer;
 use logical_unit::{LogicalUnit, Receipt, Reply};
@@ -85,10 +86,10 @@ impl<const LUN: u8, L: UnitLedger, D: DeviceServer> Kept<LUN, L, D> {
         self.unit.drives() as u8
     }
 
-    /// Whether the entries of all seats agree with the trail. Takes memory for the unit's numbers, and the time to sort
-    /// them.
-    pub fn agree(&self, alloc: Global, seats: &[&[Entry]]) -> Result<bool, AllocError>
-        ensures { IfOk result (λ b. IsTrue b ↔ Agrees (λ s. s.now) LUN L.since self.now.unit.base.last self.now.unit.records seats.now) }
+    /// Whether what all seats have noted agrees with the trail. Takes memory for a range of each settled one and of each run of
+    /// numbers in the entries of a seat, and the time to sort them.
+    pub fn agree(&self, alloc: Global, seats: &[SeatNotes<'_>]) -> Result<bool, AllocError>
+        ensures { IfOk result (λ b. IsTrue b ↔ Agrees notes_value LUN L.since self.now.unit.base.last self.now.unit.records seats.now) }
     {
         let records = self.unit.records();
         let base = self.unit.last() - records.len() as u64;

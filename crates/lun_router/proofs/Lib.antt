@@ -1,3 +1,4 @@
 pub mod Rising
-pub mod SameEntries
+pub mod SameNotes
+pub mod Settled
 pub mod Places

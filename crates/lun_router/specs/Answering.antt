@@ -8,9 +8,9 @@ use Rattle.judgement.specs.UnitStateView.{UnitStateView}
 use Rattle.logical_unit.specs.Legal.{IsTrail}
 use Rattle.logical_unit.specs.UnitView.{Base}
 
--- a unit that isn't there answers as one
+-- a unit that isn't there answers as one; BUSY comes also where the seat has no room for an entry
 abbrev pub AnswersAsAbsent : (units lun : ℕ) → (cdb : List ℕ) → Reply → Type 0
-AnswersAsAbsent units lun cdb reply = units ≤ lun → AnswersAbsent cdb reply
+AnswersAsAbsent units lun cdb reply = units ≤ lun → (reply ≡ busy) ⊎ AnswersAbsent cdb reply
 
 -- a command that has left no record is BUSY, or its unit isn't there
 abbrev pub LeavesNoneFor : (units lun : ℕ) → (numbers : List (ℕ × ℕ)) → Reply → Type 0

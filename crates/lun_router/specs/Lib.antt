@@ -1,3 +1,6 @@
 pub mod Seats
+pub mod Queue
+pub mod Settling
+pub mod SettlingRows
 pub mod Opening
 pub mod Answering

@@ -1,14 +1,16 @@
 ghost use Rattle.std.specs.Prelude.{◌≡◌, ◌≢◌, ◌↔◌, IfOk, IfErr, IfSome, IsTrue, IsErr, is_some, map, vec_len};
 ghost use Rattle.std.specs.Option.{option_map};
 ghost use Rattle.kept_unit.specs.Agreeing.{Agrees};
+ghost use Rattle.kept_unit.specs.SeatNotes.{notes_value};
 ghost use Rattle.lun_router.specs.Opening.{HasUnits};
+ghost use Rattle.lun_router.specs.Seats.{notes_at};
 
 use crate::gate::Gate;
 use crate::library::Library;
 use crate::locked::Locked;
 use crate::seat::Seat;
 use device_server::DeviceServer;
-use kept_unit::{Entry, Kept, UnitLedger};
+use kept_unit::{Kept, SeatNotes, UnitLedger};
 use logical_unit::LogicalUnit;
 use std::alloc::{AllocError, Global};
 use thiserror::Error;
@@ -16,7 +18,7 @@ use thiserror::Error;
 /// Why a library isn't closed.
 #[derive(Clone, Copy, Debug, PartialEq, Eq, Error)]
 pub enum CloseFault {
-    /// The entries of the seats aren't what the trails say.
+    /// What the seats have noted isn't what the trails say.
     #[error("the entries of the seats do not agree with the trails")]
     Mismatch,
     /// There are more seats than were made, or fewer.
@@ -78,16 +80,64 @@ fn put_back<const LUN: u8, L: UnitLedger, D: DeviceServer>(
     }
 }
 
-/// Whether the entries of all seats agree with the trail of a unit, if there is one.
-fn agree_if_there<const LUN: u8, L: UnitLedger, D: DeviceServer>(
+/// What each seat has noted of a unit.
+fn noted<'a, L0: UnitLedger, L1: UnitLedger, L2: UnitLedger, L3: UnitLedger, L4: UnitLedger>(
+    alloc: Global,
+    lun: u8,
+    seats: &'a [Seat<L0, L1, L2, L3, L4>],
+) -> Result<Vec<SeatNotes<'a>>, AllocError>
+    ensures { IfOk result (λ all. map notes_value all.items ≡ map (notes_at lun) seats.now) }
+{
+    let mut all = Vec::new(alloc);
+    for seat in seats {
+        all.push(SeatNotes {
+            settled: seat.settled(lun),
+            listed: seat.entries(),
+        })?;
+    }
+    Ok(all)
+}
+
+/// Whether what all seats have noted agrees with the trail of a unit.
+fn agree_at<
+    const LUN: u8,
+    L: UnitLedger,
+    L0: UnitLedger,
+    L1: UnitLedger,
+    L2: UnitLedger,
+    L3: UnitLedger,
+    L4: UnitLedger,
+    D: DeviceServer,
+>(
+    alloc: Global,
+    kept: &Kept<LUN, L, D>,
+    seats: &[Seat<L0, L1, L2, L3, L4>],
+) -> Result<bool, AllocError>
+    ensures { IfOk result (λ agreed. IsTrue agreed → Agrees (notes_at LUN) LUN L.since kept.now.unit.base.last kept.now.unit.records seats.now) }
+{
+    let all = noted(alloc, LUN, seats)?;
+    kept.agree(alloc, all.as_slice())
+}
+
+/// The same of a unit, if there is one.
+fn agree_if_there<
+    const LUN: u8,
+    L: UnitLedger,
+    L0: UnitLedger,
+    L1: UnitLedger,
+    L2: UnitLedger,
+    L3: UnitLedger,
+    L4: UnitLedger,
+    D: DeviceServer,
+>(
     alloc: Global,
     kept: &Option<Kept<LUN, L, D>>,
-    seats: &[&[Entry]],
+    seats: &[Seat<L0, L1, L2, L3, L4>],
 ) -> Result<bool, AllocError>
-    ensures { IfOk result (λ agreed. IsTrue agreed → IfSome kept.now (λ k. Agrees (λ s. s.now) LUN L.since k.unit.base.last k.unit.records seats.now)) }
+    ensures { IfOk result (λ agreed. IsTrue agreed → IfSome kept.now (λ k. Agrees (notes_at LUN) LUN L.since k.unit.base.last k.unit.records seats.now)) }
 {
     match kept {
-        Some(kept) => kept.agree(alloc, seats),
+        Some(kept) => agree_at(alloc, kept, seats),
         None => Ok(true),
     }
 }
@@ -113,17 +163,17 @@ impl<
     L4: UnitLedger,
     D: DeviceServer,
 > TakenUnits<L0, L1, L2, L3, L4, D> {
-    /// Whether the entries of all seats agree with each trail.
-    fn agree(&self, alloc: Global, seats: &[&[Entry]]) -> Result<bool, AllocError>
-        ensures changer { IfOk result (λ agreed. IsTrue agreed → Agrees (λ s. s.now) 0 L0.since self.now.changer.unit.base.last self.now.changer.unit.records seats.now) }
-        ensures first { IfOk result (λ agreed. IsTrue agreed → Agrees (λ s. s.now) 1 L1.since self.now.first.unit.base.last self.now.first.unit.records seats.now) }
-        ensures second { IfOk result (λ agreed. IsTrue agreed → IfSome self.now.second (λ k. Agrees (λ s. s.now) 2 L2.since k.unit.base.last k.unit.records seats.now)) }
-        ensures third { IfOk result (λ agreed. IsTrue agreed → IfSome self.now.third (λ k. Agrees (λ s. s.now) 3 L3.since k.unit.base.last k.unit.records seats.now)) }
-        ensures fourth { IfOk result (λ agreed. IsTrue agreed → IfSome self.now.fourth (λ k. Agrees (λ s. s.now) 4 L4.since k.unit.base.last k.unit.records seats.now)) }
+    /// Whether what all seats have noted agrees with each trail.
+    fn agree(&self, alloc: Global, seats: &[Seat<L0, L1, L2, L3, L4>]) -> Result<bool, AllocError>
+        ensures changer { IfOk result (λ agreed. IsTrue agreed → Agrees (notes_at 0) 0 L0.since self.now.changer.unit.base.last self.now.changer.unit.records seats.now) }
+        ensures first { IfOk result (λ agreed. IsTrue agreed → Agrees (notes_at 1) 1 L1.since self.now.first.unit.base.last self.now.first.unit.records seats.now) }
+        ensures second { IfOk result (λ agreed. IsTrue agreed → IfSome self.now.second (λ k. Agrees (notes_at 2) 2 L2.since k.unit.base.last k.unit.records seats.now)) }
+        ensures third { IfOk result (λ agreed. IsTrue agreed → IfSome self.now.third (λ k. Agrees (notes_at 3) 3 L3.since k.unit.base.last k.unit.records seats.now)) }
+        ensures fourth { IfOk result (λ agreed. IsTrue agreed → IfSome self.now.fourth (λ k. Agrees (notes_at 4) 4 L4.since k.unit.base.last k.unit.records seats.now)) }
     {
         Ok(
-            self.changer.agree(alloc, seats)?
-                && self.first.agree(alloc, seats)?
+            agree_at(alloc, &self.changer, seats)?
+                && agree_at(alloc, &self.first, seats)?
                 && agree_if_there(alloc, &self.second, seats)?
                 && agree_if_there(alloc, &self.third, seats)?
                 && agree_if_there(alloc, &self.fourth, seats)?,
@@ -156,43 +206,6 @@ impl<
     }
 }
 
-/// The entries of each seat.
-fn told<'a, L0: UnitLedger, L1: UnitLedger, L2: UnitLedger, L3: UnitLedger, L4: UnitLedger>(
-    alloc: Global,
-    seats: &'a [Seat<L0, L1, L2, L3, L4>],
-) -> Result<Vec<&'a [Entry]>, AllocError>
-    ensures { IfOk result (λ all. map (λ r. r.now) all.items ≡ map (λ s. s.entries) seats.now) }
-{
-    let mut all = Vec::new(alloc);
-    for s in seats {
-        all.push(s.entries())?;
-    }
-    Ok(all)
-}
-
-/// Whether the seats agree with each trail.
-fn agreed<
-    L0: UnitLedger,
-    L1: UnitLedger,
-    L2: UnitLedger,
-    L3: UnitLedger,
-    L4: UnitLedger,
-    D: DeviceServer,
->(
-    alloc: Global,
-    units: &TakenUnits<L0, L1, L2, L3, L4, D>,
-    seats: &[Seat<L0, L1, L2, L3, L4>],
-) -> Result<bool, AllocError>
-    ensures changer { IfOk result (λ agreed. IsTrue agreed → Agrees (λ s. s.entries) 0 L0.since units.now.changer.unit.base.last units.now.changer.unit.records seats.now) }
-    ensures first { IfOk result (λ agreed. IsTrue agreed → Agrees (λ s. s.entries) 1 L1.since units.now.first.unit.base.last units.now.first.unit.records seats.now) }
-    ensures second { IfOk result (λ agreed. IsTrue agreed → IfSome units.now.second (λ k. Agrees (λ s. s.entries) 2 L2.since k.unit.base.last k.unit.records seats.now)) }
-    ensures third { IfOk result (λ agreed. IsTrue agreed → IfSome units.now.third (λ k. Agrees (λ s. s.entries) 3 L3.since k.unit.base.last k.unit.records seats.now)) }
-    ensures fourth { IfOk result (λ agreed. IsTrue agreed → IfSome units.now.fourth (λ k. Agrees (λ s. s.entries) 4 L4.since k.unit.base.last k.unit.records seats.now)) }
-{
-    let slices = told(alloc, seats)?;
-    units.agree(alloc, slices.as_slice())
-}
-
 impl<
     L0: UnitLedger,
     L1: UnitLedger,
@@ -203,10 +216,11 @@ impl<
     G: Gate,
 > Library<L0, L1, L2, L3, L4, D, G> {
     /// Ends the library, with all its seats. Where the answer is the units, each number that a unit has used since the
-    /// library was opened stands in exactly one entry, and each entry's numbers were used; the record of an entry is that of
-    /// its call, with its nexus, kind of act, status and sense data, and a move's records at drives say that a volume was taken out
-    /// or came in, without a nexus; along one seat the numbers of a unit rise. Records that were handed out are compared by
-    /// number alone. A refusal hands library and seats back. Takes memory for the units' numbers.
+    /// library was opened stands in exactly one entry or settled range, and all their numbers were used; the record of an entry is
+    /// that of its call, with its nexus, kind of act, status and sense data, and a move's records at drives say that a volume was
+    /// taken out or came in, without a nexus; along one seat the numbers of a unit rise, from the settled ones on. Records that were
+    /// handed out are compared by number alone, and each settled number is one of such a record. A refusal hands library and seats
+    /// back. Takes memory, unit by unit, for a range of each settled one and of each run of numbers in the entries of a seat.
     pub fn close(
         self,
         alloc: Global,
@@ -219,11 +233,11 @@ impl<
             Vec<Seat<L0, L1, L2, L3, L4>>,
         ),
     >
-        ensures changer { IfOk result (λ h. Agrees (λ s. s.entries) 0 L0.since h.changer.unit.base.last h.changer.unit.records seats.items) }
-        ensures first { IfOk result (λ h. Agrees (λ s. s.entries) 1 L1.since h.first.unit.base.last h.first.unit.records seats.items) }
-        ensures second { IfOk result (λ h. IfSome h.second (λ u. Agrees (λ s. s.entries) 2 L2.since u.unit.base.last u.unit.records seats.items)) }
-        ensures third { IfOk result (λ h. IfSome h.third (λ u. Agrees (λ s. s.entries) 3 L3.since u.unit.base.last u.unit.records seats.items)) }
-        ensures fourth { IfOk result (λ h. IfSome h.fourth (λ u. Agrees (λ s. s.entries) 4 L4.since u.unit.base.last u.unit.records seats.items)) }
+        ensures changer { IfOk result (λ h. Agrees (notes_at 0) 0 L0.since h.changer.unit.base.last h.changer.unit.records seats.items) }
+        ensures first { IfOk result (λ h. Agrees (notes_at 1) 1 L1.since h.first.unit.base.last h.first.unit.records seats.items) }
+        ensures second { IfOk result (λ h. IfSome h.second (λ u. Agrees (notes_at 2) 2 L2.since u.unit.base.last u.unit.records seats.items)) }
+        ensures third { IfOk result (λ h. IfSome h.third (λ u. Agrees (notes_at 3) 3 L3.since u.unit.base.last u.unit.records seats.items)) }
+        ensures fourth { IfOk result (λ h. IfSome h.fourth (λ u. Agrees (notes_at 4) 4 L4.since u.unit.base.last u.unit.records seats.items)) }
         ensures units { IfOk result (λ h. HasUnits self.units h.second h.third h.fourth) }
         ensures missing { vec_len seats ≢ self.seats → IsErr result }
         ensures only_missing { IfErr result (λ back. (back.0 ≡ CloseFault.SeatMissing) ↔ (vec_len seats ≢ self.seats)) }
@@ -250,7 +264,7 @@ impl<
             third: taken_out(third),
             fourth: taken_out(fourth),
         };
-        let fault = match agreed(alloc, &units, &seats) {
+        let fault = match units.agree(alloc, &seats) {
             Ok(true) => return Ok(units.histories()),
             Ok(false) => CloseFault::Mismatch,
             Err(_) => CloseFault::NoMemory,

@@ -3,7 +3,9 @@
 #![tactic(auto)]
 
 mod closing;
+mod entry_queue;
 mod gate;
+mod laws;
 mod library;
 mod locked;
 mod locks;
@@ -12,10 +14,13 @@ mod opening;
 mod raw_command;
 mod routes;
 mod seat;
+mod settling;
+mod unit_ranges;
 mod units_by_lun;
 
 pub use closing::{CloseFault, Histories};
 pub use gate::{Gate, Pass};
+pub use laws::settling_rows;
 pub use library::Library;
 pub use opening::Blanks;
 pub use seat::{Seat, SeatShares};

@@ -1,7 +1,8 @@
-ghost use Rattle.std.specs.Prelude.{◌≡◌, ◌<◌, ◌+◌, [], All, IfOk, IfErr, is_some, length, vec_len};
+ghost use Rattle.std.specs.Prelude.{◌≡◌, ◌<◌, ◌+◌, All, IfOk, IfErr, is_some, length, vec_len};
 ghost use Rattle.std.specs.Option.{ForSome};
 ghost use Rattle.logical_unit.specs.UnitView.{last_number};
 ghost use Rattle.lun_router.specs.Opening.{IsAt, IsSince};
+ghost use Rattle.lun_router.specs.Seats.{IsUntold};
 
 use crate::gate::Gate;
 use crate::library::Library;
@@ -81,7 +82,7 @@ fn cut<L0: UnitLedger, L1: UnitLedger, L2: UnitLedger, L3: UnitLedger, L4: UnitL
 ) -> Seat<L0, L1, L2, L3, L4>
     requires parts { (0 < shares.old.zero.parts) × (0 < shares.old.one.parts) × (0 < shares.old.two.parts) × (0 < shares.old.three.parts) × (0 < shares.old.four.parts) }
     requires amounts { (shares.old.zero.amount ≡ 0) × (shares.old.one.amount ≡ 0) × (shares.old.two.amount ≡ 0) × (shares.old.three.amount ≡ 0) × (shares.old.four.amount ≡ 0) }
-    ensures seat { result.entries ≡ [] }
+    ensures seat { IsUntold result }
     ensures amounts { (shares.new.zero.amount ≡ 0) × (shares.new.one.amount ≡ 0) × (shares.new.two.amount ≡ 0) × (shares.new.three.amount ≡ 0) × (shares.new.four.amount ≡ 0) }
     ensures parts { (shares.new.zero.parts + 1 ≡ shares.old.zero.parts) × (shares.new.one.parts + 1 ≡ shares.old.one.parts) × (shares.new.two.parts + 1 ≡ shares.old.two.parts) × (shares.new.three.parts + 1 ≡ shares.old.three.parts) × (shares.new.four.parts + 1 ≡ shares.old.four.parts) }
 {
@@ -99,8 +100,7 @@ fn cut<L0: UnitLedger, L1: UnitLedger, L2: UnitLedger, L3: UnitLedger, L4: UnitL
         three: three.split_off(1, 0),
         four: four.split_off(1, 0),
     };
-    let entries = Vec::new(alloc);
-    Seat::new(parts, entries)
+    Seat::new(alloc, parts)
 }
 
 impl<
@@ -137,7 +137,7 @@ impl<
         requires since { IsSince core L0.since L1.since L2.since L3.since L4.since }
         ensures units { IfOk result (λ opened. opened.0.units ≡ length core) }
         ensures seats { IfOk result (λ opened. (opened.0.seats ≡ seats) × (vec_len opened.1 ≡ seats)) }
-        ensures untold { IfOk result (λ opened. All (λ s. s.entries ≡ []) opened.1.items) }
+        ensures untold { IfOk result (λ opened. All IsUntold opened.1.items) }
         ensures back { IfErr result (λ back. back.1 ≡ core) }
     {
         let mut all = Vec::new(alloc);

@@ -127,7 +127,7 @@ impl<
         ensures notes { Notes seat.old result seat.new }
     {
         let Seat { parts, entries, .. } = seat;
-        if entries.reserve(1).is_err() {
+        if !entries.make_room() {
             return Done::busy(alloc, Some(nexus), lun, EventKind::Command { cdb, bytes });
         }
         let done = self.route(rt, alloc, parts, lun, RawCommand { nexus, cdb, bytes });
@@ -151,7 +151,7 @@ impl<
         ensures notes { Notes seat.old result seat.new }
     {
         let Seat { parts, entries, .. } = seat;
-        if entries.reserve(1).is_err() {
+        if !entries.make_room() {
             return Done::busy(alloc, Some(nexus), lun, EventKind::Loss);
         }
         let done = self.route_loss(rt, alloc, parts, nexus, lun);
@@ -174,7 +174,7 @@ impl<
         ensures notes { Notes seat.old result seat.new }
     {
         let Seat { parts, entries, .. } = seat;
-        if entries.reserve(1).is_err() {
+        if !entries.make_room() {
             return Done::busy(alloc, None, lun, EventKind::Reset);
         }
         let done = self.route_reset(rt, alloc, parts, lun);

@@ -5,6 +5,7 @@ mod days;
 mod gates;
 mod rows;
 mod scenes;
+mod settling;
 mod targets;
 
 use days::{Scene, run};
@@ -61,4 +62,14 @@ fn losses_and_resets_are_told(rt: HostRuntime) -> Result<(), Fail> {
 #[test]
 fn hosts_share_a_drive(rt: HostRuntime) -> Result<(), Fail> {
     run(&rt, rt.alloc(), Pass, &Flags::new(), Scene::SharedDrive)
+}
+
+#[test]
+fn seats_are_settled_between_drains(rt: HostRuntime) -> Result<(), Fail> {
+    run(&rt, rt.alloc(), Pass, &Flags::new(), Scene::Settling)
+}
+
+#[test]
+fn a_move_is_settled_where_both_units_were_drained(rt: HostRuntime) -> Result<(), Fail> {
+    run(&rt, rt.alloc(), Pass, &Flags::new(), Scene::SettledMoves)
 }

@@ -4,7 +4,7 @@ use Rattle.std.specs.Io.KnownBytes.{Appends}
 use Rattle.kept_unit.specs.Agreeing.{Agrees}
 use Rattle.logical_unit.specs.UnitView.{UnitView}
 use Rattle.lun_router.specs.Opening.{IsSince}
-use Rattle.lun_router.specs.Seats.{SeatValue}
+use Rattle.lun_router.specs.Seats.{SeatValue, notes_at}
 use Rattle.output_lines.specs.declared.audit_lines.Audit.{Audit}
 use Rattle.output_lines.specs.declared.audit_lines.Audit.TheVariants.{Lines}
 use Rattle.output_lines.specs.AuditLines.{audit_text}
@@ -23,11 +23,12 @@ abbrev pub if_there : Option UnitView → List UnitView
 if_there None = []
 if_there (Some u) = u ∷ []
 
--- the numbers of a unit since the library was opened stand in the seats' entries, each once, with what its record says
+-- the numbers of a unit since the library was opened stand in the seats' entries and settled ranges, each once, in an entry with what its
+-- record says
 abbrev pub AgreesAt : (lun since : ℕ) → UnitView → List SeatValue → Type 0
-AgreesAt lun since u seats = Agrees (λ (s : SeatValue). s.entries) lun since u.base.last u.records seats
+AgreesAt lun since u seats = Agrees (notes_at lun) lun since u.base.last u.records seats
 
--- a library that was closed: what the seats were told agrees with each trail, and the lines that are wanted of the records were written, LUN 0
+-- a library that was closed: what the seats have noted agrees with each trail, and the lines that are wanted of the records were written, LUN 0
 -- first
 pub record IsClosed (audit : Audit) (zero one two three four : ℕ) (written written' : Option (List ℕ)) : Type 0 where
   pub seats : List SeatValue

@@ -4,7 +4,7 @@ ghost use Rattle.lun_router.specs.Opening.{IsSince};
 
 use super::gates::Flags;
 use super::targets::two_drives;
-use super::{rows, scenes};
+use super::{rows, scenes, settling};
 use kept_unit::UnitLedger;
 use library_device::Device;
 use lun_router::{Blanks, Gate, Library, Seat};
@@ -28,6 +28,8 @@ pub(super) enum Scene {
     Moving,
     LossAndReset,
     SharedDrive,
+    Settling,
+    SettledMoves,
 }
 
 /// How many seats the libraries have.
@@ -57,6 +59,8 @@ fn play<
         Scene::Moving => scenes::move_volumes(rt, alloc, library, seats),
         Scene::LossAndReset => rows::lose_and_reset(rt, alloc, library, seats),
         Scene::SharedDrive => rows::share_a_drive(rt, alloc, library, seats),
+        Scene::Settling => settling::settle_between(rt, alloc, library, seats),
+        Scene::SettledMoves => settling::settle_moves(rt, alloc, library, seats),
     }
 }
 

@@ -27,8 +27,8 @@ enum Part<'a> {
     Moves,
 }
 
-/// One hundred TEST UNIT READYs, to drive 1 and drive 2 by turns, with a drain of both after the fiftieth if there is
-/// somewhere to note the numbers that it hands out.
+/// One hundred TEST UNIT READYs, to drive 1 and drive 2 by turns, with a drain of both after the fiftieth, and what
+/// was drained settled, if there is somewhere to note the numbers that it hands out.
 fn ask_100_times<
     L0: UnitLedger,
     L1: UnitLedger,
@@ -57,8 +57,9 @@ fn ask_100_times<
         if turn == 49
             && let Some(drained) = drained
         {
-            note_drained(rt, alloc, library, 1, &drained.first);
-            note_drained(rt, alloc, library, 2, &drained.second);
+            let first = note_drained(rt, alloc, library, 1, &drained.first);
+            let second = note_drained(rt, alloc, library, 2, &drained.second);
+            seat.settle(&[0, first, second, 0, 0]).expect(rt, "memory");
         }
     }
 }
@@ -70,7 +71,7 @@ struct Drained {
     second: Mutex<Vec<u64>>,
 }
 
-/// Drains a unit, and notes the numbers.
+/// Drains a unit, and notes the numbers. The last of them, 0 where there is none: all up to it were handed out.
 fn note_drained<
     L0: UnitLedger,
     L1: UnitLedger,
@@ -85,14 +86,17 @@ fn note_drained<
     library: &Library<L0, L1, L2, L3, L4, Device, G>,
     lun: u8,
     numbers: &Mutex<Vec<u64>>,
-) {
+) -> u64 {
     let records = library
         .drain(rt, alloc, lun)
         .expect(rt, "a drive is drained");
     let mut noted = numbers.lock(rt);
+    let mut last = 0;
     for entry in &records {
         noted.push(entry.number).expect(rt, "memory");
+        last = entry.number;
     }
+    last
 }
 
 /// How many records a unit has, if it is there.

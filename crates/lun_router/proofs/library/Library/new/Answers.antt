@@ -1,7 +1,7 @@
 use Rattle.std.proofs.Common.{◌≡◌, [], ◌∷◌, List, sym, subst, arith}
 use Rattle.std.specs.Prelude.{All}
 use Rattle.std.proofs.lemmas.List.Elements.{All-append, All-cons, All-nil}
-use Rattle.lun_router.specs.Seats.{SeatValue}
+use Rattle.lun_router.specs.Seats.{SeatValue, IsUntold}
 use Rattle.lun_router.proofs.library.Library.new.Goals as goal
 
 pub loop-i-preserved : goal.loop-i-preserved
@@ -10,7 +10,7 @@ loop-i-preserved g c =
     let was = c.loop-i.invariant in
     let parts = c.cut.ensures.parts in
     let amounts = c.cut.ensures.amounts in
-    let untold = λ (s : SeatValue). s.entries ≡ [] in (
+    let untold = λ (s : SeatValue). IsUntold s in (
       omega (arith, more.len, was.0),
       subst (λ (l : List SeatValue). All untold l) (sym more.items) (All-append untold c.loop-i.all.items (c.cut.result ∷ []) was.1 (All-cons untold c.cut.result [] c.cut.ensures.seat (All-nil untold))),
       omega (arith, more.capacity, was.2),

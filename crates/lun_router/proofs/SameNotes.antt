@@ -1,11 +1,12 @@
--- What agrees with entries agrees with them however they are handed over.
+-- What agrees with what seats have noted agrees with it however it is handed over.
 use Rattle.std.proofs.Common.{◌≡◌, ℕ, ◌+◌, ◌-◌, length, List, [], ◌∷◌, map, sym, ap, ◌∙◌, subst, Result, Ok, Err, Option, Some, None, arith}
 use Rattle.std.specs.Prelude.{All, IfOk, IfSome, IsPermutation}
 use Rattle.std.proofs.lemmas.List.Folds.{flat_map-map}
 use Rattle.std.proofs.lemmas.List.Elements.{All-nil, All-cons, All-tail}
-use Rattle.kept_unit.specs.declared.entry.Entry.{Entry}
 use Rattle.audit_log.specs.declared.record.Record.{Record}
-use Rattle.kept_unit.specs.Agreeing.{Agrees, SeatFits, numbers_in, numbers_of, span}
+use Rattle.kept_unit.specs.Agreeing.{Agrees, SeatFits, numbers_of}
+use Rattle.kept_unit.specs.Listing.{NotesValue, numbers_in}
+use Rattle.kept_unit.specs.Ranges.{span}
 
 All_to_map : {S T : Type 0} (f : S → T) (P : T → Type 0) (xs : List S) → All (λ s. P (f s)) xs → All P (map f xs)
 All_to_map f P [] all = All-nil P
@@ -15,15 +16,15 @@ All_from_map : {S T : Type 0} (f : S → T) (P : T → Type 0) (xs : List S) →
 All_from_map f P [] all = All-nil (λ s. P (f s))
 All_from_map f P (x ∷ xs) all = All-cons (λ s. P (f s)) x xs (all 0 (f x) (omega arith)) (All_from_map f P xs (All-tail P (f x) (map f xs) all))
 
-pub alike : {S T : Type 0} (of : S → List Entry) (by : T → List Entry) (lun first base : ℕ) (records : List Record) (xs : List S) (ys : List T)
+pub alike : {S T : Type 0} (of : S → NotesValue) (by : T → NotesValue) (lun first base : ℕ) (records : List Record) (xs : List S) (ys : List T)
     → map of xs ≡ map by ys → Agrees of lun first base records xs → Agrees by lun first base records ys
 alike of by lun first base records xs ys same a =
-    let fits : List Entry → Type 0 = λ es. SeatFits lun first base records es in
+    let fits : NotesValue → Type 0 = λ n. SeatFits lun first base records n in
     let numbers : numbers_of of lun xs ≡ numbers_of by lun ys =
-    sym (flat_map-map (numbers_in lun) of xs) ∙ ap (λ (l : List (List Entry)). numbers_of (λ es. es) lun l) same ∙ flat_map-map (numbers_in lun) by ys in
+    sym (flat_map-map (numbers_in lun) of xs) ∙ ap (λ (l : List NotesValue). numbers_of (λ n. n) lun l) same ∙ flat_map-map (numbers_in lun) by ys in
     record {
       once = subst (λ (l : List ℕ). IsPermutation l (span first (base + length records - first))) numbers a.once;
-      each = All_from_map by fits ys (subst (λ (l : List (List Entry)). All fits l) same (All_to_map of fits xs a.each));
+      each = All_from_map by fits ys (subst (λ (l : List NotesValue). All fits l) same (All_to_map of fits xs a.each));
     }
 
 pub if_ok : {A E : Type 0} (r : Result A E) (P Q : A → Type 0) → ((x : A) → P x → Q x) → IfOk r P → IfOk r Q

@@ -1,0 +1,61 @@
+-- Worked rows: what of a seat is settled. The records were handed out up to number 9 of the changer and number 3 of drive 1.
+use Rattle.std.specs.Prelude.{◌≡◌, ℕ, List, [], ◌∷◌, true, false, None}
+use Rattle.std.proofs.Common.{lit≤}
+use Rattle.scsi_sense.specs.declared.status.Status.TheVariants.{Good}
+use Rattle.kept_unit.specs.declared.entry.Entry.{Entry}
+use Rattle.kept_unit.specs.declared.number_range.NumberRange.{NumberRange}
+use Rattle.lun_router.specs.Seats.{SettledRanges, SeatValue, untold, settled_at, is_drained, drained_count, Settles}
+
+abbrev pub drained : List ℕ
+drained = 9 ∷ 3 ∷ 0 ∷ 0 ∷ 0 ∷ []
+
+abbrev pub entry : List (ℕ × ℕ) → Entry
+entry ns = record { nexus = None; lun = 1; act = None; status = Good; sense = None; numbers = ns }
+
+-- of drive 1, and one without a record
+abbrev pub at_one : ℕ → Entry
+at_one n = entry ((1, n) ∷ [])
+
+abbrev pub busy : Entry
+busy = entry []
+
+abbrev pub two : NumberRange
+two = record { first = 2; last = 2; ordered = lit≤ tt }
+
+abbrev pub three : NumberRange
+three = record { first = 3; last = 3; ordered = lit≤ tt }
+
+abbrev pub two_to_three : NumberRange
+two_to_three = record { first = 2; last = 3; ordered = lit≤ tt }
+
+abbrev pub two_to_four : NumberRange
+two_to_four = record { first = 2; last = 4; ordered = lit≤ tt }
+
+-- a seat with ranges of drive 1
+abbrev pub seat : List NumberRange → List Entry → SeatValue
+seat rs es = record { settled = record untold { one = rs }; entries = es; amounts = record { zero = 0; one = 3; two = 0; three = 0; four = 0 } }
+
+abbrev pub before : SeatValue
+before = seat (two ∷ []) (busy ∷ at_one 3 ∷ at_one 4 ∷ [])
+
+pub record SettlingRows : Type 0 where
+  pub own : is_drained drained (at_one 3) ≡ true
+  pub later : is_drained drained (at_one 4) ≡ false
+  pub unnumbered : is_drained drained busy ≡ true
+  pub undrained : is_drained drained (entry ((2, 1) ∷ [])) ≡ false
+  pub no_unit : is_drained drained (entry ((5, 1) ∷ [])) ≡ false
+  -- a move, whose records are the changer's and the drive's
+  pub moved : is_drained drained (entry ((0, 9) ∷ (1, 3) ∷ [])) ≡ true
+  pub half : is_drained drained (entry ((0, 9) ∷ (1, 4) ∷ [])) ≡ false
+  -- the longest beginning: an entry behind one that stays stays too
+  pub count : drained_count drained (at_one 2 ∷ busy ∷ at_one 3 ∷ at_one 4 ∷ busy ∷ []) ≡ 3
+  pub nothing : drained_count drained (at_one 4 ∷ at_one 3 ∷ []) ≡ 0
+  pub all : drained_count drained (at_one 3 ∷ []) ≡ 1
+  pub at_its_unit : settled_at 1 before.settled ≡ two ∷ []
+  pub at_another : settled_at 2 before.settled ≡ []
+  -- the number 3 joins the range; not a number fewer, not an entry fewer, none too many
+  pub settles : Settles drained before (seat (two_to_three ∷ []) (at_one 4 ∷ []))
+  pub in_ranges : Settles drained before (seat (two ∷ three ∷ []) (at_one 4 ∷ []))
+  pub number_lost : Settles drained before (seat (three ∷ []) (at_one 4 ∷ [])) → ⊥
+  pub too_many : Settles drained before (seat (two_to_four ∷ []) []) → ⊥
+  pub too_few : Settles drained before (seat (two ∷ []) (at_one 3 ∷ at_one 4 ∷ [])) → ⊥
