@@ -15,17 +15,17 @@ use std::sync::atomic::Ordering;
 use std::test::Fail;
 
 #[test]
-fn two_threads_at_two_drives(rt: HostRuntime) -> Result<(), Fail> {
+fn submit_of_two_threads_has_a_record_for_each_command(rt: HostRuntime) -> Result<(), Fail> {
     run(&rt, rt.alloc(), Pass, &Flags::new(), Scene::TwoDrives)
 }
 
 #[test]
-fn drains_between_commands(rt: HostRuntime) -> Result<(), Fail> {
+fn drain_by_two_threads_loses_no_number(rt: HostRuntime) -> Result<(), Fail> {
     run(&rt, rt.alloc(), Pass, &Flags::new(), Scene::Drains)
 }
 
 #[test]
-fn a_held_unit_holds_no_other(rt: HostRuntime) -> Result<(), Fail> {
+fn submit_held_at_a_drive_holds_no_other_drive(rt: HostRuntime) -> Result<(), Fail> {
     let flags = Flags::new();
     let gate = Held {
         clock: &rt,
@@ -45,31 +45,31 @@ fn a_held_unit_holds_no_other(rt: HostRuntime) -> Result<(), Fail> {
 }
 
 #[test]
-fn close_needs_every_seat(rt: HostRuntime) -> Result<(), Fail> {
+fn close_refuses_one_seat_of_two(rt: HostRuntime) -> Result<(), Fail> {
     run(&rt, rt.alloc(), Pass, &Flags::new(), Scene::EverySeat)
 }
 
 #[test]
-fn two_threads_move_volumes(rt: HostRuntime) -> Result<(), Fail> {
+fn move_medium_of_two_threads_is_recorded_at_both_units(rt: HostRuntime) -> Result<(), Fail> {
     run(&rt, rt.alloc(), Pass, &Flags::new(), Scene::Moving)
 }
 
 #[test]
-fn losses_and_resets_are_told(rt: HostRuntime) -> Result<(), Fail> {
+fn lose_and_reset_are_told_at_units_that_are_there(rt: HostRuntime) -> Result<(), Fail> {
     run(&rt, rt.alloc(), Pass, &Flags::new(), Scene::LossAndReset)
 }
 
 #[test]
-fn hosts_share_a_drive(rt: HostRuntime) -> Result<(), Fail> {
+fn write_of_another_host_than_the_holder_leaves_the_tape(rt: HostRuntime) -> Result<(), Fail> {
     run(&rt, rt.alloc(), Pass, &Flags::new(), Scene::SharedDrive)
 }
 
 #[test]
-fn seats_are_settled_between_drains(rt: HostRuntime) -> Result<(), Fail> {
+fn settle_makes_drained_entries_into_ranges(rt: HostRuntime) -> Result<(), Fail> {
     run(&rt, rt.alloc(), Pass, &Flags::new(), Scene::Settling)
 }
 
 #[test]
-fn a_move_is_settled_where_both_units_were_drained(rt: HostRuntime) -> Result<(), Fail> {
+fn settle_of_a_move_waits_for_the_drain_of_both_units(rt: HostRuntime) -> Result<(), Fail> {
     run(&rt, rt.alloc(), Pass, &Flags::new(), Scene::SettledMoves)
 }
