@@ -466,7 +466,7 @@ const ONE: [Step; 4] = [
 ];
 
 #[test]
-fn one_session(rt: HostRuntime) -> Result<(), Fail> {
+fn serve_library_answers_and_records_one_session(rt: HostRuntime) -> Result<(), Fail> {
     let id = process::id(rt.process());
     assert_met(&rt, id, sessions("one", 1), &ONE, Ok(()), Some(LINES_OF_A))
 }
@@ -495,7 +495,7 @@ const AGAIN: [Step; 15] = [
 /// A nexus may log in again once its connection has ended. It is told of its loss, and has its key and its reservation;
 /// it no longer prevents removal.
 #[test]
-fn one_after_the_other(rt: HostRuntime) -> Result<(), Fail> {
+fn login_after_a_logout_finds_key_and_reservation(rt: HostRuntime) -> Result<(), Fail> {
     let id = process::id(rt.process());
     assert_met(&rt, id, sessions("again", 2), &AGAIN, Ok(()), None)
 }
@@ -518,7 +518,7 @@ const SECOND_REFUSED: Result<(), ServerFault> = Err(ServerFault::Session(FaultyS
 
 /// The lines are written where a session had a fault, too; the fault has its number and its nexus.
 #[test]
-fn two_sessions_of_a_nexus(rt: HostRuntime) -> Result<(), Fail> {
+fn login_of_a_connected_nexus_is_the_fault_told(rt: HostRuntime) -> Result<(), Fail> {
     let id = process::id(rt.process());
     assert_met(
         &rt,
@@ -554,7 +554,7 @@ const LINES_OF_BOTH: &[u8] = b"1 500000000000000a.1 TEST-UNIT-READY 2 - - 02\n\
 
 /// A's reservation keeps B, who comes by a connection of its own, from the drive.
 #[test]
-fn a_reservation_against_another_session(rt: HostRuntime) -> Result<(), Fail> {
+fn write_of_another_session_meets_a_reservation(rt: HostRuntime) -> Result<(), Fail> {
     let id = process::id(rt.process());
     assert_met(
         &rt,
@@ -621,7 +621,7 @@ const LINES_OF_THE_TAPE: &[u8] = b"1 500000000000000a.1 TEST-UNIT-READY 2 - - 02
 
 /// Two hosts at one tape: keys that are cut, a conflict that leaves the tape as it was, and a unit that isn't there.
 #[test]
-fn two_hosts_at_one_tape(rt: HostRuntime) -> Result<(), Fail> {
+fn write_and_read_of_two_hosts_at_one_tape(rt: HostRuntime) -> Result<(), Fail> {
     let id = process::id(rt.process());
     let lines = Some(LINES_OF_THE_TAPE);
     assert_met(&rt, id, sessions("tape", 2), &ONE_TAPE, Ok(()), lines)
@@ -645,7 +645,7 @@ const LINES_AS_THEY_COME: &[u8] = b"1 500000000000000a.1 TEST-UNIT-READY 2 - - 0
     2 500000000000000b.1 LOSS 6 - - 00\n";
 
 #[test]
-fn hands_records_out_after_each_session(rt: HostRuntime) -> Result<(), Fail> {
+fn serve_library_writes_records_after_each_session(rt: HostRuntime) -> Result<(), Fail> {
     let id = process::id(rt.process());
     let meeting = Meeting {
         records: RecordOutput::AfterEachSession,
@@ -663,7 +663,7 @@ const LINES_AT_THE_END: &[u8] = b"1 500000000000000b.1 TEST-UNIT-READY 2 - - 02\
 
 /// A single worker serves one session after another, until it is told that there are no more.
 #[test]
-fn serves_until_it_is_closed(rt: HostRuntime) -> Result<(), Fail> {
+fn serve_library_goes_on_until_it_is_closed(rt: HostRuntime) -> Result<(), Fail> {
     let id = process::id(rt.process());
     let meeting = Meeting {
         sessions: None,
@@ -723,7 +723,7 @@ fn assert_shown(rt: &impl Abort, alloc: Global, row: &Shown) -> Result<(), Fail>
 }
 
 #[test]
-fn shows_faults(rt: HostRuntime) -> Result<(), Fail> {
+fn faults_of_a_server_have_their_lines_and_order(rt: HostRuntime) -> Result<(), Fail> {
     let mut told = None;
     for row in &SHOWN {
         assert_shown(&rt, rt.alloc(), row)?;

@@ -95,7 +95,7 @@ fn meet<R: AllocGlobal + Files + Net + Sync + Threads + Wait>(
 }
 
 #[test]
-fn a_host_meets_a_served_library(rt: HostRuntime) -> Result<(), Fail> {
+fn converse_has_the_replies_of_a_served_library(rt: HostRuntime) -> Result<(), Fail> {
     let id = process::id(rt.process());
     let met = meet(&rt, id, "0 000000000000\n0 000000000000\n")?;
     assert_eq!(rt; met.conversed, Ok(()));

@@ -10,7 +10,7 @@ use std::{env, fs, process};
 
 /// A socket whose file is there already is left as it is.
 #[test]
-fn leaves_a_file_that_is_there(rt: HostRuntime) -> Result<(), Fail> {
+fn serve_leaves_a_file_that_is_there(rt: HostRuntime) -> Result<(), Fail> {
     let name = format!(in rt.alloc(); "vtl-there-{}", process::id(rt.process()))?;
     let path = env::temp_dir(&rt)?.join(rt.alloc(), name.as_str())?;
     let socket = path.to_str().ok_or("a path that is no text")?;
@@ -35,7 +35,7 @@ fn leaves_a_file_that_is_there(rt: HostRuntime) -> Result<(), Fail> {
 }
 
 #[test]
-fn tells_a_place_without_a_folder(rt: HostRuntime) -> Result<(), Fail> {
+fn serve_refuses_a_place_without_a_folder(rt: HostRuntime) -> Result<(), Fail> {
     let place = ServeOptions {
         socket: String::from_str(rt.alloc(), "/nowhere/at/all")?,
         until: ServeUntil::Sessions(1),

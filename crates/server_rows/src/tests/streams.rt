@@ -254,7 +254,7 @@ fn answered_to(length: usize) -> (usize, bool) {
 
 /// Each proper prefix of a session ends between frames or within one.
 #[test]
-fn every_prefix_of_a_session(rt: HostRuntime) -> Result<(), Fail> {
+fn serve_ends_each_prefix_of_a_session_closed_or_cut(rt: HostRuntime) -> Result<(), Fail> {
     for length in 0..ONE_SESSION.len() {
         let (replies, is_recorded) = answered_to(length);
         let end = if length == 0 || length == 15 || length == 28 {
@@ -270,7 +270,7 @@ fn every_prefix_of_a_session(rt: HostRuntime) -> Result<(), Fail> {
 
 /// A read that fails at each place of a session leaves the records that there are.
 #[test]
-fn each_read_fails(rt: HostRuntime) -> Result<(), Fail> {
+fn serve_ends_by_a_read_that_fails_and_leaves_its_records(rt: HostRuntime) -> Result<(), Fail> {
     for length in 0..ONE_SESSION.len() {
         let (replies, is_recorded) = answered_to(length);
         let at = length as u64 + 1;
@@ -300,7 +300,7 @@ const ROWS: [Row; 10] = [
 ];
 
 #[test]
-fn writes_fail_and_streams_are_faulty(rt: HostRuntime) -> Result<(), Fail> {
+fn serve_ends_by_a_write_that_fails_or_a_faulty_stream(rt: HostRuntime) -> Result<(), Fail> {
     for row in &ROWS {
         assert_served(&rt, rt.alloc(), *row)?;
     }
