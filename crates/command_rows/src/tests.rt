@@ -7,7 +7,7 @@ use program_options::ServeUntil;
 use std::test::Fail;
 
 #[test]
-fn reads_command_lines(rt: HostRuntime) -> Result<(), Fail> {
+fn task_of_refuses_wrong_lines_and_shows_help(rt: HostRuntime) -> Result<(), Fail> {
     let rows = [
         ("vtl", 2, "requires a subcommand"),
         ("vtl server", 2, "unrecognized subcommand 'server'"),
@@ -146,7 +146,7 @@ fn reads_command_lines(rt: HostRuntime) -> Result<(), Fail> {
 }
 
 #[test]
-fn reads_options(rt: HostRuntime) -> Result<(), Fail> {
+fn task_of_reads_the_options_of_replay(rt: HostRuntime) -> Result<(), Fail> {
     let rows = [
         ("vtl replay", (1, 8, 0, 1), Explanations::Off, Audit::Off),
         (
@@ -203,7 +203,7 @@ fn reads_options(rt: HostRuntime) -> Result<(), Fail> {
 }
 
 #[test]
-fn reads_where_and_how_long_to_serve(rt: HostRuntime) -> Result<(), Fail> {
+fn task_of_reads_where_and_until_when_to_serve(rt: HostRuntime) -> Result<(), Fail> {
     let rows = [
         (
             "vtl serve --drives 2 --sessions 64 --spans --socket /run/vtl",
@@ -242,7 +242,7 @@ fn reads_where_and_how_long_to_serve(rt: HostRuntime) -> Result<(), Fail> {
 }
 
 #[test]
-fn reads_which_host_a_client_is(rt: HostRuntime) -> Result<(), Fail> {
+fn task_of_reads_which_host_a_client_is(rt: HostRuntime) -> Result<(), Fail> {
     let rows = [
         (
             "vtl client --port 4 --sas 500000000000000B --socket /run/vtl",
@@ -272,7 +272,7 @@ fn reads_which_host_a_client_is(rt: HostRuntime) -> Result<(), Fail> {
 }
 
 #[test]
-fn reads_which_cells_to_print(rt: HostRuntime) -> Result<(), Fail> {
+fn task_of_reads_which_cells_to_print(rt: HostRuntime) -> Result<(), Fail> {
     let rows = [
         ("vtl cells", None),
         ("vtl cells WRITE(6)", Some(Class::Write)),
