@@ -91,22 +91,23 @@ def noisy(path):
 
 
 def serve(sessions, hosts):
-    """A server for so many sessions, and what each host does at it; the server's status, records and faults."""
+    """A server for so many sessions, and what each host does at it; the server's status, its records, and what it told once it was ready."""
     with tempfile.TemporaryDirectory() as folder:
         path = os.path.join(folder, "vtl")
+        command = [VTL, "serve", "--socket", path, "--sessions", str(sessions)]
         with open(os.path.join(folder, "records"), "w+b") as records:
-            server = subprocess.Popen([VTL, "serve", "--socket", path, "--sessions", str(sessions)], stdout=records, stderr=subprocess.PIPE)
-            while not os.path.exists(path):
-                assert server.poll() is None, "the server ended"
-                time.sleep(0.01)
+            # Without a buffer, so that what stands behind the first line is left to `communicate`.
+            server = subprocess.Popen(command, stdout=records, stderr=subprocess.PIPE, bufsize=0)
+            ready = server.stderr.readline().decode()
+            assert ready.startswith(f"vtl: serving at {path}: "), f"the server isn't ready: {ready!r}"
             threads = [threading.Thread(target=host, args=(path,)) for host in hosts]
             for thread in threads:
                 thread.start()
             for thread in threads:
                 thread.join()
-            _, faults = server.communicate(timeout=60)
+            _, told = server.communicate(timeout=60)
             records.seek(0)
-            return server.returncode, records.read().decode().splitlines(), faults.decode().splitlines()
+            return server.returncode, records.read().decode().splitlines(), told.decode().splitlines()
 
 
 def main():
@@ -118,16 +119,17 @@ def main():
         lambda path: told.update(slow=well_behaved(path, 0xA, 20, pieces=1)),
         lambda path: told.update(good=well_behaved(path, 0xB, 1000)),
     ]
-    status, records, faults = serve(len(hosts), hosts)
-    print(f"misbehaving hosts: status {status}, {len(records)} records, {faults}")
+    status, records, lines = serve(len(hosts), hosts)
+    print(f"misbehaving hosts: status {status}, {len(records)} records, {lines}")
     assert told["slow"] == [2] + 19 * [0] and told["good"] == [2] + 999 * [0]
-    assert status == 4 and len(faults) == 2
-    assert "bad frame" in faults[1] or "frame too long" in faults[1]
+    # The noise alone is a fault: it is told as it happens, and once more at the end.
+    assert status == 4 and lines == [lines[0], "vtl: device fault", lines[0]]
+    assert "bad frame" in lines[0] or "frame too long" in lines[0]
     many = {}
     hosts = [lambda path, host=host: many.update({host: well_behaved(path, host, 100)}) for host in range(64)]
-    status, records, faults = serve(64, hosts)
-    print(f"sixty-four at once: status {status}, {len(records)} records, {faults}")
-    assert status == 0 and not faults
+    status, records, lines = serve(64, hosts)
+    print(f"sixty-four at once: status {status}, {len(records)} records, {lines}")
+    assert status == 0 and not lines
     assert all(many[host] == [2] + 99 * [0] for host in range(64))
     numbers = [int(line.split()[0]) for line in records]
     # LUN 0 has the records of all: each host's commands, and its loss at the end. The drive has none.

@@ -3,9 +3,15 @@
 # conflict, and its replies are said in words. Behind their replies come the records of the library.
 top=$(cd "$(dirname "$0")/.." && pwd) || exit 1
 work=$(mktemp -d) || exit 1
-"$top/vtl" serve --socket "$work/vtl" --sessions 2 >"$work/records" &
+"$top/vtl" serve --socket "$work/vtl" --sessions 2 >"$work/records" 2>"$work/told" &
 server=$!
-until [ -S "$work/vtl" ]; do sleep 0.1; kill -0 $server || exit 1; done
+until grep -qs '^vtl: serving at ' "$work/told"; do
+    if ! kill -0 $server 2>/dev/null; then
+        cat "$work/told" >&2
+        exit 1
+    fi
+    sleep 0.1
+done
 echo "A:"
 "$top/vtl" client --socket "$work/vtl" --sas 500000000000000a --port 1 <"$top/examples/host_a.script"
 echo "B:"
@@ -14,5 +20,6 @@ wait $server
 status=$?
 echo "records:"
 cat "$work/records"
+grep -v '^vtl: serving at ' "$work/told" >&2
 rm -r "$work"
 exit $status
