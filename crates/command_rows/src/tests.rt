@@ -4,7 +4,17 @@ use command_line::{Task, task_of};
 use output_lines::{Audit, Explanations};
 use permit_tables::Class;
 use program_options::ServeUntil;
+use std::alloc::Global;
 use std::test::Fail;
+
+/// The words of a command line that stand apart by one blank.
+fn words_of(alloc: Global, line: &str) -> Result<Vec<String>, Fail> {
+    let mut words = Vec::new(alloc);
+    for word in line.split(' ') {
+        words.push(String::from_str(alloc, word)?)?;
+    }
+    Ok(words)
+}
 
 #[test]
 fn task_of_refuses_wrong_lines_and_shows_help(rt: HostRuntime) -> Result<(), Fail> {
@@ -129,10 +139,7 @@ fn task_of_refuses_wrong_lines_and_shows_help(rt: HostRuntime) -> Result<(), Fai
         ("vtl --version", 0, "vtl 0.1.0"),
     ];
     for (line, status, text) in rows {
-        let mut words = Vec::new(rt.alloc());
-        for word in line.split(' ') {
-            words.push(String::from_str(rt.alloc(), word)?)?;
-        }
+        let words = words_of(rt.alloc(), line)?;
         match task_of(rt.alloc(), &words) {
             Ok(_) => return Err("a task".into()),
             Err(fault) => {
@@ -180,12 +187,9 @@ fn task_of_reads_the_options_of_replay(rt: HostRuntime) -> Result<(), Fail> {
             Audit::Lines,
         ),
     ];
-    for (line, (drives, slots, portals, volumes), words, audit) in rows {
-        let mut parts = Vec::new(rt.alloc());
-        for part in line.split(' ') {
-            parts.push(String::from_str(rt.alloc(), part)?)?;
-        }
-        let task = match task_of(rt.alloc(), &parts) {
+    for (line, (drives, slots, portals, volumes), said, audit) in rows {
+        let words = words_of(rt.alloc(), line)?;
+        let task = match task_of(rt.alloc(), &words) {
             Ok(task) => task,
             Err(_) => return Err("no task".into()),
         };
@@ -196,7 +200,7 @@ fn task_of_reads_the_options_of_replay(rt: HostRuntime) -> Result<(), Fail> {
         assert_eq!(rt; options.slots, slots, "{line}");
         assert_eq!(rt; options.portals, portals, "{line}");
         assert_eq!(rt; options.volumes, volumes, "{line}");
-        assert_eq!(rt; explanations, words, "{line}");
+        assert_eq!(rt; explanations, said, "{line}");
         assert_eq!(rt; wanted, audit, "{line}");
     }
     Ok(())
@@ -225,10 +229,7 @@ fn task_of_reads_where_and_until_when_to_serve(rt: HostRuntime) -> Result<(), Fa
         ),
     ];
     for (line, until, drain, wanted) in rows {
-        let mut words = Vec::new(rt.alloc());
-        for word in line.split(' ') {
-            words.push(String::from_str(rt.alloc(), word)?)?;
-        }
+        let words = words_of(rt.alloc(), line)?;
         let Ok(Task::Serve(options, place, audit)) = task_of(rt.alloc(), &words) else {
             return Err("another task".into());
         };
@@ -254,10 +255,7 @@ fn task_of_reads_which_host_a_client_is(rt: HostRuntime) -> Result<(), Fail> {
         ),
     ];
     for (line, wanted) in rows {
-        let mut words = Vec::new(rt.alloc());
-        for word in line.split(' ') {
-            words.push(String::from_str(rt.alloc(), word)?)?;
-        }
+        let words = words_of(rt.alloc(), line)?;
         let Ok(Task::Client(contact, explanations)) = task_of(rt.alloc(), &words) else {
             return Err("another task".into());
         };
@@ -279,10 +277,7 @@ fn task_of_reads_which_cells_to_print(rt: HostRuntime) -> Result<(), Fail> {
         ("vtl cells pr-in", Some(Class::PersistentReserveIn)),
     ];
     for (line, wanted) in rows {
-        let mut words = Vec::new(rt.alloc());
-        for word in line.split(' ') {
-            words.push(String::from_str(rt.alloc(), word)?)?;
-        }
+        let words = words_of(rt.alloc(), line)?;
         let Ok(Task::Cells(class)) = task_of(rt.alloc(), &words) else {
             return Err("another task".into());
         };
