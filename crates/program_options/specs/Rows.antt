@@ -1,8 +1,9 @@
--- Worked rows: addresses of hosts, what is said of each fault, and who serves.
+-- Worked rows: addresses of hosts, what is said of each fault, who serves, and how long hosts are waited for.
 use Rattle.std.specs.Prelude.{◌≡◌, Some, None, Ok, Err, codes}
 use Rattle.program_options.specs.declared.option_fault.OptionFault.TheVariants.{MoreVolumes, BadNexus}
 use Rattle.program_options.specs.Faults.{option_fault_text, option_status}
 use Rattle.program_options.specs.Hosts.{nexus_by, sas_in}
+use Rattle.program_options.specs.ServeTimes.{nanos_of, timeout_nanos}
 use Rattle.program_options.specs.ServeUntil.{sessions_of, workers_of}
 use Rattle.program_options.specs.declared.serve_until.ServeUntil.TheVariants.{Sessions, InputEnds}
 
@@ -27,3 +28,9 @@ pub record SessionsServed : Type 0 where
   pub sessions : sessions_of (Sessions 3) ≡ 3
   pub workers : workers_of (InputEnds 5) ≡ 5
   pub sessions_without_end : sessions_of (InputEnds 5) ≡ 0xFFFFFFFFFFFFFFFF
+
+pub record TimesWaited : Type 0 where
+  pub no_grace : nanos_of 0 ≡ 0
+  pub grace : nanos_of 10 ≡ 10_000_000_000
+  pub never : timeout_nanos 0 ≡ None
+  pub ten_seconds : timeout_nanos 10 ≡ Some 10_000_000_000
