@@ -1,7 +1,7 @@
 //! What the program's commands are and say of themselves.
 
 use clap::{Arg, ArgAction, Command, value_parser};
-use program_options::LibraryOptions;
+use program_options::{LibraryOptions, ServeTimes};
 use scsi_nexus::TARGET_PORTS;
 use std::alloc::{AllocError, Global};
 
@@ -14,7 +14,7 @@ const REPLAY_EXAMPLE: &str =
 const SERVE_EXAMPLE: &str =
     "Examples, of a library for two hosts, and of one that is served until its standard input ends:
   vtl serve --socket /run/vtl/socket --sessions 2
-  vtl serve --socket /run/vtl/socket --workers 16 --drain";
+  vtl serve --socket /run/vtl/socket --workers 16 --drain --log";
 
 const CLIENT_EXAMPLE: &str =
     "Example, of a host that asks logical unit 0 whether it is ready, and reads the reply in words:
@@ -28,6 +28,16 @@ const EXAMPLES: &str = "Examples:
   vtl cells 'WRITE(6)'
   vtl serve --socket /run/vtl/socket --sessions 2
   vtl client --socket /run/vtl/socket --sas 500000000000000a --port 1 < examples/host_a.script";
+
+/// What the help says of draining.
+const DRAIN: &str =
+    "Prints the records after each session, and within one whenever a unit has 4,096 of them, and keeps them no longer; \
+    without it the server keeps all, some 255 bytes a command, so a long-lived server wants it";
+
+/// What the help says of the lines of sessions.
+const LOG: &str =
+    "Prints a line on standard error for each session that begins and ends, and for what a host was refused \
+    for want of memory or of a slot";
 
 /// The program with its commands.
 pub(crate) fn program<'a>(alloc: Global) -> Result<Command<'a>, AllocError> {
@@ -149,8 +159,18 @@ fn with_audit<'a>(alloc: Global, command: Command<'a>) -> Result<Command<'a>, Al
     command.arg(audit)?.arg(spans)
 }
 
-/// The options that say where a library is served, for how long, and what is printed of its records.
+/// The options that say where a library is served, for how long, and what is told meanwhile.
 fn with_serve_options<'a>(alloc: Global, command: Command<'a>) -> Result<Command<'a>, AllocError> {
+    let serve = with_records(alloc, with_place(alloc, command)?)?;
+    let log = Arg::new(alloc, "log")
+        .long("log")
+        .action(ArgAction::SetTrue)
+        .help(LOG);
+    with_times(alloc, serve)?.arg(log)
+}
+
+/// The options that say where a library is served, for how long, and to how many.
+fn with_place<'a>(alloc: Global, command: Command<'a>) -> Result<Command<'a>, AllocError> {
     let socket = Arg::new(alloc, "socket")
         .long("socket")
         .value_name("PATH")
@@ -171,6 +191,11 @@ fn with_serve_options<'a>(alloc: Global, command: Command<'a>) -> Result<Command
         .help(
             "How many sessions there may be at a time until standard input ends, 8 where nothing is said",
         );
+    command.arg(socket)?.arg(sessions)?.arg(workers)
+}
+
+/// The options that say when and how the records of a served library are printed.
+fn with_records<'a>(alloc: Global, command: Command<'a>) -> Result<Command<'a>, AllocError> {
     let spans = Arg::new(alloc, "spans")
         .long("spans")
         .action(ArgAction::SetTrue)
@@ -179,13 +204,35 @@ fn with_serve_options<'a>(alloc: Global, command: Command<'a>) -> Result<Command
         .long("drain")
         .action(ArgAction::SetTrue)
         .conflicts_with("spans")?
+        .help(DRAIN);
+    command.arg(spans)?.arg(drain)
+}
+
+/// The options that say how long a served library waits for its hosts.
+fn with_times<'a>(alloc: Global, command: Command<'a>) -> Result<Command<'a>, AllocError> {
+    let grace = seconds(alloc, "grace", ServeTimes::MAX_GRACE)
+        .default_value("10")
+        .help("How many seconds sessions go on once no more connections are accepted");
+    let login = seconds(alloc, "login-timeout", ServeTimes::MAX_TIMEOUT)
+        .default_value("10")
         .help(
-            "Prints a line for each record so far after each session too, and keeps those records no longer",
+            "After how many seconds a connection is closed whose LOGIN hasn't come whole, 0 for never",
         );
-    command
-        .arg(socket)?
-        .arg(sessions)?
-        .arg(workers)?
-        .arg(spans)?
-        .arg(drain)
+    let idle = seconds(alloc, "idle-timeout", ServeTimes::MAX_TIMEOUT)
+        .default_value("0")
+        .help("After how many seconds a session is ended from which nothing came, 0 for never");
+    let write = seconds(alloc, "write-timeout", ServeTimes::MAX_TIMEOUT)
+        .default_value("30")
+        .help(
+            "After how many seconds a reply that can't be written ends its session as a failed write, 0 for never",
+        );
+    command.arg(grace)?.arg(login)?.arg(idle)?.arg(write)
+}
+
+/// An option that takes a number of seconds.
+fn seconds<'a>(alloc: Global, name: &'a str, most: u32) -> Arg<'a> {
+    Arg::new(alloc, name)
+        .long(name)
+        .value_name("SECONDS")
+        .value_parser(value_parser!(u32).range(0..=i64::from(most)))
 }

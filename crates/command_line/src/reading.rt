@@ -8,7 +8,7 @@ use clap::ArgMatches;
 use output_lines::{Audit, Explanations};
 use permission_chart::class_named;
 use permit_tables::Class;
-use program_options::{LibraryOptions, OptionFault, ServeUntil, nexus_of};
+use program_options::{LibraryOptions, OptionFault, ServeTimes, ServeUntil, nexus_of};
 use scsi_nexus::TARGET_PORTS;
 use std::alloc::{AllocError, Global};
 
@@ -100,7 +100,26 @@ fn records_of(command: &ArgMatches) -> Audit {
     }
 }
 
-/// Where the library of a command is served, and for how long.
+/// How long a command has a library wait for its hosts.
+fn times_of(command: &ArgMatches) -> ServeTimes {
+    // `clap` sees to it that no value is absent: what stands behind each `get_one` says that to the prover alone.
+    ServeTimes::of_seconds(
+        command
+            .get_one::<u32>("grace")
+            .unwrap_or(ServeTimes::DEFAULT_GRACE),
+        command
+            .get_one::<u32>("login-timeout")
+            .unwrap_or(ServeTimes::DEFAULT_LOGIN),
+        command
+            .get_one::<u32>("idle-timeout")
+            .unwrap_or(ServeTimes::DEFAULT_IDLE),
+        command
+            .get_one::<u32>("write-timeout")
+            .unwrap_or(ServeTimes::DEFAULT_WRITE),
+    )
+}
+
+/// Where the library of a command is served, for how long, and what is printed meanwhile.
 fn serve_options_of(alloc: Global, command: &ArgMatches) -> Result<ServeOptions, AllocError>
     ensures { IfOk result IsServeOptions }
 {
@@ -114,11 +133,12 @@ fn serve_options_of(alloc: Global, command: &ArgMatches) -> Result<ServeOptions,
             ServeUntil::InputEnds(workers.clamp(1, 64))
         }
     };
-    let drain = command.get_flag("drain");
     Ok(ServeOptions {
         socket,
         until,
-        drain,
+        drain: command.get_flag("drain"),
+        times: times_of(command),
+        log: command.get_flag("log"),
     })
 }
 

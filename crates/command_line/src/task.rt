@@ -1,6 +1,6 @@
 use output_lines::{Audit, Explanations};
 use permit_tables::Class;
-use program_options::{LibraryOptions, ServeUntil};
+use program_options::{LibraryOptions, ServeTimes, ServeUntil};
 use scsi_nexus::Nexus;
 
 /// What the program is asked to do.
@@ -17,14 +17,18 @@ pub enum Task {
     Cells(Option<Class>),
 }
 
-/// Where a library is served, for how long, and when its records are printed.
+/// Where a library is served, for how long, when its records are printed, and what is told of its sessions.
 #[derive(Debug, Drop, PartialEq, Eq)]
 pub struct ServeOptions {
     /// The path of the socket's file.
     pub socket: String,
     pub until: ServeUntil,
-    /// Whether a line for each record so far is printed after each session, and the records kept no longer.
+    /// Whether records are printed after each session, and within one whenever a unit has many of them, and are kept no longer.
     pub drain: bool,
+    /// How long it waits for its hosts.
+    pub times: ServeTimes,
+    /// Whether a line tells of each session that begins or ends, and of what a host was refused for want of memory or of a slot.
+    pub log: bool,
 }
 
 /// Where a library is met, and as which host.
