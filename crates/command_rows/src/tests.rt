@@ -3,9 +3,10 @@
 use command_line::{Task, task_of};
 use output_lines::{Audit, Explanations};
 use permit_tables::Class;
-use program_options::ServeUntil;
+use program_options::{ServeTimes, ServeUntil};
 use std::alloc::Global;
 use std::test::Fail;
+use std::time::Duration;
 
 /// The words of a command line that stand apart by one blank.
 fn words_of(alloc: Global, line: &str) -> Result<Vec<String>, Fail> {
@@ -42,6 +43,49 @@ fn task_of_refuses_wrong_lines_and_shows_help(rt: HostRuntime) -> Result<(), Fai
             "vtl serve --socket s --sessions 65",
             2,
             "65 is not in 1..=64",
+        ),
+        (
+            "vtl serve --socket s --grace 3601",
+            2,
+            "3601 is not in 0..=3600",
+        ),
+        (
+            "vtl serve --socket s --grace=-1",
+            2,
+            "-1 is not in 0..=3600",
+        ),
+        (
+            "vtl serve --socket s --grace soon",
+            2,
+            "invalid value 'soon'",
+        ),
+        (
+            "vtl serve --socket s --login-timeout 86401",
+            2,
+            "86401 is not in 0..=86400",
+        ),
+        (
+            "vtl serve --socket s --idle-timeout 86401",
+            2,
+            "86401 is not in 0..=86400",
+        ),
+        (
+            "vtl serve --socket s --write-timeout 86401",
+            2,
+            "86401 is not in 0..=86400",
+        ),
+        ("vtl serve --socket s --log=1", 2, "unexpected value '1'"),
+        (
+            "vtl serve --socket s --log --log",
+            2,
+            "cannot be used multiple times",
+        ),
+        ("vtl replay --grace 1", 2, "unexpected argument '--grace'"),
+        ("vtl replay --log", 2, "unexpected argument '--log'"),
+        (
+            "vtl client --write-timeout 1",
+            2,
+            "unexpected argument '--write-timeout'",
         ),
         ("vtl replay more", 2, "unexpected argument 'more'"),
         ("vtl --audit replay", 2, "unexpected argument '--audit'"),
@@ -91,6 +135,41 @@ fn task_of_refuses_wrong_lines_and_shows_help(rt: HostRuntime) -> Result<(), Fai
             "vtl serve --help",
             0,
             "  vtl serve --socket /run/vtl/socket --sessions 2",
+        ),
+        (
+            "vtl serve --help",
+            0,
+            "  vtl serve --socket /run/vtl/socket --workers 16 --drain --log",
+        ),
+        (
+            "vtl serve --help",
+            0,
+            "keeps them no longer; without it the server keeps all",
+        ),
+        (
+            "vtl serve --help",
+            0,
+            "no more connections are accepted [default: 10]",
+        ),
+        (
+            "vtl serve --help",
+            0,
+            "hasn't come whole, 0 for never [default: 10]",
+        ),
+        (
+            "vtl serve --help",
+            0,
+            "nothing came, 0 for never [default: 0]",
+        ),
+        (
+            "vtl serve --help",
+            0,
+            "a failed write, 0 for never [default: 30]",
+        ),
+        (
+            "vtl serve --help",
+            0,
+            "a host was refused for want of memory or of a slot",
         ),
         ("vtl cells --help", 0, "  vtl cells 'WRITE(6)'"),
         (
@@ -212,23 +291,29 @@ fn task_of_reads_where_and_until_when_to_serve(rt: HostRuntime) -> Result<(), Fa
         (
             "vtl serve --drives 2 --sessions 64 --spans --socket /run/vtl",
             ServeUntil::Sessions(64),
-            false,
+            (false, false),
             Audit::Spans,
         ),
         (
             "vtl serve --socket /run/vtl --drives 2",
             ServeUntil::InputEnds(8),
-            false,
+            (false, false),
             Audit::Lines,
         ),
         (
             "vtl serve --workers 3 --drain --socket /run/vtl --drives 2",
             ServeUntil::InputEnds(3),
-            true,
+            (true, false),
             Audit::Lines,
         ),
+        (
+            "vtl serve --log --spans --socket /run/vtl --drives 2",
+            ServeUntil::InputEnds(8),
+            (false, true),
+            Audit::Spans,
+        ),
     ];
-    for (line, until, drain, wanted) in rows {
+    for (line, until, (drain, log), wanted) in rows {
         let words = words_of(rt.alloc(), line)?;
         let Ok(Task::Serve(options, place, audit)) = task_of(rt.alloc(), &words) else {
             return Err("another task".into());
@@ -237,8 +322,83 @@ fn task_of_reads_where_and_until_when_to_serve(rt: HostRuntime) -> Result<(), Fa
         assert_eq!(rt; place.socket.as_str(), "/run/vtl", "{line}");
         assert_eq!(rt; place.until, until, "{line}");
         assert_eq!(rt; place.drain, drain, "{line}");
+        assert_eq!(rt; place.log, log, "{line}");
         assert_eq!(rt; audit, wanted, "{line}");
     }
+    Ok(())
+}
+
+#[test]
+fn task_of_reads_how_long_hosts_are_waited_for(rt: HostRuntime) -> Result<(), Fail> {
+    let rows = [
+        ("vtl serve --socket s", 10, Some(10), None, Some(30)),
+        (
+            "vtl serve --socket s --grace 0 --login-timeout 0 --idle-timeout 0 --write-timeout 0",
+            0,
+            None,
+            None,
+            None,
+        ),
+        (
+            "vtl serve --socket s --grace 3600 --login-timeout 86400 --idle-timeout 86400 --write-timeout 86400",
+            3600,
+            Some(86_400),
+            Some(86_400),
+            Some(86_400),
+        ),
+        (
+            "vtl serve --grace 1 --socket s",
+            1,
+            Some(10),
+            None,
+            Some(30),
+        ),
+        (
+            "vtl serve --socket s --login-timeout=2",
+            10,
+            Some(2),
+            None,
+            Some(30),
+        ),
+        (
+            "vtl serve --socket s --idle-timeout 3",
+            10,
+            Some(10),
+            Some(3),
+            Some(30),
+        ),
+        (
+            "vtl serve --socket s --write-timeout 4",
+            10,
+            Some(10),
+            None,
+            Some(4),
+        ),
+    ];
+    for (line, grace, login, idle, write) in rows {
+        let words = words_of(rt.alloc(), line)?;
+        let Ok(Task::Serve(_, place, _)) = task_of(rt.alloc(), &words) else {
+            return Err("another task".into());
+        };
+        let times = ServeTimes {
+            grace: Duration::from_secs(grace),
+            login: login.map(Duration::from_secs),
+            idle: idle.map(Duration::from_secs),
+            write: write.map(Duration::from_secs),
+        };
+        assert_eq!(rt; place.times, times, "{line}");
+    }
+    Ok(())
+}
+
+/// The options' times, where none is given, are those that a library has without a command line.
+#[test]
+fn task_of_reads_the_usual_times(rt: HostRuntime) -> Result<(), Fail> {
+    let words = words_of(rt.alloc(), "vtl serve --socket s")?;
+    let Ok(Task::Serve(_, place, _)) = task_of(rt.alloc(), &words) else {
+        return Err("another task".into());
+    };
+    assert_eq!(rt; place.times, ServeTimes::default());
     Ok(())
 }
 
