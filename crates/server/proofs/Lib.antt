@@ -1,1 +1,4 @@
 pub mod Closed
+pub mod HandingOut
+pub mod Settled
+pub mod Written

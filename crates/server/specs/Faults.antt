@@ -1,4 +1,4 @@
--- The faults of a host: which of several is told, its exit status, and its two lines (profile).
+-- The faults of a server: which of several is told, its exit status, and its two lines (profile).
 use Rattle.std.specs.Prelude.{ℕ, nat_lt, Bool, if◌then◌else◌, List, ◌++◌, codes, Option, Some, None}
 use Rattle.std.specs.Fmt.{decimal}
 use Rattle.scsi_nexus.specs.declared.nexus.Nexus.{Nexus}
@@ -7,17 +7,23 @@ use Rattle.session.specs.declared.fault.SessionFault.{SessionFault}
 use Rattle.session.specs.declared.fault.SessionFault.TheVariants as session
 use Rattle.lun_router.specs.declared.closing.CloseFault.{CloseFault}
 use Rattle.lun_router.specs.declared.closing.CloseFault.TheVariants as close
+use Rattle.server.specs.declared.server_fault.Cause.{Cause}
+use Rattle.server.specs.declared.server_fault.Cause.TheVariants.{Fault, Silence}
 use Rattle.server.specs.declared.server_fault.FaultySession.{FaultySession}
 use Rattle.server.specs.declared.server_fault.ServerFault.{ServerFault}
 use Rattle.server.specs.declared.server_fault.ServerFault.TheVariants as fault
 
+-- where nothing came in time a read failed
+abbrev pub fault_of : Cause → SessionFault
+fault_of (Fault fault) = fault
+fault_of Silence = session.Read
+
 -- the place in the order in which faults are told
 abbrev pub rank : ServerFault → ℕ
-rank fault.Accept = 1
-rank (fault.Session s) = 2
-rank (fault.Close fault) = 3
-rank fault.Write = 4
-rank fault.NoMemory = 5
+rank (fault.Session s) = 1
+rank (fault.Close fault) = 2
+rank fault.Write = 3
+rank fault.NoMemory = 4
 
 -- one comes before another by its rank, and of two sessions the one that was accepted first
 abbrev pub is_before : ServerFault → ServerFault → Bool
@@ -31,7 +37,6 @@ earlier (Some a) None = Some a
 earlier (Some a) (Some b) = if is_before b a then Some b else Some a
 
 abbrev pub exit_status : ServerFault → ℕ
-exit_status fault.Accept = 4
 exit_status (fault.Session s) = 4
 exit_status (fault.Close fault) = 4
 exit_status fault.Write = 4
@@ -45,6 +50,10 @@ session_words session.Read = codes "a read failed"
 session_words session.Write = codes "a write failed"
 session_words session.NoMemory = codes "want of memory"
 
+abbrev pub cause_words : Cause → List ℕ
+cause_words (Fault fault) = session_words fault
+cause_words Silence = codes "nothing came in time"
+
 abbrev pub close_words : CloseFault → List ℕ
 close_words close.Mismatch = codes "what the sessions were told is not what the records say"
 close_words close.SeatMissing = codes "a seat is missing"
@@ -55,11 +64,10 @@ whose None = codes " before its LOGIN: "
 whose (Some n) = codes " of " ++ nexus_text n ++ codes ": "
 
 abbrev pub faulty_session_text : FaultySession → List ℕ
-faulty_session_text s = decimal s.number ++ (whose s.nexus ++ session_words s.fault)
+faulty_session_text s = decimal s.number ++ (whose s.nexus ++ cause_words s.cause)
 
 -- the line that says which kind of fault it is, and one that says what happened to what
 abbrev pub fault_text : ServerFault → List ℕ
-fault_text fault.Accept = codes "vtl: device fault\nvtl: a connection could not be accepted"
 fault_text (fault.Session s) = codes "vtl: device fault\nvtl: session " ++ faulty_session_text s
 fault_text (fault.Close fault) = codes "vtl: device fault\nvtl: the library could not be closed: " ++ close_words fault
 fault_text fault.Write = codes "vtl: device fault\nvtl: the lines of the records could not be written"

@@ -1,3 +1,5 @@
 pub mod Faults
+pub mod Events
+pub mod Batches
 pub mod Serving
 pub mod LibraryService

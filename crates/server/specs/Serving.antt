@@ -1,4 +1,4 @@
--- What a host has served, and what it wrote at its end.
+-- What a server has served, and what it wrote at its end.
 use Rattle.std.specs.Prelude.{◌≡◌, ℕ, List, [], ◌∷◌, ◌++◌, Option, Some, None, IfSome}
 use Rattle.std.specs.Io.KnownBytes.{Appends}
 use Rattle.kept_unit.specs.Agreeing.{Agrees}
@@ -8,15 +8,13 @@ use Rattle.lun_router.specs.Seats.{SeatValue, notes_at}
 use Rattle.output_lines.specs.declared.audit_lines.Audit.{Audit}
 use Rattle.output_lines.specs.declared.audit_lines.Audit.TheVariants.{Lines}
 use Rattle.output_lines.specs.AuditLines.{audit_text}
-use Rattle.session.specs.declared.fault.End.{End}
-use Rattle.session.specs.Serving.{Serves}
 use Rattle.server.specs.declared.serving.RecordOutput.{RecordOutput}
-use Rattle.server.specs.declared.serving.RecordOutput.TheVariants.{AtTheEnd, AfterEachSession}
-use Rattle.server.specs.LibraryService.{LibraryServiceValue, DoesToService}
+use Rattle.server.specs.declared.serving.RecordOutput.TheVariants.{AtTheEnd, AsTheyCome}
+use Rattle.server.specs.LibraryService.{LibraryServiceValue}
 
--- a session that had no fault
-abbrev pub ServesSome : LibraryServiceValue → (left left' written written' : Option (List ℕ)) → LibraryServiceValue → Type 0
-ServesSome s left left' written written' t = (end : End) × Serves DoesToService (λ (p : LibraryServiceValue). p.units) s left left' written written' end t
+-- how many units there are
+abbrev pub units_of_service : LibraryServiceValue → ℕ
+units_of_service p = p.units
 
 -- a unit that may be absent
 abbrev pub if_there : Option UnitView → List UnitView
@@ -28,10 +26,9 @@ if_there (Some u) = u ∷ []
 abbrev pub AgreesAt : (lun since : ℕ) → UnitView → List SeatValue → Type 0
 AgreesAt lun since u seats = Agrees (notes_at lun) lun since u.base.last u.records seats
 
--- a library that was closed: what the seats have noted agrees with each trail, and the lines that are wanted of the records were written, LUN 0
+-- a library that was closed with seats: what these have noted agrees with each trail, and the lines that are wanted of the records were written, LUN 0
 -- first
-pub record IsClosed (audit : Audit) (zero one two three four : ℕ) (written written' : Option (List ℕ)) : Type 0 where
-  pub seats : List SeatValue
+pub record IsClosed (seats : List SeatValue) (audit : Audit) (zero one two three four : ℕ) (written written' : Option (List ℕ)) : Type 0 where
   pub changer : UnitView
   pub first : UnitView
   pub second : Option UnitView
@@ -44,6 +41,12 @@ pub record IsClosed (audit : Audit) (zero one two three four : ℕ) (written wri
   pub fourth_agrees : IfSome fourth (λ u. AgreesAt 4 four u seats)
   pub lines : Appends written written' (audit_text audit (changer ∷ first ∷ if_there second ++ if_there third ++ if_there fourth))
 
+-- the same behind the lines of records that were taken before, with a line for each record
+pub record DrainsAndCloses (zero one two three four : ℕ) (written written' : Option (List ℕ)) : Type 0 where
+  pub seats : List SeatValue
+  pub before : Option (List ℕ)
+  pub closed : IsClosed seats Lines zero one two three four before written'
+
 -- the same of the target that the library was opened over
 pub record ClosesOver (core : List UnitView) (audit : Audit) (written written' : Option (List ℕ)) : Type 0 where
   pub zero : ℕ
@@ -51,20 +54,21 @@ pub record ClosesOver (core : List UnitView) (audit : Audit) (written written' :
   pub two : ℕ
   pub three : ℕ
   pub four : ℕ
+  pub seats : List SeatValue
   pub since : IsSince core zero one two three four
-  pub closed : IsClosed audit zero one two three four written written'
+  pub closed : IsClosed seats audit zero one two three four written written'
 
 -- what is written of the records that are left at the end
 abbrev pub of_the_rest : RecordOutput → Audit
 of_the_rest (AtTheEnd audit) = audit
-of_the_rest AfterEachSession = Lines
+of_the_rest AsTheyCome = Lines
 
 -- whether what is written at the end is all that is written
 abbrev pub IsAllAtTheEnd : RecordOutput → Type 0
 IsAllAtTheEnd (AtTheEnd audit) = Unit {0}
-IsAllAtTheEnd AfterEachSession = ⊥
+IsAllAtTheEnd AsTheyCome = ⊥
 
--- a host that wrote its lines at the end, behind those that it wrote after its sessions, if it was to write some then
+-- a server that wrote its lines at the end, behind those that it wrote as they came, if it was to write some then
 pub record ServesLibrary (core : List UnitView) (records : RecordOutput) (written written' : Option (List ℕ)) : Type 0 where
   pub before : Option (List ℕ)
   pub none_before : IsAllAtTheEnd records → before ≡ written

@@ -53,6 +53,7 @@ impl<
     R: Wait,
 > LibraryService<'a, L0, L1, L2, L3, L4, R> {
     ghost use Rattle.std.specs.Prelude.{◌≡◌};
+    ghost use Rattle.server.specs.LibraryService.{SettlesService};
 
     /// A place for one session after another.
     pub fn new(
@@ -70,6 +71,16 @@ impl<
             seat,
             nexus: None,
         }
+    }
+
+    /// Settles what the seat has noted of records that were handed out, up to these numbers by LUN. Where that finds no room,
+    /// nothing has changed, and it is tried again later.
+    pub fn settle_seat(&mut self, drained: &[u64; 5])
+        ensures { SettlesService self.old self.new }
+    {
+        let Ok(()) = self.seat.settle(drained) else {
+            return;
+        };
     }
 
     /// The seat, with which the library is closed.

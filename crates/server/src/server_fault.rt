@@ -1,5 +1,5 @@
 ghost use Rattle.std.specs.Prelude.{◌≡◌};
-ghost use Rattle.server.specs.Faults.{close_words, earlier, is_before, rank, session_words};
+ghost use Rattle.server.specs.Faults.{cause_words, close_words, earlier, fault_of, is_before, rank, session_words};
 
 use lun_router::CloseFault;
 use scsi_nexus::Nexus;
@@ -8,6 +8,26 @@ use std::alloc::{AllocError, AllocFailed};
 use std::fmt;
 use thiserror::Error;
 
+/// Why a session ended early.
+#[derive(Clone, Copy, Debug, PartialEq, Eq)]
+pub enum Cause {
+    Fault(SessionFault),
+    /// A read failed since nothing came in time.
+    Silence,
+}
+
+impl Cause {
+    /// The fault of the session.
+    pub fn fault(self) -> SessionFault
+        ensures { result ≡ fault_of self }
+    {
+        match self {
+            Cause::Fault(fault) => fault,
+            Cause::Silence => SessionFault::Read,
+        }
+    }
+}
+
 /// A session that had a fault.
 #[derive(Clone, Copy, Debug, PartialEq, Eq)]
 pub struct FaultySession {
@@ -15,15 +35,13 @@ pub struct FaultySession {
     pub number: u64,
     /// Whose it was, or was to be. `None` where it ended before its LOGIN.
     pub nexus: Option<Nexus>,
-    pub fault: SessionFault,
+    pub cause: Cause,
 }
 
-/// Why a host has a fault. Of several that happened the first of this list is told, and of sessions the one
+/// Why a server has a fault. Of several that happened the first of this list is told, and of sessions the one
 /// that was accepted first.
 #[derive(Clone, Copy, Debug, PartialEq, Eq, Error)]
 pub enum ServerFault {
-    /// A connection couldn't be accepted.
-    Accept,
     Session(FaultySession),
     /// The library couldn't be closed, so that there are no lines of its records.
     Close(CloseFault),
@@ -41,10 +59,7 @@ impl ServerFault {
     {
         match self {
             ServerFault::NoMemory => 3,
-            ServerFault::Accept
-            | ServerFault::Session(_)
-            | ServerFault::Close(_)
-            | ServerFault::Write => 4,
+            ServerFault::Session(_) | ServerFault::Close(_) | ServerFault::Write => 4,
         }
     }
 
@@ -63,11 +78,10 @@ impl ServerFault {
         ensures { result ≡ rank self.now }
     {
         match self {
-            ServerFault::Accept => 1,
-            ServerFault::Session(_) => 2,
-            ServerFault::Close(_) => 3,
-            ServerFault::Write => 4,
-            ServerFault::NoMemory => 5,
+            ServerFault::Session(_) => 1,
+            ServerFault::Close(_) => 2,
+            ServerFault::Write => 3,
+            ServerFault::NoMemory => 4,
         }
     }
 }
@@ -91,9 +105,6 @@ impl fmt::Display for ServerFault {
 
     fn fmt<W: fmt::Write>(&self, f: &mut fmt::Formatter<W>) -> fmt::Result {
         match self {
-            ServerFault::Accept => {
-                f.write_str("vtl: device fault\nvtl: a connection could not be accepted")
-            }
             ServerFault::Session(session) => {
                 write!(f, "vtl: device fault\nvtl: session {session}")
             }
@@ -117,11 +128,20 @@ impl fmt::Display for FaultySession {
 
     fn fmt<W: fmt::Write>(&self, f: &mut fmt::Formatter<W>) -> fmt::Result {
         let number = self.number;
-        let words = session_words(self.fault);
+        let words = cause_words(self.cause);
         match self.nexus {
             None => write!(f, "{number} before its LOGIN: {words}"),
             Some(nexus) => write!(f, "{number} of {nexus}: {words}"),
         }
+    }
+}
+
+fn cause_words(cause: Cause) -> &'static str
+    ensures { result.now ≡ cause_words cause }
+{
+    match cause {
+        Cause::Fault(fault) => session_words(fault),
+        Cause::Silence => "nothing came in time",
     }
 }
 

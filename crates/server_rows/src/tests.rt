@@ -1,5 +1,7 @@
+mod endings;
 mod hosts;
 mod listeners;
+mod outlets;
 mod streams;
 
 use changer_server::Changer;
@@ -7,20 +9,23 @@ use element_map::Elements;
 use library_device::{Device, unit_at};
 use lun_router::CloseFault;
 use output_lines::Audit;
-use program_options::MAX_READS;
 use scsi_nexus::Nexus;
-use server::{FaultySession, RecordOutput, ServeLimits, ServerFault, earlier, serve_library};
+use server::{
+    Cause, FaultySession, LiveSessions, RecordOutput, ServeLimits, ServeTerm, ServerFault, Teller,
+    Telling, WaitTimes, earlier, serve_library,
+};
 use session::SessionFault;
 use std::alloc::Global;
 use std::fs::Files;
 use std::io::{self, Read, Write};
-use std::net::Net;
+use std::net::{Net, Shutdown};
+use std::os::fd::OwnedFd;
 use std::os::unix::net::{SocketAddr, SocketAddrExt, UnixListener, UnixStream};
 use std::process::{self, Abort};
 use std::sync::Wait;
-use std::sync::atomic::{AtomicBool, Ordering};
 use std::test::Fail;
 use std::thread::{self, Threads};
+use std::time::{Clock, Duration};
 use tape_medium::{Tape, Volume, VolumeTag};
 use tape_server::TapeDrive;
 use target_core::TargetCore;
@@ -192,6 +197,12 @@ enum Step {
     Says(usize, Frame, Answer),
     /// Reads the end.
     IsLeft(usize),
+    /// Sends a frame so many times, each time reading a reply of 15 bytes.
+    Asks(usize, Frame, usize),
+    /// Sends a frame up to so many times without reading, until it can't.
+    Floods(usize, Frame, usize),
+    /// Has no more sessions begin, and ends those that go on.
+    Ends,
 }
 
 fn sent(frame: Frame) -> &'static [u8] {
@@ -306,26 +317,72 @@ fn has_ended(mut stream: &UnixStream) -> io::Result<bool> {
     Ok(count == 0)
 }
 
-/// Takes a step. Whether all is as it should be.
-fn is_taken(alloc: Global, streams: &[UnixStream], step: Step) -> io::Result<bool> {
+/// Sends a frame so many times, each time reading a reply of 15 bytes.
+fn ask(mut stream: &UnixStream, frame: Frame, times: usize) -> io::Result<()> {
+    for _turn in 0..times {
+        stream.write_all(sent(frame))?;
+        stream.read_exact(&mut [0u8; 15])?;
+    }
+    Ok(())
+}
+
+/// Sends a frame up to so many times, until it can't.
+fn flood(mut stream: &UnixStream, frame: Frame, times: usize) {
+    for _turn in 0..times {
+        if stream.write_all(sent(frame)).is_err() {
+            return;
+        }
+    }
+}
+
+/// Takes a step at a connection. Whether all is as it should be.
+fn is_taken_at(alloc: Global, stream: &UnixStream, step: Step) -> io::Result<bool> {
     match step {
-        Step::Says(place, frame, answer) => match streams.get(place) {
-            Some(stream) => is_answered(alloc, stream, frame, answer),
-            None => Ok(false),
-        },
-        Step::IsLeft(place) => match streams.get(place) {
-            Some(stream) => has_ended(stream),
-            None => Ok(false),
-        },
+        Step::Says(_, frame, answer) => is_answered(alloc, stream, frame, answer),
+        Step::IsLeft(_) => has_ended(stream),
+        Step::Asks(_, frame, times) => {
+            ask(stream, frame, times)?;
+            Ok(true)
+        }
+        Step::Floods(_, frame, times) => {
+            flood(stream, frame, times);
+            Ok(true)
+        }
+        Step::Ends => Ok(true),
+    }
+}
+
+/// Takes a step. Whether all is as it should be.
+fn is_taken<R: Clock + Wait>(
+    rt: &R,
+    alloc: Global,
+    streams: &[UnixStream],
+    ending: &Ending<'_>,
+    step: Step,
+) -> io::Result<bool> {
+    let place = match step {
+        Step::Says(place, _, _)
+        | Step::IsLeft(place)
+        | Step::Asks(place, _, _)
+        | Step::Floods(place, _, _) => place,
+        Step::Ends => {
+            ending.end(rt)?;
+            return Ok(true);
+        }
+    };
+    match streams.get(place) {
+        Some(stream) => is_taken_at(alloc, stream, step),
+        None => Ok(false),
     }
 }
 
 /// Connects so many times, takes the steps, and says whether all that was read is as it should be.
-fn talk<R: Net>(
+fn talk<R: Clock + Net + Wait>(
     rt: &R,
     alloc: Global,
     address: &SocketAddr,
     connections: usize,
+    ending: &Ending<'_>,
     steps: &[Step],
 ) -> io::Result<bool> {
     let mut streams = Vec::new(alloc);
@@ -333,112 +390,154 @@ fn talk<R: Net>(
         streams.push(UnixStream::connect_addr(rt, address)?)?;
     }
     for step in steps {
-        if !is_taken(alloc, &streams, *step)? {
+        if !is_taken(rt, alloc, &streams, ending, *step)? {
             return Ok(false);
         }
     }
     Ok(true)
 }
 
-/// How a host meets a client.
+/// How a server meets a client.
 #[derive(Clone, Copy)]
 struct Meeting {
-    /// A part of the host's address.
+    /// A part of the server's address.
     name: &'static str,
     workers: u8,
-    /// How many sessions there are in all. `None`: until the client says that there are no more.
-    sessions: Option<u64>,
+    /// How many sessions there are in all, or until the client says that there are no more.
+    term: ServeTerm,
+    times: WaitTimes,
     /// How many connections the client makes.
     connections: usize,
     records: RecordOutput,
 }
+
+/// Hosts are waited for for ever.
+const PATIENT: WaitTimes = WaitTimes {
+    login: None,
+    idle: None,
+    write: None,
+};
 
 /// A meeting of so many sessions, whose records are told at the end.
 const fn sessions(name: &'static str, workers: u8) -> Meeting {
     Meeting {
         name,
         workers,
-        sessions: Some(workers as u64),
+        term: ServeTerm::Sessions(workers as u64),
+        times: PATIENT,
         connections: workers as usize,
         records: RecordOutput::AtTheEnd(Audit::Lines),
     }
 }
 
-/// Hosts a target for a client in a second thread. What the host answers, and whether the client was told what it should be.
-fn host_and_talk<R: AllocGlobal + Files + Net + Sync + Threads + Wait>(
+/// A served library, to who ends it.
+#[derive(Drop)]
+struct Ending<'a> {
+    sessions: &'a LiveSessions,
+    /// A second descriptor of the listener.
+    second: UnixStream,
+}
+
+impl<'a> Ending<'a> {
+    fn of(sessions: &'a LiveSessions, listener: &UnixListener) -> io::Result<Ending<'a>> {
+        Ok(Ending {
+            sessions,
+            second: UnixStream::from(OwnedFd::from(listener.try_clone()?)),
+        })
+    }
+
+    /// Has no more sessions begin, and ends those that go on.
+    fn end<R: Clock + Wait>(&self, rt: &R) -> io::Result<()> {
+        self.sessions.close(rt);
+        self.second.shutdown(Shutdown::Both)?;
+        self.sessions.end_after(rt, Duration::ZERO);
+        Ok(())
+    }
+}
+
+/// Serves a target to a client in a second thread. What the server answers, and whether the client was told what it should be.
+fn serve_and_talk<
+    R: AllocGlobal + Clock + Files + Net + Sync + Threads + Wait,
+    W: Write + Send,
+    E: Write + Send,
+>(
     rt: &R,
     core: TargetCore<Device>,
     listener: &UnixListener,
     address: &SocketAddr,
-    closed: &AtomicBool,
     meeting: Meeting,
     steps: &[Step],
-    output: &mut Vec<u8>,
-) -> (Result<(), ServerFault>, io::Result<bool>) {
-    thread::join(
+    output: &mut W,
+    errors: &mut E,
+) -> io::Result<(Result<(), ServerFault>, io::Result<bool>)> {
+    let alloc = rt.alloc();
+    let sessions = LiveSessions::new(alloc);
+    let teller = Teller::new(Telling::Everything, errors);
+    let ending = Ending::of(&sessions, listener)?;
+    Ok(thread::join(
         rt,
         || {
             let limits = ServeLimits {
                 workers: meeting.workers.max(1),
-                sessions: meeting.sessions.unwrap_or(u64::MAX),
-                closed,
-                reads: MAX_READS,
+                term: meeting.term,
+                times: meeting.times,
+                sessions: &sessions,
             };
             serve_library(
                 rt,
-                rt.alloc(),
+                alloc,
                 core,
                 listener,
                 limits,
                 meeting.records,
                 output,
+                &teller,
             )
         },
-        || {
-            let talked = talk(rt, rt.alloc(), address, meeting.connections, steps);
-            if meeting.sessions.is_none() {
-                closed.store(true, Ordering::SeqCst);
-                // Wakes the host.
-                let _last = UnixStream::connect_addr(rt, address);
-            }
-            talked
-        },
-    )
+        || talk(rt, alloc, address, meeting.connections, &ending, steps),
+    ))
 }
 
-/// Hosts the target for a client, at an address that is no file. What the host answers and writes, where the client was
+/// What came of a meeting.
+#[derive(Drop)]
+struct Met {
+    served: Result<(), ServerFault>,
+    /// The lines that were told.
+    told: Vec<u8>,
+}
+
+/// Serves the target to a client, at an address that is no file. What the server answers, writes and tells, where the client was
 /// told what it should be.
-fn meet<R: AllocGlobal + Files + Net + Sync + Threads + Wait>(
+fn meet<R: AllocGlobal + Clock + Files + Net + Sync + Threads + Wait, W: Write + Send>(
     rt: &R,
     id: u32,
     meeting: Meeting,
     steps: &[Step],
-) -> Result<(Result<(), ServerFault>, Vec<u8>), Fail> {
+    output: &mut W,
+) -> Result<Met, Fail> {
     let alloc = rt.alloc();
     let name = format!(in alloc; "vtl-{}-{id}", meeting.name)?;
     let address = SocketAddr::from_abstract_name(name.as_bytes())?;
     let listener = UnixListener::bind_addr(rt, &address)?;
-    let core = target(alloc)?;
-    let mut output = Vec::new(alloc);
-    let closed = AtomicBool::new(false);
-    let (hosted, talked) = host_and_talk(
+    let mut told = Vec::new(alloc);
+    let (served, talked) = serve_and_talk(
         rt,
-        core,
+        target(alloc)?,
         &listener,
         &address,
-        &closed,
         meeting,
         steps,
-        &mut output,
-    );
+        output,
+        &mut told,
+    )?;
     if !talked? {
         return Err("another reply".into());
     }
-    Ok((hosted, output))
+    Ok(Met { served, told })
 }
 
-/// Hosts a target for a client, and compares how the host ends and, where they are given, the lines that it writes.
-fn assert_met<R: Abort + AllocGlobal + Files + Net + Sync + Threads + Wait>(
+/// Serves a target to a client, and compares how the server ends and, where they are given, the lines that it writes.
+fn assert_met<R: Abort + AllocGlobal + Clock + Files + Net + Sync + Threads + Wait>(
     rt: &R,
     id: u32,
     meeting: Meeting,
@@ -446,8 +545,9 @@ fn assert_met<R: Abort + AllocGlobal + Files + Net + Sync + Threads + Wait>(
     end: Result<(), ServerFault>,
     lines: Option<&[u8]>,
 ) -> Result<(), Fail> {
-    let (hosted, written) = meet(rt, id, meeting, steps)?;
-    assert_eq!(rt; hosted, end, "{}", meeting.name);
+    let mut written = Vec::new(rt.alloc());
+    let met = meet(rt, id, meeting, steps, &mut written)?;
+    assert_eq!(rt; met.served, end, "{}", meeting.name);
     if let Some(lines) = lines {
         assert_eq!(rt; written.as_slice(), lines, "{}", meeting.name);
     }
@@ -513,7 +613,7 @@ const TWO: [Step; 6] = [
 const SECOND_REFUSED: Result<(), ServerFault> = Err(ServerFault::Session(FaultySession {
     number: 2,
     nexus: Some(A),
-    fault: SessionFault::AlreadyConnected,
+    cause: Cause::Fault(SessionFault::AlreadyConnected),
 }));
 
 /// The lines are written where a session had a fault, too; the fault has its number and its nexus.
@@ -627,7 +727,7 @@ fn write_and_read_of_two_hosts_at_one_tape(rt: HostRuntime) -> Result<(), Fail> 
     assert_met(&rt, id, sessions("tape", 2), &ONE_TAPE, Ok(()), lines)
 }
 
-const DRIVE_AND_CHANGER: [Step; 8] = [
+const DRIVE_AND_CHANGER: [Step; 9] = [
     Step::Says(0, Frame::LoginOfA, Answer::Accepted),
     Step::Says(0, Frame::DriveReady, POWER_ON_1),
     Step::Says(0, Frame::Logout, Answer::LoggedOut),
@@ -636,6 +736,7 @@ const DRIVE_AND_CHANGER: [Step; 8] = [
     Step::Says(1, Frame::Ready, POWER_ON_1),
     Step::Says(1, Frame::Logout, Answer::LoggedOut),
     Step::IsLeft(1),
+    Step::Ends,
 ];
 
 /// The drive's after the first session, and the changer's after the second.
@@ -648,7 +749,7 @@ const LINES_AS_THEY_COME: &[u8] = b"1 500000000000000a.1 TEST-UNIT-READY 2 - - 0
 fn serve_library_writes_records_after_each_session(rt: HostRuntime) -> Result<(), Fail> {
     let id = process::id(rt.process());
     let meeting = Meeting {
-        records: RecordOutput::AfterEachSession,
+        records: RecordOutput::AsTheyCome,
         ..sessions("drained", 2)
     };
     let lines = Some(LINES_AS_THEY_COME);
@@ -666,7 +767,7 @@ const LINES_AT_THE_END: &[u8] = b"1 500000000000000b.1 TEST-UNIT-READY 2 - - 02\
 fn serve_library_goes_on_until_it_is_closed(rt: HostRuntime) -> Result<(), Fail> {
     let id = process::id(rt.process());
     let meeting = Meeting {
-        sessions: None,
+        term: ServeTerm::UntilClosed,
         connections: 2,
         ..sessions("closed", 1)
     };
@@ -679,24 +780,28 @@ type Shown = (ServerFault, &'static str, u8);
 
 const SHOWN: [Shown; 6] = [
     (
-        ServerFault::Accept,
-        "vtl: device fault\nvtl: a connection could not be accepted",
-        4,
-    ),
-    (
         ServerFault::Session(FaultySession {
             number: 3,
             nexus: None,
-            fault: SessionFault::BadFrame,
+            cause: Cause::Fault(SessionFault::BadFrame),
         }),
         "vtl: device fault\nvtl: session 3 before its LOGIN: bad frame",
         4,
     ),
     (
         ServerFault::Session(FaultySession {
+            number: 4,
+            nexus: None,
+            cause: Cause::Silence,
+        }),
+        "vtl: device fault\nvtl: session 4 before its LOGIN: nothing came in time",
+        4,
+    ),
+    (
+        ServerFault::Session(FaultySession {
             number: 12,
             nexus: Some(A),
-            fault: SessionFault::AlreadyConnected,
+            cause: Cause::Fault(SessionFault::AlreadyConnected),
         }),
         "vtl: device fault\nvtl: session 12 of 500000000000000a.1: already connected",
         4,
@@ -731,6 +836,7 @@ fn faults_of_a_server_have_their_lines_and_order(rt: HostRuntime) -> Result<(), 
         assert_eq!(rt; earlier(told, Some(fault)), Some(told.unwrap_or(fault)));
         told = earlier(Some(fault), told);
     }
-    assert_eq!(rt; told, Some(ServerFault::Accept));
+    let first = SHOWN.first().ok_or("no row")?;
+    assert_eq!(rt; told, Some(first.0));
     Ok(())
 }

@@ -1,2 +1,4 @@
 pub mod Faults
+pub mod Notices
 pub mod Rows
+pub mod Serving

@@ -2,6 +2,8 @@
 #![tactic(auto)]
 
 mod laws;
+mod notice;
+mod place;
 mod socket;
 mod socket_fault;
 

@@ -2,31 +2,41 @@
 
 ghost use Rattle.std.specs.Prelude.{◌≡◌, ◌≤◌};
 ghost use Rattle.command_line.specs.Tasks.{IsServeOptions, MakesLibrary};
-ghost use Rattle.program_options.specs.ServeUntil.{sessions_of, workers_of};
+ghost use Rattle.program_options.specs.ServeUntil.{workers_of};
+ghost use Rattle.server_socket.specs.Serving.{term_of};
 
+use crate::notice::{Notice, tell};
+use crate::place::{Place, take_place};
 use crate::socket_fault::SocketFault;
 use command_line::ServeOptions;
 use library_device::Device;
 use output_lines::Audit;
-use program_options::{LibraryOptions, MAX_READS, ServeUntil};
-use server::{RecordOutput, ServeLimits, ServerFault, serve_library};
-use std::fs::{self, Files};
-use std::io::{self, Read};
+use program_options::{LibraryOptions, MAX_READS, ServeTimes, ServeUntil};
+use server::{
+    LiveSessions, RecordOutput, ServeLimits, ServeTerm, ServerFault, Teller, Telling, WaitTimes,
+    serve_library,
+};
+use std::fs::Files;
+use std::io::{self, Read, Write};
 use std::net::Net;
-use std::os::unix::net::{UnixListener, UnixStream};
 use std::sync::Wait;
-use std::sync::atomic::{AtomicBool, Ordering};
 use std::thread::{self, Threads};
+use std::time::Clock;
 use stocked_library::library;
 use target_core::TargetCore;
 
-/// Serves a library at a socket whose file it makes, and writes the lines that are wanted of the records to standard output. The file is
-/// removed at the end. Where one is there already, nothing is served and it stays.
-pub fn serve<R: AllocGlobal + Files + Input + Net + Print + Sync + Threads + Wait>(
+/// Serves a library at a socket whose file it makes, writes the lines that are wanted of the records to standard output, and
+/// tells on `errors` what happens. The file is removed at the end, if it is still its own. Where somebody listens there already,
+/// or another file is there, nothing is served and that stays; a socket's file where nobody listens is taken away.
+pub fn serve<
+    R: AllocGlobal + Clock + Files + Input + Net + Print + Sync + Threads + Wait,
+    E: Write + Send,
+>(
     rt: &R,
     options: LibraryOptions,
     serving: ServeOptions,
     audit: Audit,
+    errors: &mut E,
 ) -> Result<(), SocketFault>
     requires library { MakesLibrary options }
     requires some { IsServeOptions serving }
@@ -36,84 +46,127 @@ pub fn serve<R: AllocGlobal + Files + Input + Net + Print + Sync + Threads + Wai
         socket,
         until,
         drain,
+        times,
+        log,
     } = serving;
-    let listener = match UnixListener::bind(rt, socket.as_str()) {
-        Ok(listener) => listener,
-        Err(error) => return Err(SocketFault::of_listening(socket, error.kind())),
+    let place = take_place(rt, socket, errors)?;
+    let serving = Notice::Serving {
+        socket: place.path(),
+        units: core.all().len(),
+        workers: until.workers(),
     };
-    let records = if drain {
-        RecordOutput::AfterEachSession
+    tell(errors, &serving);
+    let telling = if log {
+        Telling::Everything
     } else {
-        RecordOutput::AtTheEnd(audit)
+        Telling::Faults
     };
-    let closed = AtomicBool::new(false);
+    let teller = Teller::new(telling, errors);
     let served = serve_until(
         rt,
         core,
-        &listener,
-        &closed,
+        &place,
         until,
-        records,
-        socket.as_str(),
+        times,
+        records_of(drain, audit),
+        &teller,
     );
     // What the sessions came to is told in any case.
-    let _ = fs::remove_file(rt, socket.as_str());
+    place.leave(rt);
     Ok(served?)
 }
 
+/// When records are written.
+fn records_of(drain: bool, audit: Audit) -> RecordOutput {
+    if drain {
+        RecordOutput::AsTheyCome
+    } else {
+        RecordOutput::AtTheEnd(audit)
+    }
+}
+
 /// Serves a target for a term, in a second thread: this one waits for the end of standard input, where that ends the term.
-fn serve_until<R: AllocGlobal + Files + Input + Net + Print + Sync + Threads + Wait>(
+fn serve_until<
+    R: AllocGlobal + Clock + Files + Input + Net + Print + Sync + Threads + Wait,
+    E: Write + Send,
+>(
     rt: &R,
     core: TargetCore<Device>,
-    listener: &UnixListener,
-    closed: &AtomicBool,
+    place: &Place,
     until: ServeUntil,
+    times: ServeTimes,
     records: RecordOutput,
-    socket: &str,
+    teller: &Teller<E>,
 ) -> Result<(), ServerFault>
     requires { 1 ≤ workers_of until }
 {
+    let sessions = LiveSessions::new(rt.alloc());
     let (served, ()) = thread::join(
         rt,
         || -> Result<(), ServerFault>
             requires { 1 ≤ workers_of until }
         {
             let mut writer = io::writer(rt);
-            let limits = limits_of(until, closed);
-            serve_library(rt, rt.alloc(), core, listener, limits, records, &mut writer)
+            let limits = limits_of(until, times, &sessions);
+            serve_library(
+                rt,
+                rt.alloc(),
+                core,
+                place.listener(),
+                limits,
+                records,
+                &mut writer,
+                teller,
+            )
         },
         || match until {
             ServeUntil::Sessions(_) => {}
-            ServeUntil::InputEnds(_) => close_at_the_end(rt, closed, socket),
+            ServeUntil::InputEnds(_) => {
+                await_end_of_input(rt);
+                sessions.close(rt);
+                place.shut_down();
+                sessions.end_after(rt, times.grace);
+            }
         },
     );
     served
 }
 
-/// Who is served for a term.
-fn limits_of(until: ServeUntil, closed: &AtomicBool) -> ServeLimits<'_>
+/// Who is served for a term, and how long hosts are waited for.
+fn limits_of(until: ServeUntil, times: ServeTimes, sessions: &LiveSessions) -> ServeLimits<'_>
     ensures workers { result.workers ≡ workers_of until }
-    ensures sessions { result.sessions ≡ sessions_of until }
+    ensures term { result.term ≡ term_of until }
 {
     ServeLimits {
         workers: until.workers(),
-        sessions: until.sessions(),
-        closed,
-        reads: MAX_READS,
+        term: term_of(until),
+        times: WaitTimes {
+            login: times.login,
+            idle: times.idle,
+            write: times.write,
+        },
+        sessions,
     }
 }
 
-/// Waits until standard input ends or can't be read, and then has no more connections accepted.
-fn close_at_the_end<R: Input + Net>(rt: &R, closed: &AtomicBool, socket: &str) {
+/// How many sessions a term has.
+fn term_of(until: ServeUntil) -> ServeTerm
+    ensures { result ≡ term_of until }
+{
+    match until {
+        ServeUntil::Sessions(count) => ServeTerm::Sessions(u64::from(count)),
+        ServeUntil::InputEnds(_) => ServeTerm::UntilClosed,
+    }
+}
+
+/// Waits until standard input ends or can't be read.
+fn await_end_of_input<R: Input>(rt: &R) {
     let mut reader = rt.reader();
     let mut buffer = [0u8; 512];
     for _turn in 0..MAX_READS {
         match reader.read(&mut buffer) {
-            Ok(0) | Err(_) => break,
+            Ok(0) | Err(_) => return,
             Ok(_) => {}
         }
     }
-    closed.store(true, Ordering::SeqCst);
-    // Wakes the worker that waits for a connection, if one does.
-    let _ = UnixStream::connect(rt, socket);
 }

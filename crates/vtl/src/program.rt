@@ -17,15 +17,16 @@ use std::net::Net;
 use std::rt::Env;
 use std::sync::Wait;
 use std::thread::Threads;
+use std::time::Clock;
 use std::{env, io};
 use stocked_library::library;
 
 /// Does what the command line asks for, writes on `errors` why it couldn't, and answers the exit status.
-pub fn run<R: AllocGlobal + Env + Files + Input + Net + Print + Sync + Threads + Wait, W: Write>(
-    rt: &R,
-    errors: &mut W,
-) -> u8 {
-    let outcome = perform(rt);
+pub fn run<
+    R: AllocGlobal + Clock + Env + Files + Input + Net + Print + Sync + Threads + Wait,
+    W: Write + Send,
+>(rt: &R, errors: &mut W) -> u8 {
+    let outcome = perform(rt, errors);
     // Where the line can't be written, the status alone tells.
     let _ = print_outcome(rt, errors, &outcome);
     status_of(&outcome)
@@ -63,14 +64,15 @@ fn print_outcome<R: Print, W: Write>(
     }
 }
 
-fn perform<R: AllocGlobal + Env + Files + Input + Net + Print + Sync + Threads + Wait>(
-    rt: &R,
-) -> Result<(), ProgramFault> {
+fn perform<
+    R: AllocGlobal + Clock + Env + Files + Input + Net + Print + Sync + Threads + Wait,
+    W: Write + Send,
+>(rt: &R, errors: &mut W) -> Result<(), ProgramFault> {
     match task_of_arguments(rt)? {
         Task::Replay(options, explanations, audit) => {
             Ok(replay_standard_input(rt, options, explanations, audit)?)
         }
-        Task::Serve(options, serving, audit) => { Ok(serve(rt, options, serving, audit)?) }
+        Task::Serve(options, serving, audit) => { Ok(serve(rt, options, serving, audit, errors)?) }
         Task::Client(host, explanations) => Ok(client(rt, host, explanations)?),
         Task::Cells(class) => {
             write_cells(&mut io::writer(rt), class).map_err(|_| ProgramFault::Cells)

@@ -2,16 +2,18 @@
 
 use client_session::{ClientSessionFault, converse};
 use output_lines::{Audit, Explanations};
-use program_options::{LibraryOptions, MAX_READS};
+use program_options::LibraryOptions;
 use scsi_nexus::Nexus;
-use server::{RecordOutput, ServeLimits, ServerFault, serve_library};
+use server::{
+    LiveSessions, RecordOutput, ServeLimits, ServeTerm, ServerFault, Teller, Telling, serve_library,
+};
 use std::fs::Files;
 use std::net::Net;
 use std::os::unix::net::{SocketAddr, SocketAddrExt, UnixListener, UnixStream};
 use std::sync::Wait;
-use std::sync::atomic::AtomicBool;
 use std::test::Fail;
 use std::thread::{self, Threads};
+use std::time::Clock;
 use std::{io, process};
 use stocked_library::library;
 
@@ -52,7 +54,7 @@ fn send<R: AllocGlobal + Net>(
 }
 
 /// Serves the usual library for a session of A's, in a second thread, at an address that is no file.
-fn meet<R: AllocGlobal + Files + Net + Sync + Threads + Wait>(
+fn meet<R: AllocGlobal + Clock + Files + Net + Sync + Threads + Wait>(
     rt: &R,
     id: u32,
     script: &str,
@@ -64,15 +66,16 @@ fn meet<R: AllocGlobal + Files + Net + Sync + Threads + Wait>(
     let core = library(alloc, &LibraryOptions::DEFAULT)?;
     let mut records = Vec::new(alloc);
     let mut replies = Vec::new(alloc);
-    let closed = AtomicBool::new(false);
+    let sessions = LiveSessions::new(alloc);
+    let teller = Teller::new(Telling::Faults, Vec::new(alloc));
     let (hosted, sent) = thread::join(
         rt,
         || {
             let limits = ServeLimits {
                 workers: 1,
-                sessions: 1,
-                closed: &closed,
-                reads: MAX_READS,
+                term: ServeTerm::Sessions(1),
+                times: super::PATIENT,
+                sessions: &sessions,
             };
             serve_library(
                 rt,
@@ -82,6 +85,7 @@ fn meet<R: AllocGlobal + Files + Net + Sync + Threads + Wait>(
                 limits,
                 RecordOutput::AtTheEnd(Audit::Lines),
                 &mut records,
+                &teller,
             )
         },
         || send(rt, &address, script, &mut replies),

@@ -7,7 +7,7 @@ use kept_unit::UnitLedger;
 use library_device::Device;
 use lun_router::{Blanks, Library, Pass, Seat};
 use output_lines::Audit;
-use server::{LibraryService, close_and_write};
+use server::{LibraryService, Teller, Telling, close_and_write};
 use session::{Directory, End, SessionFault, serve};
 use std::alloc::Global;
 use std::io::{self, Read, Write};
@@ -185,7 +185,8 @@ fn serve_and_close<
         "{input:?}, {failing_read}, {failing_write}"
     );
     let mut lines = Vec::new(alloc);
-    close_and_write(alloc, library, seats, Audit::Lines, &mut lines)?;
+    let teller = Teller::new(Telling::Faults, Vec::new(alloc));
+    close_and_write(rt, alloc, library, seats, Audit::Lines, &mut lines, &teller)?;
     Ok(lines)
 }
 

@@ -1,0 +1,45 @@
+-- Records that a unit handed out, as long as not all of their lines are written.
+use Rattle.std.specs.Prelude.{◌≡◌, ◌⊎◌, ℕ, List, [], ◌++◌, length, drop, All, Option, Some, None, string_bytes}
+use Rattle.std.specs.Io.KnownBytes.{Appends}
+use Rattle.std.specs.List.{flat_map}
+use Rattle.audit_log.specs.declared.record.Record.{Record}
+use Rattle.lun_router.specs.Answering.{IsSomeTrail}
+use Rattle.output_lines.specs.AuditLines.{lines_of_records}
+use Rattle.server.specs.declared.batch.Lines.{Lines}
+use Rattle.server.specs.declared.batch.Batch.{Batch}
+
+-- so many bytes were written, from the first on
+pub record WritesSome (written written' : Option (List ℕ)) (bytes : List ℕ) (count : ℕ) : Type 0 where
+  pub said : List ℕ
+  pub rest : List ℕ
+  pub split : bytes ≡ said ++ rest
+  pub size : length said ≡ count
+  pub appended : Appends written written' said
+
+-- what is left of lines of which so many bytes are written
+abbrev pub left_of : Lines → List ℕ
+left_of l = drop l.written (string_bytes l.text)
+
+-- the lines of the records, as long as these weren't made
+abbrev pub left_if : Option Lines → List Record → List ℕ
+left_if None records = lines_of_records records
+left_if (Some l) records = left_of l
+
+abbrev pub left_in : Batch → List ℕ
+left_in b = left_if b.lines b.records.items
+
+-- what was written is what is no longer left: no byte is lost, none written twice, and none out of its place
+pub record GoesOn (written written' : Option (List ℕ)) (left left' : List ℕ) : Type 0 where
+  pub said : List ℕ
+  pub appended : Appends written written' said
+  pub rest : left ≡ said ++ left'
+
+-- what a unit hands out at once: nothing, or a legal trail
+abbrev pub AreDrained : List Record → Type 0
+AreDrained es = (es ≡ []) ⊎ IsSomeTrail es
+
+-- what was left, and then the lines of the records of units, were written as far as they no longer are left
+pub record HandsOut (written written' : Option (List ℕ)) (left left' : List ℕ) : Type 0 where
+  pub batches : List (List Record)
+  pub drained : All AreDrained batches
+  pub goes_on : GoesOn written written' (left ++ flat_map lines_of_records batches) left'

@@ -1,0 +1,161 @@
+//! Records that a unit handed out, until all of their lines are written.
+ghost use Rattle.std.specs.Prelude.{◌≡◌, ◌≤◌, length, IfOk, OnOk, OnErr, [], IsTrue};
+ghost use Rattle.output_lines.specs.AuditLines.{lines_of_records};
+ghost use Rattle.server.specs.Batches.{AreDrained, GoesOn, WritesSome, left_in, left_of};
+
+use crate::event::UnwrittenRecords;
+use crate::server_fault::ServerFault;
+use audit_log::Record;
+use kept_unit::UnitLedger;
+use library_device::Device;
+use lun_router::{Library, Pass};
+use output_lines::records_text;
+use std::alloc::{AllocError, Global};
+use std::io::Write;
+use std::sync::Wait;
+
+/// Writes as many bytes as can be written, and says how many these are.
+pub(crate) fn write_some<W: Write>(writer: &mut W, bytes: &[u8]) -> usize
+    ensures most { result ≤ length bytes.now }
+    ensures written { WritesSome (W.contents writer.old) (W.contents writer.new) bytes.now result }
+{
+    let mut rest = bytes;
+    'writes: while !rest.is_empty() {
+        match writer.write(rest) {
+            Ok(0) | Err(_) => return bytes.len() - rest.len(),
+            Ok(count) => rest = rest.split_at(count).1,
+        }
+    }
+    bytes.len()
+}
+
+/// How many lines end in bytes.
+pub(crate) fn whole_lines(bytes: &[u8]) -> usize {
+    bytes.iter().filter(|byte| **byte == b'\n').count()
+}
+
+/// The records behind so many of a unit's, if there are any.
+pub(crate) fn records_behind(
+    lun: u8,
+    records: &[Record],
+    count: usize,
+) -> Option<UnwrittenRecords> {
+    let rest = records.get(count..)?;
+    Some(UnwrittenRecords {
+        lun,
+        count: rest.len() as u64,
+        first: rest.first()?.number,
+        last: rest.last()?.number,
+    })
+}
+
+/// Lines of which the first bytes are written.
+#[derive(Drop)]
+pub(crate) struct Lines {
+    text: String,
+    written: usize,
+}
+
+impl Lines {
+    /// Writes what is left, and what the writer may still hold back. Whether neither is left.
+    fn write_left<W: Write>(&mut self, writer: &mut W) -> bool
+        ensures left { GoesOn (W.contents writer.old) (W.contents writer.new) (left_of self.old) (left_of self.new) }
+        ensures all { IsTrue result → left_of self.new ≡ [] }
+    {
+        let bytes = self.text.as_bytes();
+        let Some(rest) = bytes.get(self.written..) else {
+            return true;
+        };
+        let count = write_some(writer, rest);
+        let is_all = count == rest.len();
+        self.written += count;
+        is_all && writer.flush().is_ok()
+    }
+}
+
+/// Records that were taken out of a unit, as long as not all of their lines are written. It is without lines until these
+/// have found room.
+#[derive(Drop)]
+pub(crate) struct Batch {
+    lun: u8,
+    records: Vec<Record>,
+    lines: Option<Lines>,
+}
+
+impl Batch {
+    /// A batch without records.
+    pub fn new(alloc: Global) -> Batch
+        ensures { left_in result ≡ [] }
+    {
+        Batch {
+            lun: 0,
+            records: Vec::new(alloc),
+            lines: None,
+        }
+    }
+
+    /// Takes the lines out, which are made where that wasn't done.
+    fn take_lines(&mut self, alloc: Global) -> Result<Lines, AllocError>
+        ensures ok { IfOk result (λ lines. left_of lines ≡ left_in self.old) }
+        ensures err { OnErr result (left_in self.new ≡ left_in self.old) }
+    {
+        match self.lines.take() {
+            Some(lines) => Ok(lines),
+            None => {
+                let text = records_text(alloc, &self.records)?;
+                Ok(Lines { text, written: 0 })
+            }
+        }
+    }
+
+    /// Writes the lines that are left, and lets the records go. On an error the rest is kept.
+    pub fn write_left<W: Write>(&mut self, alloc: Global, writer: &mut W) -> Result<(), ServerFault>
+        ensures left { GoesOn (W.contents writer.old) (W.contents writer.new) (left_in self.old) (left_in self.new) }
+        ensures all { OnOk result (left_in self.new ≡ []) }
+        ensures none { OnOk result (self.new.records.items ≡ []) }
+    {
+        let mut lines = self.take_lines(alloc)?;
+        if !lines.write_left(writer) {
+            self.lines = Some(lines);
+            return Err(ServerFault::Write);
+        }
+        self.lines = None;
+        self.records.clear();
+        Ok(())
+    }
+
+    /// Takes the records of a unit, and says which number the last has.
+    pub fn take<
+        L0: UnitLedger,
+        L1: UnitLedger,
+        L2: UnitLedger,
+        L3: UnitLedger,
+        L4: UnitLedger,
+        R: Wait,
+    >(
+        &mut self,
+        rt: &R,
+        library: &Library<L0, L1, L2, L3, L4, Device, Pass>,
+        lun: u8,
+    ) -> Option<u64>
+        requires none { self.old.records.items ≡ [] }
+        ensures drained { AreDrained self.new.records.items }
+        ensures left { left_in self.new ≡ lines_of_records self.new.records.items }
+    {
+        self.lines = None;
+        self.lun = lun;
+        if !library.drain_into(rt, lun, &mut self.records) {
+            return None;
+        }
+        Some(self.records.last()?.number)
+    }
+
+    /// The records whose lines aren't written, if there are any.
+    pub fn unwritten(&self) -> Option<UnwrittenRecords> {
+        let count = match &self.lines {
+            Some(lines) => whole_lines(lines.text.as_bytes().get(..lines.written)?),
+            None => 0,
+        };
+        records_behind(self.lun, &self.records, count)
+    }
+}

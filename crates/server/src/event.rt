@@ -1,0 +1,146 @@
+ghost use Rattle.std.specs.Prelude.{◌≡◌};
+ghost use Rattle.server.specs.Events.{end_words, is_detail};
+
+use crate::server_fault::FaultySession;
+use scsi_nexus::Nexus;
+use session::End;
+use std::fmt;
+
+/// A session that has ended.
+#[derive(Clone, Copy, Debug, PartialEq, Eq)]
+pub struct EndedSession {
+    /// Its place in the order of accepting, from 1 on.
+    pub number: u64,
+    /// Whose it was. `None` where it ended before its LOGIN.
+    pub nexus: Option<Nexus>,
+    /// How it ended. `None`: by a fault.
+    pub end: Option<End>,
+    /// How many commands it sent.
+    pub commands: u64,
+    pub seconds: u64,
+}
+
+/// Records of a unit whose lines couldn't be written: they follow one another.
+#[derive(Clone, Copy, Debug, PartialEq, Eq)]
+pub struct UnwrittenRecords {
+    pub lun: u8,
+    pub count: u64,
+    /// The numbers of the first and the last.
+    pub first: u64,
+    pub last: u64,
+}
+
+/// What happens while a library is served, and is told at once.
+#[derive(Clone, Copy, Debug, PartialEq, Eq)]
+pub enum Event {
+    /// A connection was accepted, as the session of this number.
+    Begins(u64),
+    Ends(EndedSession),
+    Fails(FaultySession),
+    /// A connection couldn't be accepted.
+    NotAccepted,
+    /// A command of a nexus was BUSY at a logical unit.
+    Busy(Nexus, u8),
+    /// Lines of records can't be written from now on.
+    Kept,
+    /// They can again.
+    CaughtUp,
+    /// Lines that never were written.
+    Unwritten(UnwrittenRecords),
+}
+
+impl Event {
+    /// Whether it is told only to who asks for more than faults.
+    pub fn is_detail(&self) -> bool
+        ensures { result ≡ is_detail self.now }
+    {
+        match self {
+            Event::Begins(_) | Event::Ends(_) | Event::Busy(_, _) => true,
+            Event::Fails(_)
+            | Event::NotAccepted
+            | Event::Kept
+            | Event::CaughtUp
+            | Event::Unwritten(_) => false,
+        }
+    }
+}
+
+impl fmt::Display for Event {
+    ghost use Rattle.std.specs.Prelude.{Some};
+    ghost use Rattle.server.specs.Events.{event_text};
+
+    ghost output = { λ event. Some (event_text event) };
+
+    fn fmt<W: fmt::Write>(&self, f: &mut fmt::Formatter<W>) -> fmt::Result {
+        match self {
+            Event::Begins(number) => write!(f, "vtl: session {number} begins"),
+            Event::Ends(session) => write!(f, "vtl: session {session}"),
+            Event::Fails(session) => write!(f, "vtl: session {session}"),
+            Event::NotAccepted => { f.write_str("vtl: a connection could not be accepted") }
+            Event::Busy(nexus, lun) => write!(
+                f,
+                "vtl: BUSY for {nexus} at logical unit {lun}: want of memory, of a slot or of a record number"
+            ),
+            Event::Kept => {
+                f.write_str("vtl: lines of records could not be written, and are kept")
+            }
+            Event::CaughtUp => {
+                f.write_str("vtl: the lines of records that were kept are written")
+            }
+            Event::Unwritten(records) => write!(f, "vtl: {records}"),
+        }
+    }
+}
+
+impl fmt::Display for EndedSession {
+    ghost use Rattle.std.specs.Prelude.{Some};
+    ghost use Rattle.server.specs.Events.{ended_session_text};
+
+    ghost output = { λ session. Some (ended_session_text session) };
+
+    fn fmt<W: fmt::Write>(&self, f: &mut fmt::Formatter<W>) -> fmt::Result {
+        let number = self.number;
+        let end = end_words(self.end);
+        let commands = self.commands;
+        let seconds = self.seconds;
+        match self.nexus {
+            None => write!(
+                f,
+                "{number} before its LOGIN: {end} after {commands} commands and {seconds} seconds"
+            ),
+            Some(nexus) => write!(
+                f,
+                "{number} of {nexus}: {end} after {commands} commands and {seconds} seconds"
+            ),
+        }
+    }
+}
+
+impl fmt::Display for UnwrittenRecords {
+    ghost use Rattle.std.specs.Prelude.{Some};
+    ghost use Rattle.server.specs.Events.{unwritten_text};
+
+    ghost output = { λ records. Some (unwritten_text records) };
+
+    fn fmt<W: fmt::Write>(&self, f: &mut fmt::Formatter<W>) -> fmt::Result {
+        let count = self.count;
+        let lun = self.lun;
+        let first = self.first;
+        let last = self.last;
+        write!(
+            f,
+            "{count} records of logical unit {lun} were not written, numbers {first} to {last}"
+        )
+    }
+}
+
+fn end_words(end: Option<End>) -> &'static str
+    ensures { result.now ≡ end_words end }
+{
+    match end {
+        Some(End::Logout) => "ended by its LOGOUT",
+        Some(End::Closed) => "ended by the end of input",
+        Some(End::Cut) => "ended within a frame",
+        None => "ended by a fault",
+    }
+}

@@ -1,0 +1,51 @@
+ghost use Rattle.std.specs.Prelude.{◌++◌, ◌∷◌, [], OnOk};
+ghost use Rattle.std.specs.Io.KnownBytes.{Appends};
+ghost use Rattle.server.specs.Events.{event_text};
+
+use crate::event::Event;
+use std::io::{self, Write};
+use std::sync::{Mutex, Wait};
+
+/// How much is told of what happens while a library is served.
+#[derive(Clone, Copy, Debug, PartialEq, Eq)]
+pub enum Telling {
+    /// Faults alone.
+    Faults,
+    /// Sessions that begin and end, too, and commands that were BUSY.
+    Everything,
+}
+
+/// Where what happens is told, a line for each event, by whichever thread it happens to.
+#[derive(Drop)]
+pub struct Teller<E: Write> {
+    telling: Telling,
+    errors: Mutex<E>,
+}
+
+impl<E: Write> Teller<E> {
+    /// Tells so much there.
+    pub fn new(telling: Telling, errors: E) -> Teller<E> {
+        Teller {
+            telling,
+            errors: Mutex::new(errors),
+        }
+    }
+
+    /// Tells an event, if it is to be told. Where its line can't be written there is nobody to tell.
+    pub(crate) fn tell<R: Wait>(&self, rt: &R, event: &Event) {
+        match self.telling {
+            Telling::Faults if event.is_detail() => {}
+            Telling::Faults | Telling::Everything => {
+                let mut errors = self.errors.lock(rt);
+                let _ = write_event(&mut *errors, event);
+            }
+        }
+    }
+}
+
+/// Writes an event's line.
+fn write_event<E: Write>(errors: &mut E, event: &Event) -> io::Result<()>
+    ensures { OnOk result (Appends (E.contents errors.old) (E.contents errors.new) (event_text event.now ++ 10 ∷ [])) }
+{
+    writeln!(errors, "{event}")
+}

@@ -1,0 +1,13 @@
+-- What is told of the socket where serving begins (profile).
+use Rattle.std.specs.Prelude.{ℕ, ◌==◌, List, [], ◌++◌, codes, if◌then◌else◌}
+use Rattle.std.specs.Fmt.{decimal}
+use Rattle.server_socket.specs.declared.notice.Notice.{Notice}
+use Rattle.server_socket.specs.declared.notice.Notice.TheVariants.{TookAway, Serving}
+
+abbrev pub plural : ℕ → List ℕ
+plural count = if count == 1 then codes "" else codes "s"
+
+abbrev pub notice_text : Notice → List ℕ
+notice_text (TookAway path) = codes "vtl: took " ++ (path.now ++ codes " away: nobody listened there")
+notice_text (Serving socket units workers) =
+    codes "vtl: serving at " ++ (socket.now ++ (codes ": " ++ (decimal units ++ (codes " units, " ++ (decimal workers ++ (codes " worker" ++ plural workers))))))
