@@ -109,11 +109,10 @@ TOLD = {name: re.compile(form) for name, form in {
     "begins": r"vtl: session (?P<number>[0-9]+) begins",
     "ended": rf"{SESSION}:? ended (?:by its LOGOUT|by the end of input|within a frame|by a fault){COUNTS}",
     "fault": rf"{SESSION}: (?:{FAULTS})(?:{COUNTS})?",
-    "not accepted": r"vtl: a connection could not be accepted, and is tried again",
+    "not accepted": r"vtl: a connection could not be accepted",
     "kept": r"vtl: lines of records could not be written, and are kept",
     "written": r"vtl: the lines of records that were kept are written",
-    "busy": rf"vtl: BUSY for want of memory for {NEXUS} at logical unit [0-2]",
-    "no slot": rf"vtl: no slot for {NEXUS} at logical unit [0-2]",
+    "busy": rf"vtl: BUSY for {NEXUS} at logical unit [0-2]: want of memory, of a slot or of a record number",
 }.items()}
 
 
@@ -669,7 +668,7 @@ def check_told(soak, commands, losses):
     assert sorted(begun) == list(range(1, len(begun) + 1)), "the numbers of the sessions have a gap"
     assert ended == set(begun), f"sessions began and did not end, or the reverse: {sorted(ended ^ set(begun))[:5]}"
     assert len(forms["away"]) == len(forms["serving"]) == 1
-    assert not forms["kept"] and not forms["busy"] and not forms["no slot"], "nothing here wants memory, a slot or room"
+    assert not forms["kept"] and not forms["busy"], "nothing here wants memory, a slot or room"
     late = sum(line.count("nothing came in time") for line in soak.told_lines())
     assert late >= soak.notes["silent"], f"{soak.notes['silent']} sessions were ended for their silence, and of {late} that is said"
     check_counts(forms, commands)
