@@ -166,6 +166,14 @@ def talked(path, server, host, commands):
     return replies
 
 
+def ending_of(lines):
+    """What is told of the end, behind what was told at once."""
+    for at, line in enumerate(lines):
+        if line in ("vtl: device fault", "vtl: want of memory"):
+            return lines[at:]
+    return []
+
+
 def judge_sessions(refusing, work, options, commands, number):
     """Two sessions, one after the other, with so many TEST UNIT READY each."""
     path = os.path.join(work, "socket")
@@ -186,13 +194,13 @@ def judge_sessions(refusing, work, options, commands, number):
     answers = []
     for place, replies in enumerate(sessions):
         answers += judge_replies(number, "ab"[place], commands, replies)
-    first = told.splitlines()
-    if status not in (0, 3, 4) or (status == 0) != (told == "") or (status == 3 and first != ["vtl: want of memory"]) or (status == 4 and first[0] != "vtl: device fault"):
+    ending = ending_of(told.splitlines())
+    if status not in (0, 3, 4) or ending[:1] != {0: [], 3: ["vtl: want of memory"], 4: ["vtl: device fault"]}[status]:
         fail(f"request {number}: status {status}, {told!r}")
     judge_records(number, printed, answers, status, "--drain" in options)
     busy = sum(it[1] == 8 for it in answers)
     early = sum(len(it) < commands + 2 for it in sessions)
-    what = [f"{status}", *first[-1:], *[f"{busy} BUSY"] * bool(busy), *[f"{early} ended early"] * bool(early)]
+    what = [f"{status}", *ending[-1:], *[f"{busy} BUSY"] * bool(busy), *[f"{early} ended early"] * bool(early)]
     return ", ".join([*what, f"{printed.count('LOSS')} losses recorded", *["no lines"] * (printed == "")])
 
 
@@ -219,8 +227,8 @@ def judge_replies(number, host, commands, replies):
 
 
 def judge_records(number, printed, answers, status, is_drained):
-    """The records are those of the answers, and of losses. What is handed out after a session is lost where its lines find no memory, as
-    the server then says."""
+    """The records are those of the answers, and of losses. Lines that find no memory are kept for the next time; where they find none
+    at the end either, the server says so."""
     if printed == "" and status != 0:
         return
     wanted = [f"500000000000000{host}.1 TEST-UNIT-READY {status:02x}" for host, status, _ in answers if status != 8]
