@@ -18,7 +18,7 @@ use std::sync::{Mutex, Wait};
 const MANY: u64 = 4096;
 
 /// A command whose unit has so many waits for who writes others.
-const MOST: u64 = 65_536;
+const MOST: u64 = 8192;
 
 /// Up to which number each unit's records were handed out, by LUN. Whoever asks may see a number that isn't the last any more.
 #[derive(Drop)]
