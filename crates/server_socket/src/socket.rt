@@ -3,7 +3,7 @@
 ghost use Rattle.std.specs.Prelude.{◌≡◌, ◌≤◌};
 ghost use Rattle.command_line.specs.Tasks.{IsServeOptions, MakesLibrary};
 ghost use Rattle.program_options.specs.ServeUntil.{workers_of};
-ghost use Rattle.server_socket.specs.Serving.{term_of};
+ghost use Rattle.server_socket.specs.Serving.{records_of, term_of};
 
 use crate::notice::{Notice, tell};
 use crate::place::{Place, take_place};
@@ -77,7 +77,9 @@ pub fn serve<
 }
 
 /// When records are written.
-fn records_of(drain: bool, audit: Audit) -> RecordOutput {
+fn records_of(drain: bool, audit: Audit) -> RecordOutput
+    ensures { result ≡ records_of drain audit }
+{
     if drain {
         RecordOutput::AsTheyCome
     } else {
