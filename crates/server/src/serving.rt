@@ -41,7 +41,7 @@ pub enum RecordOutput {
 /// happens. After the last has ended the library is closed, and what is wanted of the records is written, LUN 0 first, also
 /// where a session had a fault. Lines that can't be written are kept and tried again; those that never can be are told.
 ///
-/// Of the faults that happened the first in the order of `ServerFault` is told.
+/// Of the faults that happened the first in the order of `ServerFault` is told; no clause says which of them happened.
 pub fn serve_library<R: Clock + Threads + Wait + Sync, W: Write + Send, E: Write + Send>(
     rt: &R,
     alloc: Global,

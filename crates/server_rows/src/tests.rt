@@ -468,11 +468,10 @@ fn serve_and_talk<
     meeting: Meeting,
     steps: &[Step],
     output: &mut W,
-    errors: &mut E,
+    teller: &Teller<E>,
 ) -> io::Result<(Result<(), ServerFault>, io::Result<bool>)> {
     let alloc = rt.alloc();
     let sessions = LiveSessions::new(alloc);
-    let teller = Teller::new(Telling::Everything, errors);
     let ending = Ending::of(&sessions, listener)?;
     Ok(thread::join(
         rt,
@@ -520,6 +519,7 @@ fn meet<R: AllocGlobal + Clock + Files + Net + Sync + Threads + Wait, W: Write +
     let address = SocketAddr::from_abstract_name(name.as_bytes())?;
     let listener = UnixListener::bind_addr(rt, &address)?;
     let mut told = Vec::new(alloc);
+    let teller = Teller::new(Telling::Everything, &mut told);
     let (served, talked) = serve_and_talk(
         rt,
         target(alloc)?,
@@ -528,8 +528,9 @@ fn meet<R: AllocGlobal + Clock + Files + Net + Sync + Threads + Wait, W: Write +
         meeting,
         steps,
         output,
-        &mut told,
+        &teller,
     )?;
+    drop(teller);
     if !talked? {
         return Err("another reply".into());
     }
