@@ -123,6 +123,11 @@ fn execute_is_busy_for_want_of_memory(rt: HostRuntime) -> Result<(), Fail> {
         assert_eq!(rt; reply.number, *number);
     }
     assert_eq!(rt; replies.len(), 5);
+    // No events have no replies, and change nothing.
+    core.run(alloc, &[], &mut replies)?;
+    assert_eq!(rt; replies.len(), 5);
+    let changer = core.all().first().ok_or("no unit")?;
+    assert_eq!(rt; changer.records().len(), 4);
     Ok(())
 }
 
