@@ -326,8 +326,14 @@ fn ask(mut stream: &UnixStream, frame: Frame, times: usize) -> io::Result<()> {
     Ok(())
 }
 
-/// Sends a frame up to so many times, until it can't.
+/// Sends a frame up to so many times, until the server takes no more for a while.
 fn flood(mut stream: &UnixStream, frame: Frame, times: usize) {
+    if stream
+        .set_write_timeout(Some(Duration::from_millis(200)))
+        .is_err()
+    {
+        return;
+    }
     for _turn in 0..times {
         if stream.write_all(sent(frame)).is_err() {
             return;

@@ -112,7 +112,7 @@ const ENDED_WITH_OTHERS_WAITING: [Step; 3] = [
 
 const ENDED_WHILE_ONE_READS_NOTHING: [Step; 3] = [
     Step::Says(0, Frame::LoginOfA, Answer::Accepted),
-    Step::Floods(0, Frame::InquiryAt9, 200),
+    Step::Floods(0, Frame::InquiryAt9, 1_000_000),
     Step::Ends,
 ];
 
