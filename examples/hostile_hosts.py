@@ -14,13 +14,11 @@ import tempfile
 import threading
 import time
 
+from frames import framed, received
+
 TOP = os.path.dirname(os.path.dirname(os.path.abspath(__file__)))
 VTL = subprocess.run([os.path.join(TOP, "vtl"), "build"], stdout=subprocess.PIPE, text=True, check=True).stdout.strip()
 READY = bytes([2, 0, 6]) + bytes(6)
-
-
-def framed(body):
-    return struct.pack(">I", len(body)) + body
 
 
 def login(host):
@@ -33,33 +31,18 @@ def connect(path):
     return connection
 
 
-def receive(connection):
-    head = exactly(connection, 4)
-    return exactly(connection, struct.unpack(">I", head)[0])
-
-
-def exactly(connection, count):
-    read = b""
-    while len(read) < count:
-        piece = connection.recv(count - len(read))
-        if not piece:
-            raise ConnectionError("the server closed")
-        read += piece
-    return read
-
-
 def well_behaved(path, host, times, pieces=None):
     """Logs in, asks so often, logs out; the statuses of its replies."""
     with connect(path) as connection:
         connection.sendall(login(host))
-        assert receive(connection) == b"\x81\x00"
+        assert received(connection) == b"\x81\x00"
         statuses = []
         for _ in range(times):
             for piece in [framed(READY)] if pieces is None else [bytes([b]) for b in framed(READY)]:
                 connection.sendall(piece)
-            statuses.append(receive(connection)[1])
+            statuses.append(received(connection)[1])
         connection.sendall(framed(b"\x04"))
-        assert receive(connection) == b"\x84"
+        assert received(connection) == b"\x84"
         return statuses
 
 
@@ -68,7 +51,7 @@ def killed_within_a_frame(path):
     if child == 0:
         connection = connect(path)
         connection.sendall(login(0xDEAD))
-        receive(connection)
+        received(connection)
         connection.sendall(framed(READY)[:7])
         time.sleep(60)
     time.sleep(0.5)

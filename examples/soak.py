@@ -34,6 +34,7 @@ import time
 import traceback
 import typing
 
+from frames import framed, received
 from record_lines import Act, Reader, Told, WrongLine, permission_table
 
 TOP = os.path.dirname(os.path.dirname(os.path.abspath(__file__)))
@@ -116,10 +117,6 @@ TOLD = {name: re.compile(form) for name, form in {
 }.items()}
 
 
-def framed(body):
-    return struct.pack(">I", len(body)) + body
-
-
 def login_of(sas, port):
     return framed(b"\x01" + struct.pack(">QH", sas, port))
 
@@ -146,21 +143,6 @@ def connect(path):
     connection.settimeout(PATIENCE)
     connection.connect(path)
     return connection
-
-
-def exactly(connection, count):
-    read = b""
-    while len(read) < count:
-        piece = connection.recv(count - len(read))
-        if not piece:
-            raise ConnectionResetError("the server closed")
-        read += piece
-    return read
-
-
-def received(connection):
-    head = exactly(connection, 4)
-    return exactly(connection, struct.unpack(">I", head)[0])
 
 
 def await_end(connection):
