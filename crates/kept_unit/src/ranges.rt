@@ -106,7 +106,7 @@ fn add_numbers(
     Ok(())
 }
 
-/// The numbers of one unit that entries have, in order, as ranges: those that follow one another are one range.
+/// The numbers of one unit that entries have, in order, as ranges.
 pub fn listed_ranges(
     alloc: Global,
     lun: u8,

@@ -218,11 +218,11 @@ fn finish<D: DeviceServer>(
 
 /// A MOVE MEDIUM (SMC-3, "MOVE MEDIUM command") at the changer, which names one drive, as `named` says. It is
 /// judged at the changer as every command is. Where its map and marks refuse nothing, 53h/02h is reported for a
-/// drive whose removal is prevented, then 44h/00h for one whose bay isn't as the map says; else the volume goes,
-/// the changer's record says GOOD and the drive has a record of its own. A drive's reservation isn't asked. BUSY
-/// changes nothing; it comes only where there is no slot for the sender, or no room or no number for the record
-/// at the changer, or at the drive, of a volume that would go. A sender to whom the permission table closes the
-/// changing classes at the changer leaves its elements, and the drive.
+/// drive that gives its volume while removal is prevented there, then 44h/00h for one whose bay isn't as the map
+/// says; else the volume goes, the changer's record says GOOD and the drive has a record of its own. A drive's
+/// reservation isn't asked. BUSY changes nothing; it comes only where there is no slot for the sender, or no room
+/// or no number for the record at the changer, or at the drive, of a volume that would go. A sender to whom the
+/// permission table closes the changing classes at the changer leaves its elements, and the drive.
 pub fn move_one<D: DeviceServer>(
     alloc: Global,
     changer: &mut LogicalUnit<D>,

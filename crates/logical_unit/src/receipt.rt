@@ -2,7 +2,7 @@ use arrayvec::ArrayVec;
 use judgement::Reply;
 use std::alloc::Global;
 
-/// The answer to a MOVE MEDIUM, and the records that it left.
+/// The answer to an event, and the records that it left: one at most, unless it is a MOVE MEDIUM that names drives.
 #[derive(Debug, Drop)]
 pub struct Receipt {
     pub reply: Reply,

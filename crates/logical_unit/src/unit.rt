@@ -158,8 +158,8 @@ impl<D: DeviceServer> LogicalUnit<D> {
     /// One command, from its CDB and the data sent with it. BUSY leaves the unit as it was; any other
     /// answer leaves one record. A command to whose sender an attention is told, a conflict and bytes
     /// that spell no command are BUSY only where there is no slot, no number or no room for the record;
-    /// PERSISTENT RESERVE OUT and what comes to its own rules also for want of memory. A sender to whom
-    /// the permission table closes the changing classes leaves what is in the unit.
+    /// PERSISTENT RESERVE OUT, and a command that comes to its own rules and takes memory there, also for want
+    /// of memory. A sender to whom the permission table closes the changing classes leaves what is in the unit.
     pub fn execute(&mut self, alloc: Global, nexus: Nexus, cdb: &[u8], bytes: &[u8]) -> Reply
         ensures unit { Executes self.old.unit nexus cdb.now bytes.now (self.new.unit, result) }
         ensures busy { IsBusyOnlyFor self.old nexus cdb.now bytes.now result }

@@ -35,9 +35,9 @@ impl<L0: UnitLedger, L1: UnitLedger, L2: UnitLedger, L3: UnitLedger, L4: UnitLed
     ghost invariant = { λ p. (p.zero.parts ≡ 1) × (p.one.parts ≡ 1) × (p.two.parts ≡ 1) × (p.three.parts ≡ 1) × (p.four.parts ≡ 1) };
 }
 
-/// What one session holds of a library: a part of each ledger, and what it was told: ranges of record numbers that were
-/// settled, and then entries. Each part counts the numbers of its unit that the ranges and the entries have. Seats lie side by
-/// side and each is written by a thread of its own, so a cache line of nothing lies on each side.
+/// What one worker holds of a library, session after session: a part of each ledger, and what it was told: ranges of record
+/// numbers that were settled, and then entries. Each part counts the numbers of its unit that the ranges and the entries have.
+/// Seats lie side by side and each is written by a thread of its own, so a cache line of nothing lies on each side.
 #[repr(C)]
 #[derive(Drop)]
 pub struct Seat<L0: UnitLedger, L1: UnitLedger, L2: UnitLedger, L3: UnitLedger, L4: UnitLedger> {
@@ -96,8 +96,8 @@ impl<L0: UnitLedger, L1: UnitLedger, L2: UnitLedger, L3: UnitLedger, L4: UnitLed
         self.entries.as_slice()
     }
 
-    /// The record numbers of a unit that were settled, in the order in which the seat was told them: those that follow one
-    /// another are one range.
+    /// The record numbers of a unit that were settled, in the order in which the seat was told them. How they are cut into
+    /// ranges says nothing.
     pub fn settled(&self, lun: u8) -> &[NumberRange]
         ensures { result.now ≡ settled_at lun self.now.settled }
     {
@@ -114,8 +114,8 @@ impl<L0: UnitLedger, L1: UnitLedger, L2: UnitLedger, L3: UnitLedger, L4: UnitLed
     /// Settles the longest beginning of the entries whose records were handed out: only their numbers are kept, as ranges,
     /// and an entry without a number goes. `drained` says by logical unit number up to which number each unit's records were
     /// handed out, 0 where none was. It is a beginning because the numbers of a unit rise along a seat, and go on rising over
-    /// settled and listed ones. On an error nothing has changed. Takes time for as many entries as are settled, on the whole;
-    /// what stays is 16 bytes for each range, and a sixteenth of that at most for further ones.
+    /// settled and listed ones. On an error no number has moved; room that was got stays. Takes time for as many entries as are
+    /// settled, on the whole; what stays is 16 bytes for each range, and a sixteenth of that at most for further ones.
     pub fn settle(&mut self, drained: &[u64; 5]) -> Result<(), AllocError>
         ensures ok { OnOk result (Settles drained.now self.old self.new) }
         ensures err { OnErr result (self.new ≡ self.old) }

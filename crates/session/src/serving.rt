@@ -120,12 +120,12 @@ fn refuse<W: Write>(
 /// ```
 ///
 /// One session: its frames, however the stream is cut, and a reply frame for each, in order, from the answer to that
-/// very frame's call; the reader is read at most `turns` times, 262,144 bytes at most each. Room for the largest reply, behind what
-/// waits to be written, is made before a LOGIN is answered: from then on no reply takes memory.
+/// very frame's call; the reader is read at most `turns` times, for 262,144 bytes each; a clause bounds the bytes. Room
+/// for the largest reply, behind what waits to be written, is made before a LOGIN is answered: from then on no reply takes memory.
 ///
 /// However a session that logged in ends, its nexus is lost at every unit, also where another has no
 /// room for the loss, and then leaves the directory. Where a loss was BUSY the end is `NoMemory`. A session that isn't let in
-/// changes nothing, and is told so where its nexus has a session already.
+/// changes nothing, and is told so where its nexus has a session already, as long as that can be written.
 pub fn serve<S: Service, R: Read, W: Write>(
     alloc: Global,
     service: &mut S,

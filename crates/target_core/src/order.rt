@@ -23,8 +23,8 @@ pub enum CoreFault {
     /// They aren't a changer and then drives, numbered by place, each made with this count of units.
     #[error("the units are not a changer and then drives by place")]
     Order,
-    /// The changer hasn't a data transfer element for each drive, or one of them doesn't have the tag of the volume in that
-    /// drive's bay.
+    /// The changer has fewer or more data transfer elements than there are drives, or one of them doesn't have the tag of the
+    /// volume in that drive's bay.
     #[error("the changer's data transfer elements are not as the drives")]
     Disagree,
 }

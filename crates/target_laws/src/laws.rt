@@ -20,9 +20,10 @@ pub fn runs_one_after_another()
 
 /// In every run each command to a unit that is there is answered BUSY, with nothing changed, as it
 /// must be where no slot or no number is left, or is decided by what the accepted acts before it left
-/// at that unit, by the permission table and the rules on keys: RESERVATION CONFLICT comes exactly
-/// where they don't allow it, and changes nothing but the contact and the record. A MOVE MEDIUM that
-/// names drives ends as they decide: one volume goes from its source to its destination, or none can.
+/// at that unit, by the permission table and the rules on keys: of the commands that come to the check
+/// RESERVATION CONFLICT meets exactly those that they don't allow, and changes nothing but the contact
+/// and the record. A MOVE MEDIUM that names drives ends as they decide: one volume goes from its source
+/// to its destination, or none can.
 pub fn headline()
     ensures { Headline }
 {}
