@@ -2,6 +2,7 @@ ghost use Rattle.std.specs.Prelude.{◌≡◌, ◌+◌, ◌<◌, ◌^◌, [], �
 ghost use Rattle.device_server.specs.View.{kind_of, drives_of};
 ghost use Rattle.judgement.specs.Replies.{busy};
 ghost use Rattle.judgement.specs.Commands.{act_of};
+ghost use Rattle.judgement.specs.UnitState.{has_room};
 ghost use Rattle.logical_unit.specs.Legal.{IsTrail};
 ghost use Rattle.logical_unit.specs.Step.{Executes, IsLost, IsReset, drained};
 ghost use Rattle.logical_unit.specs.UnitView.{last_number};
@@ -84,6 +85,14 @@ impl<const LUN: u8, L: UnitLedger, D: DeviceServer> Kept<LUN, L, D> {
         ensures { result ≡ drives_of self.now.unit.device }
     {
         self.unit.drives() as u8
+    }
+
+    /// Whether a nexus has a slot at the unit, or finds one. Nothing changes.
+    pub fn has_room(&mut self, nexus: Nexus) -> bool
+        ensures room { result ≡ has_room self.old.unit.kept nexus }
+        ensures same { self.new ≡ self.old }
+    {
+        self.unit.has_room(nexus)
     }
 
     /// Whether what all seats have noted agrees with the trail. Takes memory for a range of each settled one and of each run of

@@ -81,6 +81,10 @@ IsBusyOnlyFor x n cdb bytes reply = reply.status ≡ Busy
     → (takes_memory (contacted_present x.unit n) n (decoded_command (kind_of x.unit.device) cdb bytes) ≡ true)
     ⊎ ((has_room x.unit.kept n ≡ false) ⊎ LacksRecord x)
 
+-- an event that isn't a command is BUSY only where there is no room or no number for its record
+abbrev pub IsBusyOnlyForRecord : UnitWithRoom → Reply → Type 0
+IsBusyOnlyForRecord x reply = reply.status ≡ Busy → LacksRecord x
+
 -- the record of an event that isn't a command
 abbrev pub event_of : (number : ℕ) → Option Nexus → Act → Record
 event_of number nexus act = record_of number nexus act (at_stage Device) Good None

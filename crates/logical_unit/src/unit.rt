@@ -41,7 +41,7 @@ impl<D: DeviceServer> LogicalUnit<D> {
     ghost use Rattle.std.specs.Prelude.{◌≡◌, map, string_bytes, IfOk, IfErr};
     ghost use Rattle.logical_unit.specs.Audit.{audit_of};
     ghost use Rattle.device_server.specs.View.{kind_of, drives_of, held_in};
-    ghost use Rattle.judgement.specs.UnitState.{is_prevented, HaveSlots};
+    ghost use Rattle.judgement.specs.UnitState.{is_prevented, has_room, HaveSlots};
     ghost use Rattle.logical_unit.specs.Step.{made};
     ghost use Rattle.logical_unit.specs.Legal.{IsTrail};
     ghost use Rattle.logical_unit.specs.UnitView.{last_number};
@@ -128,6 +128,15 @@ impl<D: DeviceServer> LogicalUnit<D> {
         self.state.is_prevented()
     }
 
+    /// Whether a nexus has a slot here, or finds one. One that doesn't is answered BUSY until the target ends, since slots
+    /// are never given up.
+    pub fn has_room(&mut self, nexus: Nexus) -> bool
+        ensures room { result ≡ has_room self.old.unit.kept nexus }
+        ensures same { self.new ≡ self.old }
+    {
+        self.state.has_room(nexus)
+    }
+
     /// The records since the base, oldest first: a legal trail, which gives what is kept now.
     pub fn records(&self) -> &[Record]
         ensures records { result.now ≡ self.now.unit.records }
@@ -150,7 +159,7 @@ impl<D: DeviceServer> LogicalUnit<D> {
     ghost use Rattle.std.specs.Prelude.{◌≡◌, ◌+◌, [], true, length, vec_capacity, Ok, IfOk, IfErr, OnOk, OnErr};
     ghost use Rattle.unit_attention.specs.Queues.{has_slot};
     ghost use Rattle.logical_unit.specs.UnitView.{UnitView, UnitWithRoom, last_number};
-    ghost use Rattle.logical_unit.specs.Step.{HasNumber, LacksRecord, IsBusyOnlyFor, Executes, Loses, Resets, IsLost, IsReset, drained};
+    ghost use Rattle.logical_unit.specs.Step.{HasNumber, LacksRecord, IsBusyOnlyFor, IsBusyOnlyForRecord, Executes, Loses, Resets, IsLost, IsReset, drained};
     ghost use Rattle.logical_unit.specs.Medium.{taken_out, put_in, IsRefusal};
     ghost use Rattle.logical_unit.specs.Contents.{SameContents, MayNotChange};
     ghost use Rattle.logical_unit.specs.Legal.{IsTrail};
@@ -210,9 +219,11 @@ impl<D: DeviceServer> LogicalUnit<D> {
         Ok(self.state.reset())
     }
 
-    /// An I_T nexus loss, and the reply to it: GOOD with the number of its record, 0 where it has none, or BUSY.
+    /// An I_T nexus loss, and the reply to it: GOOD with the number of its record, 0 where it has none; or BUSY, only
+    /// where there is no room or no number for the record.
     pub fn lose_reply(&mut self, alloc: Global, nexus: Nexus) -> Reply
-        ensures { IsLost self.old.unit nexus (self.new.unit, result) }
+        ensures unit { IsLost self.old.unit nexus (self.new.unit, result) }
+        ensures busy { IsBusyOnlyForRecord self.old result }
     {
         match self.lose(nexus) {
             Ok(number) => event_reply(alloc, number.unwrap_or(0)),
@@ -220,9 +231,11 @@ impl<D: DeviceServer> LogicalUnit<D> {
         }
     }
 
-    /// A reset of this unit, and the reply to it: GOOD with the number of its record, or BUSY.
+    /// A reset of this unit, and the reply to it: GOOD with the number of its record; or BUSY, only where there is no
+    /// room or no number for the record.
     pub fn reset_reply(&mut self, alloc: Global) -> Reply
-        ensures { IsReset self.old.unit (self.new.unit, result) }
+        ensures unit { IsReset self.old.unit (self.new.unit, result) }
+        ensures busy { IsBusyOnlyForRecord self.old result }
     {
         match self.reset() {
             Ok(number) => event_reply(alloc, number),

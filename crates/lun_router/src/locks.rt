@@ -188,6 +188,30 @@ pub(crate) fn drain_if_there<const LUN: u8, L: UnitLedger, D: DeviceServer, R: W
     }
 }
 
+/// Whether a nexus has a slot at the unit under this lock, or finds one.
+pub(crate) fn has_room_at<const LUN: u8, L: UnitLedger, D: DeviceServer, R: Wait>(
+    rt: &R,
+    lock: &Locked<LUN, L, D>,
+    nexus: Nexus,
+) -> bool {
+    let mut kept = lock.mutex().lock(rt);
+    kept.has_room(nexus)
+}
+
+/// The same where the unit may be absent: one that isn't there gives no slots.
+pub(crate) fn has_room_if_there<const LUN: u8, L: UnitLedger, D: DeviceServer, R: Wait>(
+    rt: &R,
+    lock: &Option<Locked<LUN, L, D>>,
+    nexus: Nexus,
+) -> bool
+    ensures { IsNone lock.now → result ≡ true }
+{
+    match lock {
+        Some(lock) => has_room_at(rt, lock, nexus),
+        None => true,
+    }
+}
+
 /// A MOVE MEDIUM over the changer and the drive under this lock. Where the drive is absent, the changer alone answers.
 pub(crate) fn move_with_one<
     'a,

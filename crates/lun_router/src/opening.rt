@@ -1,6 +1,6 @@
 ghost use Rattle.std.specs.Prelude.{◌≡◌, ◌<◌, ◌+◌, All, IfOk, IfErr, is_some, length, vec_len};
 ghost use Rattle.std.specs.Option.{ForSome};
-ghost use Rattle.logical_unit.specs.UnitView.{last_number};
+ghost use Rattle.logical_unit.specs.UnitView.{last_number, units_of};
 ghost use Rattle.lun_router.specs.Opening.{IsAt, IsSince};
 ghost use Rattle.lun_router.specs.Seats.{IsUntold};
 
@@ -134,8 +134,8 @@ impl<
         requires two { (blanks.two.name ≡ L2.name) × (blanks.two.parts ≡ L2.parts) × (L2.parts ≡ seats) }
         requires three { (blanks.three.name ≡ L3.name) × (blanks.three.parts ≡ L3.parts) × (L3.parts ≡ seats) }
         requires four { (blanks.four.name ≡ L4.name) × (blanks.four.parts ≡ L4.parts) × (L4.parts ≡ seats) }
-        requires since { IsSince core L0.since L1.since L2.since L3.since L4.since }
-        ensures units { IfOk result (λ opened. opened.0.units ≡ length core) }
+        requires since { IsSince (units_of core) L0.since L1.since L2.since L3.since L4.since }
+        ensures units { IfOk result (λ opened. opened.0.units ≡ length (units_of core)) }
         ensures seats { IfOk result (λ opened. (opened.0.seats ≡ seats) × (vec_len opened.1 ≡ seats)) }
         ensures untold { IfOk result (λ opened. All IsUntold opened.1.items) }
         ensures back { IfErr result (λ back. back.1 ≡ core) }

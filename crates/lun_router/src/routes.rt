@@ -1,4 +1,4 @@
-ghost use Rattle.std.specs.Prelude.{◌≡◌, ◌<◌, ◌≤◌, [], false, Some, None, IsNone, IfSome, IsTrue, ◌↔◌};
+ghost use Rattle.std.specs.Prelude.{◌≡◌, ◌<◌, ◌≤◌, [], true, false, Some, None, IsNone, IfSome, IsTrue, ◌↔◌};
 ghost use Rattle.judgement.specs.Commands.{act_of};
 ghost use Rattle.kept_unit.specs.declared.act_kind.ActKind.TheVariants as kind;
 ghost use Rattle.kept_unit.specs.Answers as event;
@@ -11,8 +11,8 @@ ghost use Rattle.lun_router.specs.Seats.{Rise, Notes};
 use crate::gate::Gate;
 use crate::library::Library;
 use crate::locks::{
-    drain_at, drain_if_there, lose_at, lose_if_there, reset_at, reset_if_there, step_at,
-    step_if_there,
+    drain_at, drain_if_there, has_room_at, has_room_if_there, lose_at, lose_if_there, reset_at,
+    reset_if_there, step_at, step_if_there,
 };
 use crate::raw_command::RawCommand;
 use crate::seat::{Seat, SeatShares};
@@ -180,6 +180,21 @@ impl<
         let done = self.route_reset(rt, alloc, parts, lun);
         entries.push_reserved(done.entry());
         done
+    }
+
+    /// Whether a nexus has a slot at a unit, or finds one: where it doesn't, its commands there are BUSY until the library is
+    /// closed. A unit that isn't there wants no slot. May wait for a call at the unit.
+    pub fn has_room<R: Wait>(&self, rt: &R, nexus: Nexus, lun: u8) -> bool
+        ensures { self.now.units ≤ lun → result ≡ true }
+    {
+        match lun {
+            0 => has_room_at(rt, &self.changer, nexus),
+            1 => has_room_at(rt, &self.first, nexus),
+            2 => has_room_if_there(rt, &self.second, nexus),
+            3 => has_room_if_there(rt, &self.third, nexus),
+            4 => has_room_if_there(rt, &self.fourth, nexus),
+            _ => true,
+        }
     }
 
     /// Hands out the records of a unit, a legal trail; its numbers go on, and no entry is added. `None` where there is no

@@ -32,18 +32,18 @@ fn take_first<D: DeviceServer>(units: &mut Vec<LogicalUnit<D>>) -> Option<Logica
 
 /// Takes a target apart.
 pub(crate) fn split_units<D: DeviceServer>(core: TargetCore<D>) -> UnitsByLun<D>
-    ensures count { result.count ≡ length core }
+    ensures count { result.count ≡ length (units_of core) }
     ensures units { HasUnits result.count result.second result.third result.fourth }
     ensures changer { IsAt 0 result.changer.unit }
     ensures first { IsAt 1 result.first.unit }
     ensures second { ForSome result.second (λ u. IsAt 2 u.unit) }
     ensures third { ForSome result.third (λ u. IsAt 3 u.unit) }
     ensures fourth { ForSome result.fourth (λ u. IsAt 4 u.unit) }
-    ensures changer_is { slice_get core 0 ≡ Some result.changer.unit }
-    ensures first_is { slice_get core 1 ≡ Some result.first.unit }
-    ensures second_is { option_map (λ u. u.unit) result.second ≡ slice_get core 2 }
-    ensures third_is { option_map (λ u. u.unit) result.third ≡ slice_get core 3 }
-    ensures fourth_is { option_map (λ u. u.unit) result.fourth ≡ slice_get core 4 }
+    ensures changer_is { slice_get (units_of core) 0 ≡ Some result.changer.unit }
+    ensures first_is { slice_get (units_of core) 1 ≡ Some result.first.unit }
+    ensures second_is { option_map (λ u. u.unit) result.second ≡ slice_get (units_of core) 2 }
+    ensures third_is { option_map (λ u. u.unit) result.third ≡ slice_get (units_of core) 3 }
+    ensures fourth_is { option_map (λ u. u.unit) result.fourth ≡ slice_get (units_of core) 4 }
 {
     let mut units = core.into_units();
     let count = units.len() as u8;

@@ -3,6 +3,7 @@ ghost use Rattle.std.specs.Io.KnownBytes.{Appends, Keeps};
 ghost use Rattle.replay.specs.Replay.{HasRun, IsBeforeOutput, IsBeforeRun, Refuses, Replays};
 ghost use Rattle.target_core.specs.Run.{Runs};
 ghost use Rattle.judgement.specs.declared.reply.Reply.{Reply};
+ghost use Rattle.logical_unit.specs.UnitView.{units_of};
 ghost use Rattle.script_lines.specs.declared.line_fault.LineFault.{LineFault};
 ghost use Rattle.replay.specs.Texts.{cdb_of, event_text, run_text};
 
@@ -34,17 +35,17 @@ pub fn replay<D: DeviceServer, R: Read, W: Write>(
     turns: u64,
 ) -> Result<(), ReplayFault>
     ensures ok { OnOk result
-        (Replays turns (R.remaining reader.old) (R.remaining reader.new) core.old core.new
+        (Replays turns (R.remaining reader.old) (R.remaining reader.new) (units_of core.old) (units_of core.new)
         explanations audit (W.contents writer.old) (W.contents writer.new)) }
     ensures line { (n : ℕ) (f : LineFault) → result ≡ Err (ReplayFault.Line n f) →
         Refuses turns (R.remaining reader.old) (R.remaining reader.new) n f }
     ensures write { result ≡ Err ReplayFault.Write →
-        HasRun turns (R.remaining reader.old) (R.remaining reader.new) core.old core.new }
+        HasRun turns (R.remaining reader.old) (R.remaining reader.new) (units_of core.old) (units_of core.new) }
 
     // What a fault leaves.
     ensures core { IfErr result (λ fault. IsBeforeRun fault → core.new ≡ core.old) }
     ensures memory { result ≡ Err ReplayFault.NoMemory → (core.new ≡ core.old)
-        ⊎ HasRun turns (R.remaining reader.old) (R.remaining reader.new) core.old core.new }
+        ⊎ HasRun turns (R.remaining reader.old) (R.remaining reader.new) (units_of core.old) (units_of core.new) }
     ensures output { IfErr result (λ fault.
         IsBeforeOutput fault → Keeps (W.contents writer.old) (W.contents writer.new)) }
 {
@@ -70,7 +71,7 @@ fn run<D: DeviceServer>(
     explanations: Explanations,
     text: &mut Vec<u8>,
 ) -> Result<(), AllocError>
-    ensures { (replies : List Reply) × Runs core.old events replies core.new
+    ensures { (replies : List Reply) × Runs (units_of core.old) events replies (units_of core.new)
         × OnOk result (text.new.items ≡ text.old.items ++ run_text explanations events replies) }
 {
     let mut written = Ok(());
@@ -89,7 +90,7 @@ fn run_piece<D: DeviceServer>(
     text: &mut Vec<u8>,
     before: Result<(), AllocError>,
 ) -> Result<(), AllocError>
-    ensures { (replies : List Reply) × Runs core.old events.now replies core.new
+    ensures { (replies : List Reply) × Runs (units_of core.old) events.now replies (units_of core.new)
         × OnOk result (IsOk before × (text.new.items ≡ text.old.items ++ run_text explanations events.now replies)) }
 {
     let mut written = before;

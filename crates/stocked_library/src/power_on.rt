@@ -16,7 +16,7 @@ use target_core::TargetCore;
 pub fn library(alloc: Global, options: &LibraryOptions) -> Result<TargetCore<Device>, AllocError>
     requires range { AreInRange options.now }
     requires fits { options.now.volumes ≤ options.now.slots }
-    ensures { IfOk result (λ core. core ≡ library_of options.now) }
+    ensures { IfOk result (λ core. units_of core ≡ library_of options.now) }
 {
     let count = options.drives + 1;
     let changer = Device::Changer(stocked(alloc, options)?);

@@ -5,3 +5,4 @@ pub mod SamePlace
 pub mod InOrder
 pub mod Places
 pub mod MovesInPlace
+pub mod WhyBusy

@@ -1,3 +1,4 @@
 pub mod Faults
 pub mod Run
+pub mod Busy
 pub mod Laws

@@ -5,6 +5,7 @@ ghost use Rattle.audit_log.specs.declared.record.Record.{Record};
 ghost use Rattle.logical_unit.specs.UnitView.{units_of};
 ghost use Rattle.target_core.specs.Faults.{fault_of};
 ghost use Rattle.target_core.specs.Run.{NamesAt, Commands, LosesAt, ResetsAt, Drains};
+ghost use Rattle.target_core.specs.Busy.{CommandIsBusyOnlyFor, IsBusyOnlyForRecordAt};
 
 use crate::event::Event;
 use crate::order::{CoreFault, fault_of};
@@ -31,11 +32,11 @@ pub struct TargetCore<D: DeviceServer> {
 
 impl<D: DeviceServer> Model for TargetCore<D> {
     ghost use Rattle.std.specs.Prelude.{List};
-    ghost use Rattle.logical_unit.specs.UnitView.{UnitView, units_of};
+    ghost use Rattle.logical_unit.specs.UnitView.{UnitWithRoom, units_of};
 
-    ghost Value = { List UnitView };
+    ghost Value = { List UnitWithRoom };
 
-    ghost view = { λ t. units_of t.units.items };
+    ghost view = { λ t. t.units.items };
 
     ghost use Rattle.std.specs.Prelude.{◌≡◌, None};
     ghost use Rattle.target_core.specs.Faults.{fault_of};
@@ -54,7 +55,8 @@ fn command_at<D: DeviceServer>(
 ) -> Reply
     requires within { lun < length units.old }
     requires drive { 1 ≤ lun }
-    ensures { Commands (units_of units.old) lun nexus cdb.now bytes.now (units_of units.new, result) }
+    ensures step { Commands (units_of units.old) lun nexus cdb.now bytes.now (units_of units.new, result) }
+    ensures busy { CommandIsBusyOnlyFor units.old lun nexus cdb.now bytes.now result }
 {
     units[lun].execute(alloc, nexus, cdb, bytes)
 }
@@ -73,7 +75,8 @@ fn move_at<D: DeviceServer>(
     requires place { 1 ≤ lun }
     requires within { lun ≤ length drives.old }
     requires named { NamesAt (units_of (changer.old ∷ drives.old)) cdb.now (lun ∷ []) }
-    ensures { Commands (units_of (changer.old ∷ drives.old)) 0 nexus cdb.now bytes.now (units_of (changer.new ∷ drives.new), result) }
+    ensures step { Commands (units_of (changer.old ∷ drives.old)) 0 nexus cdb.now bytes.now (units_of (changer.new ∷ drives.new), result) }
+    ensures busy { CommandIsBusyOnlyFor (changer.old ∷ drives.old) 0 nexus cdb.now bytes.now result }
 {
     move_one(alloc, changer, &mut drives[lun - 1], nexus, cdb, bytes).reply
 }
@@ -94,7 +97,8 @@ fn move_between<D: DeviceServer>(
     requires rising { low < high }
     requires within { high ≤ length drives.old }
     requires named { NamesAt (units_of (changer.old ∷ drives.old)) cdb.now (low ∷ high ∷ []) }
-    ensures { Commands (units_of (changer.old ∷ drives.old)) 0 nexus cdb.now bytes.now (units_of (changer.new ∷ drives.new), result) }
+    ensures step { Commands (units_of (changer.old ∷ drives.old)) 0 nexus cdb.now bytes.now (units_of (changer.new ∷ drives.new), result) }
+    ensures busy { CommandIsBusyOnlyFor (changer.old ∷ drives.old) 0 nexus cdb.now bytes.now result }
 {
     let (lower, upper) = drives.split_at_mut(high - 1);
     move_two(
@@ -119,7 +123,8 @@ fn command_with_drives<D: DeviceServer>(
     bytes: &[u8],
 ) -> Reply
     requires { fault_of (units_of (changer.old ∷ drives.old)) ≡ None }
-    ensures { Commands (units_of (changer.old ∷ drives.old)) 0 nexus cdb.now bytes.now (units_of (changer.new ∷ drives.new), result) }
+    ensures step { Commands (units_of (changer.old ∷ drives.old)) 0 nexus cdb.now bytes.now (units_of (changer.new ∷ drives.new), result) }
+    ensures busy { CommandIsBusyOnlyFor (changer.old ∷ drives.old) 0 nexus cdb.now bytes.now result }
 {
     let luns = named(drives.len() as u8, cdb);
     match luns.as_slice() {
@@ -141,7 +146,8 @@ fn command_to_changer<D: DeviceServer>(
     bytes: &[u8],
 ) -> Reply
     requires { fault_of (units_of units.old) ≡ None }
-    ensures { Commands (units_of units.old) 0 nexus cdb.now bytes.now (units_of units.new, result) }
+    ensures step { Commands (units_of units.old) 0 nexus cdb.now bytes.now (units_of units.new, result) }
+    ensures busy { CommandIsBusyOnlyFor units.old 0 nexus cdb.now bytes.now result }
 {
     let (first, drives) = units.split_at_mut(1);
     command_with_drives(alloc, &mut first[0], drives, nexus, cdb, bytes)
@@ -157,7 +163,8 @@ fn command_to<D: DeviceServer>(
     bytes: &[u8],
 ) -> Reply
     requires { fault_of (units_of units.old.items) ≡ None }
-    ensures { Commands (units_of units.old.items) lun nexus cdb.now bytes.now (units_of units.new.items, result) }
+    ensures step { Commands (units_of units.old.items) lun nexus cdb.now bytes.now (units_of units.new.items, result) }
+    ensures busy { CommandIsBusyOnlyFor units.old.items lun nexus cdb.now bytes.now result }
 {
     if lun == 0 {
         return command_to_changer(alloc, units.as_mut_slice(), nexus, cdb, bytes);
@@ -177,7 +184,8 @@ fn lose_at<D: DeviceServer>(
     nexus: Nexus,
 ) -> Reply
     requires { lun < length units.old }
-    ensures { LosesAt (units_of units.old) lun (slice_get (units_of units.old) lun) nexus (units_of units.new, result) }
+    ensures step { LosesAt (units_of units.old) lun (slice_get (units_of units.old) lun) nexus (units_of units.new, result) }
+    ensures busy { IsBusyOnlyForRecordAt (slice_get units.old lun) result }
 {
     units[lun].lose_reply(alloc, nexus)
 }
@@ -185,7 +193,8 @@ fn lose_at<D: DeviceServer>(
 /// A reset of one of the units.
 fn reset_at<D: DeviceServer>(alloc: Global, units: &mut [LogicalUnit<D>], lun: usize) -> Reply
     requires { lun < length units.old }
-    ensures { ResetsAt (units_of units.old) lun (slice_get (units_of units.old) lun) (units_of units.new, result) }
+    ensures step { ResetsAt (units_of units.old) lun (slice_get (units_of units.old) lun) (units_of units.new, result) }
+    ensures busy { IsBusyOnlyForRecordAt (slice_get units.old lun) result }
 {
     units[lun].reset_reply(alloc)
 }
@@ -197,7 +206,8 @@ fn lose<D: DeviceServer>(
     lun: usize,
     nexus: Nexus,
 ) -> Reply
-    ensures { LosesAt (units_of units.old.items) lun (slice_get (units_of units.old.items) lun) nexus (units_of units.new.items, result) }
+    ensures step { LosesAt (units_of units.old.items) lun (slice_get (units_of units.old.items) lun) nexus (units_of units.new.items, result) }
+    ensures busy { IsBusyOnlyForRecordAt (slice_get units.old.items lun) result }
 {
     if lun < units.len() {
         lose_at(alloc, units.as_mut_slice(), lun, nexus)
@@ -208,7 +218,8 @@ fn lose<D: DeviceServer>(
 
 /// A reset of a unit, or of none.
 fn reset<D: DeviceServer>(alloc: Global, units: &mut Vec<LogicalUnit<D>>, lun: usize) -> Reply
-    ensures { ResetsAt (units_of units.old.items) lun (slice_get (units_of units.old.items) lun) (units_of units.new.items, result) }
+    ensures step { ResetsAt (units_of units.old.items) lun (slice_get (units_of units.old.items) lun) (units_of units.new.items, result) }
+    ensures busy { IsBusyOnlyForRecordAt (slice_get units.old.items lun) result }
 {
     if lun < units.len() {
         reset_at(alloc, units.as_mut_slice(), lun)
@@ -249,12 +260,13 @@ impl<D: DeviceServer> TargetCore<D> {
     ghost use Rattle.audit_log.specs.declared.record.Record.{Record};
     ghost use Rattle.logical_unit.specs.UnitView.{units_of};
     ghost use Rattle.target_core.specs.Run.{Steps, Runs, Drains};
+    ghost use Rattle.target_core.specs.Busy.{EventIsBusyOnlyFor};
 
     /// A target of these units. A refusal hands them back.
     pub fn new(
         units: Vec<LogicalUnit<D>>,
     ) -> Result<TargetCore<D>, (CoreFault, Vec<LogicalUnit<D>>)>
-        ensures ok { IfOk result (λ core. (fault_of (units_of units.items) ≡ None) × (core ≡ units_of units.items)) }
+        ensures ok { IfOk result (λ core. (fault_of (units_of units.items) ≡ None) × (core ≡ units.items)) }
         ensures err { IfErr result (λ back. (fault_of (units_of units.items) ≡ Some back.0) × (back.1 ≡ units)) }
     {
         match fault_of(units.as_slice()) {
@@ -265,24 +277,26 @@ impl<D: DeviceServer> TargetCore<D> {
 
     /// The units, by logical unit number.
     pub fn all(&self) -> &[LogicalUnit<D>]
-        ensures units { units_of result.now ≡ self.now }
-        ensures ordered { fault_of self.now ≡ None }
+        ensures units { result.now ≡ self.now }
+        ensures ordered { fault_of (units_of self.now) ≡ None }
     {
         self.units.as_slice()
     }
 
     /// The units, by logical unit number.
     pub fn into_units(self) -> Vec<LogicalUnit<D>>
-        ensures units { units_of result.items ≡ self }
-        ensures ordered { fault_of self ≡ None }
+        ensures units { result.items ≡ self }
+        ensures ordered { fault_of (units_of self) ≡ None }
     {
         let TargetCore { units } = self;
         units
     }
 
-    /// One event.
+    /// One event. BUSY changes nothing. It comes only where there is no slot for the sender, no room or no number for a
+    /// record that the event would leave, or where the command takes memory beside that.
     pub fn step(&mut self, alloc: Global, event: &Event) -> Reply
-        ensures { Steps self.old event.now (self.new, result) }
+        ensures step { Steps (units_of self.old) event.now (units_of self.new, result) }
+        ensures busy { EventIsBusyOnlyFor self.old event.now result }
     {
         match event {
             Event::Command {
@@ -313,7 +327,7 @@ impl<D: DeviceServer> TargetCore<D> {
         events: &[Event],
         replies: &mut Vec<Reply>,
     ) -> Result<(), AllocError>
-        ensures ok { OnOk result ((rs : List Reply) × (replies.new.items ≡ replies.old.items ++ rs) × Runs self.old events.now rs self.new) }
+        ensures ok { OnOk result ((rs : List Reply) × (replies.new.items ≡ replies.old.items ++ rs) × Runs (units_of self.old) events.now rs (units_of self.new)) }
         ensures err { OnErr result ((self.new ≡ self.old) × (replies.new.items ≡ replies.old.items)) }
     {
         replies.reserve(events.len())?;
@@ -328,7 +342,7 @@ impl<D: DeviceServer> TargetCore<D> {
     /// now. The unit keeps none of them and goes on counting, and the other units stay as they were.
     /// `None` where there is no such unit. Takes no memory.
     pub fn drain(&mut self, alloc: Global, lun: u8) -> Option<Vec<Record>>
-        ensures { Drains self.old lun (self.new, option_map (λ (entries : Vec Record). entries.items) result) }
+        ensures { Drains (units_of self.old) lun (units_of self.new, option_map (λ (entries : Vec Record). entries.items) result) }
     {
         drain(alloc, &mut self.units, usize::from(lun))
     }

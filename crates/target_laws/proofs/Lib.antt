@@ -5,6 +5,7 @@ pub mod Row
 pub mod WorkedHeadline
 pub mod Sending
 pub mod EventRows
+pub mod BusyRows
 pub mod Devices
 pub mod CommandWays
 pub mod Agreement

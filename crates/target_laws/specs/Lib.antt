@@ -1,5 +1,6 @@
 pub mod Headline
 pub mod Rows
+pub mod BusyRows
 pub mod HeadlineRows
 pub mod Failures
 pub mod Volumes

@@ -1,4 +1,5 @@
 ghost use Rattle.target_laws.specs.Headline.{Headline};
+ghost use Rattle.target_laws.specs.BusyRows.{WhenBusy};
 ghost use Rattle.target_laws.specs.HeadlineRows.{FourAreAsked, AreDecided, NotRefused, NotDecided, NotServed};
 ghost use Rattle.target_laws.specs.CarriedRows.{VolumeGoes, VolumeDoesNotGo, MoveIsNotServed, MoveStops, NoDriveMoves};
 ghost use Rattle.target_laws.specs.Rows.{sent, IsSent, WorkedRun, BusyRuns, LossesAndResets, UnitsOfATarget, MarksOfATarget, MarksByTag};
@@ -35,6 +36,11 @@ pub fn worked_run()
     ensures run { WorkedRun }
     ensures busy { BusyRuns }
     ensures events { (tag : VolumeTag) → LossesAndResets tag }
+{}
+
+/// Commands and losses that may be BUSY, and some that never are.
+pub fn when_busy()
+    ensures { WhenBusy }
 {}
 
 /// What the headline says of four commands where A holds Exclusive Access: one of A's is allowed, one of

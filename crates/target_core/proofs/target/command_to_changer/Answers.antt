@@ -1,8 +1,13 @@
 use Rattle.target_core.proofs.MovesInPlace.{first_moved}
+use Rattle.target_core.proofs.WhyBusy.{first_busy}
 use Rattle.target_core.proofs.target.command_to_changer.Goals as goal
 
 pub returns : goal.returns
 returns g c =
     let parts = c.split_at_mut-first.result in
-    first_moved c.args.units.now parts.0.now parts.1.now c.command_with_drives.new.drives c.args.nexus c.args.cdb.now c.args.bytes.now c.index-first-0.result c.command_with_drives.new.changer c.command_with_drives.result
-    c.split_at_mut-first.ensures.value c.split_at_mut-first.ensures.front_len c.command_with_drives.ensures
+    record {
+      step =
+          first_moved c.args.units.now parts.0.now parts.1.now c.command_with_drives.new.drives c.args.nexus c.args.cdb.now c.args.bytes.now c.index-first-0.result c.command_with_drives.new.changer c.command_with_drives.result
+          c.split_at_mut-first.ensures.value c.split_at_mut-first.ensures.front_len c.command_with_drives.ensures.step;
+      busy = first_busy c.args.nexus c.args.cdb.now c.args.bytes.now c.command_with_drives.result c.args.units.now parts.0.now parts.1.now c.index-first-0.result c.split_at_mut-first.ensures.value c.split_at_mut-first.ensures.front_len c.command_with_drives.ensures.busy;
+    }

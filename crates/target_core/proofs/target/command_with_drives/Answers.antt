@@ -1,5 +1,6 @@
 use Rattle.std.proofs.Common.{get_or, sym, ap, ◌∙◌}
 use Rattle.target_core.proofs.MovesInPlace.{names_at, alone_moved, empty_is, single_is, pair_is, lun_of, luns_of}
+use Rattle.target_core.proofs.WhyBusy.{alone_busy}
 use Rattle.target_core.proofs.target.command_with_drives.Goals as goal
 
 pub move_at-requires-clause-named : goal.move_at-requires-clause-named
@@ -15,6 +16,8 @@ move_between-requires-clause-named g c =
 
 pub returns-in-empty : goal.returns-in-empty
 returns-in-empty g c =
-    alone_moved c.args.changer.now c.execute.new.self c.args.drives.now c.args.nexus c.args.cdb.now c.args.bytes.now c.execute.result
-    (names_at c.args.changer.now c.args.drives.now c.args.cdb.now _ c.requires (sym c.named-luns.ensures ∙ sym c.as_slice.ensures.value ∙ empty_is c.as_slice.result.now c.in-empty.len_below))
-    c.execute.ensures.unit
+    let names = names_at c.args.changer.now c.args.drives.now c.args.cdb.now _ c.requires (sym c.named-luns.ensures ∙ sym c.as_slice.ensures.value ∙ empty_is c.as_slice.result.now c.in-empty.len_below) in
+    record {
+      step = alone_moved c.args.changer.now c.execute.new.self c.args.drives.now c.args.nexus c.args.cdb.now c.args.bytes.now c.execute.result names c.execute.ensures.unit;
+      busy = alone_busy c.args.nexus c.args.cdb.now c.args.bytes.now c.execute.result c.args.changer.now c.args.drives.now names c.execute.ensures.busy;
+    }

@@ -8,6 +8,6 @@ loop-event-preserved g c =
     let room : vec_len c.loop-event.replies < vec_capacity c.loop-event.replies = omega (arith, c.loop-event.invariant.room) in
     let items : c.push.new.self.items ≡ c.loop-event.replies.items ++ c.step-reply.result ∷ [] = grind (arith, common_steps) in
     record {
-      told = Told-step c.event-item.result _ _ _ c.loop-event.invariant.told c.loop-event-test.true c.event-item.is items c.step-reply.ensures;
+      told = Told-step c.event-item.result _ _ _ c.loop-event.invariant.told c.loop-event-test.true c.event-item.is items c.step-reply.ensures.step;
       room = grind (arith, common_steps);
     }
