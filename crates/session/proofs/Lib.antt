@@ -1,3 +1,4 @@
+pub mod Called
 pub mod Answered
 pub mod Read
 pub mod Conversed

@@ -1,5 +1,5 @@
 -- What a session does with its frames. `notes s d t` says that a call with the answer d makes t of the service s.
-use Rattle.std.specs.Prelude.{◌≡◌, ◌≤◌, ℕ, true, List, [], ◌∷◌, ◌++◌, Option, Some, None}
+use Rattle.std.specs.Prelude.{◌≡◌, ◌⊎◌, ◌≤◌, ℕ, true, List, [], ◌∷◌, ◌++◌, Option, Some, None}
 use Rattle.std.specs.Io.KnownBytes.{Appends}
 use Rattle.scsi_nexus.specs.declared.nexus.Nexus.{Nexus}
 use Rattle.kept_unit.specs.Answers as event
@@ -32,6 +32,18 @@ Says notes n s Logout out out' t = ⊥
 abbrev pub Talks : {S : Type 0} → (S → DoneValue → S → Type 0) → Nexus → S → List FrameValue → (out out' : List ℕ) → S → Type 0
 Talks notes n s [] out out' t = (out' ≡ out) × (t ≡ s)
 Talks {S} notes n s (f ∷ fs) out out' t = (m : S) × (mid : List ℕ) × Says notes n s f out mid m × Talks notes n m fs mid out' t
+
+-- a call of a session, by its answer: it is of the session's nexus, or a reset
+abbrev pub IsCall : Nexus → DoneValue → Type 0
+IsCall n d = (d.nexus ≡ Some n) ⊎ (d.asked ≡ event.Reset)
+
+-- calls of a session one after another, and nothing else, make t of s
+abbrev pub Calls : {S : Type 0} → (S → DoneValue → S → Type 0) → Nexus → S → List DoneValue → S → Type 0
+Calls notes n s [] t = t ≡ s
+Calls {S} notes n s (d ∷ ds) t = (m : S) × IsCall n d × notes s d m × Calls notes n m ds t
+
+abbrev pub ComesByCalls : {S : Type 0} → (S → DoneValue → S → Type 0) → Nexus → S → S → Type 0
+ComesByCalls notes n s t = (ds : List DoneValue) × Calls notes n s ds t
 
 -- some frames that were pending were answered, in order, and others are pending
 abbrev pub Answers : {S : Type 0} → (S → DoneValue → S → Type 0) → Nexus → S → (pending out out' pending' : List ℕ) → S → Type 0

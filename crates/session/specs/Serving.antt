@@ -14,7 +14,7 @@ use Rattle.session.specs.declared.fault.End.{End}
 use Rattle.session.specs.declared.fault.End.TheVariants as end
 use Rattle.session.specs.declared.fault.SessionFault.{SessionFault}
 use Rattle.session.specs.declared.fault.SessionFault.TheVariants as session
-use Rattle.session.specs.Answering.{Talks, Answers, AnswersAll}
+use Rattle.session.specs.Answering.{Talks, Answers, AnswersAll, ComesByCalls}
 use Rattle.session.specs.Faults.{IsOfStream}
 use Rattle.session.specs.Login.{end_of}
 
@@ -85,9 +85,9 @@ pub record IsKeptOut {S : Type 0} (s : S) (written written' : Option (List ℕ))
   pub service : t ≡ s
   pub said : fault ≢ session.Write → Appends written written' (refusal fault)
 
--- a session that ended early later on: what was read first is its LOGIN, and the last thing that it did at the service was to lose the nexus of
--- that LOGIN at every unit. It ended for want of memory only where such a loss was BUSY
-pub record BreaksOff {S : Type 0} (notes : S → DoneValue → S → Type 0) (count : S → ℕ) (left : Option (List ℕ)) (fault : SessionFault) (t : S) : Type 0 where
+-- a session that ended early later on: what was read first is its LOGIN, what it did at the service are calls of its own, and the last that it
+-- did there was to lose the nexus of that LOGIN at every unit. It ended for want of memory only where such a loss was BUSY
+pub record BreaksOff {S : Type 0} (notes : S → DoneValue → S → Type 0) (count : S → ℕ) (s : S) (left : Option (List ℕ)) (fault : SessionFault) (t : S) : Type 0 where
   pub nexus : Nexus
   pub read : List ℕ
   pub middle : Option (List ℕ)
@@ -96,6 +96,7 @@ pub record BreaksOff {S : Type 0} (notes : S → DoneValue → S → Type 0) (co
   pub all : Bool
   pub consumed : Consumes left middle read
   pub login : parsed_frame false read ≡ Complete (Login nexus) size
+  pub calls : ComesByCalls notes nexus s before
   pub lost : IsLostBelow notes nexus (count before) before t all
   pub ended : MatchBool all (IsOfStream fault) (fault ≡ session.NoMemory)
 

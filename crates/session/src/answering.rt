@@ -1,8 +1,9 @@
 ghost use Rattle.std.specs.Prelude.{◌≡◌, ◌≢◌, ◌≤◌, ◌<◌, ◌+◌, ◌++◌, Ok, OnOk, OnErr, vec_len, vec_capacity};
+ghost use Rattle.scsi_nexus.specs.declared.nexus.Nexus.{Nexus};
 ghost use Rattle.frames.specs.Frames as frames;
 ghost use Rattle.frames.specs.Views.{frame_value};
 ghost use Rattle.frames.specs.Replies.{LogoutReply, reply_bytes};
-ghost use Rattle.session.specs.Answering.{Commanded, WasReset, Says};
+ghost use Rattle.session.specs.Answering.{Commanded, WasReset, Says, ComesByCalls};
 
 use crate::service::Service;
 use frames::{FrameRef, ReplyFrame, write_reply};
@@ -19,6 +20,7 @@ fn command<S: Service>(
     bytes: &[u8],
     out: &mut Vec<u8>,
 ) -> Result<(), AllocError>
+    ensures calls { ComesByCalls S.notes nexus service.old service.new }
     ensures said { OnOk result (Commanded S.notes service.old nexus lun cdb.now bytes.now out.old.items out.new.items service.new) }
     ensures most { OnOk result (vec_len out.new ≤ vec_len out.old + 65569) }
     ensures capacity { vec_capacity out.old ≤ vec_capacity out.new }
@@ -42,6 +44,7 @@ fn reset<S: Service>(
     lun: u8,
     out: &mut Vec<u8>,
 ) -> Result<(), AllocError>
+    ensures calls { (n : Nexus) → ComesByCalls S.notes n service.old service.new }
     ensures said { OnOk result (WasReset S.notes service.old lun out.old.items out.new.items service.new) }
     ensures most { OnOk result (vec_len out.new ≤ vec_len out.old + 65569) }
     ensures capacity { vec_capacity out.old ≤ vec_capacity out.new }
@@ -70,6 +73,7 @@ pub(crate) fn answer<S: Service>(
     frame: FrameRef<'_>,
     out: &mut Vec<u8>,
 ) -> Result<AfterFrame, AllocError>
+    ensures calls { ComesByCalls S.notes nexus service.old service.new }
     ensures goes_on { result ≡ Ok AfterFrame.Frames → Says S.notes nexus service.old (frame_value frame.entry) out.old.items out.new.items service.new }
     ensures logout { result ≡ Ok AfterFrame.Nothing → (frame_value frame.entry ≡ frames.Logout) × (out.new.items ≡ out.old.items ++ reply_bytes LogoutReply) × (service.new ≡ service.old) }
     ensures most { OnOk result (vec_len out.new ≤ vec_len out.old + 65569) }

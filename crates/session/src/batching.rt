@@ -1,7 +1,7 @@
 ghost use Rattle.std.specs.Prelude.{◌≡◌, ◌<◌, ◌≤◌, ◌⊎◌, Ok, OnOk, IfErr, IsOkUnless, [], length, vec_len, vec_capacity, true, false};
 ghost use Rattle.std.specs.Io.KnownBytes.{Appends};
 ghost use Rattle.frames.specs.Frames.{parsed_frame, Partial};
-ghost use Rattle.session.specs.Answering.{Answers, AnswersAll, AnswersOut, AnswersAllOut, HasRoom};
+ghost use Rattle.session.specs.Answering.{Answers, AnswersAll, AnswersOut, AnswersAllOut, ComesByCalls, HasRoom};
 ghost use Rattle.session.specs.Faults.{IsOfStream};
 
 use crate::answering::{AfterFrame, answer};
@@ -56,6 +56,7 @@ fn answer_some<S: Service>(
     ensures capacity { vec_capacity out.old ≤ vec_capacity out.new }
     ensures waits { result ≡ Ok Pause.NeedsInput → vec_len out.new ≤ 65569 }
     ensures fault { IfErr result IsOfStream }
+    ensures calls { ComesByCalls S.notes nexus service.old service.new }
     ensures goes_on { (result ≡ Ok Pause.NeedsInput) ⊎ (result ≡ Ok Pause.FlushDue) → Answers S.notes nexus service.old read_buffer.old out.old.items out.new.items read_buffer.new service.new }
     ensures dry { result ≡ Ok Pause.NeedsInput → (parsed_frame true read_buffer.new ≡ Partial) × (length read_buffer.new < 131076) }
     ensures full { result ≡ Ok Pause.FlushDue → length read_buffer.new < length read_buffer.old }
@@ -94,6 +95,7 @@ pub(crate) fn answer_all<S: Service, W: Write>(
     requires { HasRoom (vec_len out.old) (vec_capacity out.old) }
     ensures capacity { vec_capacity out.old ≤ vec_capacity out.new }
     ensures fault { IfErr result IsOfStream }
+    ensures calls { ComesByCalls S.notes nexus service.old service.new }
     ensures goes_on { result ≡ Ok true → AnswersOut S.notes nexus service.old read_buffer.old out.old.items (W.contents writer.old) (W.contents writer.new) out.new.items read_buffer.new service.new }
     ensures dry { result ≡ Ok true → (parsed_frame true read_buffer.new ≡ Partial) × (length read_buffer.new < 131076) }
     ensures leaves { result ≡ Ok false → AnswersAllOut S.notes nexus service.old read_buffer.old out.old.items (W.contents writer.old) (W.contents writer.new) out.new.items read_buffer.new service.new }

@@ -2,7 +2,7 @@ ghost use Rattle.std.specs.Prelude.{◌≡◌, ◌≢◌, ◌⊎◌, ◌≤◌, 
 ghost use Rattle.std.specs.Io.KnownBytes.{Appends};
 ghost use Rattle.frames.specs.Replies.{LoginReply, reply_bytes};
 ghost use Rattle.frames.specs.declared.reply_frame.LoginAnswer.TheVariants.{Accepted};
-ghost use Rattle.session.specs.Answering.{HasRoom};
+ghost use Rattle.session.specs.Answering.{HasRoom, ComesByCalls};
 ghost use Rattle.session.specs.Faults.{IsOfStream};
 ghost use Rattle.session.specs.Login.{ReadsAtMost};
 ghost use Rattle.session.specs.Serving.{Writes, WritesAll, Converses, IsLostBelow, IsKeptOut, BreaksOff, Serves, refusal};
@@ -33,6 +33,7 @@ fn answer_and_write<S: Service, W: Write>(
     ensures written { out.new.items ≡ [] }
     ensures room { HasRoom (vec_len out.new) (vec_capacity out.new) }
     ensures fault { IfErr result IsOfStream }
+    ensures calls { ComesByCalls S.notes nexus service.old service.new }
 {
     let came = answer_all(alloc, service, nexus, read_buffer, out, writer);
     flush(out, writer)?;
@@ -52,6 +53,7 @@ fn converse<S: Service, R: Read, W: Write>(
 ) -> Result<End, SessionFault>
     requires { HasRoom (vec_len out.old) (vec_capacity out.old) }
     ensures fault { IfErr result IsOfStream }
+    ensures calls { ComesByCalls S.notes nexus service.old service.new }
     ensures reads { ReadsAtMost (turns * 262144) (R.remaining reader.old) (R.remaining reader.new) }
     ensures talk { IfOk result (λ end. Converses S.notes nexus service.old read_buffer.old out.old.items (R.remaining reader.old) (R.remaining reader.new) (W.contents writer.old) (W.contents writer.new) end read_buffer.new service.new) }
 {
@@ -134,7 +136,7 @@ pub fn serve<S: Service, R: Read, W: Write>(
     turns: u64,
 ) -> Result<End, SessionFault>
     ensures session { IfOk result (λ end. Serves S.notes S.count service.old (R.remaining reader.old) (R.remaining reader.new) (W.contents writer.old) (W.contents writer.new) end service.new) }
-    ensures broken { IfErr result (λ fault. IsKeptOut service.old (W.contents writer.old) (W.contents writer.new) fault service.new ⊎ BreaksOff S.notes S.count (R.remaining reader.old) fault service.new) }
+    ensures broken { IfErr result (λ fault. IsKeptOut service.old (W.contents writer.old) (W.contents writer.new) fault service.new ⊎ BreaksOff S.notes S.count service.old (R.remaining reader.old) fault service.new) }
     ensures reads { ReadsAtMost (turns * 262144) (R.remaining reader.old) (R.remaining reader.new) }
 {
     let mut read_buffer = ReadBuffer::new(alloc)?;
@@ -186,6 +188,7 @@ fn greet_and_converse<S: Service, R: Read, W: Write>(
     requires empty { (out.old.items ≡ []) × (vec_len out.old ≡ 0) }
     requires room { 131138 ≤ vec_capacity out.old }
     ensures fault { IfErr result IsOfStream }
+    ensures calls { ComesByCalls S.notes nexus service.old service.new }
     ensures reads { ReadsAtMost (turns * 262144) (R.remaining reader.old) (R.remaining reader.new) }
     ensures talk { IfOk result (λ end. Converses S.notes nexus service.old read_buffer.old (reply_bytes (LoginReply Accepted)) (R.remaining reader.old) (R.remaining reader.new) (W.contents writer.old) (W.contents writer.new) end read_buffer.new service.new) }
 {

@@ -2,6 +2,7 @@ use Rattle.std.proofs.Common.{◌≡◌, ◌∙◌, ◌++◌, ap, sym, subst, in
 use Rattle.std.specs.Prelude.{Ok}
 use Rattle.session.specs.Answering.{Answers}
 use Rattle.session.proofs.Answered.{batch, last_batch, appends_more}
+use Rattle.session.proofs.Called.{called_then}
 use Rattle.session.proofs.batching.answer_all.Goals as goal
 
 pub returns-in-NeedsInput-clause-goes_on : goal.returns-in-NeedsInput-clause-goes_on
@@ -32,4 +33,21 @@ batches-preserved g c =
       ),
       (omega arith, omega arith),
       omega arith,
+      called_then g.S.Service.notes c.args.nexus c.args.service.now c.batches.service c.answer_some.new.service c.batches.invariant.3 c.answer_some.ensures.calls,
     )
+
+pub returns-in_err-answer_some-clause-calls : goal.returns-in_err-answer_some-clause-calls
+returns-in_err-answer_some-clause-calls g c =
+    called_then g.S.Service.notes c.args.nexus c.args.service.now c.batches.service c.answer_some.new.service c.batches.invariant.3 c.answer_some.ensures.calls
+
+pub returns-in-NeedsInput-clause-calls : goal.returns-in-NeedsInput-clause-calls
+returns-in-NeedsInput-clause-calls g c =
+    called_then g.S.Service.notes c.args.nexus c.args.service.now c.batches.service c.answer_some.new.service c.batches.invariant.3 c.answer_some.ensures.calls
+
+pub returns-in-LoggedOut-clause-calls : goal.returns-in-LoggedOut-clause-calls
+returns-in-LoggedOut-clause-calls g c =
+    called_then g.S.Service.notes c.args.nexus c.args.service.now c.batches.service c.answer_some.new.service c.batches.invariant.3 c.answer_some.ensures.calls
+
+pub returns-in_err-flush-in-FlushDue-clause-calls : goal.returns-in_err-flush-in-FlushDue-clause-calls
+returns-in_err-flush-in-FlushDue-clause-calls g c =
+    called_then g.S.Service.notes c.args.nexus c.args.service.now c.batches.service c.answer_some.new.service c.batches.invariant.3 c.answer_some.ensures.calls

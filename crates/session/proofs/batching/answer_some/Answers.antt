@@ -4,6 +4,7 @@ use Rattle.std.proofs.lemmas.List.{length-drop}
 use Rattle.frames.specs.Frames.{Complete, parsed_frame}
 use Rattle.frames.specs.Views.{frame_value}
 use Rattle.session.proofs.Answered.{one_more, then_logout}
+use Rattle.session.proofs.Called.{called_then}
 use Rattle.session.proofs.batching.answer_some.Goals as goal
 
 pub frames-preserved : goal.frames-preserved
@@ -14,6 +15,7 @@ frames-preserved g c =
       omega (arith, c.frames.invariant.1, ap length c.consume.ensures, length-drop c.in-Complete.count c.frames.read_buffer),
       (omega arith, omega arith),
       omega arith,
+      called_then g.S.Service.notes c.args.nexus c.args.service.now c.frames.service c.answer.new.service c.frames.invariant.4 c.answer.ensures.calls,
     )
 
 pub returns-then-len-ge-BATCH-clause-goes_on : goal.returns-then-len-ge-BATCH-clause-goes_on
@@ -27,3 +29,25 @@ returns-in-Nothing-clause-leaves g c _ =
     let e : parsed_frame true c.frames.read_buffer ≡ Complete (frame_value c.in-Complete.frame) c.in-Complete.count = sym (ap (parsed_frame true) c.pending.ensures) ∙ sym c.in-Complete.ensures.parsed in
     let said = c.in_ok-next-in-Complete.ensures.logout (ap Ok c.in-Nothing.is) in
     then_logout g.S.Service.notes c.args.nexus c.args.service.now c.frames.service c.answer.new.service c.args.read_buffer.now c.args.out.now.items c.frames.out.items c.answer.new.out.items c.frames.read_buffer c.consume.new.self (frame_value c.in-Complete.frame) c.in-Complete.count c.frames.invariant.0 e c.consume.ensures said
+
+pub returns-in-Partial-clause-calls : goal.returns-in-Partial-clause-calls
+returns-in-Partial-clause-calls g c = c.frames.invariant.4
+
+pub returns-in-Invalid-clause-calls : goal.returns-in-Invalid-clause-calls
+returns-in-Invalid-clause-calls g c = c.frames.invariant.4
+
+pub returns-in_err-next-in-Complete-clause-calls : goal.returns-in_err-next-in-Complete-clause-calls
+returns-in_err-next-in-Complete-clause-calls g c =
+    called_then g.S.Service.notes c.args.nexus c.args.service.now c.frames.service c.answer.new.service c.frames.invariant.4 c.answer.ensures.calls
+
+pub returns-in-Nothing-clause-calls : goal.returns-in-Nothing-clause-calls
+returns-in-Nothing-clause-calls g c =
+    called_then g.S.Service.notes c.args.nexus c.args.service.now c.frames.service c.answer.new.service c.frames.invariant.4 c.answer.ensures.calls
+
+pub returns-in-Again-clause-calls : goal.returns-in-Again-clause-calls
+returns-in-Again-clause-calls g c =
+    called_then g.S.Service.notes c.args.nexus c.args.service.now c.frames.service c.answer.new.service c.frames.invariant.4 c.answer.ensures.calls
+
+pub returns-then-len-ge-BATCH-clause-calls : goal.returns-then-len-ge-BATCH-clause-calls
+returns-then-len-ge-BATCH-clause-calls g c =
+    called_then g.S.Service.notes c.args.nexus c.args.service.now c.frames.service c.answer.new.service c.frames.invariant.4 c.answer.ensures.calls

@@ -1,8 +1,8 @@
-use Rattle.std.proofs.Common.{◌≡◌, ◌∙◌, ◌*◌, ◌+◌, ℕ, List, false, ap, sym, subst, refl, length, arith}
+use Rattle.std.proofs.Common.{◌≡◌, ◌∙◌, ◌*◌, ℕ, List, false, ap, sym, subst, refl, length, arith}
 use Rattle.std.specs.Io.KnownBytes.{Consumes}
 use Rattle.frames.specs.Frames.{parsed_frame}
 use Rattle.session.specs.Login.{end_of}
-use Rattle.session.proofs.Read.{consumes_none, consumes_more, nothing_more, reads_none, reads_more, reads_kept, reads_within}
+use Rattle.session.proofs.Read.{consumes_none, consumes_more, nothing_more, reads_none}
 use Rattle.session.proofs.login.await_login.Goals as goal
 
 pub reads-init : goal.reads-init

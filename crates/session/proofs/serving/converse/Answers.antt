@@ -3,6 +3,7 @@ use Rattle.std.specs.Prelude.{Ok}
 use Rattle.session.specs.Login.{end_of}
 use Rattle.session.specs.Serving.{Writes, WritesAll}
 use Rattle.session.proofs.Conversed.{speaks_on, leaves_on, ends}
+use Rattle.session.proofs.Called.{called_then}
 use Rattle.session.proofs.Read.{reads_more, reads_on}
 use Rattle.session.proofs.serving.converse.Goals as goal
 
@@ -16,6 +17,7 @@ reads-preserved g c =
       c.in_ok-answer_and_write-2.ensures.written,
       c.in_ok-answer_and_write-2.ensures.room,
       reads_more c.reads.turn c.in-Ok.field-0 _ _ _ _ _ so.3 c.in-Ok.ensures.ok c.in-Ok.ensures.most,
+      called_then g.S.Service.notes c.args.nexus c.args.service.now c.reads.service c.answer_and_write-in-reads.new.service c.reads.invariant.4 c.answer_and_write-in-reads.ensures.calls,
     )
 
 pub returns-then-not-branch-2-clause-talk : goal.returns-then-not-branch-2-clause-talk
@@ -41,3 +43,20 @@ returns-then-not-branch-2-clause-reads g c =
 pub returns-in_err-answer_and_write-2-clause-reads : goal.returns-in_err-answer_and_write-2-clause-reads
 returns-in_err-answer_and_write-2-clause-reads g c =
     reads_on c.reads.turn c.args.turns c.in-Ok.field-0 _ _ _ _ _ (omega arith) c.reads.invariant.3 c.in-Ok.ensures.ok c.in-Ok.ensures.most
+
+pub returns-in-Ok-eq0-clause-calls : goal.returns-in-Ok-eq0-clause-calls
+returns-in-Ok-eq0-clause-calls g c = c.reads.invariant.4
+
+pub returns-in-Err-clause-calls : goal.returns-in-Err-clause-calls
+returns-in-Err-clause-calls g c = c.reads.invariant.4
+
+pub returns-clause-calls : goal.returns-clause-calls
+returns-clause-calls g c = c.reads.invariant.4
+
+pub returns-in_err-answer_and_write-2-clause-calls : goal.returns-in_err-answer_and_write-2-clause-calls
+returns-in_err-answer_and_write-2-clause-calls g c =
+    called_then g.S.Service.notes c.args.nexus c.args.service.now c.reads.service c.answer_and_write-in-reads.new.service c.reads.invariant.4 c.answer_and_write-in-reads.ensures.calls
+
+pub returns-then-not-branch-2-clause-calls : goal.returns-then-not-branch-2-clause-calls
+returns-then-not-branch-2-clause-calls g c =
+    called_then g.S.Service.notes c.args.nexus c.args.service.now c.reads.service c.answer_and_write-in-reads.new.service c.reads.invariant.4 c.answer_and_write-in-reads.ensures.calls

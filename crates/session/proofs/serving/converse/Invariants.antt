@@ -1,6 +1,6 @@
 use Rattle.std.proofs.Common.{◌≡◌, ◌*◌, [], vec_len}
 use Rattle.std.specs.Prelude.{vec_capacity}
-use Rattle.session.specs.Answering.{HasRoom}
+use Rattle.session.specs.Answering.{ComesByCalls, HasRoom}
 use Rattle.session.specs.Login.{ReadsAtMost}
 use Rattle.session.proofs.Conversed.{Speaks}
 use Rattle.session.proofs.serving.converse.Given as goal
@@ -11,3 +11,4 @@ invariant-reads g l =
     × (l.out.items ≡ [])
     × HasRoom (vec_len l.out) (vec_capacity l.out)
     × ReadsAtMost (l.turn * 262144) (g.R.Read.remaining l.fn.reader) (g.R.Read.remaining l.reader)
+    × ComesByCalls g.S.Service.notes l.nexus l.fn.service l.service

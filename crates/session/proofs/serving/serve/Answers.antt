@@ -2,6 +2,7 @@ use Rattle.std.proofs.Common.{inr, refl, subst, sym, drop, true, false, Bool, Li
 use Rattle.frames.specs.Replies.{LoginReply, reply_bytes}
 use Rattle.frames.specs.declared.reply_frame.LoginAnswer.TheVariants.{Accepted}
 use Rattle.session.specs.declared.login.LoginWait.{LoginWait}
+use Rattle.session.specs.Answering.{ComesByCalls}
 use Rattle.session.specs.Login.{Awaits, LeavesReads}
 use Rattle.session.specs.Serving.{Converses, IsLostBelow}
 use Rattle.session.proofs.Conversed.{held}
@@ -64,6 +65,7 @@ returns-then-not-is_lost-clause-broken g c =
       all = false;
       consumed = came.2;
       login = came.3;
+      calls = subst (λ s. ComesByCalls notes nexus s talk.service) c.login.ensures.library c.greet_and_converse-ended.ensures.calls;
       lost = all;
       ended = refl;
     })
@@ -88,6 +90,7 @@ returns-clause-broken g c =
       all = true;
       consumed = came.2;
       login = came.3;
+      calls = subst (λ s. ComesByCalls notes nexus s talk.service) c.login.ensures.library c.greet_and_converse-ended.ensures.calls;
       lost = all;
       ended = c.in-Err-ended.ensures.fault;
     })
