@@ -2,6 +2,8 @@ use changer_server::Changer;
 use element_map::Elements;
 use scsi_nexus::Nexus;
 use std::alloc::{AllocError, Global};
+use std::fmt::Debug;
+use std::process::Abort;
 use tape_medium::VolumeTag;
 
 mod changers;
@@ -33,6 +35,17 @@ const ALLOW: &[u8] = &[0x1e, 0, 0, 0, 0, 0];
 const PREVENT: &[u8] = &[0x1e, 0, 0, 0, 1, 0];
 
 const TEST_UNIT_READY: &[u8] = &[0; 6];
+
+/// Compares what was found with what is expected. Each `assert_eq!` costs the proof of the function that it stands in some
+/// ten times this call.
+fn assert_same<T: Copy + PartialEq + Debug>(
+    rt: &impl Abort,
+    found: T,
+    expected: T,
+    shows: &'static str,
+) {
+    assert!(rt; found == expected, "{shows}: {found:?}, not {expected:?}");
+}
 
 /// A changer over one drive, with one storage element and no volume.
 fn empty_changer(alloc: Global) -> Result<Changer, AllocError> {

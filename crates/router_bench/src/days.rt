@@ -1,13 +1,14 @@
 //! The commands through a library, from one, two and four threads, each to its own drive and all to one.
-ghost use Rattle.std.specs.Prelude.{◌≡◌, ◌<◌};
+ghost use Rattle.std.specs.Prelude.{◌≡◌, ◌<◌, map};
 ghost use Rattle.lun_router.specs.Opening.{IsSince};
 
 use crate::figures::tell;
+use crate::opened::Opened;
 use crate::targets::four_drives;
 use crate::work::{BLOCKS, REWIND, TEST_UNIT_READY, Task, loading, nexus_at};
 use kept_unit::UnitLedger;
 use library_device::Device;
-use lun_router::{Blanks, Library, Pass, Seat};
+use lun_router::{Blanks, Library, Pass};
 use std::alloc::Global;
 use std::marker::Brand;
 use std::rt::Clock;
@@ -21,87 +22,98 @@ use target_core::TargetCore;
 /// How many seats there are.
 const SEATS: usize = 4;
 
+/// What is asked of a unit, and how often.
+#[derive(Clone, Copy)]
+struct Round<'a> {
+    lun: u8,
+    cdb: &'a [u8],
+    bytes: &'a [u8],
+    count: u32,
+}
+
 /// Asks a drive so often, with a REWIND before each round of blocks.
-fn ask<L0: UnitLedger, L1: UnitLedger, L2: UnitLedger, L3: UnitLedger, L4: UnitLedger, R: Wait>(
+fn ask<T: Opened, R: Wait>(
     rt: &R,
     alloc: Global,
-    library: &Library<L0, L1, L2, L3, L4, Device, Pass>,
-    seat: &mut Seat<L0, L1, L2, L3, L4>,
+    library: &T,
+    seat: &mut T::Seat,
     place: usize,
-    lun: u8,
-    cdb: &[u8],
-    bytes: &[u8],
-    count: u32,
+    round: Round<'_>,
 ) {
     let nexus = nexus_at(place);
-    for turn in 0..count {
+    for turn in 0..round.count {
         if turn % BLOCKS == 0 {
-            let _done = library.submit(rt, alloc, seat, nexus, lun, &REWIND, &[]);
+            library.ask(rt, alloc, seat, nexus, round.lun, &REWIND, &[]);
         }
-        let _done = library.submit(rt, alloc, seat, nexus, lun, cdb, bytes);
+        library.ask(rt, alloc, seat, nexus, round.lun, round.cdb, round.bytes);
     }
 }
 
-/// Loads each drive, reads off what each nexus is told first at each unit, and writes each tape once, so that it takes its memory
-/// before anything is measured.
-fn prepare<L0: UnitLedger, L1: UnitLedger, L2: UnitLedger, L3: UnitLedger, L4: UnitLedger, R: Wait>(
-    rt: &R,
-    alloc: Global,
-    library: &Library<L0, L1, L2, L3, L4, Device, Pass>,
-    seat: &mut Seat<L0, L1, L2, L3, L4>,
-) -> io::Result<()> {
+/// Reads off what each nexus is told first at a unit.
+fn ask_ready<T: Opened, R: Wait>(rt: &R, alloc: Global, library: &T, seat: &mut T::Seat, lun: u8) {
+    for place in 0..SEATS {
+        let nexus = nexus_at(place);
+        library.ask(rt, alloc, seat, nexus, lun, &TEST_UNIT_READY, &[]);
+    }
+}
+
+/// Loads each drive, and reads off what each nexus is told first at each unit.
+fn load<T: Opened, R: Wait>(rt: &R, alloc: Global, library: &T, seat: &mut T::Seat) {
     for lun in 0..=SEATS as u8 {
-        for place in 0..SEATS {
-            let nexus = nexus_at(place);
-            let _done = library.submit(rt, alloc, seat, nexus, lun, &TEST_UNIT_READY, &[]);
-        }
+        ask_ready(rt, alloc, library, seat, lun);
     }
     for place in 0..SEATS as u8 {
-        let cdb = loading(place);
-        let _done = library.submit(rt, alloc, seat, nexus_at(0), 0, &cdb, &[]);
+        library.ask(rt, alloc, seat, nexus_at(0), 0, &loading(place), &[]);
     }
     for lun in 1..=SEATS as u8 {
-        for place in 0..SEATS {
-            let nexus = nexus_at(place);
-            let _done = library.submit(rt, alloc, seat, nexus, lun, &TEST_UNIT_READY, &[]);
-        }
+        ask_ready(rt, alloc, library, seat, lun);
     }
+}
+
+/// Writes each tape once, so that it takes its memory before anything is measured.
+fn write_all<T: Opened, R: Wait>(
+    rt: &R,
+    alloc: Global,
+    library: &T,
+    seat: &mut T::Seat,
+) -> io::Result<()> {
     let data = Task::Write.data(alloc)?;
     let cdb = Task::Write.cdb();
     for lun in 1..=SEATS as u8 {
-        ask(
-            rt,
-            alloc,
-            library,
-            seat,
-            0,
+        let round = Round {
             lun,
-            &cdb,
-            data.as_slice(),
-            BLOCKS,
-        );
+            cdb: &cdb,
+            bytes: data.as_slice(),
+            count: BLOCKS,
+        };
+        ask(rt, alloc, library, seat, 0, round);
     }
     Ok(())
 }
 
+/// The unit that a thread asks: its own drive, or the first.
+fn lun_at(place: usize, is_shared: bool) -> u8 {
+    if is_shared {
+        1
+    } else {
+        (place % SEATS) as u8 + 1
+    }
+}
+
 /// Measures one task from so many threads, each at its own drive or all at the first.
-fn measure<
-    L0: UnitLedger + Send + Sync,
-    L1: UnitLedger + Send + Sync,
-    L2: UnitLedger + Send + Sync,
-    L3: UnitLedger + Send + Sync,
-    L4: UnitLedger + Send + Sync,
-    R: Clock + Print + Threads + Wait + Sync,
->(
+fn measure<T: Opened + Sync, R: Clock + Print + Threads + Wait + Sync>(
     rt: &R,
     alloc: Global,
-    library: &Library<L0, L1, L2, L3, L4, Device, Pass>,
-    seats: &mut [Seat<L0, L1, L2, L3, L4>],
+    library: &T,
+    seats: &mut [T::Seat],
     task: Task,
     is_shared: bool,
     scale: u32,
     is_told: bool,
-) -> io::Result<()> {
+) -> io::Result<()>
+where
+    T::Seat: Send,
+{
     let threads = seats.len().max(1);
     let cdb = task.cdb();
     let data = task.data(alloc)?;
@@ -113,16 +125,18 @@ fn measure<
         seats,
         threads,
         &|place, seat| {
-            let lun = if is_shared {
-                1
-            } else {
-                (place % SEATS) as u8 + 1
+            let round = Round {
+                lun: lun_at(place, is_shared),
+                cdb: &cdb,
+                bytes,
+                count,
             };
-            ask(rt, alloc, library, seat, place, lun, &cdb, bytes, count)
+            ask(rt, alloc, library, seat, place, round)
         },
     );
+    let time = start.elapsed(rt)?;
     let way = if is_shared { "one-drive" } else { "own-drives" };
-    tell(rt, way, threads, task, count, start.elapsed(rt)?, is_told)
+    tell(rt, way, threads, task, count, time, is_told)
 }
 
 fn day<
@@ -147,7 +161,7 @@ fn day<
     requires two { (blanks.two.name ≡ L2.name) × (blanks.two.parts ≡ L2.parts) × (L2.parts ≡ seats) }
     requires three { (blanks.three.name ≡ L3.name) × (blanks.three.parts ≡ L3.parts) × (L3.parts ≡ seats) }
     requires four { (blanks.four.name ≡ L4.name) × (blanks.four.parts ≡ L4.parts) × (L4.parts ≡ seats) }
-    requires since { IsSince core L0.since L1.since L2.since L3.since L4.since }
+    requires since { IsSince (map (λ u. u.unit) core) L0.since L1.since L2.since L3.since L4.since }
 {
     match Library::<L0, L1, L2, L3, L4, Device, Pass>::new(alloc, core, seats, blanks, Pass) {
         Ok((library, all)) => play(rt, alloc, library, all, scale, is_told),
@@ -155,45 +169,73 @@ fn day<
     }
 }
 
-/// Measures all, and closes the library.
-fn play<
-    L0: UnitLedger + Send + Sync,
-    L1: UnitLedger + Send + Sync,
-    L2: UnitLedger + Send + Sync,
-    L3: UnitLedger + Send + Sync,
-    L4: UnitLedger + Send + Sync,
-    R: Clock + Print + Threads + Wait + Sync,
->(
+/// Measures a task from one, two and four threads.
+fn measure_by_threads<T: Opened + Sync, R: Clock + Print + Threads + Wait + Sync>(
     rt: &R,
     alloc: Global,
-    library: Library<L0, L1, L2, L3, L4, Device, Pass>,
-    mut seats: Vec<Seat<L0, L1, L2, L3, L4>>,
+    library: &T,
+    seats: &mut [T::Seat],
+    task: Task,
+    is_shared: bool,
     scale: u32,
     is_told: bool,
+) -> io::Result<()>
+where
+    T::Seat: Send,
+{
+    for threads in [1, 2, 4] {
+        let count = threads.min(seats.len());
+        let some = seats.split_at_mut(count).0;
+        measure(rt, alloc, library, some, task, is_shared, scale, is_told)?;
+    }
+    Ok(())
+}
+
+/// Measures how long the library takes to close, and tells what it left.
+fn close<T: Opened, R: Clock + Print>(
+    rt: &R,
+    alloc: Global,
+    library: T,
+    seats: Vec<T::Seat>,
+    is_told: bool,
 ) -> io::Result<()> {
-    if let Some(seat) = seats.first_mut() {
-        prepare(rt, alloc, &library, seat)?;
-    }
-    for is_shared in [false, true] {
-        for task in [Task::Ready, Task::Write, Task::Read] {
-            for threads in [1, 2, 4] {
-                let count = threads.min(seats.len());
-                let some = seats.as_mut_slice().split_at_mut(count).0;
-                measure(rt, alloc, &library, some, task, is_shared, scale, is_told)?;
-            }
-        }
-    }
     let start = Instant::now(rt)?;
     let closed = library.close(alloc, seats);
-    tell(rt, "close", 1, Task::Ready, 1, start.elapsed(rt)?, is_told)?;
+    let time = start.elapsed(rt)?;
+    tell(rt, "close", 1, Task::Ready, 1, time, is_told)?;
     match closed {
         Ok(histories) if !is_told => {
             let records = histories.first.records().len();
             println!(rt; "library left {records} records at its first drive")
         }
         Ok(_) => Ok(()),
-        Err((fault, _, _)) => println!(rt; "not closed: {fault}"),
+        Err(fault) => println!(rt; "not closed: {fault}"),
     }
+}
+
+/// Measures all, and closes the library.
+fn play<T: Opened + Sync, R: Clock + Print + Threads + Wait + Sync>(
+    rt: &R,
+    alloc: Global,
+    library: T,
+    mut seats: Vec<T::Seat>,
+    scale: u32,
+    is_told: bool,
+) -> io::Result<()>
+where
+    T::Seat: Send,
+{
+    if let Some(seat) = seats.first_mut() {
+        load(rt, alloc, &library, seat);
+        write_all(rt, alloc, &library, seat)?;
+    }
+    for is_shared in [false, true] {
+        for task in [Task::Ready, Task::Write, Task::Read] {
+            let all = seats.as_mut_slice();
+            measure_by_threads(rt, alloc, &library, all, task, is_shared, scale, is_told)?;
+        }
+    }
+    close(rt, alloc, library, seats, is_told)
 }
 
 pub(crate) fn run<R: Clock + Print + Threads + Wait + Sync>(

@@ -3,6 +3,7 @@
 
 mod days;
 mod figures;
+mod opened;
 mod single;
 mod targets;
 mod work;

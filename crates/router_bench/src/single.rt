@@ -30,6 +30,37 @@ fn ask(alloc: Global, core: &mut TargetCore<Device>, command: &Event, rewind: &E
     }
 }
 
+/// A target whose first drive is loaded and written once, so that the tape takes its memory before anything is measured.
+fn loaded(alloc: Global, rewind: &Event) -> io::Result<TargetCore<Device>> {
+    let mut core = four_drives(alloc)?;
+    for lun in [0, 1] {
+        let _ = core.step(alloc, &event(lun, &TEST_UNIT_READY, Vec::new(alloc))?);
+    }
+    let _ = core.step(alloc, &event(0, &loading(0), Vec::new(alloc))?);
+    let _ = core.step(alloc, &event(1, &TEST_UNIT_READY, Vec::new(alloc))?);
+    let write = event(1, &Task::Write.cdb(), Task::Write.data(alloc)?)?;
+    ask(alloc, &mut core, &write, rewind, BLOCKS);
+    Ok(core)
+}
+
+/// Measures a task.
+fn measure_task(
+    rt: &(impl Clock + Print),
+    alloc: Global,
+    core: &mut TargetCore<Device>,
+    rewind: &Event,
+    task: Task,
+    scale: u32,
+    is_told: bool,
+) -> io::Result<()> {
+    let command = event(1, &task.cdb(), task.data(alloc)?)?;
+    let count = task.count(scale);
+    let start = Instant::now(rt)?;
+    ask(alloc, core, &command, rewind, count);
+    let time = start.elapsed(rt)?;
+    tell(rt, "step", 1, task, count, time, is_told)
+}
+
 /// Measures each task, and answers the target that it made for that.
 pub(crate) fn measure(
     rt: &(impl Clock + Print),
@@ -37,22 +68,10 @@ pub(crate) fn measure(
     scale: u32,
     is_told: bool,
 ) -> io::Result<TargetCore<Device>> {
-    let mut core = four_drives(alloc)?;
-    for lun in [0, 1] {
-        let _ = core.step(alloc, &event(lun, &TEST_UNIT_READY, Vec::new(alloc))?);
-    }
-    let _ = core.step(alloc, &event(0, &loading(0), Vec::new(alloc))?);
-    let _ = core.step(alloc, &event(1, &TEST_UNIT_READY, Vec::new(alloc))?);
     let rewind = event(1, &REWIND, Vec::new(alloc))?;
-    let write = event(1, &Task::Write.cdb(), Task::Write.data(alloc)?)?;
-    // The tape takes its memory before anything is measured.
-    ask(alloc, &mut core, &write, &rewind, BLOCKS);
+    let mut core = loaded(alloc, &rewind)?;
     for task in [Task::Ready, Task::Write, Task::Read] {
-        let command = event(1, &task.cdb(), task.data(alloc)?)?;
-        let count = task.count(scale);
-        let start = Instant::now(rt)?;
-        ask(alloc, &mut core, &command, &rewind, count);
-        tell(rt, "step", 1, task, count, start.elapsed(rt)?, is_told)?;
+        measure_task(rt, alloc, &mut core, &rewind, task, scale, is_told)?;
     }
     let records = core.drain(alloc, 1).map_or(0, |records| records.len());
     if !is_told {

@@ -1,18 +1,20 @@
+use super::assert_same;
 use permit_tables::{ResType, word};
 use scsi_cdb::Class;
 
+const CELLS: [(&'static str, Class, u32); 6] = [
+    ("TEST UNIT READY", Class::TestUnitReady, 0x1F_FFFF),
+    ("REGISTER", Class::Register, 0x1F_FFFF),
+    ("READ(6)", Class::Read, 0xF_BE7F),
+    ("WRITE(6)", Class::Write, 0xD_B64F),
+    ("RESERVE", Class::Reserve, 0x4_924F),
+    ("CLEAR", Class::Clear, 0xD_B6DF),
+];
+
 #[test]
 fn word_has_the_cells_of_a_class(rt: HostRuntime) {
-    let rows = [
-        (Class::TestUnitReady, 0x1F_FFFF),
-        (Class::Register, 0x1F_FFFF),
-        (Class::Read, 0xF_BE7F),
-        (Class::Write, 0xD_B64F),
-        (Class::Reserve, 0x4_924F),
-        (Class::Clear, 0xD_B6DF),
-    ];
-    for (class, expected) in rows {
-        assert_eq!(rt; word(class), expected, "{class:?}");
+    for (shows, class, expected) in CELLS {
+        assert_same(&rt, word(class), expected, shows);
     }
 }
 
@@ -23,10 +25,8 @@ fn from_code_knows_six_reservation_types(rt: HostRuntime) {
             1 | 3 | 5 | 6 | 7 | 8 => true,
             _ => false,
         };
-        let read = ResType::from_code(code);
-        assert_eq!(rt; read.is_some(), known, "at {code}");
-        if let Some(res_type) = read {
-            assert_eq!(rt; res_type.code(), code);
-        }
+        let read = ResType::from_code(code).map(|res_type| res_type.code());
+        let expected = if known { Some(code) } else { None };
+        assert_same(&rt, read, expected, "a code");
     }
 }

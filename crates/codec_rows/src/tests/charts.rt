@@ -1,3 +1,4 @@
+use super::assert_same;
 use permission_chart::{Chart, class_named, write_cells};
 use scsi_cdb::Class;
 use std::test::Fail;
@@ -41,7 +42,7 @@ REGISTER-MOVE                  A A  A C C  A C C  A C C  A C C  A   C  A   C
 #[test]
 fn write_cells_prints_the_whole_chart(rt: HostRuntime) -> Result<(), Fail> {
     let text = Chart::whole().text(rt.alloc())?;
-    assert_eq!(rt; text.as_str(), WHOLE);
+    assert_same(&rt, text.as_str(), WHOLE, "the chart");
     Ok(())
 }
 
@@ -56,26 +57,27 @@ A allowed, C conflict         NONE     WE     EA   WERO   EARO   WEAR   EAAR
 HOLDER REGISTERED OTHER        R O  H R O  H R O  H R O  H R O  H   O  H   O
 REGISTER-MOVE                  A A  A C C  A C C  A C C  A C C  A   C  A   C
 ";
-    assert_eq!(rt; text.as_str(), expected);
+    assert_same(&rt, text.as_str(), expected, "a line");
     Ok(())
 }
 
+const NAMES: [(&'static str, Option<Class>); 7] = [
+    ("READ(6)", Some(Class::Read)),
+    ("read-element-status", Some(Class::ReadElementStatus)),
+    (
+        "Read-Element-Status-CurData",
+        Some(Class::ReadElementStatusCurdata),
+    ),
+    ("REGISTER-IGNORE", Some(Class::RegisterAndIgnoreExistingKey)),
+    ("READ", None),
+    ("READ(6) ", None),
+    ("", None),
+];
+
 #[test]
 fn class_named_finds_a_class_in_either_case(rt: HostRuntime) {
-    let rows = [
-        ("READ(6)", Some(Class::Read)),
-        ("read-element-status", Some(Class::ReadElementStatus)),
-        (
-            "Read-Element-Status-CurData",
-            Some(Class::ReadElementStatusCurdata),
-        ),
-        ("REGISTER-IGNORE", Some(Class::RegisterAndIgnoreExistingKey)),
-        ("READ", None),
-        ("READ(6) ", None),
-        ("", None),
-    ];
-    for (name, expected) in rows {
-        assert_eq!(rt; class_named(name), expected, "{name}");
+    for (name, expected) in NAMES {
+        assert_same(&rt, class_named(name), expected, name);
     }
 }
 
@@ -88,12 +90,9 @@ A allowed, C conflict         NONE     WE     EA   WERO   EARO   WEAR   EAAR
 HOLDER REGISTERED OTHER        R O  H R O  H R O  H R O  H R O  H   O  H   O
 READ(6)                        A A  A A A  A C C  A A A  A A C  A   A  A   C
 ";
-    assert_eq!(rt; written.as_slice(), wanted.as_bytes());
+    assert_same(&rt, written.as_slice(), wanted.as_bytes(), "one class");
     let mut all = Vec::new(rt.alloc());
     write_cells(&mut all, None)?;
-    assert_eq!(rt;
-        all.as_slice().iter().filter(|byte| **byte == b'\n').count(),
-        33
-    );
+    assert_same(&rt, all.as_slice(), WHOLE.as_bytes(), "all classes");
     Ok(())
 }

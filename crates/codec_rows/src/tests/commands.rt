@@ -1,3 +1,4 @@
+use super::assert_same;
 use scsi_cdb::{Class, InServiceAction, Kind, Request, class, decode, encode};
 
 #[test]
@@ -16,9 +17,11 @@ fn encode_gives_the_bytes_of_the_standards(rt: HostRuntime) {
         allocation_length: 255,
     };
     let bytes = b"\xb8\0\0\0\xff\xff\x02\0\x10\0\0\0\0\0\0\0";
-    assert_eq!(rt; encode(&all_elements).as_slice(), bytes.as_slice());
-    assert_eq!(rt; class(&all_elements), Class::ReadElementStatusCurdata);
-    assert_eq!(rt; class(&read_keys), Class::PersistentReserveIn);
+    let encoded = encode(&all_elements);
+    assert_same(&rt, encoded.as_slice(), bytes.as_slice(), "all elements");
+    let classes = [class(&all_elements), class(&read_keys)];
+    let expected = [Class::ReadElementStatusCurdata, Class::PersistentReserveIn];
+    assert_same(&rt, classes, expected, "classes");
 }
 
 #[test]
@@ -27,5 +30,6 @@ fn decode_reads_a_write_of_64_kib(rt: HostRuntime) {
         fixed: false,
         transfer_length: 65536,
     };
-    assert_eq!(rt; decode(Kind::Drive, b"\x0a\0\x01\0\0\0"), Ok(expected));
+    let decoded = decode(Kind::Drive, b"\x0a\0\x01\0\0\0");
+    assert_same(&rt, decoded, Ok(expected), "WRITE(6)");
 }

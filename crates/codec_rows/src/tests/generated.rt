@@ -3,6 +3,7 @@
 
 ghost use Rattle.std.specs.Prelude.{◌<◌};
 
+use super::assert_same;
 use arrayvec::ArrayVec;
 use permit_tables::ResType;
 use pr_core::{PrState, ReservationAct, Verdict, list_targets};
@@ -101,6 +102,8 @@ impl Numbers {
     }
 }
 
+type Shown<'a> = (&'a [(Nexus, u64)], Option<(ResType, Nexus)>, u32);
+
 /// Sends a command, and walks on where its act was accepted. Whether it was carried out.
 fn sent(
     alloc: Global,
@@ -126,15 +129,28 @@ fn sent(
     }
 }
 
+/// What a walk shows: the registrations, the reservation and the generation.
+fn shown_of(walked: &WalkedState) -> Shown<'_> {
+    (
+        walked.registrations(),
+        walked.reservation(),
+        walked.generation(),
+    )
+}
+
 fn compare(rt: &impl Abort, state: &PrState, walked: &WalkedState) {
-    assert_eq!(rt; walked.registrations(), state.registrations());
-    assert_eq!(rt; walked.reservation(), state.reservation());
-    assert_eq!(rt; walked.generation(), state.generation());
+    let shown = (
+        state.registrations(),
+        state.reservation(),
+        state.generation(),
+    );
+    assert_same(rt, shown_of(walked), shown, "what is shown");
     for sas in 10..13 {
         for port in 1..5 {
             let nexus = Nexus { sas, port };
-            assert_eq!(rt; walked.key_of(nexus), state.key_of(nexus));
-            assert_eq!(rt; walked.role(nexus), state.role(nexus));
+            let shown = (state.key_of(nexus), state.role(nexus));
+            let found = (walked.key_of(nexus), walked.role(nexus));
+            assert_same(rt, found, shown, "of a nexus");
         }
     }
 }
@@ -174,8 +190,8 @@ fn reservations_agree_with_a_plain_program_over_a_shared_key(rt: HostRuntime) ->
         (second, ReservationAct::Preempt(7, 0x05)),
     ];
     let walked = WalkedState::after_all(rt.alloc(), &acts)?;
-    assert_eq!(rt; walked.registrations(), [(second, 7)].as_slice());
-    assert_eq!(rt; walked.reservation(), Some((ResType::Wero, second)));
-    assert_eq!(rt; walked.generation(), 3);
+    let registrations = [(second, 7)];
+    let expected = (registrations.as_slice(), Some((ResType::Wero, second)), 3);
+    assert_same(&rt, shown_of(&walked), expected, "what is shown");
     Ok(())
 }

@@ -1,3 +1,4 @@
+use super::assert_same;
 use scsi_nexus::*;
 
 #[test]
@@ -8,7 +9,7 @@ fn transport_id_refuses_other_lengths_before_other_formats(rt: HostRuntime) {
         ("long", &[6; 25][..], TransportIdFault::Length),
     ];
     for (text, bytes, fault) in rows {
-        assert_eq!(rt; TransportId::read(bytes), Err(fault), "{text}");
+        assert_same(&rt, TransportId::read(bytes).err(), Some(fault), text);
     }
 }
 
@@ -16,16 +17,16 @@ fn transport_id_refuses_other_lengths_before_other_formats(rt: HostRuntime) {
 fn nexus_list_keeps_the_order_of_coming(rt: HostRuntime) {
     let mut list = NexusList::new();
     for port in 0..256u16 {
-        assert_eq!(rt;
-            list.push(Nexus {
-                sas: 1,
-                port: 255 - port
-            }),
-            Ok(())
-        );
+        let nexus = Nexus {
+            sas: 1,
+            port: 255 - port,
+        };
+        assert_same(&rt, list.push(nexus), Ok(()), "there is room");
     }
-    assert_eq!(rt; list.push(Nexus { sas: 2, port: 1 }), Err(ListFull));
-    assert_eq!(rt; list.items().len(), 256);
-    assert_eq!(rt; list.items().first(), Some(&Nexus { sas: 1, port: 255 }));
-    assert!(rt; Nexus { sas: 1, port: 2 } < Nexus { sas: 2, port: 1 });
+    let above = Nexus { sas: 2, port: 1 };
+    assert_same(&rt, list.push(above), Err(ListFull), "no room");
+    let last = Nexus { sas: 1, port: 255 };
+    assert_same(&rt, list.items().len(), 256, "nexuses");
+    assert_same(&rt, list.items().first().copied(), Some(last), "the first");
+    assert_same(&rt, last < above, true, "by address first");
 }

@@ -1,3 +1,4 @@
+use super::assert_same;
 use pr_params::read_out;
 use scsi_cdb::OutServiceAction;
 use std::test::Fail;
@@ -14,10 +15,12 @@ fn keep_has_the_listed_addresses(rt: HostRuntime) -> Result<(), Fail> {
         return Err("a wrong length".into());
     };
     let kept = params.keep(rt.alloc())?;
-    assert_eq!(rt; kept.act(), OutServiceAction::Register);
-    assert_eq!(rt; kept.open(), params);
+    let act = kept.act();
+    assert_same(&rt, act, OutServiceAction::Register, "the act");
+    assert_same(&rt, kept.open() == params, true, "the parameters again");
     let text = format!(in rt.alloc(); "{kept:?}")?;
-    assert!(rt; text.contains("sark: 7"));
-    assert!(rt; text.contains("targets: [5764607523034234892]"));
+    for part in ["sark: 7", "targets: [5764607523034234892]"] {
+        assert_same(&rt, text.contains(part), true, part);
+    }
     Ok(())
 }

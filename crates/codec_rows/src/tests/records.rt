@@ -1,3 +1,4 @@
+use super::assert_same;
 use audit_log::*;
 use permit_tables::{Cell, ResType, Role};
 use pr_core::KeyRule;
@@ -70,7 +71,8 @@ fn event(number: u64, nexus: Option<Nexus>, act: Act) -> Record {
 #[test]
 fn line_of_the_last_number(rt: HostRuntime) -> Result<(), Fail> {
     let text = line(rt.alloc(), &event(u64::MAX, None, Act::MediumOut))?;
-    assert_eq!(rt; text.as_str(), "18446744073709551615 - MEDIUM-OUT 6 - - 00");
+    let expected = "18446744073709551615 - MEDIUM-OUT 6 - - 00";
+    assert_same(&rt, text.as_str(), expected, "a line");
     Ok(())
 }
 
@@ -78,44 +80,51 @@ fn line_of_the_last_number(rt: HostRuntime) -> Result<(), Fail> {
 fn write_line_adds_to_a_text(rt: HostRuntime) -> Result<(), Fail> {
     let mut text = String::from_str(rt.alloc(), "7\n")?;
     write_line(rt.alloc(), &mut text, &event(8, None, Act::Reset))?;
-    assert_eq!(rt; text.as_str(), "7\n8 - RESET 6 - - 00");
+    assert_same(&rt, text.as_str(), "7\n8 - RESET 6 - - 00", "two lines");
     Ok(())
+}
+
+/// Adds a record to a trail, with the next number.
+fn add(trail: &mut Trail, record: Record) -> Result<(), Fail> {
+    let Some(number) = trail.last().checked_add(1) else {
+        return Err("no number is left".into());
+    };
+    trail.reserve_one()?;
+    trail.push(Record { number, ..record });
+    Ok(())
+}
+
+/// The last number of a trail, and how many records it has.
+fn counts(trail: &Trail) -> (u64, usize) {
+    (trail.last(), trail.records().len())
+}
+
+/// What a record is compared by: its number, class and rule.
+fn key_of(record: &Record) -> (u64, Option<Class>, Option<KeyRule>) {
+    (record.number, record.act.class(), record.rule)
 }
 
 #[test]
 fn drain_hands_out_records_and_goes_on_counting(rt: HostRuntime) -> Result<(), Fail> {
     let mut trail = Trail::new(rt.alloc(), 0);
-    assert_eq!(rt; trail.last(), 0);
-    trail.reserve_one()?;
-    trail.push(Record {
-        number: 1,
-        ..first_contact()
-    });
-    trail.reserve_one()?;
-    trail.push(Record {
-        number: 2,
-        ..wrong_key(&rt, rt.alloc())?
-    });
-    assert_eq!(rt; trail.last(), 2);
-    assert_eq!(rt; trail.records().len(), 2);
-
+    assert_same(&rt, counts(&trail), (0, 0), "at the start");
+    add(&mut trail, first_contact())?;
+    add(&mut trail, wrong_key(&rt, rt.alloc())?)?;
+    assert_same(&rt, counts(&trail), (2, 2), "with two records");
     let drained = trail.drain(rt.alloc());
-    assert_eq!(rt; drained.len(), 2);
-    assert_eq!(rt; drained[0].number, 1);
-    assert_eq!(rt; drained[0].sense, first_contact().sense);
-    assert_eq!(rt; drained[1].number, 2);
-    assert_eq!(rt; drained[1].act.class(), Some(Class::Register));
-    assert_eq!(rt; drained[1].rule, Some(KeyRule::K1));
-    assert_eq!(rt; trail.last(), 2);
-    assert!(rt; trail.records().is_empty());
-
-    trail.reserve_one()?;
-    trail.push(Record {
-        number: 3,
-        ..event(3, Some(A), Act::Loss)
-    });
-    assert_eq!(rt; trail.last(), 3);
-    assert_eq!(rt; trail.records().len(), 1);
+    let expected = [
+        (1, Some(Class::TestUnitReady), None),
+        (2, Some(Class::Register), Some(KeyRule::K1)),
+    ];
+    assert_same(&rt, drained.len(), 2, "records handed out");
+    for (record, expected) in drained.iter().zip(expected) {
+        assert_same(&rt, key_of(record), expected, "a record");
+    }
+    let sense = drained.first().and_then(|record| record.sense);
+    assert_same(&rt, sense, first_contact().sense, "its sense data");
+    assert_same(&rt, counts(&trail), (2, 0), "drained");
+    add(&mut trail, event(3, Some(A), Act::Loss))?;
+    assert_same(&rt, counts(&trail), (3, 1), "with one more");
     Ok(())
 }
 
@@ -129,9 +138,7 @@ fn drain_into_goes_on_in_the_room_of_the_vector(rt: HostRuntime) -> Result<(), F
     });
     let mut handed_out = Vec::with_capacity(rt.alloc(), 2)?;
     trail.drain_into(&mut handed_out);
-    assert_eq!(rt; handed_out.len(), 1);
-    assert_eq!(rt; handed_out[0].number, 1);
-
+    assert_numbers(&rt, handed_out.as_slice(), &[1]);
     trail.push(Record {
         number: 2,
         ..event(2, Some(A), Act::Loss)
@@ -142,26 +149,30 @@ fn drain_into_goes_on_in_the_room_of_the_vector(rt: HostRuntime) -> Result<(), F
     });
     handed_out.clear();
     trail.drain_into(&mut handed_out);
-    assert_eq!(rt; handed_out.len(), 2);
-    assert_eq!(rt; handed_out[1].number, 3);
+    assert_numbers(&rt, handed_out.as_slice(), &[2, 3]);
     trail.push(Record {
         number: 4,
         ..event(4, None, Act::Reset)
     });
-    assert_eq!(rt; trail.last(), 4);
+    assert_same(&rt, trail.last(), 4, "the last number");
     Ok(())
+}
+
+/// Compares the numbers of records.
+fn assert_numbers(rt: &impl Abort, records: &[Record], numbers: &[u64]) {
+    assert_same(rt, records.len(), numbers.len(), "records");
+    for (record, number) in records.iter().zip(numbers) {
+        assert_same(rt, record.number, *number, "a number");
+    }
 }
 
 #[test]
 fn act_has_a_class_only_of_a_command(rt: HostRuntime) -> Result<(), Fail> {
-    let rows = [
-        (first_contact().act, Some(Class::TestUnitReady)),
-        (wrong_key(&rt, rt.alloc())?.act, Some(Class::Register)),
-        (Act::Invalid, None),
-        (Act::Reset, None),
-    ];
-    for (act, expected) in rows {
-        assert_eq!(rt; act.class(), expected, "{act:?}");
-    }
+    let register = wrong_key(&rt, rt.alloc())?.act.class();
+    let contact = first_contact().act.class();
+    assert_same(&rt, register, Some(Class::Register), "REGISTER");
+    assert_same(&rt, contact, Some(Class::TestUnitReady), "TEST UNIT READY");
+    assert_same(&rt, Act::Invalid.class(), None, "no command");
+    assert_same(&rt, Act::Reset.class(), None, "a reset");
     Ok(())
 }

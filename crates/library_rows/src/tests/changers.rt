@@ -1,4 +1,4 @@
-use super::TAG;
+use super::{TAG, assert_same};
 use changer_server::Changer;
 use device_server::{BadPlace, DeviceServer, PutFault, TakeFault};
 use element_map::Elements;
@@ -47,14 +47,25 @@ fn assert_refused(
         invert: false,
     };
     let outcome = changer.perform(alloc, &request, &[])?;
-    assert!(rt; outcome.payload.bytes().is_empty(), "{request:?}");
-    assert!(rt; !outcome.mode_changed, "{request:?}");
-    match outcome.sense {
-        None => assert!(rt; false, "{request:?} is GOOD"),
-        Some(found) => assert_eq!(rt; found.to_bytes().as_slice(), sense, "{request:?}"),
-    }
+    let length = outcome.payload.bytes().len();
+    assert_same(rt, length, 0, "data of a move that is refused");
+    assert_same(rt, outcome.mode_changed, false, "no parameter is changed");
+    let found = match outcome.sense {
+        None => [0; 18],
+        Some(found) => found.to_bytes(),
+    };
+    assert_same(rt, found.as_slice(), sense, "sense data of a move");
     Ok(())
 }
+
+/// What it shows, a drive's address, its mark, and what comes of it.
+type Mark = (&'static str, u16, Option<VolumeTag>, Result<(), BadPlace>);
+
+const MARKS: [Mark; 3] = [
+    ("a drive is marked", 0x100, Some(OTHER), Ok(())),
+    ("no drive", 0x101, None, Err(BadPlace)),
+    ("a storage element", 0x400, None, Err(BadPlace)),
+];
 
 /// What goes into a drive or out of it is the target's to move, not the changer's.
 #[test]
@@ -62,41 +73,53 @@ fn move_medium_goes_by_the_marks_of_drives(rt: HostRuntime) -> Result<(), Fail> 
     let alloc = rt.alloc();
     let mut changer = changer(alloc)?;
     assert_refused(&rt, alloc, &mut changer, 0x400, 0x100, INTERNAL_FAILURE)?;
-    assert_eq!(rt; changer.mark(0x100, Some(OTHER)), Ok(()));
-    assert_eq!(rt; changer.mark(0x101, None), Err(BadPlace));
-    assert_eq!(rt; changer.mark(0x400, None), Err(BadPlace));
-    assert_eq!(rt; changer.held(0x100), Some(OTHER));
+    for (shows, place, tag, expected) in MARKS {
+        assert_same(&rt, changer.mark(place, tag), expected, shows);
+    }
+    assert_same(&rt, changer.held(0x100), Some(OTHER), "the mark");
     assert_refused(&rt, alloc, &mut changer, 0x400, 0x100, FULL)?;
     assert_refused(&rt, alloc, &mut changer, 0x100, 0x401, INTERNAL_FAILURE)?;
-    assert_eq!(rt; changer.mark(0x100, None), Ok(()));
+    assert_same(&rt, changer.mark(0x100, None), Ok(()), "no mark");
     assert_refused(&rt, alloc, &mut changer, 0x100, 0x401, EMPTY)?;
-    assert_eq!(rt; changer.held(0x400), Some(TAG));
+    assert_same(&rt, changer.held(0x400), Some(TAG), "the volume is there");
     Ok(())
+}
+
+/// The tag of a volume that comes back where it is put, and why.
+fn put_back(alloc: Global, changer: &mut Changer, place: u16) -> Option<(VolumeTag, PutFault)> {
+    match changer.put_volume(place, volume(alloc, OTHER)) {
+        Ok(()) => None,
+        Err((back, fault)) => Some((back.tag, fault)),
+    }
+}
+
+/// The tag of a volume that is taken out.
+fn taken(changer: &mut Changer, place: u16) -> Result<VolumeTag, TakeFault> {
+    match changer.take_volume(place) {
+        Ok(volume) => Ok(volume.tag),
+        Err(fault) => Err(fault),
+    }
 }
 
 #[test]
 fn put_and_take_volume_at_the_elements_of_a_changer(rt: HostRuntime) -> Result<(), Fail> {
-    let mut changer = changer(rt.alloc())?;
-    assert_eq!(rt; (changer.kind(), changer.drives()), (Kind::Changer, 1));
-    assert_eq!(rt; changer.take_volume(0x401).err(), Some(TakeFault::Empty));
-    assert_eq!(rt; changer.take_volume(0x100).err(), Some(TakeFault::BadPlace));
-    match changer.put_volume(0x400, volume(rt.alloc(), OTHER)) {
-        Ok(()) => assert!(rt; false, "put on another"),
-        Err((back, fault)) => assert_eq!(rt; (back.tag, fault), (OTHER, PutFault::Full)),
-    }
-    match changer.put_volume(0x100, volume(rt.alloc(), OTHER)) {
-        Ok(()) => assert!(rt; false, "put into a drive"),
-        Err((back, fault)) => assert_eq!(rt; (back.tag, fault), (OTHER, PutFault::BadPlace)),
-    }
-    match changer.take_volume(0x400) {
-        Ok(taken) => assert_eq!(rt; taken.tag, TAG),
-        Err(_) => assert!(rt; false, "no volume in the first slot"),
-    }
-    assert!(rt; changer.put_volume(0x401, volume(rt.alloc(), OTHER)).is_ok());
+    let alloc = rt.alloc();
+    let mut changer = changer(alloc)?;
+    let kind = (changer.kind(), changer.drives());
+    assert_same(&rt, kind, (Kind::Changer, 1), "the device");
+    let empty = taken(&mut changer, 0x401);
+    assert_same(&rt, empty, Err(TakeFault::Empty), "out of an empty slot");
+    let bad = taken(&mut changer, 0x100);
+    assert_same(&rt, bad, Err(TakeFault::BadPlace), "out of a drive");
+    let full = put_back(alloc, &mut changer, 0x400);
+    assert_same(&rt, full, Some((OTHER, PutFault::Full)), "on another");
+    let bad = put_back(alloc, &mut changer, 0x100);
+    assert_same(&rt, bad, Some((OTHER, PutFault::BadPlace)), "into a drive");
+    assert_same(&rt, taken(&mut changer, 0x400), Ok(TAG), "out of a slot");
+    let put = put_back(alloc, &mut changer, 0x401);
+    assert_same(&rt, put, None, "into an empty slot");
     changer.reset();
-    assert_eq!(rt;
-        (changer.held(0x400), changer.held(0x401)),
-        (None, Some(OTHER))
-    );
+    let held = (changer.held(0x400), changer.held(0x401));
+    assert_same(&rt, held, (None, Some(OTHER)), "behind a reset");
     Ok(())
 }

@@ -1,6 +1,6 @@
 ghost use Rattle.std.specs.Prelude.{◌<◌, ◌≤◌};
 
-use super::TAG;
+use super::{TAG, assert_same};
 use device_server::{BadPlace, DeviceServer, PutFault, TakeFault};
 use scsi_cdb::{Kind, Request};
 use std::alloc::Global;
@@ -54,19 +54,40 @@ const UNLOAD: Request = Request::LoadUnload {
 
 const TO_THE_END: Request = Request::Space { code: 3, count: 0 };
 
-const fn write(fixed: bool, transfer_length: u32) -> Request {
-    Request::Write {
-        fixed,
-        transfer_length,
-    }
-}
+const WRITE_1: Request = Request::Write {
+    fixed: false,
+    transfer_length: 1,
+};
 
-const fn filemarks(filemark_count: u32) -> Request {
-    Request::WriteFilemarks {
-        write_setmarks: false,
-        filemark_count,
-    }
-}
+const WRITE_1_BLOCK: Request = Request::Write {
+    fixed: true,
+    transfer_length: 1,
+};
+
+const WRITE_2_BLOCKS: Request = Request::Write {
+    fixed: true,
+    transfer_length: 2,
+};
+
+const WRITE_3: Request = Request::Write {
+    fixed: false,
+    transfer_length: 3,
+};
+
+const WRITE_5: Request = Request::Write {
+    fixed: false,
+    transfer_length: 5,
+};
+
+const FILEMARK: Request = Request::WriteFilemarks {
+    write_setmarks: false,
+    filemark_count: 1,
+};
+
+const NO_FILEMARK: Request = Request::WriteFilemarks {
+    write_setmarks: false,
+    filemark_count: 0,
+};
 
 fn volume(alloc: Global, capacity: u32, protected: bool) -> Volume
     requires some { 0 < capacity }
@@ -94,71 +115,96 @@ impl Host {
     {
         let mut drive = TapeDrive::new();
         let volume = volume(alloc, capacity, protected);
-        assert!(rt; drive.put_volume(0, volume).is_ok());
+        let is_put = drive.put_volume(0, volume).is_ok();
+        assert_same(rt, is_put, true, "a volume goes in");
         Host { alloc, drive }
     }
 
-    /// Sends a command with data, and compares what comes back: data, and sense data or nothing for GOOD.
-    fn send(
-        &mut self,
-        rt: &impl Abort,
-        request: Request,
-        bytes: &[u8],
-        data: &[u8],
-        sense: Sense,
-    ) -> Result<(), Fail> {
-        let outcome = self.drive.perform(self.alloc, &request, bytes)?;
-        assert!(rt; outcome.payload.bytes() == data, "data of {request:?}");
+    /// Sends a command with data, and compares what comes back.
+    fn send(&mut self, rt: &impl Abort, row: &Row) -> Result<(), Fail> {
+        let (shows, request, bytes, data, sense) = row;
+        let outcome = self.drive.perform(self.alloc, request, bytes)?;
+        assert_same(rt, outcome.payload.bytes(), *data, shows);
         let found = match outcome.sense {
             Some(found) => Some(found.to_bytes()),
             None => None,
         };
-        assert_eq!(rt; found, sense, "{request:?}");
+        assert_same(rt, found, *sense, shows);
+        Ok(())
+    }
+
+    fn send_all(&mut self, rt: &impl Abort, rows: &[Row]) -> Result<(), Fail> {
+        for row in rows {
+            self.send(rt, row)?;
+        }
         Ok(())
     }
 }
 
+/// What it shows, a command, the data that it comes with, those that come back, and sense data or nothing for GOOD.
+type Row = (&'static str, Request, &'static [u8], &'static [u8], Sense);
+
+const TOO_MUCH: [Row; 4] = [
+    ("three bytes", WRITE_3, &[1, 2, 3], &[], GOOD),
+    ("rewound", Request::Rewind, &[], &[], GOOD),
+    ("more than fits", WRITE_5, &[9; 5], &[], OVERFLOW_OF_5),
+    ("nothing is lost", READ_3, &[], &[1, 2, 3], GOOD),
+];
+
 #[test]
 fn write_of_more_than_fits_loses_nothing(rt: HostRuntime) -> Result<(), Fail> {
     let mut host = Host::with_volume(&rt, rt.alloc(), 4, false);
-    host.send(&rt, write(false, 3), &[1, 2, 3], &[], GOOD)?;
-    host.send(&rt, Request::Rewind, &[], &[], GOOD)?;
-    host.send(&rt, write(false, 5), &[9; 5], &[], OVERFLOW_OF_5)?;
-    // Nothing is lost.
-    host.send(&rt, READ_3, &[], &[1, 2, 3], GOOD)?;
-    Ok(())
+    host.send_all(&rt, &TOO_MUCH)
 }
+
+const AT_A_PROTECTED_VOLUME: [Row; 6] = [
+    ("a WRITE", WRITE_1, &[1], &[], WRITE_PROTECTED),
+    ("a filemark", FILEMARK, &[], &[], WRITE_PROTECTED),
+    ("no filemark", NO_FILEMARK, &[], &[], GOOD),
+    ("an ERASE", Request::Erase, &[], &[], WRITE_PROTECTED),
+    ("unloaded", UNLOAD, &[], &[], GOOD),
+    ("all pages", ALL_PAGES, &[], MODE_PROTECTED, GOOD),
+];
 
 #[test]
 fn write_and_erase_leave_a_protected_volume(rt: HostRuntime) -> Result<(), Fail> {
     let mut host = Host::with_volume(&rt, rt.alloc(), 4, true);
-    host.send(&rt, write(false, 1), &[1], &[], WRITE_PROTECTED)?;
-    host.send(&rt, filemarks(1), &[], &[], WRITE_PROTECTED)?;
-    host.send(&rt, filemarks(0), &[], &[], GOOD)?;
-    host.send(&rt, Request::Erase, &[], &[], WRITE_PROTECTED)?;
-    host.send(&rt, UNLOAD, &[], &[], GOOD)?;
-    host.send(&rt, ALL_PAGES, &[], MODE_PROTECTED, GOOD)?;
-    Ok(())
+    host.send_all(&rt, &AT_A_PROTECTED_VOLUME)
 }
+
+const FIXED: [Row; 3] = [
+    ("blocks of 512 bytes", SELECT, BLOCKS_OF_512, &[], GOOD),
+    (
+        "more than fits",
+        WRITE_2_BLOCKS,
+        &[9; 1024],
+        &[],
+        OVERFLOW_OF_2,
+    ),
+    ("what fits", WRITE_1_BLOCK, &[9; 512], &[], GOOD),
+];
 
 #[test]
 fn fixed_write_of_more_than_fits_is_a_volume_overflow(rt: HostRuntime) -> Result<(), Fail> {
     let mut host = Host::with_volume(&rt, rt.alloc(), 1000, false);
-    host.send(&rt, SELECT, BLOCKS_OF_512, &[], GOOD)?;
-    host.send(&rt, write(true, 2), &[9; 1024], &[], OVERFLOW_OF_2)?;
-    host.send(&rt, write(true, 1), &[9; 512], &[], GOOD)?;
-    Ok(())
+    host.send_all(&rt, &FIXED)
 }
 
 /// The faults of an empty drive.
 fn assert_empty(rt: &impl Abort, drive: &mut TapeDrive) {
-    assert_eq!(rt;
-        (drive.kind(), drive.drives(), drive.held(0)),
-        (Kind::Drive, 0, None)
-    );
-    assert_eq!(rt; drive.take_volume(0).err(), Some(TakeFault::Empty));
-    assert_eq!(rt; drive.take_volume(1).err(), Some(TakeFault::BadPlace));
-    assert_eq!(rt; drive.mark(0, Some(TAG)), Err(BadPlace));
+    let device = (drive.kind(), drive.drives(), drive.held(0));
+    assert_same(rt, device, (Kind::Drive, 0, None), "the device");
+    assert_same(rt, taken(drive, 0), Err(TakeFault::Empty), "its bay");
+    assert_same(rt, taken(drive, 1), Err(TakeFault::BadPlace), "no bay");
+    assert_same(rt, drive.mark(0, Some(TAG)), Err(BadPlace), "no mark");
+}
+
+/// What is taken out: where the tape stands, and how many objects there are.
+fn taken(drive: &mut TapeDrive, place: u16) -> Result<(u32, u32), TakeFault> {
+    match drive.take_volume(place) {
+        Ok(taken) => Ok((taken.tape.position(), taken.tape.object_count())),
+        Err(fault) => Err(fault),
+    }
 }
 
 /// Puts a volume where it can't go. It comes back as it was.
@@ -174,8 +220,8 @@ fn refused(
     match drive.put_volume(place, volume) {
         Ok(()) => panic!(rt; "put into {place}"),
         Err((back, found)) => {
-            assert_eq!(rt; (found, back.tape.position()), (fault, position));
-            assert_eq!(rt; back.protected, protected);
+            let state = (found, back.tape.position(), back.protected);
+            assert_same(rt, state, (fault, position, protected), "it comes back");
             back
         }
     }
@@ -192,18 +238,21 @@ fn marked(alloc: Global, capacity: u32, protected: bool, marks: u32) -> Result<V
 }
 
 fn put_back(rt: &impl Abort, drive: &mut TapeDrive, volume: Volume) {
-    assert!(rt; drive.put_volume(0, volume).is_ok());
-    assert_eq!(rt; (drive.held(0), drive.held(1)), (Some(TAG), None));
+    let is_put = drive.put_volume(0, volume).is_ok();
+    assert_same(rt, is_put, true, "a volume goes in");
+    let held = (drive.held(0), drive.held(1));
+    assert_same(rt, held, (Some(TAG), None), "it is in the bay");
 }
 
-fn assert_taken(rt: &impl Abort, drive: &mut TapeDrive) {
-    match drive.take_volume(0) {
-        Err(_) => assert!(rt; false, "the bay is empty"),
-        Ok(taken) => {
-            assert_eq!(rt; (taken.tape.position(), taken.tape.object_count()), (0, 2));
-        }
-    }
-}
+const LOADED: Row = ("to the end of the data", TO_THE_END, &[], &[], GOOD);
+
+const UNLOADED: Row = (
+    "it isn't ready",
+    Request::TestUnitReady,
+    &[],
+    &[],
+    NO_MEDIUM,
+);
 
 #[test]
 fn put_and_take_volume_at_a_drive(rt: HostRuntime) -> Result<(), Fail> {
@@ -217,8 +266,8 @@ fn put_and_take_volume_at_a_drive(rt: HostRuntime) -> Result<(), Fail> {
     put_back(&rt, &mut host.drive, back);
     let other = marked(rt.alloc(), 7, true, 1)?;
     let _back = refused(&rt, &mut host.drive, 0, other, PutFault::Full, 1);
-    host.send(&rt, TO_THE_END, &[], &[], GOOD)?;
-    assert_taken(&rt, &mut host.drive);
-    host.send(&rt, Request::TestUnitReady, &[], &[], NO_MEDIUM)?;
-    Ok(())
+    host.send(&rt, &LOADED)?;
+    let out = taken(&mut host.drive, 0);
+    assert_same(&rt, out, Ok((0, 2)), "the first volume, rewound");
+    host.send(&rt, &UNLOADED)
 }

@@ -1,4 +1,4 @@
-use super::TAG;
+use super::{TAG, assert_same};
 use element_map::Elements;
 use std::alloc::{AllocError, Global};
 use std::test::Fail;
@@ -33,7 +33,7 @@ fn read_element_status_of_an_unknown_type_is_a_header_of_zeros(
 ) -> Result<(), Fail> {
     let elements = of_all_types(rt.alloc())?;
     let status = elements.status(rt.alloc(), 5, 0, 9, true)?;
-    assert_eq!(rt; status.as_slice(), [0; 8].as_slice());
+    assert_same(&rt, status.as_slice(), [0; 8].as_slice(), "a header");
     Ok(())
 }
 
@@ -46,22 +46,34 @@ fn read(elements: &Elements, address: u16) -> Result<Option<VolumeTag>, MapFault
 fn move_volume_refuses_a_drive(rt: HostRuntime) -> Result<(), Fail> {
     let mut elements = one_drive(rt.alloc())?;
     let moved = elements.move_volume(0x400, 0x100);
-    assert_eq!(rt; moved, Err(MapFault::BadAddress));
-    assert_eq!(rt; read(&elements, 0x400), Ok(Some(TAG)));
+    assert_same(&rt, moved, Err(MapFault::BadAddress), "into a drive");
+    let left = read(&elements, 0x400);
+    assert_same(&rt, left, Ok(Some(TAG)), "the volume is where it was");
     Ok(())
+}
+
+/// The tag of a volume that comes back where it is put, and why.
+fn put_back(
+    alloc: Global,
+    elements: &mut Elements,
+    address: u16,
+    tag: VolumeTag,
+) -> Option<(VolumeTag, MapFault)> {
+    match elements.put(address, volume(alloc, tag)) {
+        Ok(()) => None,
+        Err((volume, fault)) => Some((volume.tag, fault)),
+    }
 }
 
 #[test]
 fn put_hands_back_the_volume_at_a_full_element(rt: HostRuntime) -> Result<(), Fail> {
     let mut elements = one_drive(rt.alloc())?;
     let other = VolumeTag([b'Z'; 32]);
-    match elements.put(0x400, volume(rt.alloc(), other)) {
-        Ok(()) => assert!(rt; false),
-        Err((volume, fault)) => {
-            assert_eq!(rt; (volume.tag, fault), (other, MapFault::DestinationFull));
-        }
-    }
-    assert_eq!(rt; read(&elements, 0x400), Ok(Some(TAG)));
+    let back = put_back(rt.alloc(), &mut elements, 0x400, other);
+    let expected = Some((other, MapFault::DestinationFull));
+    assert_same(&rt, back, expected, "the volume again");
+    let left = read(&elements, 0x400);
+    assert_same(&rt, left, Ok(Some(TAG)), "the other is where it was");
     Ok(())
 }
 
@@ -96,19 +108,20 @@ const KEPT: [Kept; 3] = [
 #[test]
 fn read_take_and_mark_go_by_the_kind_of_element(rt: HostRuntime) -> Result<(), Fail> {
     let mut elements = of_all_types(rt.alloc())?;
-    assert_eq!(rt; elements.drives(), 2);
+    assert_same(&rt, elements.drives(), 2, "drives");
     for row in &HELD {
         let (shows, address, tag) = *row;
-        assert_eq!(rt; read(&elements, address), tag, "{shows}");
+        assert_same(&rt, read(&elements, address), tag, shows);
     }
     for row in &KEPT {
         let (shows, address, fault) = *row;
-        assert_eq!(rt; taken(&mut elements, address), Err(fault), "{shows}");
+        assert_same(&rt, taken(&mut elements, address), Err(fault), shows);
     }
-    assert_eq!(rt; taken(&mut elements, 0x201), Ok(TAG));
-    assert_eq!(rt; read(&elements, 0x201), Ok(None));
-    assert_eq!(rt; elements.mark(0x100, Some(TAG)), Ok(()));
+    assert_same(&rt, taken(&mut elements, 0x201), Ok(TAG), "taken out");
+    assert_same(&rt, read(&elements, 0x201), Ok(None), "it is gone");
+    let marked = elements.mark(0x100, Some(TAG));
+    assert_same(&rt, marked, Ok(()), "a drive is marked");
     let marked = elements.mark(0x400, Some(TAG));
-    assert_eq!(rt; marked, Err(MapFault::BadAddress));
+    assert_same(&rt, marked, Err(MapFault::BadAddress), "no drive");
     Ok(())
 }

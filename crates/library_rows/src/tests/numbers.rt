@@ -1,6 +1,6 @@
 //! The last number that a record can have.
 
-use super::{A, empty_changer};
+use super::{A, assert_same, empty_changer};
 use logical_unit::{Busy, LogicalUnit};
 use scsi_sense::Status;
 use std::test::Fail;
@@ -12,14 +12,13 @@ fn test_unit_ready_is_busy_behind_the_last_number(rt: HostRuntime) -> Result<(),
     let Ok(mut unit) = LogicalUnit::new_after(alloc, 0, 1, server, u64::MAX - 1) else {
         return Err("no unit".into());
     };
-    let first = unit.execute(alloc, A, &[0; 6], &[]);
-    assert_eq!(rt; first.status, Status::CheckCondition);
-    assert_eq!(rt; first.number, 18_446_744_073_709_551_615);
-    let second = unit.execute(alloc, A, &[0; 6], &[]);
-    assert_eq!(rt; second.status, Status::Busy);
-    assert_eq!(rt; second.number, 0);
-    assert_eq!(rt; unit.lose(A), Err(Busy));
-    assert_eq!(rt; unit.reset(), Err(Busy));
-    assert_eq!(rt; unit.records().len(), 1);
+    let last = (Status::CheckCondition, 18_446_744_073_709_551_615);
+    for (shows, expected) in [("the last", last), ("behind it", (Status::Busy, 0))] {
+        let reply = unit.execute(alloc, A, &[0; 6], &[]);
+        assert_same(&rt, (reply.status, reply.number), expected, shows);
+    }
+    assert_same(&rt, unit.lose(A), Err(Busy), "a loss");
+    assert_same(&rt, unit.reset(), Err(Busy), "a reset");
+    assert_same(&rt, unit.records().len(), 1, "records");
     Ok(())
 }

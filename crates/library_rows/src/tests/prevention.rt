@@ -1,6 +1,6 @@
 //! A prevention of medium removal beside the records.
 
-use super::{A, ALLOW, B, PREVENT, TEST_UNIT_READY, empty_changer};
+use super::{A, ALLOW, B, PREVENT, TEST_UNIT_READY, assert_same, empty_changer};
 use changer_server::Changer;
 use library_device::unit_at;
 use logical_unit::LogicalUnit;
@@ -25,20 +25,19 @@ fn assert_good(
     nexus: Nexus,
     cdb: &[u8],
 ) {
-    assert_eq!(rt;
-        unit.execute(rt.alloc(), nexus, cdb, &[]).status,
-        Status::Good
-    );
+    let status = unit.execute(rt.alloc(), nexus, cdb, &[]).status;
+    assert_same(rt, status, Status::Good, "it is GOOD");
 }
 
 #[test]
 fn prevention_outlasts_a_drain(rt: HostRuntime) -> Result<(), Fail> {
     let mut unit = unit(rt.alloc())?;
-    assert!(rt; !unit.prevented());
+    assert_same(&rt, unit.prevented(), false, "at first");
     assert_good(&rt, &mut unit, B, PREVENT);
-    assert_eq!(rt; unit.drain(rt.alloc()).len(), 3);
-    assert!(rt; unit.prevented());
+    let drained = unit.drain(rt.alloc()).len();
+    assert_same(&rt, drained, 3, "records");
+    assert_same(&rt, unit.prevented(), true, "behind the drain");
     assert_good(&rt, &mut unit, B, ALLOW);
-    assert!(rt; !unit.prevented());
+    assert_same(&rt, unit.prevented(), false, "allowed again");
     Ok(())
 }

@@ -1,5 +1,6 @@
 ghost use Rattle.std.specs.Prelude.{◌≤◌, ◌<◌};
 
+use super::assert_same;
 use std::alloc::{AllocError, Global};
 use std::process::Abort;
 use std::test::Fail;
@@ -9,10 +10,6 @@ use tape_medium::{Item, SpaceCode, SpaceEnd, Stop, Tape, TapeFault, Volume, Volu
 /// How many objects there are, and where the tape stands.
 fn counts(tape: &Tape) -> (u32, u32) {
     (tape.object_count(), tape.position())
-}
-
-fn write_block(tape: &mut Tape, block: &[u8]) -> Result<(), TapeFault> {
-    tape.write_block(block)
 }
 
 fn write_blocks(tape: &mut Tape, bytes: &[u8], size: u32) -> Result<(), TapeFault> {
@@ -31,15 +28,31 @@ fn rewind(tape: &mut Tape) {
     tape.rewind();
 }
 
+/// Writes a block, and compares what comes of it.
+fn assert_written(
+    rt: &impl Abort,
+    tape: &mut Tape,
+    block: &[u8],
+    expected: Result<(), TapeFault>,
+    shows: &'static str,
+) {
+    assert_same(rt, tape.write_block(block), expected, shows);
+}
+
+const OVERFLOW: Result<(), TapeFault> = Err(TapeFault::Overflow);
+
+const BAD_LENGTH: Result<(), TapeFault> = Err(TapeFault::BlockLength);
+
 #[test]
 fn write_block_beyond_the_capacity_keeps_the_tape(rt: HostRuntime) {
     let mut tape = Tape::new(rt.alloc(), 10);
-    assert_eq!(rt; write_block(&mut tape, &[1; 6]), Ok(()));
-    assert_eq!(rt; write_block(&mut tape, &[2; 5]), Err(TapeFault::Overflow));
-    assert_eq!(rt; counts(&tape), (1, 1));
+    assert_written(&rt, &mut tape, &[1; 6], Ok(()), "what fits");
+    assert_written(&rt, &mut tape, &[2; 5], OVERFLOW, "more than fits");
+    assert_same(&rt, counts(&tape), (1, 1), "behind the first block");
     rewind(&mut tape);
-    assert_eq!(rt; write_block(&mut tape, &[3; 10]), Ok(()));
-    assert_eq!(rt; (counts(&tape), tape.capacity()), ((1, 1), 10));
+    assert_written(&rt, &mut tape, &[3; 10], Ok(()), "the whole tape");
+    assert_same(&rt, counts(&tape), (1, 1), "behind the one block");
+    assert_same(&rt, tape.capacity(), 10, "the capacity");
 }
 
 /// So many bytes, which go up from 0 again and again.
@@ -57,7 +70,7 @@ fn mixed(alloc: Global, length: u32, period: u32) -> Result<Vec<u8>, AllocError>
 /// A tape of a block and a filemark, at its start.
 fn block_and_mark(alloc: Global, block: &[u8]) -> Result<Tape, Fail> {
     let mut tape = Tape::new(alloc, 1000);
-    write_block(&mut tape, block)?;
+    tape.write_block(block)?;
     write_marks(&mut tape, 1)?;
     rewind(&mut tape);
     Ok(tape)
@@ -69,9 +82,12 @@ fn read_of_less_than_a_block_passes_over_the_rest(rt: HostRuntime) -> Result<(),
     let bytes = mixed(rt.alloc(), 400, 251)?;
     let mut tape = block_and_mark(rt.alloc(), &bytes)?;
     let mut into = Vec::from_slice(rt.alloc(), &bytes)?;
-    assert_eq!(rt; read(&mut tape, 300, &mut into), Ok(Item::Block(400)));
-    assert_eq!(rt; (into.len(), counts(&tape)), (700, (2, 1)));
-    assert!(rt; part_of(&into, 400, 300) == part_of(&bytes, 0, 300));
+    let item = read(&mut tape, 300, &mut into);
+    assert_same(&rt, item, Ok(Item::Block(400)), "a block");
+    assert_same(&rt, counts(&tape), (2, 1), "behind it");
+    assert_same(&rt, into.len(), 700, "bytes");
+    let (found, expected) = (part_of(&into, 400, 300), part_of(&bytes, 0, 300));
+    assert_same(&rt, found, expected, "its first 300");
     Ok(())
 }
 
@@ -79,13 +95,14 @@ fn read_of_less_than_a_block_passes_over_the_rest(rt: HostRuntime) -> Result<(),
 #[test]
 fn space_goes_back_by_the_lowest_count(rt: HostRuntime) -> Result<(), Fail> {
     let mut tape = block_and_mark(rt.alloc(), &[7; 400])?;
-    assert!(rt; tape.locate(2));
+    assert_same(&rt, tape.locate(2), true, "there are two objects");
     let end = tape.space(SpaceCode::Marks, i32::MIN);
     let expected = SpaceEnd {
         moved: 1,
         stop: Stop::AtStart,
     };
-    assert_eq!(rt; (end, counts(&tape)), (expected, (2, 0)));
+    assert_same(&rt, end, expected, "over a filemark");
+    assert_same(&rt, counts(&tape), (2, 0), "at the start");
     Ok(())
 }
 
@@ -123,8 +140,8 @@ const BLOCKS: [Blocks; 7] = [
 fn assert_blocks(rt: &impl Abort, tape: &mut Tape, bytes: &[u8], row: &Blocks) {
     let (shows, length, size, expected, objects) = *row;
     let written = write_blocks(tape, part_of(bytes, 0, length), size);
-    assert_eq!(rt; written, expected, "{shows}");
-    assert_eq!(rt; tape.object_count(), objects, "{shows}");
+    assert_same(rt, written, expected, shows);
+    assert_same(rt, tape.object_count(), objects, shows);
 }
 
 #[test]
@@ -134,9 +151,9 @@ fn write_blocks_refuses_a_bad_length(rt: HostRuntime) -> Result<(), Fail> {
     for row in &BLOCKS {
         assert_blocks(&rt, &mut tape, &long, row);
     }
-    assert_eq!(rt; write_block(&mut tape, &[]), Err(TapeFault::BlockLength));
+    assert_written(&rt, &mut tape, &[], BAD_LENGTH, "an empty block");
     let longer = part_of(&long, 0, 65_537);
-    assert_eq!(rt; write_block(&mut tape, longer), Err(TapeFault::BlockLength));
+    assert_written(&rt, &mut tape, longer, BAD_LENGTH, "too long a block");
     Ok(())
 }
 
@@ -145,9 +162,11 @@ fn write_blocks_refuses_a_bad_length(rt: HostRuntime) -> Result<(), Fail> {
 fn write_marks_puts_a_million_into_a_byte(rt: HostRuntime) -> Result<(), Fail> {
     let mut tape = Tape::new(rt.alloc(), 1);
     write_marks(&mut tape, 1_000_000)?;
-    assert_eq!(rt; write_marks(&mut tape, 1), Err(TapeFault::Overflow));
-    assert_eq!(rt; write_block(&mut tape, &[1]), Err(TapeFault::Overflow));
-    assert_eq!(rt; counts(&tape), (1_000_000, 1_000_000));
+    let written = write_marks(&mut tape, 1);
+    assert_same(&rt, written, OVERFLOW, "a filemark more");
+    assert_written(&rt, &mut tape, &[1], OVERFLOW, "a block more");
+    let expected = (1_000_000, 1_000_000);
+    assert_same(&rt, counts(&tape), expected, "the filemarks");
     Ok(())
 }
 
@@ -159,7 +178,9 @@ fn volume_keeps_its_tag(rt: HostRuntime) {
         protected: true,
         tape: Tape::new(rt.alloc(), 1),
     };
-    assert!(rt; volume.tag == tag && volume.tag < VolumeTag([b'A'; 32]));
+    assert_same(&rt, volume.tag, tag, "its tag");
+    let is_before = volume.tag < VolumeTag([b'A'; 32]);
+    assert_same(&rt, is_before, true, "blanks come before letters");
 }
 
 /// A part of the bytes, as long as there are as many.
@@ -221,35 +242,42 @@ struct Both {
 impl Both {
     fn write(&mut self, rt: &impl Abort, block: &[u8]) {
         let written = self.tape.write_block(block);
-        assert_eq!(rt; written, self.plain.write_block(block));
+        let plain = self.plain.write_block(block);
+        assert_same(rt, written, plain, "write");
     }
 
     fn write_blocks(&mut self, rt: &impl Abort, blocks: &[u8], size: u32) {
         let written = self.tape.write_blocks(blocks, size);
-        assert_eq!(rt; written, self.plain.write_blocks(blocks, size));
+        let plain = self.plain.write_blocks(blocks, size);
+        assert_same(rt, written, plain, "write_blocks");
     }
 
     fn write_marks(&mut self, rt: &impl Abort, count: u32) {
         let written = self.tape.write_marks(count);
-        assert_eq!(rt; written, self.plain.write_marks(count));
+        let plain = self.plain.write_marks(count);
+        assert_same(rt, written, plain, "write_marks");
     }
 
     fn read(&mut self, rt: &impl Abort, limit: u32) {
         self.read.clear();
         self.read_plain.clear();
         let item = self.tape.read(limit, &mut self.read);
-        assert_eq!(rt; item, self.plain.read(limit, &mut self.read_plain));
-        assert!(rt; self.read.as_slice() == self.read_plain.as_slice());
+        let plain = self.plain.read(limit, &mut self.read_plain);
+        assert_same(rt, item, plain, "read");
+        let (read, plain) = (self.read.as_slice(), self.read_plain.as_slice());
+        assert_same(rt, read, plain, "what is read");
     }
 
     fn space(&mut self, rt: &impl Abort, code: SpaceCode, count: i32) {
         let end = self.tape.space(code, count);
-        assert_eq!(rt; end, self.plain.space(code, count));
+        let plain = self.plain.space(code, count);
+        assert_same(rt, end, plain, "space");
     }
 
     fn locate(&mut self, rt: &impl Abort, object: u32) {
         let located = self.tape.locate(object);
-        assert_eq!(rt; located, self.plain.locate(object));
+        let plain = self.plain.locate(object);
+        assert_same(rt, located, plain, "locate");
     }
 
     fn erase(&mut self) {
@@ -263,8 +291,8 @@ impl Both {
     }
 
     fn assert_same_place(&self, rt: &impl Abort) {
-        assert_eq!(rt; self.tape.position(), self.plain.position());
-        assert_eq!(rt; self.tape.object_count(), self.plain.object_count());
+        let plain = (self.plain.object_count(), self.plain.position());
+        assert_same(rt, counts(&self.tape), plain, "the place");
     }
 
     fn step(&mut self, rt: &impl Abort, numbers: &mut Numbers, bytes: &[u8], longest: u32) {
@@ -298,12 +326,20 @@ impl Both {
         for _ in 0..=self.tape.object_count() {
             self.read(rt, u32::MAX);
         }
-        assert_eq!(rt; self.tape.position(), self.tape.object_count());
+        let (count, position) = counts(&self.tape);
+        assert_same(rt, position, count, "behind all objects");
     }
 }
 
 /// Makes thousands of calls that follow from a seed.
-fn assert_same(rt: &impl Abort, alloc: Global, bytes: &[u8], seed: u64, capacity: u32, longest: u32)
+fn assert_agreed(
+    rt: &impl Abort,
+    alloc: Global,
+    bytes: &[u8],
+    seed: u64,
+    capacity: u32,
+    longest: u32,
+)
     requires some { 0 < capacity }
     requires within { capacity ≤ 67108864 }
 {
@@ -326,9 +362,9 @@ fn assert_same(rt: &impl Abort, alloc: Global, bytes: &[u8], seed: u64, capacity
 #[test]
 fn tape_does_as_a_plain_list_of_objects(rt: HostRuntime) -> Result<(), Fail> {
     let bytes = mixed(rt.alloc(), 200_000, 253)?;
-    assert_same(&rt, rt.alloc(), &bytes, 1, 40, 12);
-    assert_same(&rt, rt.alloc(), &bytes, 2, 1_000, 60);
-    assert_same(&rt, rt.alloc(), &bytes, 3, 5_000, 10);
-    assert_same(&rt, rt.alloc(), &bytes, 4, 300_000, 66_000);
+    assert_agreed(&rt, rt.alloc(), &bytes, 1, 40, 12);
+    assert_agreed(&rt, rt.alloc(), &bytes, 2, 1_000, 60);
+    assert_agreed(&rt, rt.alloc(), &bytes, 3, 5_000, 10);
+    assert_agreed(&rt, rt.alloc(), &bytes, 4, 300_000, 66_000);
     Ok(())
 }

@@ -1,6 +1,6 @@
 //! Targets and drives for the tests, a volume for them, and units that make no target.
 
-use super::{TAG, empty_changer};
+use super::{TAG, assert_same, empty_changer};
 use changer_server::Changer;
 use device_server::DeviceServer;
 use element_map::Elements;
@@ -112,31 +112,54 @@ fn refusal(alloc: Global, units: Units) -> Result<Option<(CoreFault, usize)>, Fa
     }
 }
 
-const REFUSALS: [(Units, Option<(CoreFault, usize)>); 5] = [
-    (Units::Changer, Some((CoreFault::Count, 1))),
-    (Units::Drives, Some((CoreFault::Order, 2))),
-    (Units::Unmarked, Some((CoreFault::Disagree, 2))),
-    (Units::Marked, None),
-    (Units::MarkedInVain, Some((CoreFault::Disagree, 2))),
+/// What it shows, the units, and how they are refused.
+type Refusal = (&'static str, Units, Option<(CoreFault, usize)>);
+
+const REFUSALS: [Refusal; 5] = [
+    ("one unit", Units::Changer, Some((CoreFault::Count, 1))),
+    ("no changer", Units::Drives, Some((CoreFault::Order, 2))),
+    (
+        "a volume without a mark",
+        Units::Unmarked,
+        Some((CoreFault::Disagree, 2)),
+    ),
+    ("a volume with its mark", Units::Marked, None),
+    (
+        "a mark without a volume",
+        Units::MarkedInVain,
+        Some((CoreFault::Disagree, 2)),
+    ),
 ];
 
 #[test]
 fn new_hands_back_units_that_make_no_target(rt: HostRuntime) -> Result<(), Fail> {
-    for (units, refused) in &REFUSALS {
-        assert_eq!(rt; refusal(rt.alloc(), *units)?, *refused, "{units:?}");
+    for (shows, units, refused) in &REFUSALS {
+        assert_same(&rt, refusal(rt.alloc(), *units)?, *refused, shows);
     }
     Ok(())
 }
 
+/// What it shows, how many drives there are, a command, and the drives that it names.
+type Naming = (&'static str, u8, &'static [u8], &'static [u8]);
+
+const TO_DRIVE_1: &[u8] = &[0xa5, 0, 0, 0, 4, 0, 1, 0, 0, 0, 0, 0];
+
+const BETWEEN_DRIVES: &[u8] = &[0xa5, 0, 0, 0, 1, 1, 1, 0, 0, 0, 0, 0];
+
+const BETWEEN_SHELVES: &[u8] = &[0xa5, 0, 0, 0, 4, 0, 4, 1, 0, 0, 0, 0];
+
+const NAMING: [Naming; 5] = [
+    ("into the drive", 1, TO_DRIVE_1, &[1]),
+    ("from drive 2 to drive 1", 2, BETWEEN_DRIVES, &[1, 2]),
+    ("there is no drive 2", 1, BETWEEN_DRIVES, &[1]),
+    ("from shelf to shelf", 2, BETWEEN_SHELVES, &[]),
+    ("TEST UNIT READY", 2, &[0; 6], &[]),
+];
+
 #[test]
-fn move_medium_names_its_drives(rt: HostRuntime) -> Result<(), Fail> {
-    let to_drive = [0xa5, 0, 0, 0, 4, 0, 1, 0, 0, 0, 0, 0];
-    let between = [0xa5, 0, 0, 0, 1, 1, 1, 0, 0, 0, 0, 0];
-    let shelves = [0xa5, 0, 0, 0, 4, 0, 4, 1, 0, 0, 0, 0];
-    assert_eq!(rt; named(1, &to_drive).as_slice(), [1u8].as_slice());
-    assert_eq!(rt; named(2, &between).as_slice(), [1u8, 2].as_slice());
-    assert_eq!(rt; named(1, &between).as_slice(), [1u8].as_slice());
-    assert!(rt; named(2, &shelves).is_empty());
-    assert!(rt; named(2, &[0; 6]).is_empty());
-    Ok(())
+fn move_medium_names_its_drives(rt: HostRuntime) {
+    for (shows, drives, cdb, expected) in NAMING {
+        let drives = named(drives, cdb);
+        assert_same(&rt, drives.as_slice(), expected, shows);
+    }
 }

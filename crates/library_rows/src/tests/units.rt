@@ -1,7 +1,7 @@
 //! What a unit keeps or hands back of a command beside its reply.
 
 use super::targets::{changer, empty_drive, loaded_drive, target};
-use super::{A, B, TAG, TEST_UNIT_READY};
+use super::{A, B, TAG, TEST_UNIT_READY, assert_same};
 use arrayvec::ArrayVec;
 use library_device::Device;
 use logical_unit::LogicalUnit;
@@ -10,6 +10,7 @@ use scsi_sense::Status;
 use std::alloc::Global;
 use std::process::Abort;
 use std::test::Fail;
+use tape_medium::{Volume, VolumeTag};
 use target_core::Event;
 
 const MODE_SELECT: &[u8] = &[0x15, 0x10, 0, 0, 0x0c, 0];
@@ -34,50 +35,65 @@ fn drive(alloc: Global) -> Result<LogicalUnit<Device>, Fail> {
     Ok(unit)
 }
 
-fn assert_status(
-    rt: &(impl Abort + AllocGlobal),
-    unit: &mut LogicalUnit<Device>,
-    nexus: Nexus,
-    cdb: &[u8],
-    bytes: &[u8],
-    status: Status,
-) {
-    let reply = unit.execute(rt.alloc(), nexus, cdb, bytes);
-    assert_eq!(rt; reply.status, status);
+/// What it shows, who sends a command, the command with its data, and the status that it is answered with.
+type Row = (&'static str, Nexus, &'static [u8], &'static [u8], Status);
+
+fn assert_statuses(rt: &impl Abort, alloc: Global, unit: &mut LogicalUnit<Device>, rows: &[Row]) {
+    for row in rows {
+        let (shows, nexus, cdb, bytes, expected) = *row;
+        let status = unit.execute(alloc, nexus, cdb, bytes).status;
+        assert_same(rt, status, expected, shows);
+    }
 }
+
+const GOOD: Status = Status::Good;
+
+const TOLD: Status = Status::CheckCondition;
+
+const CHANGES: [Row; 6] = [
+    ("A's change", A, MODE_SELECT, BLOCKS_OF_512, GOOD),
+    ("B is told of it", B, TEST_UNIT_READY, &[], TOLD),
+    ("A is not", A, TEST_UNIT_READY, &[], GOOD),
+    ("B looks", B, MODE_SENSE, &[], GOOD),
+    ("B changes nothing", B, MODE_SELECT, BLOCKS_OF_512, GOOD),
+    ("A is told of nothing", A, TEST_UNIT_READY, &[], GOOD),
+];
 
 #[test]
 fn mode_select_is_recorded_as_a_change_only_where_it_is_one(rt: HostRuntime) -> Result<(), Fail> {
     let mut unit = drive(rt.alloc())?;
-    let told = Status::CheckCondition;
-    assert_status(&rt, &mut unit, A, MODE_SELECT, BLOCKS_OF_512, Status::Good);
-    assert_status(&rt, &mut unit, B, TEST_UNIT_READY, &[], told);
-    assert_status(&rt, &mut unit, A, TEST_UNIT_READY, &[], Status::Good);
-    assert_status(&rt, &mut unit, B, MODE_SENSE, &[], Status::Good);
-    assert_status(&rt, &mut unit, B, MODE_SELECT, BLOCKS_OF_512, Status::Good);
-    assert_status(&rt, &mut unit, A, TEST_UNIT_READY, &[], Status::Good);
+    assert_statuses(&rt, rt.alloc(), &mut unit, &CHANGES);
     for entry in unit.records() {
-        assert_eq!(rt; entry.mode_changed, entry.number == 4);
+        let expected = entry.number == 4;
+        assert_same(&rt, entry.mode_changed, expected, "the fourth alone");
     }
-    assert_eq!(rt; unit.records().len(), 9);
+    assert_same(&rt, unit.records().len(), 9, "records");
     Ok(())
+}
+
+const WRITING: [Row; 4] = [
+    ("blocks of 512 bytes", A, MODE_SELECT, BLOCKS_OF_512, GOOD),
+    ("two of them", A, WRITE_2, &[5; 1024], GOOD),
+    ("rewound", A, REWIND, &[], GOOD),
+    ("read", A, READ_2, &[], GOOD),
+];
+
+/// What is compared of a volume that came out: its tag, how many objects there are, and where the tape stands.
+fn shown_of(volume: &Volume) -> (VolumeTag, u32, u32) {
+    let tape = &volume.tape;
+    (volume.tag, tape.object_count(), tape.position())
 }
 
 #[test]
 fn medium_out_gives_the_volume_as_it_was_written(rt: HostRuntime) -> Result<(), Fail> {
     let mut unit = drive(rt.alloc())?;
-    assert_status(&rt, &mut unit, A, MODE_SELECT, BLOCKS_OF_512, Status::Good);
-    assert_status(&rt, &mut unit, A, WRITE_2, &[5; 1024], Status::Good);
-    assert_status(&rt, &mut unit, A, REWIND, &[], Status::Good);
-    assert_status(&rt, &mut unit, A, READ_2, &[], Status::Good);
+    assert_statuses(&rt, rt.alloc(), &mut unit, &WRITING);
     let Ok((volume, number)) = unit.medium_out() else {
         return Err("no volume came out".into());
     };
-    assert_eq!(rt; number, 8);
-    assert_eq!(rt; volume.tag, TAG);
-    assert_eq!(rt; volume.tape.object_count(), 2);
-    assert_eq!(rt; volume.tape.position(), 0);
-    assert_eq!(rt; unit.held(0), None);
+    assert_same(&rt, number, 8, "the number of the record");
+    assert_same(&rt, shown_of(&volume), (TAG, 2, 0), "the volume");
+    assert_same(&rt, unit.held(0), None, "the drive is empty");
     Ok(())
 }
 
@@ -92,10 +108,10 @@ fn test_unit_ready_to_an_absent_unit_has_no_number(rt: HostRuntime) -> Result<()
         bytes: Vec::new(alloc),
     };
     let reply = core.step(alloc, &event);
-    assert_eq!(rt; reply.status, Status::CheckCondition);
-    assert_eq!(rt; reply.number, 0);
+    let answer = (reply.status, reply.number);
+    assert_same(&rt, answer, (Status::CheckCondition, 0), "the answer");
     for unit in core.all() {
-        assert!(rt; unit.records().is_empty());
+        assert_same(&rt, unit.records().len(), 0, "records");
     }
     Ok(())
 }

@@ -2,7 +2,7 @@
 //! go on.
 
 use super::targets::target;
-use super::{A, empty_changer};
+use super::{A, assert_same, empty_changer};
 use arrayvec::ArrayVec;
 use device_server::{BadPlace, DeviceServer, Outcome, PutFault, TakeFault};
 use library_device::{Device, unit_at};
@@ -96,12 +96,10 @@ fn wanting_target(alloc: Global) -> Result<TargetCore<WantingDevice>, Fail> {
     )
 }
 
-#[test]
-fn execute_is_busy_for_want_of_memory(rt: HostRuntime) -> Result<(), Fail> {
-    let alloc = rt.alloc();
-    let mut core = wanting_target(alloc)?;
+/// So many TEST UNIT READYs of A at the changer.
+fn ready_again(alloc: Global, count: u8) -> Result<Vec<Event>, Fail> {
     let mut events = Vec::new(alloc);
-    for _ in 0..5 {
+    for _ in 0..count {
         events.push(Event::Command {
             nexus: A,
             lun: 0,
@@ -109,25 +107,33 @@ fn execute_is_busy_for_want_of_memory(rt: HostRuntime) -> Result<(), Fail> {
             bytes: Vec::new(alloc),
         })?;
     }
+    Ok(events)
+}
+
+/// What the five are answered, and the numbers of their records.
+const ANSWERS: [(Status, u64); 5] = [
+    (Status::CheckCondition, 1),
+    (Status::Good, 2),
+    (Status::Busy, 0),
+    (Status::Good, 3),
+    (Status::Good, 4),
+];
+
+#[test]
+fn execute_is_busy_for_want_of_memory(rt: HostRuntime) -> Result<(), Fail> {
+    let alloc = rt.alloc();
+    let mut core = wanting_target(alloc)?;
+    let events = ready_again(alloc, 5)?;
     let mut replies = Vec::new(alloc);
     core.run(alloc, &events, &mut replies)?;
-    let expected = [
-        (Status::CheckCondition, 1),
-        (Status::Good, 2),
-        (Status::Busy, 0),
-        (Status::Good, 3),
-        (Status::Good, 4),
-    ];
-    for (reply, (status, number)) in replies.iter().zip(expected.iter()) {
-        assert_eq!(rt; reply.status, *status);
-        assert_eq!(rt; reply.number, *number);
+    for (reply, expected) in replies.iter().zip(ANSWERS) {
+        assert_same(&rt, (reply.status, reply.number), expected, "a reply");
     }
-    assert_eq!(rt; replies.len(), 5);
     // No events have no replies, and change nothing.
     core.run(alloc, &[], &mut replies)?;
-    assert_eq!(rt; replies.len(), 5);
+    assert_same(&rt, replies.len(), 5, "replies");
     let changer = core.all().first().ok_or("no unit")?;
-    assert_eq!(rt; changer.records().len(), 4);
+    assert_same(&rt, changer.records().len(), 4, "records");
     Ok(())
 }
 
@@ -189,6 +195,7 @@ fn reservation_conflict_comes_before_want_of_memory(rt: HostRuntime) -> Result<(
         Audit::Lines,
         9,
     )?;
-    assert_eq!(rt; output.as_slice(), RESERVING_RECORDS.as_bytes());
+    let expected = RESERVING_RECORDS.as_bytes();
+    assert_same(&rt, output.as_slice(), expected, "replies and records");
     Ok(())
 }

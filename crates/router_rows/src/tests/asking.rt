@@ -1,12 +1,14 @@
 //! Commands of the tests, and what their answers are compared with.
 
-use kept_unit::{EventKind, UnitLedger};
+use super::opened::Opened;
+use kept_unit::EventKind;
 use library_device::Device;
-use logical_unit::Receipt;
-use lun_router::{Gate, Histories, Library, Seat};
+use logical_unit::{Receipt, Reply};
+use lun_router::Histories;
 use scsi_nexus::Nexus;
 use scsi_sense::Status;
 use std::alloc::Global;
+use std::fmt::Debug;
 use std::process::Abort;
 use std::sync::Wait;
 use std::test::Fail;
@@ -119,6 +121,7 @@ pub(super) enum Answer {
     Check(u8, u8),
     /// RESERVATION CONFLICT.
     Conflict,
+    Busy,
 }
 
 /// The first command of a nexus reports its power on.
@@ -138,6 +141,35 @@ pub(super) fn nexus_at(place: usize) -> Nexus {
     if place == 0 { A } else { B }
 }
 
+/// Compares what was found with what is expected. Each `assert_eq!` costs the proof of the function that it stands in some
+/// ten times this call.
+pub(super) fn assert_same<T: Copy + PartialEq + Debug>(
+    rt: &impl Abort,
+    found: T,
+    expected: T,
+    shows: &'static str,
+) {
+    assert!(rt; found == expected, "{shows}: {found:?}, not {expected:?}");
+}
+
+/// The additional sense code of a reply, with its qualifier.
+fn codes_of(reply: &Reply) -> Option<(u8, u8)> {
+    match &reply.sense {
+        Some(sense) => Some((sense.asc, sense.ascq)),
+        None => None,
+    }
+}
+
+/// The status of an answer, and its additional sense code with the qualifier.
+const fn status_of(answer: Answer) -> (Status, Option<(u8, u8)>) {
+    match answer {
+        Answer::Good(_) => (Status::Good, None),
+        Answer::Check(asc, ascq) => (Status::CheckCondition, Some((asc, ascq))),
+        Answer::Conflict => (Status::ReservationConflict, None),
+        Answer::Busy => (Status::Busy, None),
+    }
+}
+
 /// Compares an answer with its row.
 fn assert_answer(
     rt: &impl Abort,
@@ -147,66 +179,35 @@ fn assert_answer(
     records: Option<usize>,
 ) {
     let reply = &receipt.reply;
-    let (status, sense) = match answer {
-        Answer::Good(data) => {
-            assert_eq!(rt; reply.payload.bytes(), bytes_of(data), "{shows}");
-            (Status::Good, None)
-        }
-        Answer::Check(asc, ascq) => (Status::CheckCondition, Some((asc, ascq))),
-        Answer::Conflict => (Status::ReservationConflict, None),
-    };
-    assert_eq!(rt; reply.status, status, "{shows}");
-    let codes = match &reply.sense {
-        Some(sense) => Some((sense.asc, sense.ascq)),
-        None => None,
-    };
-    assert_eq!(rt; codes, sense, "{shows}");
+    let found = (reply.status, codes_of(reply));
+    assert_same(rt, found, status_of(answer), shows);
+    if let Answer::Good(data) = answer {
+        assert_same(rt, reply.payload.bytes(), bytes_of(data), shows);
+    }
     if let Some(records) = records {
-        assert_eq!(rt; receipt.numbers.len(), records, "{shows}");
+        assert_same(rt, receipt.numbers.len(), records, shows);
     }
 }
 
 /// Makes the call of a row, and compares the answer.
-pub(super) fn ask_one<
-    L0: UnitLedger,
-    L1: UnitLedger,
-    L2: UnitLedger,
-    L3: UnitLedger,
-    L4: UnitLedger,
-    G: Gate,
-    R: Abort + Wait,
->(
+pub(super) fn ask_one<T: Opened, R: Abort + Wait>(
     rt: &R,
     alloc: Global,
-    library: &Library<L0, L1, L2, L3, L4, Device, G>,
-    seat: &mut Seat<L0, L1, L2, L3, L4>,
+    library: &T,
+    seat: &mut T::Seat,
     row: &Row,
 ) {
     let (shows, nexus, lun, ask, answer, records) = *row;
-    let done = match event_of(ask) {
-        EventKind::Loss => library.lose(rt, alloc, seat, nexus, lun),
-        EventKind::Reset => library.reset(rt, alloc, seat, lun),
-        EventKind::Command { cdb, bytes } => library.submit(
-            rt, alloc, seat, nexus, lun, cdb, bytes,
-        ),
-    };
+    let done = library.ask(rt, alloc, seat, nexus, lun, event_of(ask));
     assert_answer(rt, done.receipt(), shows, answer, records);
 }
 
 /// Makes the calls of some rows, one after another.
-pub(super) fn ask_all<
-    L0: UnitLedger,
-    L1: UnitLedger,
-    L2: UnitLedger,
-    L3: UnitLedger,
-    L4: UnitLedger,
-    G: Gate,
-    R: Abort + Wait,
->(
+pub(super) fn ask_all<T: Opened, R: Abort + Wait>(
     rt: &R,
     alloc: Global,
-    library: &Library<L0, L1, L2, L3, L4, Device, G>,
-    seat: &mut Seat<L0, L1, L2, L3, L4>,
+    library: &T,
+    seat: &mut T::Seat,
     rows: &[Row],
 ) {
     for row in rows {
@@ -215,17 +216,10 @@ pub(super) fn ask_all<
 }
 
 /// Closes a library, which has to be closed.
-pub(super) fn close<
-    L0: UnitLedger,
-    L1: UnitLedger,
-    L2: UnitLedger,
-    L3: UnitLedger,
-    L4: UnitLedger,
-    G: Gate,
->(
+pub(super) fn close<T: Opened>(
     alloc: Global,
-    library: Library<L0, L1, L2, L3, L4, Device, G>,
-    seats: Vec<Seat<L0, L1, L2, L3, L4>>,
+    library: T,
+    seats: Vec<T::Seat>,
 ) -> Result<Histories<Device>, Fail> {
     match library.close(alloc, seats) {
         Ok(histories) => Ok(histories),

@@ -1,13 +1,15 @@
 //! Opens a library for a scene.
 ghost use Rattle.std.specs.Prelude.{◌≡◌, ◌<◌};
+ghost use Rattle.logical_unit.specs.UnitView.{units_of};
 ghost use Rattle.lun_router.specs.Opening.{IsSince};
 
-use super::gates::Flags;
+use super::gates::{Flags, TestGate};
+use super::opened::Opened;
 use super::targets::two_drives;
 use super::{rows, scenes, settling};
 use kept_unit::UnitLedger;
 use library_device::Device;
-use lun_router::{Blanks, Gate, Library, Seat};
+use lun_router::{Blanks, Library};
 use std::alloc::Global;
 use std::marker::Brand;
 use std::process::Abort;
@@ -28,6 +30,7 @@ pub(super) enum Scene {
     Moving,
     LossAndReset,
     SharedDrive,
+    FullSlots,
     Settling,
     SettledMoves,
 }
@@ -35,22 +38,17 @@ pub(super) enum Scene {
 /// How many seats the libraries have.
 const SEATS: usize = 2;
 
-fn play<
-    L0: UnitLedger + Send + Sync,
-    L1: UnitLedger + Send + Sync,
-    L2: UnitLedger + Send + Sync,
-    L3: UnitLedger + Send + Sync,
-    L4: UnitLedger + Send + Sync,
-    G: Gate,
-    R: Abort + Clock + Threads + Wait + Sync,
->(
+fn play<T: Opened + Sync, R: Abort + Clock + Threads + Wait + Sync>(
     rt: &R,
     alloc: Global,
-    library: Library<L0, L1, L2, L3, L4, Device, G>,
-    seats: Vec<Seat<L0, L1, L2, L3, L4>>,
+    library: T,
+    seats: Vec<T::Seat>,
     flags: &Flags,
     scene: Scene,
-) -> Result<(), Fail> {
+) -> Result<(), Fail>
+where
+    T::Seat: Send,
+{
     match scene {
         Scene::TwoDrives => scenes::ready_at_two_drives(rt, alloc, library, seats),
         Scene::Drains => scenes::drain_between(rt, alloc, library, seats),
@@ -59,6 +57,7 @@ fn play<
         Scene::Moving => scenes::move_volumes(rt, alloc, library, seats),
         Scene::LossAndReset => rows::lose_and_reset(rt, alloc, library, seats),
         Scene::SharedDrive => rows::share_a_drive(rt, alloc, library, seats),
+        Scene::FullSlots => rows::fill_the_slots(rt, alloc, library, seats),
         Scene::Settling => settling::settle_between(rt, alloc, library, seats),
         Scene::SettledMoves => settling::settle_moves(rt, alloc, library, seats),
     }
@@ -70,7 +69,6 @@ fn day<
     L2: UnitLedger + Send + Sync,
     L3: UnitLedger + Send + Sync,
     L4: UnitLedger + Send + Sync,
-    G: Gate,
     R: Abort + Clock + Threads + Wait + Sync,
 >(
     rt: &R,
@@ -78,7 +76,7 @@ fn day<
     core: TargetCore<Device>,
     seats: usize,
     blanks: Blanks,
-    gate: G,
+    gate: TestGate<'_>,
     flags: &Flags,
     scene: Scene,
 ) -> Result<(), Fail>
@@ -88,19 +86,21 @@ fn day<
     requires two { (blanks.two.name ≡ L2.name) × (blanks.two.parts ≡ L2.parts) × (L2.parts ≡ seats) }
     requires three { (blanks.three.name ≡ L3.name) × (blanks.three.parts ≡ L3.parts) × (L3.parts ≡ seats) }
     requires four { (blanks.four.name ≡ L4.name) × (blanks.four.parts ≡ L4.parts) × (L4.parts ≡ seats) }
-    requires since { IsSince core L0.since L1.since L2.since L3.since L4.since }
+    requires since { IsSince (units_of core) L0.since L1.since L2.since L3.since L4.since }
 {
-    match Library::<L0, L1, L2, L3, L4, Device, G>::new(alloc, core, seats, blanks, gate) {
+    match Library::<L0, L1, L2, L3, L4, Device, TestGate<'_>>::new(
+        alloc, core, seats, blanks, gate,
+    ) {
         Ok((library, all)) => play(rt, alloc, library, all, flags, scene),
         Err((refused, _)) => Err(refused.into()),
     }
 }
 
 /// Plays a scene in a library of two drives and two volumes, with two seats.
-pub(super) fn run<G: Gate, R: Abort + Clock + Threads + Wait + Sync>(
+pub(super) fn run<R: Abort + Clock + Threads + Wait + Sync>(
     rt: &R,
     alloc: Global,
-    gate: G,
+    gate: TestGate<'_>,
     flags: &Flags,
     scene: Scene,
 ) -> Result<(), Fail> {
@@ -113,7 +113,5 @@ pub(super) fn run<G: Gate, R: Abort + Clock + Threads + Wait + Sync>(
         three: Blank::new(parts),
         four: Blank::new(parts),
     };
-    day::<Brand, Brand, Brand, Brand, Brand, G, R>(
-        rt, alloc, core, SEATS, blanks, gate, flags, scene,
-    )
+    day::<Brand, Brand, Brand, Brand, Brand, R>(rt, alloc, core, SEATS, blanks, gate, flags, scene)
 }

@@ -40,15 +40,18 @@ impl Flags {
     }
 }
 
+/// The gate of the tests.
 #[derive(Drop)]
-pub(super) struct Held<'a, R: Clock + Sync> {
-    pub(super) clock: &'a R,
+pub(super) struct TestGate<'a> {
+    pub(super) clock: &'a HostRuntime,
     pub(super) flags: &'a Flags,
+    /// Whether it holds logical unit 1.
+    pub(super) holds: bool,
 }
 
-impl<R: Clock + Sync> Gate for Held<'_, R> {
+impl Gate for TestGate<'_> {
     fn inside(&self, lun: u8, _nexus: Nexus) {
-        if lun != 1 {
+        if lun != 1 || !self.holds {
             return;
         }
         self.flags.entered.fetch_add(1, Ordering::SeqCst);

@@ -1,9 +1,10 @@
 //! Scenes of two hosts in one thread, with the bytes that they must be answered.
 
-use super::asking::{A, Answer, Ask, B, DONE, Data, NO_MEDIUM, POWER_ON, Row, ask_all, close};
-use kept_unit::UnitLedger;
-use library_device::Device;
-use lun_router::{Gate, Library, Seat};
+use super::asking::{
+    A, Answer, Ask, B, DONE, Data, NO_MEDIUM, POWER_ON, Row, ask_all, ask_one, assert_same, close,
+};
+use super::opened::Opened;
+use scsi_nexus::Nexus;
 use std::alloc::Global;
 use std::process::Abort;
 use std::sync::Wait;
@@ -85,20 +86,25 @@ const SHARING: [Row; 20] = [
     ("no unit is here", A, 9, Ask::Inquiry, NO_INQUIRY, Some(0)),
 ];
 
+/// How many nexuses a unit knows.
+const SLOTS: u16 = 128;
+
+const NO_SLOT: Row = ("B finds no slot", B, 1, Ask::Ready, Answer::Busy, Some(0));
+
+/// Whether a nexus has a slot at a unit, or finds one, where A's 128 ports have all of drive 1's.
+const ROOM: [(&str, Nexus, u8, bool); 4] = [
+    ("A has a slot", A, 1, true),
+    ("B has none", B, 1, false),
+    ("B finds one at the changer", B, 0, true),
+    ("no unit wants no slot", B, 9, true),
+];
+
 /// A loss is told to the nexus, a reset to both, and neither reaches a unit that isn't there.
-pub(super) fn lose_and_reset<
-    L0: UnitLedger,
-    L1: UnitLedger,
-    L2: UnitLedger,
-    L3: UnitLedger,
-    L4: UnitLedger,
-    G: Gate,
-    R: Abort + Wait,
->(
+pub(super) fn lose_and_reset<T: Opened, R: Abort + Wait>(
     rt: &R,
     alloc: Global,
-    library: Library<L0, L1, L2, L3, L4, Device, G>,
-    mut seats: Vec<Seat<L0, L1, L2, L3, L4>>,
+    library: T,
+    mut seats: Vec<T::Seat>,
 ) -> Result<(), Fail> {
     for (seat, contacts) in seats.iter_mut().zip(&CONTACTS) {
         ask_all(rt, alloc, &library, seat, contacts.as_slice());
@@ -109,25 +115,42 @@ pub(super) fn lose_and_reset<
 }
 
 /// Two hosts of one drive: what one wrote stays as it is while the other's WRITE is denied by the reservation.
-pub(super) fn share_a_drive<
-    L0: UnitLedger,
-    L1: UnitLedger,
-    L2: UnitLedger,
-    L3: UnitLedger,
-    L4: UnitLedger,
-    G: Gate,
-    R: Abort + Wait,
->(
+pub(super) fn share_a_drive<T: Opened, R: Abort + Wait>(
     rt: &R,
     alloc: Global,
-    library: Library<L0, L1, L2, L3, L4, Device, G>,
-    mut seats: Vec<Seat<L0, L1, L2, L3, L4>>,
+    library: T,
+    mut seats: Vec<T::Seat>,
 ) -> Result<(), Fail> {
     let Some(seat) = seats.first_mut() else {
         return Err("no seat".into());
     };
     ask_all(rt, alloc, &library, seat, &SHARING);
     let histories = close(alloc, library, seats)?;
-    assert_eq!(rt; histories.changer.records().len(), 2);
+    let moves = histories.changer.records().len();
+    assert_same(rt, moves, 2, "records of the changer");
+    Ok(())
+}
+
+/// 128 nexuses have all slots of the drive. Another finds none there, and one at the changer.
+pub(super) fn fill_the_slots<T: Opened, R: Abort + Wait>(
+    rt: &R,
+    alloc: Global,
+    library: T,
+    mut seats: Vec<T::Seat>,
+) -> Result<(), Fail> {
+    let Some(seat) = seats.first_mut() else {
+        return Err("no seat".into());
+    };
+    for port in 1..=SLOTS {
+        let nexus = Nexus { sas: A.sas, port };
+        let row = ("a slot more", nexus, 1, Ask::Ready, POWER_ON, None);
+        ask_one(rt, alloc, &library, seat, &row);
+    }
+    ask_one(rt, alloc, &library, seat, &NO_SLOT);
+    for (shows, nexus, lun, has_room) in &ROOM {
+        let found = library.has_room(rt, *nexus, *lun);
+        assert_same(rt, found, *has_room, shows);
+    }
+    close(alloc, library, seats)?;
     Ok(())
 }

@@ -1,11 +1,13 @@
 //! Scenes of two threads, each with a seat of its own.
 
-use super::asking::{A, Ask, B, DONE, NO_MEDIUM, POWER_ON, Row, ask_all, ask_one, close, nexus_at};
+use super::asking::{
+    A, Ask, B, DONE, NO_MEDIUM, POWER_ON, Row, ask_all, ask_one, assert_same, close, nexus_at,
+};
 use super::gates::Flags;
-use kept_unit::UnitLedger;
+use super::opened::Opened;
 use library_device::Device;
 use logical_unit::LogicalUnit;
-use lun_router::{CloseFault, Gate, Library, Seat};
+use lun_router::{CloseFault, Histories};
 use scsi_nexus::Nexus;
 use std::alloc::{AllocError, Global};
 use std::process::Abort;
@@ -29,19 +31,11 @@ enum Part<'a> {
 
 /// One hundred TEST UNIT READYs, to drive 1 and drive 2 by turns, with a drain of both after the fiftieth, and what
 /// was drained settled, if there is somewhere to note the numbers that it hands out.
-fn ask_100_times<
-    L0: UnitLedger,
-    L1: UnitLedger,
-    L2: UnitLedger,
-    L3: UnitLedger,
-    L4: UnitLedger,
-    G: Gate,
-    R: Abort + Wait,
->(
+fn ask_100_times<T: Opened, R: Abort + Wait>(
     rt: &R,
     alloc: Global,
-    library: &Library<L0, L1, L2, L3, L4, Device, G>,
-    seat: &mut Seat<L0, L1, L2, L3, L4>,
+    library: &T,
+    seat: &mut T::Seat,
     nexus: Nexus,
     drained: Option<&Drained>,
 ) {
@@ -59,7 +53,7 @@ fn ask_100_times<
         {
             let first = note_drained(rt, alloc, library, 1, &drained.first);
             let second = note_drained(rt, alloc, library, 2, &drained.second);
-            seat.settle(&[0, first, second, 0, 0]).expect(rt, "memory");
+            T::settle(seat, &[0, first, second, 0, 0]).expect(rt, "memory");
         }
     }
 }
@@ -72,29 +66,19 @@ struct Drained {
 }
 
 /// Drains a unit, and notes the numbers. The last of them, 0 where there is none: all up to it were handed out.
-fn note_drained<
-    L0: UnitLedger,
-    L1: UnitLedger,
-    L2: UnitLedger,
-    L3: UnitLedger,
-    L4: UnitLedger,
-    G: Gate,
-    R: Abort + Wait,
->(
+fn note_drained<T: Opened, R: Abort + Wait>(
     rt: &R,
     alloc: Global,
-    library: &Library<L0, L1, L2, L3, L4, Device, G>,
+    library: &T,
     lun: u8,
     numbers: &Mutex<Vec<u64>>,
 ) -> u64 {
-    let records = library
-        .drain(rt, alloc, lun)
-        .expect(rt, "a drive is drained");
+    let drained = library.drained(rt, alloc, lun).expect(rt, "memory");
     let mut noted = numbers.lock(rt);
     let mut last = 0;
-    for entry in &records {
-        noted.push(entry.number).expect(rt, "memory");
-        last = entry.number;
+    for number in &drained.expect(rt, "a drive is drained") {
+        noted.push(*number).expect(rt, "memory");
+        last = *number;
     }
     last
 }
@@ -109,19 +93,11 @@ fn count_of(unit: &Option<LogicalUnit<Device>>) -> usize {
 
 /// One command of each thread: that of the first to drive 1, whose gate waits for the answer of the second at drive 2,
 /// which is asked once the first is at its gate.
-fn ask_in_turn<
-    L0: UnitLedger,
-    L1: UnitLedger,
-    L2: UnitLedger,
-    L3: UnitLedger,
-    L4: UnitLedger,
-    G: Gate,
-    R: Abort + Clock + Wait,
->(
+fn ask_in_turn<T: Opened, R: Abort + Clock + Wait>(
     rt: &R,
     alloc: Global,
-    library: &Library<L0, L1, L2, L3, L4, Device, G>,
-    seat: &mut Seat<L0, L1, L2, L3, L4>,
+    library: &T,
+    seat: &mut T::Seat,
     place: usize,
     flags: &Flags,
 ) {
@@ -157,19 +133,11 @@ const SECOND_MOVES: [Row; 2] = [
 
 /// Moves a volume into a drive and back, fifty times: thread 0 that of 0400h by drive 1, thread 1 that of 0401h by
 /// drive 2.
-fn move_back_and_forth<
-    L0: UnitLedger,
-    L1: UnitLedger,
-    L2: UnitLedger,
-    L3: UnitLedger,
-    L4: UnitLedger,
-    G: Gate,
-    R: Abort + Wait,
->(
+fn move_back_and_forth<T: Opened, R: Abort + Wait>(
     rt: &R,
     alloc: Global,
-    library: &Library<L0, L1, L2, L3, L4, Device, G>,
-    seat: &mut Seat<L0, L1, L2, L3, L4>,
+    library: &T,
+    seat: &mut T::Seat,
     place: usize,
 ) {
     let nexus = nexus_at(place);
@@ -186,19 +154,11 @@ fn move_back_and_forth<
 }
 
 /// What a thread does with the seat at a place.
-fn play_part<
-    L0: UnitLedger,
-    L1: UnitLedger,
-    L2: UnitLedger,
-    L3: UnitLedger,
-    L4: UnitLedger,
-    G: Gate,
-    R: Abort + Clock + Wait,
->(
+fn play_part<T: Opened, R: Abort + Clock + Wait>(
     rt: &R,
     alloc: Global,
-    library: &Library<L0, L1, L2, L3, L4, Device, G>,
-    seat: &mut Seat<L0, L1, L2, L3, L4>,
+    library: &T,
+    seat: &mut T::Seat,
     place: usize,
     part: Part<'_>,
 ) {
@@ -212,21 +172,16 @@ fn play_part<
 }
 
 /// Two threads play their part, each with a seat.
-fn play_in_threads<
-    L0: UnitLedger + Send + Sync,
-    L1: UnitLedger + Send + Sync,
-    L2: UnitLedger + Send + Sync,
-    L3: UnitLedger + Send + Sync,
-    L4: UnitLedger + Send + Sync,
-    G: Gate,
-    R: Abort + Clock + Threads + Wait + Sync,
->(
+fn play_in_threads<T: Opened + Sync, R: Abort + Clock + Threads + Wait + Sync>(
     rt: &R,
     alloc: Global,
-    library: &Library<L0, L1, L2, L3, L4, Device, G>,
-    seats: &mut [Seat<L0, L1, L2, L3, L4>],
+    library: &T,
+    seats: &mut [T::Seat],
     part: Part<'_>,
-) {
+)
+where
+    T::Seat: Send,
+{
     thread::for_each_mut(
         rt,
         seats,
@@ -235,28 +190,36 @@ fn play_in_threads<
     );
 }
 
+/// Compares how many records the changer and the two drives have.
+fn assert_counts(rt: &impl Abort, histories: &Histories<Device>, counts: [usize; 3]) {
+    let found = [
+        histories.changer.records().len(),
+        histories.first.records().len(),
+        count_of(&histories.second),
+    ];
+    assert_same(
+        rt,
+        found,
+        counts,
+        "records of the changer and of the drives",
+    );
+}
+
 /// Both threads ask both drives. The trails have a record for each command, and agree.
-pub(super) fn ready_at_two_drives<
-    L0: UnitLedger + Send + Sync,
-    L1: UnitLedger + Send + Sync,
-    L2: UnitLedger + Send + Sync,
-    L3: UnitLedger + Send + Sync,
-    L4: UnitLedger + Send + Sync,
-    G: Gate,
-    R: Abort + Clock + Threads + Wait + Sync,
->(
+pub(super) fn ready_at_two_drives<T: Opened + Sync, R: Abort + Clock + Threads + Wait + Sync>(
     rt: &R,
     alloc: Global,
-    library: Library<L0, L1, L2, L3, L4, Device, G>,
-    mut seats: Vec<Seat<L0, L1, L2, L3, L4>>,
-) -> Result<(), Fail> {
+    library: T,
+    mut seats: Vec<T::Seat>,
+) -> Result<(), Fail>
+where
+    T::Seat: Send,
+{
     play_in_threads(rt, alloc, &library, seats.as_mut_slice(), Part::Asks(None));
-    assert_eq!(rt; library.units(), 3);
+    assert_same(rt, library.units(), 3, "units");
     let histories = close(alloc, library, seats)?;
-    assert_eq!(rt; histories.changer.records().len(), 0);
-    assert_eq!(rt; histories.first.records().len(), 100);
-    assert_eq!(rt; count_of(&histories.second), 100);
-    assert!(rt; histories.third.is_none());
+    assert_same(rt, histories.third.is_none(), true, "no third drive");
+    assert_counts(rt, &histories, [0, 100, 100]);
     Ok(())
 }
 
@@ -266,40 +229,36 @@ fn assert_all_numbers<R: Abort>(
     mut drained: Vec<u64>,
     left: &LogicalUnit<Device>,
 ) -> Result<(), AllocError> {
-    assert!(rt; !drained.is_empty(), "something was drained");
+    assert_same(rt, drained.is_empty(), false, "nothing was drained");
     drained.sort()?;
     for entry in left.records() {
         drained.push(entry.number)?;
     }
-    assert_eq!(rt; drained.len(), 100);
-    for (place, number) in drained.iter().enumerate() {
-        assert_eq!(rt; *number, (place as u64).wrapping_add(1));
+    assert_same(rt, drained.len(), 100, "numbers");
+    for (number, expected) in drained.iter().zip(1..) {
+        assert_same(rt, *number, expected, "a number");
     }
     Ok(())
 }
 
 /// The same with drains of both drives in each thread.
-pub(super) fn drain_between<
-    L0: UnitLedger + Send + Sync,
-    L1: UnitLedger + Send + Sync,
-    L2: UnitLedger + Send + Sync,
-    L3: UnitLedger + Send + Sync,
-    L4: UnitLedger + Send + Sync,
-    G: Gate,
-    R: Abort + Clock + Threads + Wait + Sync,
->(
+pub(super) fn drain_between<T: Opened + Sync, R: Abort + Clock + Threads + Wait + Sync>(
     rt: &R,
     alloc: Global,
-    library: Library<L0, L1, L2, L3, L4, Device, G>,
-    mut seats: Vec<Seat<L0, L1, L2, L3, L4>>,
-) -> Result<(), Fail> {
+    library: T,
+    mut seats: Vec<T::Seat>,
+) -> Result<(), Fail>
+where
+    T::Seat: Send,
+{
     let drained = Drained {
         first: Mutex::new(Vec::new(alloc)),
         second: Mutex::new(Vec::new(alloc)),
     };
     let part = Part::Asks(Some(&drained));
     play_in_threads(rt, alloc, &library, seats.as_mut_slice(), part);
-    assert!(rt; library.drain(rt, alloc, 9).is_none());
+    let nothing = library.drained(rt, alloc, 9)?;
+    assert_same(rt, nothing.is_none(), true, "no unit 9");
     let histories = close(alloc, library, seats)?;
     let Drained { first, second } = drained;
     assert_all_numbers(rt, first.into_inner(), &histories.first)?;
@@ -310,21 +269,16 @@ pub(super) fn drain_between<
     Ok(())
 }
 
-pub(super) fn hold_one_unit<
-    L0: UnitLedger + Send + Sync,
-    L1: UnitLedger + Send + Sync,
-    L2: UnitLedger + Send + Sync,
-    L3: UnitLedger + Send + Sync,
-    L4: UnitLedger + Send + Sync,
-    G: Gate,
-    R: Abort + Clock + Threads + Wait + Sync,
->(
+pub(super) fn hold_one_unit<T: Opened + Sync, R: Abort + Clock + Threads + Wait + Sync>(
     rt: &R,
     alloc: Global,
-    library: Library<L0, L1, L2, L3, L4, Device, G>,
-    mut seats: Vec<Seat<L0, L1, L2, L3, L4>>,
+    library: T,
+    mut seats: Vec<T::Seat>,
     flags: &Flags,
-) -> Result<(), Fail> {
+) -> Result<(), Fail>
+where
+    T::Seat: Send,
+{
     play_in_threads(
         rt,
         alloc,
@@ -343,19 +297,11 @@ const AT_EACH_SEAT: [Row; 2] = [
 ];
 
 /// A command at each seat; then the library is closed with one seat, which is refused, and with both.
-pub(super) fn close_with_a_seat_missing<
-    L0: UnitLedger,
-    L1: UnitLedger,
-    L2: UnitLedger,
-    L3: UnitLedger,
-    L4: UnitLedger,
-    G: Gate,
-    R: Abort + Wait,
->(
+pub(super) fn close_with_a_seat_missing<T: Opened, R: Abort + Wait>(
     rt: &R,
     alloc: Global,
-    library: Library<L0, L1, L2, L3, L4, Device, G>,
-    mut seats: Vec<Seat<L0, L1, L2, L3, L4>>,
+    library: T,
+    mut seats: Vec<T::Seat>,
 ) -> Result<(), Fail> {
     for (seat, row) in seats.iter_mut().zip(&AT_EACH_SEAT) {
         ask_one(rt, alloc, &library, seat, row);
@@ -366,34 +312,28 @@ pub(super) fn close_with_a_seat_missing<
     let Err((fault, library, mut seats)) = library.close(alloc, seats) else {
         return Err("the library is closed with one seat of two".into());
     };
-    assert_eq!(rt; fault, CloseFault::SeatMissing);
-    assert_eq!(rt; seats.len(), 1);
-    assert_eq!(rt; last.entries().len(), 1);
+    assert_same(rt, fault, CloseFault::SeatMissing, "one seat of two");
+    assert_same(rt, seats.len(), 1, "seats that come back");
+    assert_same(rt, T::entries(&last), 1, "entries of the other seat");
     seats.push(last)?;
     let histories = close(alloc, library, seats)?;
-    assert_eq!(rt; histories.changer.records().len(), 2);
+    let count = histories.changer.records().len();
+    assert_same(rt, count, 2, "records of the changer");
     Ok(())
 }
 
 /// Both threads move a volume. The changer has a record of each command, each drive one of each move.
-pub(super) fn move_volumes<
-    L0: UnitLedger + Send + Sync,
-    L1: UnitLedger + Send + Sync,
-    L2: UnitLedger + Send + Sync,
-    L3: UnitLedger + Send + Sync,
-    L4: UnitLedger + Send + Sync,
-    G: Gate,
-    R: Abort + Clock + Threads + Wait + Sync,
->(
+pub(super) fn move_volumes<T: Opened + Sync, R: Abort + Clock + Threads + Wait + Sync>(
     rt: &R,
     alloc: Global,
-    library: Library<L0, L1, L2, L3, L4, Device, G>,
-    mut seats: Vec<Seat<L0, L1, L2, L3, L4>>,
-) -> Result<(), Fail> {
+    library: T,
+    mut seats: Vec<T::Seat>,
+) -> Result<(), Fail>
+where
+    T::Seat: Send,
+{
     play_in_threads(rt, alloc, &library, seats.as_mut_slice(), Part::Moves);
     let histories = close(alloc, library, seats)?;
-    assert_eq!(rt; histories.changer.records().len(), 202);
-    assert_eq!(rt; histories.first.records().len(), 100);
-    assert_eq!(rt; count_of(&histories.second), 100);
+    assert_counts(rt, &histories, [202, 100, 100]);
     Ok(())
 }

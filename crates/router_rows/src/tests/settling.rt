@@ -1,9 +1,9 @@
 //! Scenes of two seats that are settled, in one thread.
 
-use super::asking::{A, Ask, B, DONE, NO_MEDIUM, POWER_ON, Row, ask_all, close};
-use kept_unit::{NumberRange, UnitLedger};
-use library_device::Device;
-use lun_router::{CloseFault, Gate, Library, Seat};
+use super::asking::{A, Ask, B, DONE, NO_MEDIUM, POWER_ON, Row, ask_all, assert_same, close};
+use super::opened::Opened;
+use kept_unit::NumberRange;
+use lun_router::CloseFault;
 use std::alloc::Global;
 use std::process::Abort;
 use std::sync::Wait;
@@ -34,27 +34,97 @@ fn assert_ranges(
     ends: &[(u64, u64)],
     shows: &'static str,
 ) {
-    assert_eq!(rt; ranges.len(), ends.len(), "{shows}");
-    for (range, (first, last)) in ranges.iter().zip(ends) {
-        assert_eq!(rt; range.first, *first, "{shows}");
-        assert_eq!(rt; range.last, *last, "{shows}");
+    assert_same(rt, ranges.len(), ends.len(), shows);
+    for (range, ends) in ranges.iter().zip(ends) {
+        assert_same(rt, (range.first, range.last), *ends, shows);
     }
 }
 
-/// Two seats at one drive are settled between its drains, and the library is closed.
-pub(super) fn settle_between<
-    L0: UnitLedger,
-    L1: UnitLedger,
-    L2: UnitLedger,
-    L3: UnitLedger,
-    L4: UnitLedger,
-    G: Gate,
-    R: Abort + Wait,
->(
+/// How many entries a seat has once it was told up to which numbers the units were drained, and its ranges at two units.
+type Settled = (
+    [u64; 5],
+    usize,
+    [(u8, &'static [(u64, u64)]); 2],
+    &'static str,
+);
+
+/// Settles a seat, and compares what it has.
+fn assert_settled<T: Opened>(
+    rt: &impl Abort,
+    seat: &mut T::Seat,
+    row: &Settled,
+) -> Result<(), Fail> {
+    let (drained, entries, ranges, shows) = row;
+    T::settle(seat, drained)?;
+    assert_same(rt, T::entries(seat), *entries, shows);
+    for (lun, ends) in ranges {
+        assert_ranges(rt, T::settled(seat, *lun), ends, shows);
+    }
+    Ok(())
+}
+
+const UNDRAINED: Settled = ([0; 5], 4, [(1, &[]), (2, &[])], "nothing was drained");
+
+const OF_A: Settled = (
+    [0, 4, 0, 0, 0],
+    0,
+    [(1, &[(1, 1), (3, 4)]), (2, &[])],
+    "A's, and of no other unit",
+);
+
+const OF_B: Settled = ([0, 4, 0, 0, 0], 0, [(1, &[(2, 2)]), (2, &[])], "B's");
+
+const ONE_JOINED: Settled = (
+    [0, 5, 0, 0, 0],
+    1,
+    [(1, &[(1, 1), (3, 5)]), (2, &[])],
+    "one is joined, and record 6 isn't drained",
+);
+
+/// What each of two seats asks at one drive between its drains, and is settled.
+fn ask_and_settle<T: Opened, R: Abort + Wait>(
     rt: &R,
     alloc: Global,
-    library: Library<L0, L1, L2, L3, L4, Device, G>,
-    mut seats: Vec<Seat<L0, L1, L2, L3, L4>>,
+    library: &T,
+    first: &mut T::Seat,
+    second: &mut T::Seat,
+) -> Result<(), Fail> {
+    ask_all(rt, alloc, library, first, &A_FIRST);
+    ask_all(rt, alloc, library, second, &B_ONCE);
+    ask_all(rt, alloc, library, first, &A_TWICE);
+    ask_all(rt, alloc, library, first, &NO_RECORD);
+    assert_settled::<T>(rt, first, &UNDRAINED)?;
+    let _handed_out = library.drained(rt, alloc, 1)?;
+    assert_settled::<T>(rt, first, &OF_A)?;
+    assert_settled::<T>(rt, second, &OF_B)?;
+    ask_all(rt, alloc, library, first, &A_TWICE);
+    assert_settled::<T>(rt, first, &ONE_JOINED)
+}
+
+/// Closes a library that still has a record of a settled number, which is refused, and closes it once that was drained.
+fn close_drained<T: Opened, R: Abort + Wait>(
+    rt: &R,
+    alloc: Global,
+    library: T,
+    seats: Vec<T::Seat>,
+) -> Result<(), Fail> {
+    let Err((fault, library, seats)) = library.close(alloc, seats) else {
+        return Err("closed, with a settled number that was not drained".into());
+    };
+    assert_same(rt, fault, CloseFault::Mismatch, "a record that was settled");
+    let _handed_out = library.drained(rt, alloc, 1)?;
+    let histories = close(alloc, library, seats)?;
+    let left = histories.first.records().len();
+    assert_same(rt, left, 0, "records of the drive");
+    Ok(())
+}
+
+/// Two seats at one drive are settled between its drains, and the library is closed.
+pub(super) fn settle_between<T: Opened, R: Abort + Wait>(
+    rt: &R,
+    alloc: Global,
+    library: T,
+    mut seats: Vec<T::Seat>,
 ) -> Result<(), Fail> {
     let Some(mut second) = seats.pop() else {
         return Err("no seat".into());
@@ -62,63 +132,41 @@ pub(super) fn settle_between<
     let Some(mut first) = seats.pop() else {
         return Err("one seat".into());
     };
-    ask_all(rt, alloc, &library, &mut first, &A_FIRST);
-    ask_all(rt, alloc, &library, &mut second, &B_ONCE);
-    ask_all(rt, alloc, &library, &mut first, &A_TWICE);
-    ask_all(rt, alloc, &library, &mut first, &NO_RECORD);
-    first.settle(&[0; 5])?;
-    assert_eq!(rt; first.entries().len(), 4, "nothing was drained");
-    let _handed_out = library.drain(rt, alloc, 1);
-    first.settle(&[0, 4, 0, 0, 0])?;
-    second.settle(&[0, 4, 0, 0, 0])?;
-    assert_eq!(rt; first.entries().len(), 0, "all was drained");
-    assert_ranges(rt, first.settled(1), &[(1, 1), (3, 4)], "A's");
-    assert_ranges(rt, second.settled(1), &[(2, 2)], "B's");
-    assert_ranges(rt, first.settled(2), &[], "of no other unit");
-    ask_all(rt, alloc, &library, &mut first, &A_TWICE);
-    first.settle(&[0, 5, 0, 0, 0])?;
-    assert_eq!(rt; first.entries().len(), 1, "record 6 isn't drained");
-    assert_ranges(rt, first.settled(1), &[(1, 1), (3, 5)], "one is joined");
+    ask_and_settle(rt, alloc, &library, &mut first, &mut second)?;
     seats.push(first)?;
     seats.push(second)?;
-    let Err((fault, library, seats)) = library.close(alloc, seats) else {
-        return Err("closed, with a settled number that was not drained".into());
-    };
-    assert_eq!(rt; fault, CloseFault::Mismatch);
-    let _handed_out = library.drain(rt, alloc, 1);
-    let histories = close(alloc, library, seats)?;
-    assert_eq!(rt; histories.first.records().len(), 0);
-    Ok(())
+    close_drained(rt, alloc, library, seats)
 }
 
+const BEFORE_THE_MOVE: Settled = (
+    [2, 0, 0, 0, 0],
+    1,
+    [(0, &[(1, 1)]), (1, &[])],
+    "before the move: the drive isn't drained",
+);
+
+const BEHIND_THE_MOVE: Settled = (
+    [2, 1, 0, 0, 0],
+    0,
+    [(0, &[(1, 2)]), (1, &[(1, 1)])],
+    "of the changer and of the drive: both are drained",
+);
+
 /// A move is settled once both its units are drained.
-pub(super) fn settle_moves<
-    L0: UnitLedger,
-    L1: UnitLedger,
-    L2: UnitLedger,
-    L3: UnitLedger,
-    L4: UnitLedger,
-    G: Gate,
-    R: Abort + Wait,
->(
+pub(super) fn settle_moves<T: Opened, R: Abort + Wait>(
     rt: &R,
     alloc: Global,
-    library: Library<L0, L1, L2, L3, L4, Device, G>,
-    mut seats: Vec<Seat<L0, L1, L2, L3, L4>>,
+    library: T,
+    mut seats: Vec<T::Seat>,
 ) -> Result<(), Fail> {
     let Some(seat) = seats.first_mut() else {
         return Err("no seat".into());
     };
     ask_all(rt, alloc, &library, seat, &A_MOVES);
-    let _handed_out = library.drain(rt, alloc, 0);
-    seat.settle(&[2, 0, 0, 0, 0])?;
-    assert_eq!(rt; seat.entries().len(), 1, "the drive isn't drained");
-    assert_ranges(rt, seat.settled(0), &[(1, 1)], "before the move");
-    let _handed_out = library.drain(rt, alloc, 1);
-    seat.settle(&[2, 1, 0, 0, 0])?;
-    assert_eq!(rt; seat.entries().len(), 0, "both are drained");
-    assert_ranges(rt, seat.settled(0), &[(1, 2)], "of the changer");
-    assert_ranges(rt, seat.settled(1), &[(1, 1)], "of the drive");
+    let _handed_out = library.drained(rt, alloc, 0)?;
+    assert_settled::<T>(rt, seat, &BEFORE_THE_MOVE)?;
+    let _handed_out = library.drained(rt, alloc, 1)?;
+    assert_settled::<T>(rt, seat, &BEHIND_THE_MOVE)?;
     close(alloc, library, seats)?;
     Ok(())
 }

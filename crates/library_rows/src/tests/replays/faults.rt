@@ -1,5 +1,6 @@
 //! Readers and writers that fail, and what is told of each fault.
 
+use super::super::assert_same;
 use super::{replay_in, usual};
 use output_lines::Audit;
 use replay::ReplayFault;
@@ -93,9 +94,8 @@ const TURNS: [(u64, u64, u64, Result<(), ReplayFault>); 5] = [
 fn replay_reads_no_more_often_than_it_may(rt: HostRuntime) -> Result<(), Fail> {
     for row in &TURNS {
         let (turns, fails_at, reads, outcome) = *row;
-        let (result, count) = trickled(rt.alloc(), turns, fails_at)?;
-        assert_eq!(rt; result, outcome, "{turns} turns");
-        assert_eq!(rt; count, reads, "{turns} turns");
+        let found = trickled(rt.alloc(), turns, fails_at)?;
+        assert_same(&rt, found, (outcome, reads), "the end, and the reads");
     }
     Ok(())
 }
@@ -104,7 +104,7 @@ fn replay_reads_no_more_often_than_it_may(rt: HostRuntime) -> Result<(), Fail> {
 fn replay_ends_by_a_write_that_fails(rt: HostRuntime) -> Result<(), Fail> {
     let mut reader = b"".as_slice();
     let result = replayed_usual(rt.alloc(), &mut reader, &mut Closed, 9)?;
-    assert_eq!(rt; result, Err(ReplayFault::Write));
+    assert_same(&rt, result, Err(ReplayFault::Write), "a write fails");
     Ok(())
 }
 
@@ -127,8 +127,8 @@ fn assert_told(
     status: u8,
 ) -> Result<(), Fail> {
     let shown = fault.to_string(alloc)?;
-    assert_eq!(rt; shown.as_str(), text);
-    assert_eq!(rt; fault.status(), status);
+    let told = (shown.as_str(), fault.status());
+    assert_same(rt, told, (text, status), "what is told of a fault");
     Ok(())
 }
 

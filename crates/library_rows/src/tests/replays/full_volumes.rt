@@ -1,5 +1,6 @@
 //! A volume of the library that takes no more.
 
+use super::super::assert_same;
 use super::{replay_in, usual};
 use output_lines::Audit;
 use std::alloc::Global;
@@ -46,16 +47,20 @@ fn push_blocks(alloc: Global, script: &mut String, expected: &mut String) -> Res
     Ok(())
 }
 
-#[test]
-fn write_filemarks_takes_a_million_and_write_256_blocks(rt: HostRuntime) -> Result<(), Fail> {
-    let alloc = rt.alloc();
-    let mut script = String::new(alloc);
-    let mut expected = String::new(alloc);
-    script.push_str(FILEMARKS)?;
-    expected.push_str(FILEMARKS_REPLIES)?;
+/// The script, and the replies that it must have.
+fn script_and_replies(alloc: Global) -> Result<(String, String), Fail> {
+    let mut script = String::from_str(alloc, FILEMARKS)?;
+    let mut expected = String::from_str(alloc, FILEMARKS_REPLIES)?;
     push_blocks(alloc, &mut script, &mut expected)?;
     script.push_str(FULL)?;
     expected.push_str(FULL_REPLIES)?;
+    Ok((script, expected))
+}
+
+#[test]
+fn write_filemarks_takes_a_million_and_write_256_blocks(rt: HostRuntime) -> Result<(), Fail> {
+    let alloc = rt.alloc();
+    let (script, expected) = script_and_replies(alloc)?;
     let mut reader = script.as_bytes();
     let mut output = Vec::new(alloc);
     let mut core = usual(alloc)?;
@@ -67,6 +72,6 @@ fn write_filemarks_takes_a_million_and_write_256_blocks(rt: HostRuntime) -> Resu
         Audit::Off,
         u64::MAX,
     )?;
-    assert_eq!(rt; output.as_slice(), expected.as_bytes());
+    assert_same(&rt, output.as_slice(), expected.as_bytes(), "the replies");
     Ok(())
 }

@@ -3,6 +3,7 @@
 
 ghost use Rattle.std.specs.Prelude.{◌<◌};
 
+use super::super::assert_same;
 use super::replayed;
 use output_lines::Audit;
 use program_options::LibraryOptions;
@@ -73,6 +74,14 @@ struct Scripts {
 }
 
 impl Scripts {
+    fn new(alloc: Global) -> Scripts {
+        Scripts {
+            whole: String::new(alloc),
+            rest: String::new(alloc),
+            fates: Vec::new(alloc),
+        }
+    }
+
     fn add(&mut self, line: &str, fate: Fate) -> Result<(), Fail> {
         write!(&mut self.whole, "{line}\n")?;
         if fate != Fate::Struck {
@@ -317,38 +326,60 @@ fn without_data(line: &str) -> &str {
     }
 }
 
-/// The replies of the lines that aren't struck out are the same with the others and without. Answers how many lines
-/// were struck out, and how many of them ended GOOD.
-fn compare(
-    rt: &impl Abort,
-    alloc: Global,
-    scripts: &Scripts,
-    seed: u64,
-) -> Result<(u64, u64), Fail> {
+/// How many lines were struck out, and how many of them ended GOOD.
+#[derive(Clone, Copy, Debug, PartialEq, Eq)]
+struct Struck {
+    lines: u64,
+    good: u64,
+}
+
+impl Struck {
+    const NONE: Struck = Struck { lines: 0, good: 0 };
+
+    /// Counts a reply.
+    fn count(&mut self, line: &str) {
+        self.lines = self.lines.saturating_add(1);
+        if line.starts_with("00") {
+            self.good = self.good.saturating_add(1);
+        }
+    }
+
+    fn add(&mut self, other: Struck) {
+        self.lines = self.lines.saturating_add(other.lines);
+        self.good = self.good.saturating_add(other.good);
+    }
+}
+
+/// Compares a reply that stays with the one without the others.
+fn assert_stays(rt: &impl Abort, fate: Fate, line: &str, alone: Option<&str>) -> Result<(), Fail> {
+    let other = alone.ok_or("no reply")?;
+    match fate {
+        Fate::SameSense => {
+            assert_same(rt, without_data(other), without_data(line), "but for data");
+        }
+        _ => assert_same(rt, other, line, "a reply"),
+    }
+    Ok(())
+}
+
+/// The replies of the lines that aren't struck out are the same with the others and without.
+fn compare(rt: &impl Abort, alloc: Global, scripts: &Scripts) -> Result<Struck, Fail> {
     let whole = replies(alloc, &scripts.whole)?;
     let rest = replies(alloc, &scripts.rest)?;
     let mut told = whole.lines();
     let mut alone = rest.lines();
-    let mut struck = 0u64;
-    let mut good = 0u64;
+    let mut struck = Struck::NONE;
     for fate in &scripts.fates {
         let line = told.next().ok_or("no reply")?;
-        match *fate {
-            Fate::Struck => {
-                struck = struck.wrapping_add(1);
-                if line.starts_with("00") {
-                    good = good.wrapping_add(1);
-                }
-            }
-            Fate::Same => assert_eq!(rt; alone.next().ok_or("no reply")?, line, "{seed}"),
-            Fate::SameSense => {
-                let other = alone.next().ok_or("no reply")?;
-                assert_eq!(rt; without_data(other), without_data(line), "{seed}");
-            }
+        if *fate == Fate::Struck {
+            struck.count(line);
+        } else {
+            assert_stays(rt, *fate, line, alone.next())?;
         }
     }
-    assert!(rt; told.next().is_none() && alone.next().is_none(), "{seed}");
-    Ok((struck, good))
+    assert_same(rt, told.next().is_none(), true, "no more replies");
+    assert_same(rt, alone.next().is_none(), true, "none without them");
+    Ok(struck)
 }
 
 /// A script of some sixty lines by a seed.
@@ -360,11 +391,7 @@ fn generated(alloc: Global, seed: u64) -> Result<Scripts, Fail> {
         Span::Group
     };
     let unit = if numbers.below(3) == 0 { 0 } else { 1 };
-    let mut scripts = Scripts {
-        whole: String::new(alloc),
-        rest: String::new(alloc),
-        fates: Vec::new(alloc),
-    };
+    let mut scripts = Scripts::new(alloc);
     begin(alloc, &mut scripts, span, unit)?;
     for _ in 0..50 {
         match numbers.below(10) {
@@ -376,55 +403,63 @@ fn generated(alloc: Global, seed: u64) -> Result<Scripts, Fail> {
     Ok(scripts)
 }
 
+/// The sum over the scripts of many seeds.
+fn struck_of_seeds(rt: &impl Abort, alloc: Global) -> Result<Struck, Fail> {
+    let mut struck = Struck::NONE;
+    for seed in 0..300 {
+        let scripts = generated(alloc, seed)?;
+        struck.add(compare(rt, alloc, &scripts)?);
+    }
+    Ok(struck)
+}
+
 #[test]
 fn holder_and_group_see_no_difference_without_outsiders(rt: HostRuntime) -> Result<(), Fail> {
-    let mut struck = 0u64;
-    let mut good = 0u64;
-    for seed in 0..300 {
-        let scripts = generated(rt.alloc(), seed)?;
-        let counts = compare(&rt, rt.alloc(), &scripts, seed)?;
-        struck = struck.wrapping_add(counts.0);
-        good = good.wrapping_add(counts.1);
-    }
+    let struck = struck_of_seeds(&rt, rt.alloc())?;
     // Among those struck out some conflict, and many are GOOD.
-    assert!(rt;
-        struck > 4_000 && good > 500 && good < struck,
-        "{struck} {good}"
-    );
+    let are_many = struck.lines > 4_000 && struck.good > 500;
+    assert_same(&rt, are_many, true, "enough lines are struck out");
+    assert_same(&rt, struck.good < struck.lines, true, "some conflict");
     Ok(())
 }
 
+const KEY_2: &str = "5f000000000000001800 000000000000000000000000000000020000000000000000";
+
 /// D writes, registers, and prevents and allows removal, while A holds the drive. D's WRITE and PREVENT conflict, its
 /// REGISTER and ALLOW are GOOD; A writes one block, sees where it stands, and reads it.
-#[test]
-fn replies_are_the_same_with_outsiders_struck_out(rt: HostRuntime) -> Result<(), Fail> {
-    let alloc = rt.alloc();
-    let mut scripts = Scripts {
-        whole: String::new(alloc),
-        rest: String::new(alloc),
-        fates: Vec::new(alloc),
-    };
+const LINES: [(&'static str, &'static str, Fate); 8] = [
+    (D, "0a0000000100 09", Fate::Struck),
+    (A, "0a0000000400 01020304", Fate::Same),
+    (D, KEY_2, Fate::Struck),
+    (D, "1e0000000100", Fate::Struck),
+    (A, "34000000000000000000", Fate::Same),
+    (D, "1e0000000000", Fate::Struck),
+    (A, "010000000000", Fate::Same),
+    (A, "080000000400", Fate::Same),
+];
+
+const REPLIES: &str = "18 - -\n00 - -\n00 - -\n18 - -\n\
+    00 - 0000000000000001000000010000000000000000\n\
+    00 - -\n00 - -\n00 - 01020304\n";
+
+/// The script of these lines behind the reservation.
+fn scripts_of_lines(alloc: Global) -> Result<Scripts, Fail> {
+    let mut scripts = Scripts::new(alloc);
     begin(alloc, &mut scripts, Span::Holder, 1)?;
-    let key_2 = "5f000000000000001800 000000000000000000000000000000020000000000000000";
-    for (sender, command, fate) in [
-        (D, "0a0000000100 09", Fate::Struck),
-        (A, "0a0000000400 01020304", Fate::Same),
-        (D, key_2, Fate::Struck),
-        (D, "1e0000000100", Fate::Struck),
-        (A, "34000000000000000000", Fate::Same),
-        (D, "1e0000000000", Fate::Struck),
-        (A, "010000000000", Fate::Same),
-        (A, "080000000400", Fate::Same),
-    ] {
+    for (sender, command, fate) in LINES {
         let line = format!(in alloc; "{sender} 1 {command}")?;
         scripts.add(&line, fate)?;
     }
-    let (struck, good) = compare(&rt, alloc, &scripts, 0)?;
-    assert_eq!(rt; (struck, good), (4, 2));
-    let expected = "18 - -\n00 - -\n00 - -\n18 - -\n\
-        00 - 0000000000000001000000010000000000000000\n\
-        00 - -\n00 - -\n00 - 01020304\n";
+    Ok(scripts)
+}
+
+#[test]
+fn replies_are_the_same_with_outsiders_struck_out(rt: HostRuntime) -> Result<(), Fail> {
+    let alloc = rt.alloc();
+    let scripts = scripts_of_lines(alloc)?;
+    let struck = compare(&rt, alloc, &scripts)?;
+    assert_same(&rt, struck, Struck { lines: 4, good: 2 }, "struck out");
     let told = replies(alloc, &scripts.whole)?;
-    assert!(rt; told.ends_with(expected), "{told}");
+    assert_same(&rt, told.ends_with(REPLIES), true, "the replies");
     Ok(())
 }

@@ -1,4 +1,4 @@
-use Rattle.std.specs.Prelude.{slice_get}
+use Rattle.std.specs.Prelude.{slice_get, map}
 use Rattle.lun_router.specs.Opening.{last_at}
 use Rattle.router_bench.proofs.days.run.Given as goal
 
@@ -6,28 +6,28 @@ abbrev pub ghosts-day-L0-Ledger : goal.ghosts-day-L0-Ledger
 ghosts-day-L0-Ledger g a = record { name = a.blanks.zero.name; parts = a.blanks.zero.parts }
 
 abbrev pub ghosts-day-L0-UnitLedger : goal.ghosts-day-L0-UnitLedger
-ghosts-day-L0-UnitLedger g a = record { since = last_at (slice_get a.core 0) }
+ghosts-day-L0-UnitLedger g a = record { since = last_at (slice_get (map (λ u. u.unit) a.core) 0) }
 
 abbrev pub ghosts-day-L1-Ledger : goal.ghosts-day-L1-Ledger
 ghosts-day-L1-Ledger g a = record { name = a.blanks.one.name; parts = a.blanks.one.parts }
 
 abbrev pub ghosts-day-L1-UnitLedger : goal.ghosts-day-L1-UnitLedger
-ghosts-day-L1-UnitLedger g a = record { since = last_at (slice_get a.core 1) }
+ghosts-day-L1-UnitLedger g a = record { since = last_at (slice_get (map (λ u. u.unit) a.core) 1) }
 
 abbrev pub ghosts-day-L2-Ledger : goal.ghosts-day-L2-Ledger
 ghosts-day-L2-Ledger g a = record { name = a.blanks.two.name; parts = a.blanks.two.parts }
 
 abbrev pub ghosts-day-L2-UnitLedger : goal.ghosts-day-L2-UnitLedger
-ghosts-day-L2-UnitLedger g a = record { since = last_at (slice_get a.core 2) }
+ghosts-day-L2-UnitLedger g a = record { since = last_at (slice_get (map (λ u. u.unit) a.core) 2) }
 
 abbrev pub ghosts-day-L3-Ledger : goal.ghosts-day-L3-Ledger
 ghosts-day-L3-Ledger g a = record { name = a.blanks.three.name; parts = a.blanks.three.parts }
 
 abbrev pub ghosts-day-L3-UnitLedger : goal.ghosts-day-L3-UnitLedger
-ghosts-day-L3-UnitLedger g a = record { since = last_at (slice_get a.core 3) }
+ghosts-day-L3-UnitLedger g a = record { since = last_at (slice_get (map (λ u. u.unit) a.core) 3) }
 
 abbrev pub ghosts-day-L4-Ledger : goal.ghosts-day-L4-Ledger
 ghosts-day-L4-Ledger g a = record { name = a.blanks.four.name; parts = a.blanks.four.parts }
 
 abbrev pub ghosts-day-L4-UnitLedger : goal.ghosts-day-L4-UnitLedger
-ghosts-day-L4-UnitLedger g a = record { since = last_at (slice_get a.core 4) }
+ghosts-day-L4-UnitLedger g a = record { since = last_at (slice_get (map (λ u. u.unit) a.core) 4) }

@@ -1,0 +1,115 @@
+//! An open library as scenes see it: by what comes back alone. The contracts of its calls, which no row needs, stay behind the trait.
+
+use super::gates::TestGate;
+use kept_unit::{Done, EventKind, NumberRange, UnitLedger};
+use library_device::Device;
+use lun_router::{CloseFault, Histories, Library, Seat};
+use scsi_nexus::Nexus;
+use std::alloc::{AllocError, Global};
+use std::sync::Wait;
+
+/// What a library ends as: its histories, or itself and its seats again.
+pub(super) type Closed<T, S> = Result<Histories<Device>, (CloseFault, T, Vec<S>)>;
+
+/// A library that was opened, with its seats.
+pub(super) trait Opened: Sized + Drop {
+    type Seat: Drop;
+
+    fn units(&self) -> u8;
+
+    fn ask<R: Wait>(
+        &self,
+        rt: &R,
+        alloc: Global,
+        seat: &mut Self::Seat,
+        nexus: Nexus,
+        lun: u8,
+        event: EventKind<'static>,
+    ) -> Done<'static>;
+
+    fn has_room<R: Wait>(&self, rt: &R, nexus: Nexus, lun: u8) -> bool;
+
+    /// The numbers of the records that a unit hands out, if it is there.
+    fn drained<R: Wait>(
+        &self,
+        rt: &R,
+        alloc: Global,
+        lun: u8,
+    ) -> Result<Option<Vec<u64>>, AllocError>;
+
+    fn close(self, alloc: Global, seats: Vec<Self::Seat>) -> Closed<Self, Self::Seat>;
+
+    /// How many entries a seat has.
+    fn entries(seat: &Self::Seat) -> usize;
+
+    fn settled(seat: &Self::Seat, lun: u8) -> &[NumberRange];
+
+    fn settle(seat: &mut Self::Seat, drained: &[u64; 5]) -> Result<(), AllocError>;
+}
+
+impl<'a, L0: UnitLedger, L1: UnitLedger, L2: UnitLedger, L3: UnitLedger, L4: UnitLedger> Opened
+    for Library<L0, L1, L2, L3, L4, Device, TestGate<'a>> {
+    type Seat = Seat<L0, L1, L2, L3, L4>;
+
+    fn units(&self) -> u8 {
+        Library::units(self)
+    }
+
+    fn ask<R: Wait>(
+        &self,
+        rt: &R,
+        alloc: Global,
+        seat: &mut Seat<L0, L1, L2, L3, L4>,
+        nexus: Nexus,
+        lun: u8,
+        event: EventKind<'static>,
+    ) -> Done<'static> {
+        match event {
+            EventKind::Loss => self.lose(rt, alloc, seat, nexus, lun),
+            EventKind::Reset => self.reset(rt, alloc, seat, lun),
+            EventKind::Command { cdb, bytes } => self.submit(
+                rt, alloc, seat, nexus, lun, cdb, bytes,
+            ),
+        }
+    }
+
+    fn has_room<R: Wait>(&self, rt: &R, nexus: Nexus, lun: u8) -> bool {
+        Library::has_room(self, rt, nexus, lun)
+    }
+
+    fn drained<R: Wait>(
+        &self,
+        rt: &R,
+        alloc: Global,
+        lun: u8,
+    ) -> Result<Option<Vec<u64>>, AllocError> {
+        let Some(records) = self.drain(rt, alloc, lun) else {
+            return Ok(None);
+        };
+        let mut numbers = Vec::new(alloc);
+        for entry in &records {
+            numbers.push(entry.number)?;
+        }
+        Ok(Some(numbers))
+    }
+
+    fn close(
+        self,
+        alloc: Global,
+        seats: Vec<Seat<L0, L1, L2, L3, L4>>,
+    ) -> Closed<Library<L0, L1, L2, L3, L4, Device, TestGate<'a>>, Seat<L0, L1, L2, L3, L4>> {
+        Library::close(self, alloc, seats)
+    }
+
+    fn entries(seat: &Seat<L0, L1, L2, L3, L4>) -> usize {
+        seat.entries().len()
+    }
+
+    fn settled(seat: &Seat<L0, L1, L2, L3, L4>, lun: u8) -> &[NumberRange] {
+        seat.settled(lun)
+    }
+
+    fn settle(seat: &mut Seat<L0, L1, L2, L3, L4>, drained: &[u64; 5]) -> Result<(), AllocError> {
+        seat.settle(drained)
+    }
+}
