@@ -1,0 +1,15 @@
+pub mod Codes
+pub mod SerialNumbers
+pub mod Fields
+pub mod Headers
+pub mod Completions
+pub mod Requests
+pub mod Responses
+pub mod InitiatorHeaders
+pub mod TargetHeaders
+pub mod Segments
+pub mod Pdus
+pub mod Views
+pub mod Widths
+pub mod Rows
+pub mod Luns
