@@ -2,8 +2,8 @@
 """Refuses each request of memory of the program in turn, one a run, until a run meets none: status 0 where each run ends as it may.
 
 Scripts go through `vtl replay --audit`. A run may end with status 3, `vtl: want of memory`, and nothing printed; or with status 0, where
-one reply is BUSY, and all else is as if the command of that reply weren't in the script; or as the whole run. Sessions go through
-`vtl serve`: each reply is BUSY or the one that is due, a session may end early, and the records that are printed are those of the
+one reply is BUSY, and all else is as if the command of that reply weren't in the script, and as the whole run where the command is sent
+once more; or as the whole run. Sessions go through `vtl serve`: each reply is BUSY or the one that is due, a session may end early, and the records that are printed are those of the
 replies, with the loss of each nexus unless the server says that memory was wanted. It takes cc and some seconds.
 """
 import collections
@@ -83,6 +83,20 @@ def without(lines, at):
     return lines[:at] + lines[at + 1:]
 
 
+def judge_retry(refusing, options, events, whole, at, number):
+    """The command at this place was BUSY. Sent once more, it and all others are answered as in the whole run."""
+    again = events[:at + 1] + events[at:]
+    # A line more may ask some times more before the run begins.
+    for later in range(number, number + 9):
+        status, printed, told, _ = replayed(refusing, options, again, later)
+        lines = printed.splitlines()
+        if (status, told) == (0, "") and lines[at] == "08 - -":
+            if without(lines, at) != whole.splitlines():
+                fail(f"request {later}: sent again it is another answer: {printed!r}")
+            return
+    fail(f"request {number}: with the command twice it isn't BUSY")
+
+
 def judge_replay(refusing, options, events, whole, number):
     """What the run with this request refused came to."""
     status, printed, told, count = replayed(refusing, options, events, number)
@@ -101,7 +115,8 @@ def judge_replay(refusing, options, events, whole, number):
     rest = replayed(refusing, options, without(events, busy[0]), 0)[1].splitlines()
     if without(lines, busy[0]) != rest:
         fail(f"request {number}: BUSY changed something: {printed!r}")
-    return "0, one BUSY, and all else as without that command"
+    judge_retry(refusing, options, events, whole, busy[0], number)
+    return "0, one BUSY, all else as without that command, and sent again as the whole run"
 
 
 def sweep(name, judge):
