@@ -315,9 +315,8 @@ fn task_of_reads_the_options_of_replay(rt: HostRuntime) -> Result<(), Fail> {
     Ok(())
 }
 
-/// Until when a library is served, whether the end of input ends that, whether it is drained, whether its sessions are told of, and what
-/// is printed of its records.
-type Served = (ServeUntil, (bool, bool, bool), Audit);
+/// Until when a library is served, whether it is drained, whether its sessions are told of, and what is printed of its records.
+type Served = (ServeUntil, (bool, bool), Audit);
 
 /// How many drives and slots the library has that a line serves at a socket, how, and for how long it waits for hosts.
 fn served(
@@ -332,39 +331,26 @@ fn served(
         return Err("another socket".into());
     }
     let size = (library.drives, library.slots);
-    let how = (serving.ends_with_input, serving.drain, serving.log);
-    let served = (serving.until, how, audit);
+    let served = (serving.until, (serving.drain, serving.log), audit);
     Ok((size, served, serving.times))
 }
 
-const SERVED: [(&'static str, Served); 5] = [
+const SERVED: [(&'static str, Served); 4] = [
     (
         "vtl serve --drives 2 --sessions 64 --spans --socket /run/vtl",
-        (
-            ServeUntil::Sessions(64),
-            (false, false, false),
-            Audit::Spans,
-        ),
-    ),
-    (
-        "vtl serve --socket /run/vtl --drives 2 --sessions 2 --ends-with-input",
-        (ServeUntil::Sessions(2), (true, false, false), Audit::Lines),
+        (ServeUntil::Sessions(64), (false, false), Audit::Spans),
     ),
     (
         "vtl serve --socket /run/vtl --drives 2",
-        (
-            ServeUntil::InputEnds(8),
-            (false, false, false),
-            Audit::Lines,
-        ),
+        (ServeUntil::InputEnds(8), (false, false), Audit::Lines),
     ),
     (
         "vtl serve --workers 3 --drain --socket /run/vtl --drives 2",
-        (ServeUntil::InputEnds(3), (false, true, false), Audit::Lines),
+        (ServeUntil::InputEnds(3), (true, false), Audit::Lines),
     ),
     (
         "vtl serve --log --spans --socket /run/vtl --drives 2",
-        (ServeUntil::InputEnds(8), (false, false, true), Audit::Spans),
+        (ServeUntil::InputEnds(8), (false, true), Audit::Spans),
     ),
 ];
 

@@ -1,5 +1,5 @@
 -- A library that was closed, from what its parts say.
-use Rattle.std.proofs.Common.{◌≡◌, ℕ, refl, List, Option, Some, None, IfSome, Ok, Err, IsOk, OnOk, sym}
+use Rattle.std.proofs.Common.{◌≡◌, ℕ, refl, List, [], Option, Some, None, IfSome, Ok, Err, IsOk, OnOk, subst, sym}
 use Rattle.std.specs.Prelude.{Result}
 use Rattle.logical_unit.specs.UnitView.{UnitView, last_number}
 use Rattle.lun_router.specs.Opening.{IsSince, LastIs}
@@ -7,7 +7,9 @@ use Rattle.lun_router.specs.Seats.{SeatValue}
 use Rattle.output_lines.specs.declared.audit_lines.Audit.{Audit}
 use Rattle.server.specs.declared.serving.RecordOutput.{RecordOutput}
 use Rattle.server.specs.declared.serving.RecordOutput.TheVariants.{AtTheEnd, AsTheyCome}
+use Rattle.server.specs.Batches.{HandsOut}
 use Rattle.server.specs.Serving.{DrainsAndCloses, IsClosed, ServesLibrary}
+use Rattle.server.proofs.HandingOut.{hands_left, hands_more}
 use Rattle.std.specs.Io.KnownBytes.{Appends}
 use Rattle.std.specs.Option.{option_map}
 
@@ -41,15 +43,15 @@ pub at_the_end : (core : List UnitView) (records : RecordOutput) (audit : Audit)
 at_the_end core records audit seats zero one two three four w w' is since closed =
     rw is (record {
       before = w;
-      none_before = λ _. refl;
+      as_they_came = refl;
       rest = record { zero = zero; one = one; two = two; three = three; four = four; seats = seats; since = since; closed = closed };
     })
 
-pub as_they_come : (core : List UnitView) (records : RecordOutput) (zero one two three four : ℕ) (w v w' : Option (List ℕ)) → records ≡ AsTheyCome
-    → IsSince core zero one two three four → DrainsAndCloses zero one two three four v w' → ServesLibrary core records w w'
-as_they_come core records zero one two three four w v w' is since closed =
+pub as_they_come : (core : List UnitView) (records : RecordOutput) (none left : List ℕ) (zero one two three four : ℕ) (w v w' : Option (List ℕ)) → records ≡ AsTheyCome
+    → IsSince core zero one two three four → none ≡ [] → HandsOut w v none left → DrainsAndCloses left zero one two three four v w' → ServesLibrary core records w w'
+as_they_come core records none left zero one two three four w v w' is since empty came closed =
     rw is (record {
       before = closed.before;
-      none_before = λ never. absurd never;
+      as_they_came = hands_more w v closed.before [] left [] (subst (λ (l : List ℕ). HandsOut w v l left) empty came) (hands_left v closed.before left [] closed.rest);
       rest = record { zero = zero; one = one; two = two; three = three; four = four; seats = closed.seats; since = since; closed = closed.closed };
     })

@@ -1,4 +1,3 @@
 pub mod Closed
 pub mod HandingOut
-pub mod Settled
 pub mod Written

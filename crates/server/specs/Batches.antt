@@ -1,10 +1,11 @@
 -- Records that a unit handed out, as long as not all of their lines are written.
-use Rattle.std.specs.Prelude.{◌≡◌, ◌⊎◌, ℕ, List, [], ◌++◌, length, drop, All, Option, Some, None, string_bytes}
+use Rattle.std.specs.Prelude.{◌≡◌, ◌⊎◌, ℕ, List, [], ◌++◌, ◌-◌, ◌==◌, length, drop, count_by, slice_get, All, Option, Some, None, string_bytes}
 use Rattle.std.specs.Io.KnownBytes.{Appends}
 use Rattle.std.specs.List.{flat_map}
 use Rattle.audit_log.specs.declared.record.Record.{Record}
 use Rattle.lun_router.specs.Answering.{IsSomeTrail}
 use Rattle.output_lines.specs.AuditLines.{lines_of_records}
+use Rattle.server.specs.declared.event.UnwrittenRecords.{UnwrittenRecords}
 use Rattle.server.specs.declared.batch.Lines.{Lines}
 use Rattle.server.specs.declared.batch.Batch.{Batch}
 
@@ -15,6 +16,18 @@ pub record WritesSome (written written' : Option (List ℕ)) (bytes : List ℕ) 
   pub split : bytes ≡ said ++ rest
   pub size : length said ≡ count
   pub appended : Appends written written' said
+
+-- how many lines end in bytes
+abbrev pub line_ends : List ℕ → ℕ
+line_ends bytes = count_by (λ b. b == 10) bytes
+
+-- what is told of so many records of a unit that weren't written, by the first and the last of them, where there are any
+abbrev pub unwritten_between : (lun count : ℕ) → (first last : Option Record) → Option UnwrittenRecords
+unwritten_between lun count (Some e) (Some f) = Some (record { lun = lun; count = count; first = e.number; last = f.number })
+unwritten_between lun count _ _ = None
+
+abbrev pub unwritten_records : (lun : ℕ) → List Record → Option UnwrittenRecords
+unwritten_records lun es = unwritten_between lun (length es) (slice_get es 0) (slice_get es (length es - 1))
 
 -- what is left of lines of which so many bytes are written
 abbrev pub left_of : Lines → List ℕ

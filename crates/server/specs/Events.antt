@@ -17,9 +17,17 @@ is_detail (event.Ends s) = true
 is_detail (event.Fails s) = false
 is_detail event.NotAccepted = false
 is_detail (event.Busy nexus lun) = true
+is_detail (event.NoSlot nexus lun) = true
 is_detail event.Kept = false
 is_detail event.CaughtUp = false
 is_detail (event.Unwritten r) = false
+
+-- what is told of how handing out went, by whether lines couldn't be written before and now: where that changes
+abbrev pub change_of : (was_failing is_failing : Bool) → Option Event
+change_of false false = None
+change_of false true = Some event.Kept
+change_of true false = Some event.CaughtUp
+change_of true true = None
 
 abbrev pub end_words : Option End → List ℕ
 end_words (Some end.Logout) = codes "ended by its LOGOUT"
@@ -41,7 +49,9 @@ event_text (event.Ends s) = codes "vtl: session " ++ ended_session_text s
 event_text (event.Fails s) = codes "vtl: session " ++ faulty_session_text s
 event_text event.NotAccepted = codes "vtl: a connection could not be accepted"
 event_text (event.Busy nexus lun) =
-    codes "vtl: BUSY for " ++ (nexus_text nexus ++ (codes " at logical unit " ++ (decimal lun ++ codes ": want of memory, of a slot or of a record number")))
+    codes "vtl: BUSY for " ++ (nexus_text nexus ++ (codes " at logical unit " ++ (decimal lun ++ codes ": want of memory or of a record number")))
+event_text (event.NoSlot nexus lun) =
+    codes "vtl: BUSY for " ++ (nexus_text nexus ++ (codes " at logical unit " ++ (decimal lun ++ codes ": all slots are taken there")))
 event_text event.Kept = codes "vtl: lines of records could not be written, and are kept"
 event_text event.CaughtUp = codes "vtl: the lines of records that were kept are written"
 event_text (event.Unwritten r) = codes "vtl: " ++ unwritten_text r

@@ -1,4 +1,4 @@
--- A place at a library for sessions.
+-- A library's service for sessions.
 use Rattle.std.specs.Prelude.{◌≡◌, ◌⊎◌, ℕ, List}
 use Rattle.kept_unit.specs.Answers.{DoneValue}
 use Rattle.lun_router.specs.Seats.{SeatValue, Notes, Settles}
@@ -12,10 +12,14 @@ pub record LibraryServiceValue : Type 0 where
 abbrev pub DoesToService : LibraryServiceValue → DoneValue → LibraryServiceValue → Type 0
 DoesToService p d q = Notes p.seat d q.seat × (q.units ≡ p.units)
 
--- its seat was settled, or nothing has changed
-abbrev pub SettlesService : LibraryServiceValue → LibraryServiceValue → Type 0
-SettlesService p q = (q ≡ p) ⊎ ((drained : List ℕ) × Settles drained p.seat q.seat × (q.units ≡ p.units))
+-- its seat was settled by the numbers up to which each unit's records were handed out, by LUN
+abbrev pub SettlesService : (drained : List ℕ) → LibraryServiceValue → LibraryServiceValue → Type 0
+SettlesService drained p q = Settles drained p.seat q.seat × (q.units ≡ p.units)
 
--- the same of a call, behind which the seat may be settled
-abbrev pub DoesAtPost : LibraryServiceValue → DoneValue → LibraryServiceValue → Type 0
-DoesAtPost p d q = (m : LibraryServiceValue) × DoesToService p d m × SettlesService m q
+-- the same by some numbers, or nothing has changed
+abbrev pub MaySettle : LibraryServiceValue → LibraryServiceValue → Type 0
+MaySettle p q = (q ≡ p) ⊎ ((drained : List ℕ) × SettlesService drained p q)
+
+-- what a call with this answer does for a worker: the same, and then the seat may be settled
+abbrev pub DoesForWorker : LibraryServiceValue → DoneValue → LibraryServiceValue → Type 0
+DoesForWorker p d q = (m : LibraryServiceValue) × DoesToService p d m × MaySettle m q

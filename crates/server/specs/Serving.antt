@@ -10,6 +10,7 @@ use Rattle.output_lines.specs.declared.audit_lines.Audit.TheVariants.{Lines}
 use Rattle.output_lines.specs.AuditLines.{audit_text}
 use Rattle.server.specs.declared.serving.RecordOutput.{RecordOutput}
 use Rattle.server.specs.declared.serving.RecordOutput.TheVariants.{AtTheEnd, AsTheyCome}
+use Rattle.server.specs.Batches.{GoesOn, HandsOut}
 use Rattle.server.specs.LibraryService.{LibraryServiceValue}
 
 -- how many units there are
@@ -41,10 +42,11 @@ pub record IsClosed (seats : List SeatValue) (audit : Audit) (zero one two three
   pub fourth_agrees : IfSome fourth (λ u. AgreesAt 4 four u seats)
   pub lines : Appends written written' (audit_text audit (changer ∷ first ∷ if_there second ++ if_there third ++ if_there fourth))
 
--- the same behind the lines of records that were taken before, with a line for each record
-pub record DrainsAndCloses (zero one two three four : ℕ) (written written' : Option (List ℕ)) : Type 0 where
+-- the same with a line for each record, behind the lines that were left of records that had been taken before
+pub record DrainsAndCloses (left : List ℕ) (zero one two three four : ℕ) (written written' : Option (List ℕ)) : Type 0 where
   pub seats : List SeatValue
   pub before : Option (List ℕ)
+  pub rest : GoesOn written before left []
   pub closed : IsClosed seats Lines zero one two three four before written'
 
 -- the same of the target that the library was opened over
@@ -63,13 +65,13 @@ abbrev pub of_the_rest : RecordOutput → Audit
 of_the_rest (AtTheEnd audit) = audit
 of_the_rest AsTheyCome = Lines
 
--- whether what is written at the end is all that is written
-abbrev pub IsAllAtTheEnd : RecordOutput → Type 0
-IsAllAtTheEnd (AtTheEnd audit) = Unit {0}
-IsAllAtTheEnd AsTheyCome = ⊥
+-- what is written before the end: nothing, or the lines of records as units handed them out, each time a legal trail
+abbrev pub WritesBefore : RecordOutput → (written written' : Option (List ℕ)) → Type 0
+WritesBefore (AtTheEnd audit) written written' = written' ≡ written
+WritesBefore AsTheyCome written written' = HandsOut written written' [] []
 
 -- a server that wrote its lines at the end, behind those that it wrote as they came, if it was to write some then
 pub record ServesLibrary (core : List UnitView) (records : RecordOutput) (written written' : Option (List ℕ)) : Type 0 where
   pub before : Option (List ℕ)
-  pub none_before : IsAllAtTheEnd records → before ≡ written
+  pub as_they_came : WritesBefore records written before
   pub rest : ClosesOver core (of_the_rest records) before written'

@@ -1,7 +1,7 @@
 //! Records that a unit handed out, until all of their lines are written.
-ghost use Rattle.std.specs.Prelude.{◌≡◌, ◌≤◌, length, IfOk, OnOk, OnErr, [], IsTrue};
+ghost use Rattle.std.specs.Prelude.{◌≡◌, ◌≤◌, drop, length, IfOk, OnOk, OnErr, [], IsTrue};
 ghost use Rattle.output_lines.specs.AuditLines.{lines_of_records};
-ghost use Rattle.server.specs.Batches.{AreDrained, GoesOn, WritesSome, left_in, left_of};
+ghost use Rattle.server.specs.Batches.{AreDrained, GoesOn, WritesSome, left_in, left_of, line_ends, unwritten_records};
 
 use crate::event::UnwrittenRecords;
 use crate::server_fault::ServerFault;
@@ -30,16 +30,16 @@ pub(crate) fn write_some<W: Write>(writer: &mut W, bytes: &[u8]) -> usize
 }
 
 /// How many lines end in bytes.
-pub(crate) fn whole_lines(bytes: &[u8]) -> usize {
+pub(crate) fn whole_lines(bytes: &[u8]) -> usize
+    ensures { result ≡ line_ends bytes.now }
+{
     bytes.iter().filter(|byte| **byte == b'\n').count()
 }
 
 /// The records behind so many of a unit's, if there are any.
-pub(crate) fn records_behind(
-    lun: u8,
-    records: &[Record],
-    count: usize,
-) -> Option<UnwrittenRecords> {
+pub(crate) fn records_behind(lun: u8, records: &[Record], count: usize) -> Option<UnwrittenRecords>
+    ensures { result ≡ unwritten_records lun (drop count records.now) }
+{
     let rest = records.get(count..)?;
     Some(UnwrittenRecords {
         lun,

@@ -39,8 +39,10 @@ pub enum Event {
     Fails(FaultySession),
     /// A connection couldn't be accepted.
     NotAccepted,
-    /// A command of a nexus was BUSY at a logical unit.
+    /// A command of a nexus was BUSY at a logical unit for want of memory, or of a record number once the last is used.
     Busy(Nexus, u8),
+    /// A command of a nexus was BUSY at a logical unit since it finds no slot there.
+    NoSlot(Nexus, u8),
     /// Lines of records can't be written from now on.
     Kept,
     /// They can again.
@@ -55,7 +57,7 @@ impl Event {
         ensures { result ≡ is_detail self.now }
     {
         match self {
-            Event::Begins(_) | Event::Ends(_) | Event::Busy(_, _) => true,
+            Event::Begins(_) | Event::Ends(_) | Event::Busy(_, _) | Event::NoSlot(_, _) => true,
             Event::Fails(_)
             | Event::NotAccepted
             | Event::Kept
@@ -79,7 +81,11 @@ impl fmt::Display for Event {
             Event::NotAccepted => { f.write_str("vtl: a connection could not be accepted") }
             Event::Busy(nexus, lun) => write!(
                 f,
-                "vtl: BUSY for {nexus} at logical unit {lun}: want of memory, of a slot or of a record number"
+                "vtl: BUSY for {nexus} at logical unit {lun}: want of memory or of a record number"
+            ),
+            Event::NoSlot(nexus, lun) => write!(
+                f,
+                "vtl: BUSY for {nexus} at logical unit {lun}: all slots are taken there"
             ),
             Event::Kept => {
                 f.write_str("vtl: lines of records could not be written, and are kept")

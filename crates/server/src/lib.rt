@@ -4,15 +4,17 @@
 mod batch;
 mod closing;
 mod event;
+mod handed_out;
 mod library_service;
 mod live_sessions;
-mod outlet;
-mod post;
+mod record_drain;
 mod server_fault;
 mod serving;
+mod staff;
 mod teller;
 mod timed_reader;
 mod worker;
+mod worker_service;
 
 pub use closing::close_and_write;
 pub use event::{EndedSession, Event, UnwrittenRecords};

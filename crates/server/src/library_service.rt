@@ -3,7 +3,7 @@ use library_device::Device;
 use lun_router::{Library, Pass, Seat};
 use scsi_nexus::Nexus;
 use session::{Directory, Service, SessionFault};
-use std::alloc::Global;
+use std::alloc::{AllocError, Global};
 use std::marker::Model;
 use std::sync::{Mutex, Wait};
 
@@ -52,10 +52,10 @@ impl<
     L4: UnitLedger,
     R: Wait,
 > LibraryService<'a, L0, L1, L2, L3, L4, R> {
-    ghost use Rattle.std.specs.Prelude.{◌≡◌};
+    ghost use Rattle.std.specs.Prelude.{◌≡◌, OnOk, OnErr};
     ghost use Rattle.server.specs.LibraryService.{SettlesService};
 
-    /// A place for one session after another.
+    /// A service of one session after another.
     pub fn new(
         rt: &'a R,
         library: &'a Library<L0, L1, L2, L3, L4, Device, Pass>,
@@ -73,14 +73,18 @@ impl<
         }
     }
 
-    /// Settles what the seat has noted of records that were handed out, up to these numbers by LUN. Where that finds no room,
-    /// nothing has changed, and it is tried again later.
-    pub fn settle_seat(&mut self, drained: &[u64; 5])
-        ensures { SettlesService self.old self.new }
+    /// Settles what the seat has noted of records that were handed out, up to these numbers by LUN, 0 where none was. On an
+    /// error nothing has changed, and it may be tried again.
+    pub fn settle_seat(&mut self, drained: &[u64; 5]) -> Result<(), AllocError>
+        ensures ok { OnOk result (SettlesService drained.now self.old self.new) }
+        ensures err { OnErr result (self.new ≡ self.old) }
     {
-        let Ok(()) = self.seat.settle(drained) else {
-            return;
-        };
+        self.seat.settle(drained)
+    }
+
+    /// Whether a nexus has a slot at a unit, or finds one.
+    pub(crate) fn has_room(&self, nexus: Nexus, lun: u8) -> bool {
+        self.library.has_room(self.rt, nexus, lun)
     }
 
     /// The seat, with which the library is closed.

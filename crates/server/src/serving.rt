@@ -1,30 +1,32 @@
 ghost use Rattle.std.specs.Prelude.{◌≡◌, ◌<◌, IsOk, OnOk};
+ghost use Rattle.logical_unit.specs.UnitView.{units_of};
 ghost use Rattle.lun_router.specs.Opening.{IsSince};
+ghost use Rattle.server.specs.Batches.{HandsOut, left_in};
 ghost use Rattle.server.specs.Serving.{DrainsAndCloses, ServesLibrary};
 
 use crate::batch::Batch;
 use crate::closing::close_and_write;
 use crate::event::Event;
 use crate::library_service::LibraryService;
-use crate::outlet::Outlet;
-use crate::post::Post;
+use crate::record_drain::RecordDrain;
 use crate::server_fault::{ServerFault, earlier};
+use crate::staff::staff_of;
 use crate::teller::Teller;
-use crate::worker::{Acceptor, ServeLimits, Worker};
+use crate::worker::{Acceptor, ServeLimits};
 use kept_unit::UnitLedger;
 use library_device::Device;
 use lun_router::{Blanks, Library, Pass, Seat};
 use output_lines::Audit;
 use session::Directory;
 use std::alloc::Global;
-use std::io::{Sink, Write};
+use std::io::Write;
 use std::marker::Brand;
 use std::os::unix::net::UnixListener;
 use std::sync::ledger::Blank;
 use std::sync::{Mutex, Wait};
-use std::thread;
 use std::thread::Threads;
 use std::time::Clock;
+use std::{mem, thread};
 use target_core::TargetCore;
 
 /// What is written of the records of a library that is served.
@@ -32,8 +34,8 @@ use target_core::TargetCore;
 pub enum RecordOutput {
     /// What is wanted of them at the end.
     AtTheEnd(Audit),
-    /// A line for each record so far, LUN 0 first, behind each session and whenever a unit has 4,096 of them. The units then
-    /// no longer keep them. At the end a line for each that is left.
+    /// A line for each record so far, LUN 0 first, behind each session and whenever a unit has 4,096 of them, by a thread of its
+    /// own. The units then no longer keep them. At the end a line for each that is left.
     AsTheyCome,
 }
 
@@ -53,7 +55,7 @@ pub fn serve_library<R: Clock + Threads + Wait + Sync, W: Write + Send, E: Write
     teller: &Teller<E>,
 ) -> Result<(), ServerFault>
     requires some { 0 < limits.workers }
-    ensures { OnOk result (ServesLibrary core records (W.contents writer.old) (W.contents writer.new)) }
+    ensures { OnOk result (ServesLibrary (units_of core) records (W.contents writer.old) (W.contents writer.new)) }
 {
     let parts = u64::from(limits.workers);
     let blanks = Blanks {
@@ -108,27 +110,27 @@ fn serve_with_ledgers<
     requires two { (blanks.two.name ≡ L2.name) × (blanks.two.parts ≡ L2.parts) × (L2.parts ≡ workers) }
     requires three { (blanks.three.name ≡ L3.name) × (blanks.three.parts ≡ L3.parts) × (L3.parts ≡ workers) }
     requires four { (blanks.four.name ≡ L4.name) × (blanks.four.parts ≡ L4.parts) × (L4.parts ≡ workers) }
-    requires since { IsSince core L0.since L1.since L2.since L3.since L4.since }
-    ensures { OnOk result (ServesLibrary core records (W.contents writer.old) (W.contents writer.new)) }
+    requires since { IsSince (units_of core) L0.since L1.since L2.since L3.since L4.since }
+    ensures { OnOk result (ServesLibrary (units_of core) records (W.contents writer.old) (W.contents writer.new)) }
 {
     let opened = Library::<L0, L1, L2, L3, L4, Device, Pass>::new(
         alloc, core, workers, blanks, Pass,
     );
-    let (library, seats) = match opened {
+    let (library, mut seats) = match opened {
         Ok(opened) => opened,
         Err((refused, _)) => return Err(refused.into()),
     };
     match records {
         RecordOutput::AtTheEnd(audit) => {
-            let (seats, served) = serve_all::<L0, L1, L2, L3, L4, R, Sink, E>(
-                rt, alloc, &library, seats, acceptor, None, teller,
-            )?;
+            let served = serve_all(rt, alloc, &library, &mut seats, acceptor, None, teller)?;
             let closed = close_and_write(rt, alloc, library, seats, audit, writer, teller);
             first_of(served, closed)
         }
         RecordOutput::AsTheyCome => {
-            let (seats, batch, served) = serve_and_write(
-                rt, alloc, &library, seats, acceptor, writer, teller,
+            let drain = RecordDrain::new();
+            let mut batch = Batch::new(alloc);
+            let served = serve_and_write(
+                rt, alloc, &library, &mut seats, acceptor, &drain, &mut batch, writer, teller,
             )?;
             let closed = write_and_close(rt, alloc, library, seats, batch, writer, teller);
             first_of(served, closed)
@@ -165,7 +167,7 @@ fn write_and_close<
     writer: &mut W,
     teller: &Teller<E>,
 ) -> Result<(), ServerFault>
-    ensures { OnOk result (DrainsAndCloses L0.since L1.since L2.since L3.since L4.since (W.contents writer.old) (W.contents writer.new)) }
+    ensures { OnOk result (DrainsAndCloses (left_in batch) L0.since L1.since L2.since L3.since L4.since (W.contents writer.old) (W.contents writer.new)) }
 {
     let written = batch.write_left(alloc, writer);
     if let Some(records) = batch.unwritten() {
@@ -178,33 +180,8 @@ fn write_and_close<
     }
 }
 
-/// Serves sessions, and hands their records out as they come: the seats, the records that were taken last, and the fault
-/// that is told.
+/// Serves sessions with a worker at each seat, while a thread of its own hands their records out as they come.
 fn serve_and_write<
-    L0: UnitLedger + Send + Sync,
-    L1: UnitLedger + Send + Sync,
-    L2: UnitLedger + Send + Sync,
-    L3: UnitLedger + Send + Sync,
-    L4: UnitLedger + Send + Sync,
-    R: Clock + Threads + Wait + Sync,
-    W: Write + Send,
-    E: Write + Send,
->(
-    rt: &R,
-    alloc: Global,
-    library: &Library<L0, L1, L2, L3, L4, Device, Pass>,
-    seats: Vec<Seat<L0, L1, L2, L3, L4>>,
-    acceptor: &Acceptor<'_>,
-    writer: &mut W,
-    teller: &Teller<E>,
-) -> Result<(Vec<Seat<L0, L1, L2, L3, L4>>, Batch, Option<ServerFault>), ServerFault> {
-    let outlet = Outlet::new(alloc, writer);
-    let (seats, served) = serve_all(rt, alloc, library, seats, acceptor, Some(&outlet), teller)?;
-    Ok((seats, outlet.into_batch(), served))
-}
-
-/// Serves sessions with a worker at each seat, and hands the seats back with the fault that is told, if there was one.
-fn serve_all<
     'x,
     L0: UnitLedger + Send + Sync,
     L1: UnitLedger + Send + Sync,
@@ -218,39 +195,80 @@ fn serve_all<
     rt: &'x R,
     alloc: Global,
     library: &'x Library<L0, L1, L2, L3, L4, Device, Pass>,
-    seats: Vec<Seat<L0, L1, L2, L3, L4>>,
+    seats: &mut Vec<Seat<L0, L1, L2, L3, L4>>,
     acceptor: &Acceptor<'_>,
-    outlet: Option<&'x Outlet<W>>,
+    drain: &'x RecordDrain,
+    batch: &mut Batch,
+    writer: &mut W,
     teller: &'x Teller<E>,
-) -> Result<(Vec<Seat<L0, L1, L2, L3, L4>>, Option<ServerFault>), ServerFault> {
-    let count = seats.len();
-    let directory = Mutex::new(Directory::new(alloc));
-    // Room for handing the seats back is made before the first session.
-    let mut back = Vec::new(alloc);
-    back.reserve(count)?;
-    let mut workers = Vec::new(alloc);
-    for seat in seats {
-        let post = Post {
-            service: LibraryService::new(rt, library, &directory, seat),
-            outlet,
-            teller,
-            commands: 0,
-        };
-        workers.push(Worker { post, fault: None })?;
-    }
-    thread::for_each_mut(
+) -> Result<Option<ServerFault>, ServerFault>
+    ensures { HandsOut (W.contents writer.old) (W.contents writer.new) (left_in batch.old) (left_in batch.new) }
+{
+    let alloc_of_workers = alloc;
+    let ((), served) = thread::join_mut(
         rt,
-        workers.as_mut_slice(),
-        count.max(1),
-        &|_place, worker| worker.work(alloc, acceptor),
+        &mut || drain.hand_out_as_asked(rt, alloc, library, batch, writer, teller),
+        &mut || serve_and_end(
+            rt,
+            alloc_of_workers,
+            library,
+            seats,
+            acceptor,
+            drain,
+            teller,
+        ),
     );
-    let mut told = None;
-    for worker in workers {
-        let Worker { post, fault } = worker;
-        told = earlier(told, fault);
-        if back.push(post.into_seat()).is_err() {
-            told = earlier(told, Some(ServerFault::NoMemory));
-        }
-    }
-    Ok((back, told))
+    served
+}
+
+/// Serves sessions with a worker at each seat. Then none asks any more that records be handed out.
+fn serve_and_end<
+    'x,
+    L0: UnitLedger + Send + Sync,
+    L1: UnitLedger + Send + Sync,
+    L2: UnitLedger + Send + Sync,
+    L3: UnitLedger + Send + Sync,
+    L4: UnitLedger + Send + Sync,
+    R: Clock + Threads + Wait + Sync,
+    E: Write + Send,
+>(
+    rt: &'x R,
+    alloc: Global,
+    library: &'x Library<L0, L1, L2, L3, L4, Device, Pass>,
+    seats: &mut Vec<Seat<L0, L1, L2, L3, L4>>,
+    acceptor: &Acceptor<'_>,
+    drain: &'x RecordDrain,
+    teller: &'x Teller<E>,
+) -> Result<Option<ServerFault>, ServerFault> {
+    let served = serve_all(rt, alloc, library, seats, acceptor, Some(drain), teller);
+    drain.end(rt);
+    served
+}
+
+/// Serves sessions with a worker at each seat, to which the seats go and come back: the fault that is told of the sessions, if there was one.
+fn serve_all<
+    'x,
+    L0: UnitLedger + Send + Sync,
+    L1: UnitLedger + Send + Sync,
+    L2: UnitLedger + Send + Sync,
+    L3: UnitLedger + Send + Sync,
+    L4: UnitLedger + Send + Sync,
+    R: Clock + Threads + Wait + Sync,
+    E: Write + Send,
+>(
+    rt: &'x R,
+    alloc: Global,
+    library: &'x Library<L0, L1, L2, L3, L4, Device, Pass>,
+    seats: &mut Vec<Seat<L0, L1, L2, L3, L4>>,
+    acceptor: &Acceptor<'_>,
+    drain: Option<&'x RecordDrain>,
+    teller: &'x Teller<E>,
+) -> Result<Option<ServerFault>, ServerFault> {
+    let directory = Mutex::new(Directory::new(alloc));
+    let taken = mem::replace(seats, Vec::new(alloc));
+    let mut staff = staff_of(rt, alloc, library, &directory, taken, drain, teller)?;
+    staff.work(rt, alloc, acceptor);
+    let (back, served) = staff.into_seats();
+    *seats = back;
+    Ok(served)
 }

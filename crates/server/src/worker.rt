@@ -1,15 +1,15 @@
 ghost use Rattle.std.specs.Prelude.{◌≡◌, ◌⊎◌, IfOk, IfErr};
 ghost use Rattle.session.specs.Serving.{BreaksOff, IsKeptOut, Serves};
 ghost use Rattle.server.specs.Faults.{fault_of};
-ghost use Rattle.server.specs.LibraryService.{DoesAtPost, LibraryServiceValue};
+ghost use Rattle.server.specs.LibraryService.{DoesForWorker, LibraryServiceValue};
 ghost use Rattle.server.specs.Serving.{units_of_service};
 
 use crate::event::{EndedSession, Event};
 use crate::live_sessions::LiveSessions;
-use crate::post::Post;
 use crate::server_fault::{Cause, FaultySession, ServerFault, earlier};
 use crate::teller::Teller;
 use crate::timed_reader::TimedReader;
+use crate::worker_service::WorkerService;
 use kept_unit::UnitLedger;
 use session::{End, SessionFault, serve};
 use std::alloc::Global;
@@ -117,7 +117,7 @@ impl<'a> Acceptor<'a> {
     }
 }
 
-/// A post, and the fault that is told of the sessions that were served there.
+/// A worker's service, and the fault that is told of the sessions that it served.
 #[derive(Drop)]
 pub(crate) struct Worker<
     'a,
@@ -127,10 +127,9 @@ pub(crate) struct Worker<
     L3: UnitLedger,
     L4: UnitLedger,
     R: Clock + Wait,
-    W: Write,
     E: Write,
 > {
-    pub post: Post<'a, L0, L1, L2, L3, L4, R, W, E>,
+    pub service: WorkerService<'a, L0, L1, L2, L3, L4, R, E>,
     pub fault: Option<ServerFault>,
 }
 
@@ -142,19 +141,18 @@ impl<
     L3: UnitLedger,
     L4: UnitLedger,
     R: Clock + Wait,
-    W: Write,
     E: Write,
-> Worker<'a, L0, L1, L2, L3, L4, R, W, E> {
-    /// Serves one connection after another, until no more are to be. Behind each the records so far are handed out, where there
-    /// is an output for them.
+> Worker<'a, L0, L1, L2, L3, L4, R, E> {
+    /// Serves one connection after another, until no more are to be. Behind each it asks that the records so far be handed out,
+    /// where they are while the library is served.
     pub fn work(&mut self, alloc: Global, acceptor: &Acceptor<'_>) {
-        let rt = self.post.service.rt;
-        let teller = self.post.teller;
+        let rt = self.service.library_service.rt;
+        let teller = self.service.teller;
         for _turn in rt.forever() {
             match acceptor.accept(rt, teller) {
                 Connection::Accepted(stream, number) => {
                     self.serve_one(alloc, acceptor, &stream, number);
-                    self.post.tidy(alloc);
+                    self.service.tidy();
                 }
                 Connection::NoMore => return,
                 Connection::Failed => {}
@@ -170,7 +168,7 @@ impl<
         stream: &UnixStream,
         number: u64,
     ) {
-        let rt = self.post.service.rt;
+        let rt = self.service.library_service.rt;
         let sessions = acceptor.limits.sessions;
         match sessions.enter(rt, stream) {
             Ok(Some(key)) => {
@@ -182,7 +180,7 @@ impl<
             }
             Ok(None) => {}
             // There is no second descriptor, or no room for it.
-            Err(_) => self.post.teller.tell(rt, &Event::NotAccepted),
+            Err(_) => self.service.teller.tell(rt, &Event::NotAccepted),
         }
     }
 
@@ -194,12 +192,12 @@ impl<
         stream: &UnixStream,
         number: u64,
     ) -> Option<FaultySession> {
-        let rt = self.post.service.rt;
-        let teller = self.post.teller;
-        self.post.commands = 0;
+        let rt = self.service.library_service.rt;
+        let teller = self.service.teller;
+        self.service.commands = 0;
         teller.tell(rt, &Event::Begins(number));
         let begun = Instant::now(rt);
-        let ended = hold(alloc, rt, &mut self.post, times, stream, number);
+        let ended = hold(alloc, rt, &mut self.service, times, stream, number);
         let seconds = match begun {
             Ok(begun) => begun.elapsed(rt).unwrap_or(Duration::ZERO).as_secs(),
             Err(_) => 0,
@@ -209,9 +207,9 @@ impl<
         }
         let ended_session = EndedSession {
             number,
-            nexus: self.post.service.nexus,
+            nexus: self.service.library_service.nexus,
             end: ended.ok(),
-            commands: self.post.commands,
+            commands: self.service.commands,
             seconds,
         };
         teller.tell(rt, &Event::Ends(ended_session));
@@ -228,12 +226,11 @@ fn hold<
     L3: UnitLedger,
     L4: UnitLedger,
     R: Clock + Wait,
-    W: Write,
     E: Write,
 >(
     alloc: Global,
     rt: &R,
-    post: &mut Post<'a, L0, L1, L2, L3, L4, R, W, E>,
+    service: &mut WorkerService<'a, L0, L1, L2, L3, L4, R, E>,
     times: WaitTimes,
     stream: &UnixStream,
     number: u64,
@@ -250,7 +247,7 @@ fn hold<
         });
     };
     let mut writer = stream;
-    match converse(alloc, post, &mut reader, &mut writer, number) {
+    match converse(alloc, service, &mut reader, &mut writer, number) {
         Err(session) if reader.is_late() && session.cause.fault() == SessionFault::Read => {
             Err(FaultySession {
                 cause: Cause::Silence,
@@ -261,7 +258,7 @@ fn hold<
     }
 }
 
-/// Serves one session at a post, and names its fault, if it had one.
+/// Serves one session, and names its fault, if it had one.
 fn converse<
     'a,
     L0: UnitLedger,
@@ -270,27 +267,26 @@ fn converse<
     L3: UnitLedger,
     L4: UnitLedger,
     R: Wait,
-    W: Write,
     E: Write,
     I: Read,
     O: Write,
 >(
     alloc: Global,
-    post: &mut Post<'a, L0, L1, L2, L3, L4, R, W, E>,
+    service: &mut WorkerService<'a, L0, L1, L2, L3, L4, R, E>,
     reader: &mut I,
     writer: &mut O,
     number: u64,
 ) -> Result<End, FaultySession>
-    ensures session { IfOk result (λ end. Serves DoesAtPost units_of_service post.old (I.remaining reader.old) (I.remaining reader.new) (O.contents writer.old) (O.contents writer.new) end post.new) }
-    ensures broken { IfErr result (λ faulty. IsKeptOut post.old (O.contents writer.old) (O.contents writer.new) (fault_of faulty.cause) post.new ⊎ BreaksOff DoesAtPost units_of_service (I.remaining reader.old) (fault_of faulty.cause) post.new) }
+    ensures session { IfOk result (λ end. Serves DoesForWorker units_of_service service.old (I.remaining reader.old) (I.remaining reader.new) (O.contents writer.old) (O.contents writer.new) end service.new) }
+    ensures broken { IfErr result (λ faulty. IsKeptOut service.old (O.contents writer.old) (O.contents writer.new) (fault_of faulty.cause) service.new ⊎ BreaksOff DoesForWorker units_of_service service.old (I.remaining reader.old) (fault_of faulty.cause) service.new) }
     ensures number { IfErr result (λ faulty. faulty.number ≡ number) }
 {
-    post.service.nexus = None;
-    match serve(alloc, post, reader, writer, u64::MAX) {
+    service.library_service.nexus = None;
+    match serve(alloc, service, reader, writer, u64::MAX) {
         Ok(end) => Ok(end),
         Err(fault) => Err(FaultySession {
             number,
-            nexus: post.service.nexus,
+            nexus: service.library_service.nexus,
             cause: Cause::Fault(fault),
         }),
     }

@@ -1,7 +1,7 @@
+mod drains;
 mod endings;
 mod hosts;
 mod listeners;
-mod outlets;
 mod streams;
 
 use changer_server::Changer;
@@ -22,7 +22,7 @@ use std::net::{Net, Shutdown};
 use std::os::fd::OwnedFd;
 use std::os::unix::net::{SocketAddr, SocketAddrExt, UnixListener, UnixStream};
 use std::process::{self, Abort};
-use std::sync::Wait;
+use std::sync::{Condvar, Mutex, Wait};
 use std::test::Fail;
 use std::thread::{self, Threads};
 use std::time::{Clock, Duration};
@@ -183,6 +183,8 @@ enum Answer {
     /// RESERVATION CONFLICT, of the record of this number.
     Conflict(u8),
     Shows(Data),
+    /// So many bytes, whatever they are.
+    Bytes(usize),
 }
 
 /// The first command of a nexus at a unit reports its power on.
@@ -193,6 +195,8 @@ const POWER_ON_2: Answer = Answer::Check(2, 6, 0x29, 0x00);
 /// What a client does at one of its connections.
 #[derive(Clone, Copy)]
 enum Step {
+    /// Makes one more connection.
+    Connects,
     /// Sends a frame, and reads so many bytes as its answer has, which should be these.
     Says(usize, Frame, Answer),
     /// Reads the end.
@@ -203,6 +207,10 @@ enum Step {
     Floods(usize, Frame, usize),
     /// Has no more sessions begin, and ends those that go on.
     Ends,
+    /// Lets a writer go on that waits at the gate.
+    Opens,
+    /// Waits until a writer has opened the gate.
+    Passes,
 }
 
 fn sent(frame: Frame) -> &'static [u8] {
@@ -308,7 +316,18 @@ fn is_answered(
         }
         Answer::Conflict(number) => is_told(alloc, stream, frame, &status_frame(0x18, number)),
         Answer::Shows(data) => is_told(alloc, stream, frame, data_frame(data)),
+        Answer::Bytes(count) => {
+            ask_once(alloc, stream, frame, count)?;
+            Ok(true)
+        }
     }
+}
+
+/// Sends a frame, and reads a reply of so many bytes.
+fn ask_once(alloc: Global, mut stream: &UnixStream, frame: Frame, count: usize) -> io::Result<()> {
+    stream.write_all(sent(frame))?;
+    let mut read = vec![in alloc; 0u8; count]?;
+    stream.read_exact(read.as_mut_slice())
 }
 
 /// Whether a connection has ended.
@@ -354,32 +373,33 @@ fn is_taken_at(alloc: Global, stream: &UnixStream, step: Step) -> io::Result<boo
             flood(stream, frame, times);
             Ok(true)
         }
-        Step::Ends => Ok(true),
+        Step::Connects | Step::Ends | Step::Opens | Step::Passes => Ok(true),
     }
 }
 
 /// Takes a step. Whether all is as it should be.
-fn is_taken<R: Clock + Wait>(
+fn is_taken<R: Clock + Net + Wait>(
     rt: &R,
     alloc: Global,
-    streams: &[UnixStream],
+    address: &SocketAddr,
+    streams: &mut Vec<UnixStream>,
     ending: &Ending<'_>,
     step: Step,
 ) -> io::Result<bool> {
-    let place = match step {
+    match step {
+        Step::Connects => streams.push(UnixStream::connect_addr(rt, address)?)?,
+        Step::Ends => ending.end(rt)?,
+        Step::Opens => ending.gate.open(rt),
+        Step::Passes => ending.gate.pass(rt),
         Step::Says(place, _, _)
         | Step::IsLeft(place)
         | Step::Asks(place, _, _)
-        | Step::Floods(place, _, _) => place,
-        Step::Ends => {
-            ending.end(rt)?;
-            return Ok(true);
-        }
-    };
-    match streams.get(place) {
-        Some(stream) => is_taken_at(alloc, stream, step),
-        None => Ok(false),
+        | Step::Floods(place, _, _) => match streams.get(place) {
+            Some(stream) => return is_taken_at(alloc, stream, step),
+            None => return Ok(false),
+        },
     }
+    Ok(true)
 }
 
 /// Connects so many times, takes the steps, and says whether all that was read is as it should be.
@@ -396,7 +416,7 @@ fn talk<R: Clock + Net + Wait>(
         streams.push(UnixStream::connect_addr(rt, address)?)?;
     }
     for step in steps {
-        if !is_taken(rt, alloc, &streams, ending, *step)? {
+        if !is_taken(rt, alloc, address, &mut streams, ending, *step)? {
             return Ok(false);
         }
     }
@@ -436,18 +456,51 @@ const fn sessions(name: &'static str, workers: u8) -> Meeting {
     }
 }
 
-/// A served library, to who ends it.
+/// Where a writer waits for a client, or a client for a writer, until it is opened, for good.
+#[derive(Drop)]
+struct Gate {
+    is_open: Mutex<bool>,
+    opened: Condvar,
+}
+
+impl Gate {
+    /// It is shut.
+    fn new() -> Gate {
+        Gate {
+            is_open: Mutex::new(false),
+            opened: Condvar::new(),
+        }
+    }
+
+    fn open<R: Wait>(&self, rt: &R) {
+        *self.is_open.lock(rt) = true;
+        self.opened.notify_all();
+    }
+
+    fn pass<R: Wait>(&self, rt: &R) {
+        let is_open = self.is_open.lock(rt);
+        let _is_open = self.opened.wait_while(rt, is_open, |is_open| !*is_open);
+    }
+}
+
+/// A served library, to who ends it, and the gate between its writer and its client.
 #[derive(Drop)]
 struct Ending<'a> {
     sessions: &'a LiveSessions,
+    gate: &'a Gate,
     /// A second descriptor of the listener.
     second: UnixStream,
 }
 
 impl<'a> Ending<'a> {
-    fn of(sessions: &'a LiveSessions, listener: &UnixListener) -> io::Result<Ending<'a>> {
+    fn of(
+        sessions: &'a LiveSessions,
+        gate: &'a Gate,
+        listener: &UnixListener,
+    ) -> io::Result<Ending<'a>> {
         Ok(Ending {
             sessions,
+            gate,
             second: UnixStream::from(OwnedFd::from(listener.try_clone()?)),
         })
     }
@@ -474,11 +527,12 @@ fn serve_and_talk<
     meeting: Meeting,
     steps: &[Step],
     output: &mut W,
+    gate: &Gate,
     teller: &Teller<E>,
 ) -> io::Result<(Result<(), ServerFault>, io::Result<bool>)> {
     let alloc = rt.alloc();
     let sessions = LiveSessions::new(alloc);
-    let ending = Ending::of(&sessions, listener)?;
+    let ending = Ending::of(&sessions, gate, listener)?;
     Ok(thread::join(
         rt,
         || {
@@ -520,6 +574,18 @@ fn meet<R: AllocGlobal + Clock + Files + Net + Sync + Threads + Wait, W: Write +
     steps: &[Step],
     output: &mut W,
 ) -> Result<Met, Fail> {
+    meet_at_gate(rt, id, meeting, steps, output, &Gate::new())
+}
+
+/// The same, with a gate between the writer and the client.
+fn meet_at_gate<R: AllocGlobal + Clock + Files + Net + Sync + Threads + Wait, W: Write + Send>(
+    rt: &R,
+    id: u32,
+    meeting: Meeting,
+    steps: &[Step],
+    output: &mut W,
+    gate: &Gate,
+) -> Result<Met, Fail> {
     let alloc = rt.alloc();
     let name = format!(in alloc; "vtl-{}-{id}", meeting.name)?;
     let address = SocketAddr::from_abstract_name(name.as_bytes())?;
@@ -534,6 +600,7 @@ fn meet<R: AllocGlobal + Clock + Files + Net + Sync + Threads + Wait, W: Write +
         meeting,
         steps,
         output,
+        gate,
         &teller,
     )?;
     drop(teller);
@@ -745,23 +812,6 @@ const DRIVE_AND_CHANGER: [Step; 9] = [
     Step::IsLeft(1),
     Step::Ends,
 ];
-
-/// The drive's after the first session, and the changer's after the second.
-const LINES_AS_THEY_COME: &[u8] = b"1 500000000000000a.1 TEST-UNIT-READY 2 - - 02\n\
-    2 500000000000000a.1 LOSS 6 - - 00\n\
-    1 500000000000000b.1 TEST-UNIT-READY 2 - - 02\n\
-    2 500000000000000b.1 LOSS 6 - - 00\n";
-
-#[test]
-fn serve_library_writes_records_after_each_session(rt: HostRuntime) -> Result<(), Fail> {
-    let id = process::id(rt.process());
-    let meeting = Meeting {
-        records: RecordOutput::AsTheyCome,
-        ..sessions("drained", 2)
-    };
-    let lines = Some(LINES_AS_THEY_COME);
-    assert_met(&rt, id, meeting, &DRIVE_AND_CHANGER, Ok(()), lines)
-}
 
 /// The changer's and then the drive's.
 const LINES_AT_THE_END: &[u8] = b"1 500000000000000b.1 TEST-UNIT-READY 2 - - 02\n\

@@ -3,9 +3,9 @@
 
 mod laws;
 mod notice;
-mod place;
 mod socket;
 mod socket_fault;
+mod socket_file;
 
 pub use laws::worked_rows;
 pub use socket::serve;

@@ -6,8 +6,8 @@ ghost use Rattle.program_options.specs.ServeUntil.{workers_of};
 ghost use Rattle.server_socket.specs.Serving.{records_of, term_of};
 
 use crate::notice::{Notice, tell};
-use crate::place::{Place, take_place};
 use crate::socket_fault::SocketFault;
+use crate::socket_file::{SocketFile, make_socket_file};
 use command_line::ServeOptions;
 use library_device::Device;
 use output_lines::Audit;
@@ -49,9 +49,9 @@ pub fn serve<
         times,
         log,
     } = serving;
-    let place = take_place(rt, socket, errors)?;
+    let socket_file = make_socket_file(rt, socket, errors)?;
     let serving = Notice::Serving {
-        socket: place.path(),
+        socket: socket_file.path(),
         units: core.all().len(),
         workers: until.workers(),
     };
@@ -65,14 +65,14 @@ pub fn serve<
     let served = serve_until(
         rt,
         core,
-        &place,
+        &socket_file,
         until,
         times,
         records_of(drain, audit),
         &teller,
     );
     // What the sessions came to is told in any case.
-    place.leave(rt);
+    socket_file.leave(rt);
     Ok(served?)
 }
 
@@ -94,7 +94,7 @@ fn serve_until<
 >(
     rt: &R,
     core: TargetCore<Device>,
-    place: &Place,
+    socket_file: &SocketFile,
     until: ServeUntil,
     times: ServeTimes,
     records: RecordOutput,
@@ -114,7 +114,7 @@ fn serve_until<
                 rt,
                 rt.alloc(),
                 core,
-                place.listener(),
+                socket_file.listener(),
                 limits,
                 records,
                 &mut writer,
@@ -126,7 +126,7 @@ fn serve_until<
             ServeUntil::InputEnds(_) => {
                 await_end_of_input(rt);
                 sessions.close(rt);
-                place.shut_down();
+                socket_file.shut_down();
                 sessions.end_after(rt, times.grace);
             }
         },

@@ -142,7 +142,7 @@ fn serve_library_ends_whatever_hosts_do(rt: HostRuntime) -> Result<(), Fail> {
 /// An event, and its line.
 type Told = (Event, &'static str);
 
-const EVENTS: [Told; 8] = [
+const EVENTS: [Told; 9] = [
     (Event::Begins(7), "vtl: session 7 begins"),
     (
         Event::Ends(EndedSession {
@@ -178,7 +178,11 @@ const EVENTS: [Told; 8] = [
     ),
     (
         Event::Busy(A, 1),
-        "vtl: BUSY for 500000000000000a.1 at logical unit 1: want of memory, of a slot or of a record number",
+        "vtl: BUSY for 500000000000000a.1 at logical unit 1: want of memory or of a record number",
+    ),
+    (
+        Event::NoSlot(A, 1),
+        "vtl: BUSY for 500000000000000a.1 at logical unit 1: all slots are taken there",
     ),
     (
         Event::Kept,

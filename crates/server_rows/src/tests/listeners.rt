@@ -17,7 +17,7 @@ fn serve_leaves_a_file_that_is_there(rt: HostRuntime) -> Result<(), Fail> {
     let path = env::temp_dir(&rt)?.join(rt.alloc(), name.as_str())?;
     let socket = path.to_str().ok_or("a path that is no text")?;
     let _there = UnixListener::bind(&rt, socket)?;
-    let place = ServeOptions {
+    let serving = ServeOptions {
         socket: String::from_str(rt.alloc(), socket)?,
         until: ServeUntil::Sessions(1),
         drain: false,
@@ -25,7 +25,13 @@ fn serve_leaves_a_file_that_is_there(rt: HostRuntime) -> Result<(), Fail> {
         log: false,
     };
     let mut told = Vec::new(rt.alloc());
-    let served = serve(&rt, LibraryOptions::DEFAULT, place, Audit::Lines, &mut told);
+    let served = serve(
+        &rt,
+        LibraryOptions::DEFAULT,
+        serving,
+        Audit::Lines,
+        &mut told,
+    );
     fs::remove_file(&rt, socket)?;
     let Err(fault) = served else {
         return Err("served".into());
@@ -41,8 +47,8 @@ fn serve_leaves_a_file_that_is_there(rt: HostRuntime) -> Result<(), Fail> {
 }
 
 #[test]
-fn serve_refuses_a_place_without_a_folder(rt: HostRuntime) -> Result<(), Fail> {
-    let place = ServeOptions {
+fn serve_refuses_a_path_without_a_folder(rt: HostRuntime) -> Result<(), Fail> {
+    let serving = ServeOptions {
         socket: String::from_str(rt.alloc(), "/nowhere/at/all")?,
         until: ServeUntil::Sessions(1),
         drain: false,
@@ -50,7 +56,13 @@ fn serve_refuses_a_place_without_a_folder(rt: HostRuntime) -> Result<(), Fail> {
         log: false,
     };
     let mut told = Vec::new(rt.alloc());
-    let Err(fault) = serve(&rt, LibraryOptions::DEFAULT, place, Audit::Lines, &mut told) else {
+    let Err(fault) = serve(
+        &rt,
+        LibraryOptions::DEFAULT,
+        serving,
+        Audit::Lines,
+        &mut told,
+    ) else {
         return Err("served".into());
     };
     let shown = fault.to_string(rt.alloc())?;
@@ -66,7 +78,7 @@ fn serve_takes_a_file_away_that_nobody_listens_at(rt: HostRuntime) -> Result<(),
     let path = env::temp_dir(&rt)?.join(rt.alloc(), name.as_str())?;
     let socket = path.to_str().ok_or("a path that is no text")?;
     drop(UnixListener::bind(&rt, socket)?);
-    let place = ServeOptions {
+    let serving = ServeOptions {
         socket: String::from_str(rt.alloc(), socket)?,
         until: ServeUntil::Sessions(1),
         drain: false,
@@ -76,7 +88,13 @@ fn serve_takes_a_file_away_that_nobody_listens_at(rt: HostRuntime) -> Result<(),
     let mut told = Vec::new(rt.alloc());
     let (served, connected) = thread::join(
         &rt,
-        || serve(&rt, LibraryOptions::DEFAULT, place, Audit::Lines, &mut told),
+        || serve(
+            &rt,
+            LibraryOptions::DEFAULT,
+            serving,
+            Audit::Lines,
+            &mut told,
+        ),
         || connect_soon(&rt, socket),
     );
     connected?;

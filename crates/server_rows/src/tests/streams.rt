@@ -1,13 +1,14 @@
 //! One session at a library, over streams that end anywhere, are faulty, or whose reads and writes fail.
 ghost use Rattle.std.specs.Prelude.{◌≡◌, ◌<◌};
+ghost use Rattle.logical_unit.specs.UnitView.{units_of};
 ghost use Rattle.lun_router.specs.Opening.{IsSince};
 
 use super::{LINES_OF_A, target};
 use kept_unit::UnitLedger;
 use library_device::Device;
-use lun_router::{Blanks, Library, Pass, Seat};
+use lun_router::{Blanks, CloseFault, Library, Pass, Seat};
 use output_lines::Audit;
-use server::{LibraryService, Teller, Telling, close_and_write};
+use server::{LibraryService, ServerFault, Teller, Telling, close_and_write};
 use session::{Directory, End, SessionFault, serve};
 use std::alloc::Global;
 use std::io::{self, Read, Write};
@@ -146,7 +147,23 @@ fn stream_of(alloc: Global, row: Row) -> (Reader, Writer) {
     (reader, writer)
 }
 
-/// Serves a row's session at a library, and closes it. The lines of its records.
+/// With which seats a library is closed.
+#[derive(Clone, Copy, Debug, PartialEq, Eq)]
+enum Seats {
+    All,
+    None,
+}
+
+/// What came of closing a library.
+#[derive(Drop)]
+struct Closed {
+    closed: Result<(), ServerFault>,
+    /// The lines of its records.
+    lines: Vec<u8>,
+    told: Vec<u8>,
+}
+
+/// Serves a row's session at a library, and closes it.
 fn serve_and_close<
     L0: UnitLedger + Send + Sync,
     L1: UnitLedger + Send + Sync,
@@ -160,7 +177,8 @@ fn serve_and_close<
     library: Library<L0, L1, L2, L3, L4, Device, Pass>,
     mut seats: Vec<Seat<L0, L1, L2, L3, L4>>,
     row: Row,
-) -> Result<Vec<u8>, Fail> {
+    closing: Seats,
+) -> Result<Closed, Fail> {
     let (mut reader, mut writer) = stream_of(alloc, row);
     let directory = Mutex::new(Directory::new(alloc));
     let Some(seat) = seats.pop() else {
@@ -184,10 +202,19 @@ fn serve_and_close<
         expected,
         "{input:?}, {failing_read}, {failing_write}"
     );
+    if closing == Seats::None {
+        seats.clear();
+    }
     let mut lines = Vec::new(alloc);
-    let teller = Teller::new(Telling::Faults, Vec::new(alloc));
-    close_and_write(rt, alloc, library, seats, Audit::Lines, &mut lines, &teller)?;
-    Ok(lines)
+    let mut told = Vec::new(alloc);
+    let teller = Teller::new(Telling::Faults, &mut told);
+    let closed = close_and_write(rt, alloc, library, seats, Audit::Lines, &mut lines, &teller);
+    drop(teller);
+    Ok(Closed {
+        closed,
+        lines,
+        told,
+    })
 }
 
 fn open_and_serve<
@@ -204,23 +231,29 @@ fn open_and_serve<
     seats: usize,
     blanks: Blanks,
     row: Row,
-) -> Result<Vec<u8>, Fail>
+    closing: Seats,
+) -> Result<Closed, Fail>
     requires some { 0 < seats }
     requires zero { (blanks.zero.name ≡ L0.name) × (blanks.zero.parts ≡ L0.parts) × (L0.parts ≡ seats) }
     requires one { (blanks.one.name ≡ L1.name) × (blanks.one.parts ≡ L1.parts) × (L1.parts ≡ seats) }
     requires two { (blanks.two.name ≡ L2.name) × (blanks.two.parts ≡ L2.parts) × (L2.parts ≡ seats) }
     requires three { (blanks.three.name ≡ L3.name) × (blanks.three.parts ≡ L3.parts) × (L3.parts ≡ seats) }
     requires four { (blanks.four.name ≡ L4.name) × (blanks.four.parts ≡ L4.parts) × (L4.parts ≡ seats) }
-    requires since { IsSince core L0.since L1.since L2.since L3.since L4.since }
+    requires since { IsSince (units_of core) L0.since L1.since L2.since L3.since L4.since }
 {
     match Library::<L0, L1, L2, L3, L4, Device, Pass>::new(alloc, core, seats, blanks, Pass) {
-        Ok((library, seats)) => serve_and_close(rt, alloc, library, seats, row),
+        Ok((library, seats)) => serve_and_close(rt, alloc, library, seats, row, closing),
         Err((refused, _)) => Err(refused.into()),
     }
 }
 
-/// Serves a row's session at a library of its own.
-fn assert_served<R: Abort + Wait>(rt: &R, alloc: Global, row: Row) -> Result<(), Fail> {
+/// Serves a row's session at a library of its own, and closes it.
+fn close_behind<R: Abort + Wait>(
+    rt: &R,
+    alloc: Global,
+    row: Row,
+    closing: Seats,
+) -> Result<Closed, Fail> {
     let blanks = Blanks {
         zero: Blank::new(1),
         one: Blank::new(1),
@@ -229,16 +262,21 @@ fn assert_served<R: Abort + Wait>(rt: &R, alloc: Global, row: Row) -> Result<(),
         four: Blank::new(1),
     };
     let core = target(alloc)?;
-    let lines = open_and_serve::<Brand, Brand, Brand, Brand, Brand, R>(
-        rt, alloc, core, 1, blanks, row,
-    )?;
+    open_and_serve::<Brand, Brand, Brand, Brand, Brand, R>(rt, alloc, core, 1, blanks, row, closing)
+}
+
+/// Serves a row's session at a library of its own, and compares the records.
+fn assert_served<R: Abort + Wait>(rt: &R, alloc: Global, row: Row) -> Result<(), Fail> {
+    let closed = close_behind(rt, alloc, row, Seats::All)?;
     let (input, failing_read, failing_write, _, _, is_recorded) = row;
     let expected: &[u8] = if is_recorded { LINES_OF_A } else { &[] };
     assert_eq!(rt;
-        lines.as_slice(),
+        closed.lines.as_slice(),
         expected,
         "{input:?}, {failing_read}, {failing_write}"
     );
+    assert_eq!(rt; closed.closed, Ok(()));
+    assert!(rt; closed.told.is_empty());
     Ok(())
 }
 
@@ -305,5 +343,24 @@ fn serve_ends_by_a_write_that_fails_or_a_faulty_stream(rt: HostRuntime) -> Resul
     for row in &ROWS {
         assert_served(&rt, rt.alloc(), *row)?;
     }
+    Ok(())
+}
+
+/// Where a library can't be closed, it is told which records have no line.
+#[test]
+fn close_and_write_tells_of_the_records_of_a_library_that_is_not_closed(
+    rt: HostRuntime,
+) -> Result<(), Fail> {
+    let row = (Input::Session(33), 0, 0, Ok(End::Logout), 44, true);
+    let closed = close_behind(&rt, rt.alloc(), row, Seats::None)?;
+    assert_eq!(rt;
+        closed.closed,
+        Err(ServerFault::Close(CloseFault::SeatMissing))
+    );
+    assert!(rt; closed.lines.is_empty());
+    assert_eq!(rt;
+        closed.told.as_slice(),
+        b"vtl: 2 records of logical unit 0 were not written, numbers 1 to 2\n".as_slice()
+    );
     Ok(())
 }

@@ -1,5 +1,5 @@
 use Rattle.server.proofs.HandingOut.{hands_none, hands_more}
-use Rattle.server.proofs.outlet.RecordWriter.hand_out.Goals as goal
+use Rattle.server.proofs.record_drain.RecordDrain.hand_out_units.Goals as goal
 
 pub units-init : goal.units-init
 units-init g c = hands_none _ _

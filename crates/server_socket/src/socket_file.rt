@@ -18,7 +18,7 @@ struct FileIdentity {
 
 /// A socket that is listened at, with its file.
 #[derive(Drop)]
-pub(crate) struct Place {
+pub(crate) struct SocketFile {
     path: String,
     listener: UnixListener,
     /// A second descriptor of the listener, as a stream, which can be shut down.
@@ -28,11 +28,11 @@ pub(crate) struct Place {
 }
 
 /// Listens at a path, where a socket's file that nobody listens at is taken away and told of.
-pub(crate) fn take_place<R: Files + Net, E: Write>(
+pub(crate) fn make_socket_file<R: Files + Net, E: Write>(
     rt: &R,
     path: String,
     errors: &mut E,
-) -> Result<Place, SocketFault> {
+) -> Result<SocketFile, SocketFault> {
     let listener = match listen(rt, path.as_str(), errors) {
         Ok(listener) => listener,
         Err(error) => return Err(SocketFault::of_listening(path, error.kind())),
@@ -42,7 +42,7 @@ pub(crate) fn take_place<R: Files + Net, E: Write>(
         Err(error) => return Err(SocketFault::of_listening(path, error.kind())),
     };
     let file = identity(rt, path.as_str());
-    Ok(Place {
+    Ok(SocketFile {
         path,
         listener,
         second,
@@ -89,7 +89,7 @@ fn identity<R: Files>(rt: &R, path: &str) -> Option<FileIdentity> {
     })
 }
 
-impl Place {
+impl SocketFile {
     pub fn path(&self) -> &str {
         self.path.as_str()
     }

@@ -2,7 +2,7 @@ use Rattle.std.proofs.Common.{subst}
 use Rattle.output_lines.specs.AuditLines.{lines_of_records}
 use Rattle.server.specs.Batches.{GoesOn, left_in}
 use Rattle.server.proofs.HandingOut.{hands_left, hands_batch}
-use Rattle.server.proofs.outlet.RecordWriter.hand_out_unit.Goals as goal
+use Rattle.server.proofs.record_drain.RecordDrain.hand_out_unit.Goals as goal
 
 pub returns-in_err-write_left-clause-left : goal.returns-in_err-write_left-clause-left
 returns-in_err-write_left-clause-left g c = hands_left _ _ _ _ c.write_left.ensures.left

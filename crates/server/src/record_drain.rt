@@ -1,0 +1,275 @@
+//! Where a library's records are handed out while it is served: by one thread, whenever workers ask it to.
+ghost use Rattle.std.specs.Prelude.{◌≡◌, [], OnOk};
+ghost use Rattle.server.specs.Batches.{HandsOut, left_in};
+ghost use Rattle.server.specs.Events.{change_of};
+
+use crate::batch::Batch;
+use crate::event::Event;
+use crate::handed_out::HandedOut;
+use crate::server_fault::ServerFault;
+use crate::teller::Teller;
+use kept_unit::UnitLedger;
+use library_device::Device;
+use lun_router::{Library, Pass};
+use std::alloc::Global;
+use std::io::Write;
+use std::sync::atomic::{AtomicBool, Ordering};
+use std::sync::{Condvar, Mutex, Wait};
+
+/// A unit with so many records hands them out within a session.
+const MANY: u64 = 4096;
+
+/// A command whose unit has so many waits for the thread that writes.
+const MOST: u64 = 8192;
+
+/// What the thread that writes is at.
+#[derive(Clone, Copy, Debug, PartialEq, Eq)]
+enum Phase {
+    /// It hasn't begun, or has ended.
+    Absent,
+    /// It waits until it is asked.
+    Waiting,
+    /// It takes and writes records.
+    Writing,
+}
+
+/// What the thread that writes is at, and what it is asked.
+#[derive(Clone, Copy, Debug, PartialEq, Eq)]
+struct DrainState {
+    phase: Phase,
+    /// Whether it was asked since it began to take records the last time.
+    is_due: bool,
+    /// Whether nobody will ask any more.
+    is_over: bool,
+}
+
+impl DrainState {
+    /// Whether records are being handed out, or will be as soon as the thread goes on.
+    fn is_under_way(&self) -> bool {
+        match self.phase {
+            Phase::Absent => false,
+            Phase::Waiting => self.is_due,
+            Phase::Writing => true,
+        }
+    }
+}
+
+/// Where workers ask that records be handed out, and one thread does it: no worker writes, and so none is held up by who reads,
+/// but where a unit has very many records.
+#[derive(Drop)]
+pub(crate) struct RecordDrain {
+    handed_out: HandedOut,
+    /// Whether lines couldn't be written the last time.
+    is_failing: AtomicBool,
+    state: Mutex<DrainState>,
+    /// Told when handing out is due, and when nobody will ask any more.
+    asked: Condvar,
+    /// Told when a unit's records were taken, and when the thread is done with all.
+    went_on: Condvar,
+}
+
+impl RecordDrain {
+    /// Nothing was handed out.
+    pub fn new() -> RecordDrain {
+        RecordDrain {
+            handed_out: HandedOut::new(),
+            is_failing: AtomicBool::new(false),
+            state: Mutex::new(DrainState {
+                phase: Phase::Absent,
+                is_due: false,
+                is_over: false,
+            }),
+            asked: Condvar::new(),
+            went_on: Condvar::new(),
+        }
+    }
+
+    /// Up to which number each unit's records were handed out, by LUN.
+    pub fn numbers(&self) -> [u64; 5] {
+        self.handed_out.numbers()
+    }
+
+    /// Notes that a unit's records up to a number were taken, so that commands which wait for that go on.
+    fn note<R: Wait>(&self, rt: &R, lun: u8, last: u64) {
+        self.handed_out.note(lun, last);
+        // Who has looked at the numbers and is about to wait has the lock until it does.
+        drop(self.state.lock(rt));
+        self.went_on.notify_all();
+    }
+
+    /// Whether a unit's record of this number is one too many to be kept within a session. Where lines can't be
+    /// written, that is asked once for each so many records.
+    fn has_many(&self, lun: u8, number: u64) -> bool {
+        let waiting = self.handed_out.waiting(lun, number);
+        waiting >= MANY && (!self.is_failing.load(Ordering::SeqCst) || waiting % MANY == 0)
+    }
+
+    /// Asks that the records so far be handed out.
+    pub fn ask<R: Wait>(&self, rt: &R) {
+        self.state.lock(rt).is_due = true;
+        self.asked.notify_all();
+    }
+
+    /// Asks that the records so far be handed out, within a session, where the unit has many, up to the one of this number.
+    /// Waits only where they are very many, until they are fewer or couldn't be written.
+    pub fn ask_within_session<R: Wait>(&self, rt: &R, lun: u8, number: u64) {
+        if !self.has_many(lun, number) {
+            return;
+        }
+        self.ask(rt);
+        if self.handed_out.waiting(lun, number) >= MOST {
+            let state = self.state.lock(rt);
+            let _state = self.went_on.wait_while(rt, state, |state| {
+                state.is_under_way() && self.handed_out.waiting(lun, number) >= MOST
+            });
+        }
+    }
+
+    /// Nobody will ask any more: what is due is still handed out.
+    pub fn end<R: Wait>(&self, rt: &R) {
+        self.state.lock(rt).is_over = true;
+        self.asked.notify_all();
+    }
+
+    /// Waits until records are to be handed out, or nobody will ask any more. Whether they are.
+    fn await_turn<R: Wait>(&self, rt: &R) -> bool {
+        let mut state = self.state.lock(rt);
+        state.phase = Phase::Waiting;
+        self.went_on.notify_all();
+        let mut state = self
+            .asked
+            .wait_while(rt, state, |state| !state.is_due && !state.is_over);
+        let is_due = state.is_due;
+        state.is_due = false;
+        state.phase = if is_due {
+            Phase::Writing
+        } else {
+            Phase::Absent
+        };
+        is_due
+    }
+
+    /// Writes what is left of a batch, and then a line for each record of a unit. What can't be written is left in the batch, and
+    /// as long as something is, units keep their records.
+    fn hand_out_unit<
+        L0: UnitLedger,
+        L1: UnitLedger,
+        L2: UnitLedger,
+        L3: UnitLedger,
+        L4: UnitLedger,
+        R: Wait,
+        W: Write,
+    >(
+        &self,
+        rt: &R,
+        alloc: Global,
+        library: &Library<L0, L1, L2, L3, L4, Device, Pass>,
+        lun: u8,
+        batch: &mut Batch,
+        writer: &mut W,
+    ) -> Result<(), ServerFault>
+        ensures left { HandsOut (W.contents writer.old) (W.contents writer.new) (left_in batch.old) (left_in batch.new) }
+        ensures all { OnOk result (left_in batch.new ≡ []) }
+    {
+        batch.write_left(alloc, writer)?;
+        if let Some(last) = batch.take(rt, library, lun) {
+            self.note(rt, lun, last);
+        }
+        batch.write_left(alloc, writer)
+    }
+
+    /// The same of each unit, LUN 0 first.
+    fn hand_out_units<
+        L0: UnitLedger,
+        L1: UnitLedger,
+        L2: UnitLedger,
+        L3: UnitLedger,
+        L4: UnitLedger,
+        R: Wait,
+        W: Write,
+    >(
+        &self,
+        rt: &R,
+        alloc: Global,
+        library: &Library<L0, L1, L2, L3, L4, Device, Pass>,
+        batch: &mut Batch,
+        writer: &mut W,
+    ) -> Result<(), ServerFault>
+        ensures { HandsOut (W.contents writer.old) (W.contents writer.new) (left_in batch.old) (left_in batch.new) }
+    {
+        'units: for lun in 0..library.units() {
+            self.hand_out_unit(rt, alloc, library, lun, batch, writer)?;
+        }
+        Ok(())
+    }
+
+    /// The same, and tells where that fails for the first time and where it no longer does.
+    fn hand_out<
+        L0: UnitLedger,
+        L1: UnitLedger,
+        L2: UnitLedger,
+        L3: UnitLedger,
+        L4: UnitLedger,
+        R: Wait,
+        W: Write,
+        E: Write,
+    >(
+        &self,
+        rt: &R,
+        alloc: Global,
+        library: &Library<L0, L1, L2, L3, L4, Device, Pass>,
+        batch: &mut Batch,
+        writer: &mut W,
+        teller: &Teller<E>,
+    )
+        ensures { HandsOut (W.contents writer.old) (W.contents writer.new) (left_in batch.old) (left_in batch.new) }
+    {
+        let is_failing = self
+            .hand_out_units(rt, alloc, library, batch, writer)
+            .is_err();
+        let was_failing = self.is_failing.swap(is_failing, Ordering::SeqCst);
+        if let Some(event) = change_of(was_failing, is_failing) {
+            teller.tell(rt, &event);
+        }
+    }
+
+    /// Hands records out whenever that is due, until nobody will ask any more.
+    pub fn hand_out_as_asked<
+        L0: UnitLedger,
+        L1: UnitLedger,
+        L2: UnitLedger,
+        L3: UnitLedger,
+        L4: UnitLedger,
+        R: Wait,
+        W: Write,
+        E: Write,
+    >(
+        &self,
+        rt: &R,
+        alloc: Global,
+        library: &Library<L0, L1, L2, L3, L4, Device, Pass>,
+        batch: &mut Batch,
+        writer: &mut W,
+        teller: &Teller<E>,
+    )
+        ensures { HandsOut (W.contents writer.old) (W.contents writer.new) (left_in batch.old) (left_in batch.new) }
+    {
+        'turns: for _turn in rt.forever() {
+            if !self.await_turn(rt) {
+                return;
+            }
+            self.hand_out(rt, alloc, library, batch, writer, teller);
+        }
+    }
+}
+
+/// What is to be told of how handing out went: that it fails since now, or no longer does.
+fn change_of(was_failing: bool, is_failing: bool) -> Option<Event>
+    ensures { result ≡ change_of was_failing is_failing }
+{
+    match (was_failing, is_failing) {
+        (false, true) => Some(Event::Kept),
+        (true, false) => Some(Event::CaughtUp),
+        (false, false) | (true, true) => None,
+    }
+}
