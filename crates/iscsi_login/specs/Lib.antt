@@ -1,0 +1,10 @@
+pub mod Accesses
+pub mod Identities
+pub mod Stages
+pub mod Names
+pub mod Offers
+pub mod Admissions
+pub mod Logins
+pub mod AnswerTexts
+pub mod Responses
+pub mod Runs

@@ -1,0 +1,60 @@
+ghost use Rattle.std.specs.Prelude.{◌≡◌};
+
+/// The most bytes of an iSCSI name (RFC 7143, "iSCSI Names").
+pub const LONGEST_NAME: usize = 223;
+
+/// An initiator that is let in by its name.
+#[derive(Debug, Drop)]
+pub struct Host {
+    /// Its iSCSI name.
+    pub name: Vec<u8>,
+    /// The SAS address that its commands come from.
+    pub sas: u64,
+}
+
+/// Who is let in.
+#[derive(Debug, Drop)]
+pub struct Access {
+    /// Those who are let in by name; of two with one name the first counts.
+    pub hosts: Vec<Host>,
+    /// Whether every other name is let in too.
+    pub any_host: bool,
+}
+
+/// As whom an initiator is let in.
+#[derive(Clone, Copy, Debug, PartialEq, Eq)]
+pub enum Admission {
+    /// As the host of this SAS address.
+    Listed(u64),
+    /// As any other; which SAS address its name stands for is the caller's to say.
+    Other,
+}
+
+impl Access {
+    ghost use Rattle.iscsi_login.specs.Accesses.{admitted, admitted_among};
+
+    /// As whom the initiator of the name is let in, if it is. None is whose name is empty or longer than an iSCSI name.
+    pub fn admit(&self, name: &[u8]) -> Option<Admission>
+        ensures { result ≡ admitted self.now name.now }
+    {
+        if name.is_empty() || name.len() > LONGEST_NAME {
+            return None;
+        }
+        self.admit_by_list(name)
+    }
+
+    fn admit_by_list(&self, name: &[u8]) -> Option<Admission>
+        ensures { result ≡ admitted_among self.now.any_host self.now.hosts.items name.now }
+    {
+        for host in &self.hosts {
+            if host.name.as_slice() == name {
+                return Some(Admission::Listed(host.sas));
+            }
+        }
+        if self.any_host {
+            Some(Admission::Other)
+        } else {
+            None
+        }
+    }
+}

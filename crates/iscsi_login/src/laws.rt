@@ -1,0 +1,32 @@
+ghost use Rattle.std.specs.Prelude.{◌≡◌, ℕ, ◌<◌, List, true};
+ghost use Rattle.iscsi_pdu.specs.Codes.{stage_code};
+ghost use Rattle.iscsi_pdu.specs.declared.stage.Stage.{Stage};
+ghost use Rattle.iscsi_pdu.specs.declared.login_request.LoginRequest.{LoginRequest};
+ghost use Rattle.iscsi_keys.specs.Parameters.{AreInRange};
+ghost use Rattle.iscsi_login.specs.Stages.{leads_to};
+ghost use Rattle.iscsi_login.specs.Logins.{begun, stepped, step_of};
+ghost use Rattle.iscsi_login.specs.Runs.{Coming, run, IsEntered};
+ghost use Rattle.iscsi_login.specs.declared.target.LoginTarget.{LoginTarget};
+ghost use Rattle.iscsi_login.specs.declared.login.Login.TheVariants.{Ended};
+ghost use Rattle.iscsi_login.specs.declared.login.LoginEnd.{LoginEnd};
+ghost use Rattle.iscsi_login.specs.declared.login.LoginEnd.TheVariants as ends;
+ghost use Rattle.iscsi_login.specs.declared.login.FullFeature.{FullFeature};
+ghost use Rattle.iscsi_login.specs.declared.login.LoginStep.TheVariants.{Ends};
+
+/// Law: whatever comes, a login reaches the full feature phase only as one of its texts names an initiator that is let in, and a
+/// normal session only as that text names the target; and what it has agreed is in its ranges.
+pub fn reached_by_name()
+    ensures let_in { (group : ℕ) (target : LoginTarget) (comings : List Coming) (f : FullFeature) → run target (begun group) comings ≡ Ended (ends.FullFeature f) → IsEntered target comings f.admission f.session_type }
+    ensures in_range { (group : ℕ) (target : LoginTarget) (comings : List Coming) (f : FullFeature) → run target (begun group) comings ≡ Ended (ends.FullFeature f) → AreInRange f.parameters }
+{}
+
+/// Law: a login that has ended stays as it ended, and answers each request by that end.
+pub fn end_stays()
+    ensures state { (end : LoginEnd) (target : LoginTarget) (r : LoginRequest) (text : List ℕ) → stepped (Ended end) target r text ≡ Ended end }
+    ensures answer { (end : LoginEnd) (r : LoginRequest) → step_of (Ended end) r ≡ Ends end }
+{}
+
+/// Law: no stage leads back, nor to itself.
+pub fn stages_ascend()
+    ensures { (current next : Stage) → leads_to current next ≡ true → stage_code current < stage_code next }
+{}

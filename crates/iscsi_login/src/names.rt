@@ -1,0 +1,52 @@
+ghost use Rattle.std.specs.Prelude.{◌≡◌, ◌≤◌, length};
+ghost use Rattle.std.specs.Option.{option_copied};
+ghost use Rattle.iscsi_login.specs.Names.{declared, session_type_in};
+
+use iscsi_keys::{Key, TextItem, first_item};
+
+/// What a session is for (RFC 7143, "SessionType").
+#[derive(Clone, Copy, Debug, PartialEq, Eq)]
+pub enum SessionType {
+    Normal,
+    Discovery,
+}
+
+/// The value that a text first gives the key, if it does before its end or a fault of the text.
+pub fn declared_value<'a>(text: &'a [u8], key: Key) -> Option<&'a [u8]>
+    requires { length text.now ≤ 65536 }
+    ensures { option_copied result ≡ declared text.now key }
+{
+    let mut left = text;
+    'items: for _ in 0..text.len() + 1 {
+        match first_item(left) {
+            TextItem::Pair {
+                key: name,
+                value,
+                rest,
+            } => {
+                if name == key.name() {
+                    return Some(value);
+                }
+                left = rest;
+            }
+            _ => return None,
+        }
+    }
+    None
+}
+
+/// The type of a session whose SessionType has the value, or that has none.
+pub(crate) fn session_type_in(value: Option<&[u8]>) -> Option<SessionType>
+    ensures { result ≡ session_type_in (option_copied value.entry) }
+{
+    let Some(value) = value else {
+        return Some(SessionType::Normal);
+    };
+    if value == b"Normal".as_slice() {
+        Some(SessionType::Normal)
+    } else if value == b"Discovery".as_slice() {
+        Some(SessionType::Discovery)
+    } else {
+        None
+    }
+}
