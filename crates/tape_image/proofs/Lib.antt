@@ -1,0 +1,9 @@
+pub mod Parts
+pub mod Written
+pub mod Images
+pub mod Cuts
+pub mod Buffers
+pub mod Fits
+pub mod Walking
+pub mod CutBack
+pub mod Indexes

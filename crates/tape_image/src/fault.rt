@@ -1,0 +1,20 @@
+use thiserror::Error;
+
+/// What is wrong with an image. Where its next part would begin isn't known, so an image with a fault has no further objects.
+#[derive(Clone, Copy, Debug, PartialEq, Eq, Error)]
+pub enum ImageFault {
+    /// A record of a class other than 0: a length whose highest four bits are not zero, other than the marks.
+    #[error("record of an unknown class")]
+    UnknownClass,
+    /// A block of more than 65,536 bytes.
+    #[error("block too long")]
+    TooLong,
+    /// The length behind a block isn't the one before it.
+    #[error("lengths before and behind a block differ")]
+    UnequalLengths,
+}
+
+/// An image goes on behind the last offset that there is, 2^64 - 1.
+#[derive(Clone, Copy, Debug, PartialEq, Eq, Error)]
+#[error("image of 2^64 bytes or more")]
+pub struct PastLastOffset;
