@@ -16,6 +16,8 @@ import sys
 import tempfile
 import time
 
+from frames import framed, received
+
 HERE = os.path.dirname(os.path.abspath(__file__))
 VTL = subprocess.run([os.path.join(os.path.dirname(HERE), "vtl"), "build"], stdout=subprocess.PIPE, text=True, check=True).stdout.strip()
 A, B, C = (f"500000000000000{it}.1" for it in "abc")
@@ -133,25 +135,6 @@ def sweep(name, judge):
         print(f"  {count}: {end}", flush=True)
 
 
-def framed(body):
-    return struct.pack(">I", len(body)) + body
-
-
-def exactly(connection, count):
-    read = b""
-    while len(read) < count:
-        piece = connection.recv(count - len(read))
-        if not piece:
-            return None
-        read += piece
-    return read
-
-
-def received(connection):
-    head = exactly(connection, 4)
-    return None if head is None else exactly(connection, struct.unpack(">I", head)[0])
-
-
 def talked(path, server, host, commands):
     """The replies of one session, up to its end."""
     connection = socket.socket(socket.AF_UNIX, socket.SOCK_STREAM)
@@ -170,12 +153,9 @@ def talked(path, server, host, commands):
         for frame in frames:
             try:
                 connection.sendall(framed(frame))
-                reply = received(connection)
+                replies.append(received(connection))
             except ConnectionError:
-                reply = None
-            if reply is None:
                 return replies
-            replies.append(reply)
         # Once the connection has ended, so has the session.
         connection.recv(1)
     return replies
