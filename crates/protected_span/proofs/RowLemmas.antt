@@ -13,7 +13,7 @@ use Rattle.protected_span.specs.Rows.{a, WorkedSpan, StruckOut, ConditionsAreNee
 
 pub worked_span : (tag : VolumeTag) → WorkedSpan tag
 unfolding cdb.command_of keys_after
-worked_span tag = record { all = refl; alone = refl; data_beside = refl; data_alone = refl; device = refl; beside = refl }
+worked_span tag = record { all = refl; alone = refl; data_beside = refl; data_alone = refl; device_beside = refl; device_alone = refl; beside = refl }
 
 pub struck_out : (cdb : ArrayVec ℕ) (bytes : Vec ℕ) → StruckOut cdb bytes
 struck_out cdb bytes = record { commands = refl; others = refl }

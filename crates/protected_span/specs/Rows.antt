@@ -90,6 +90,10 @@ row =
 abbrev pub position_1 : List ℕ
 position_1 = replicate 7 0 ++ 1 ∷ 0 ∷ 0 ∷ 0 ∷ 1 ∷ replicate 8 0
 
+-- the tape with A's block alone, read to its end
+abbrev pub written_by_a : TapeView
+written_by_a = record { objects = Block (1 ∷ 2 ∷ 3 ∷ 4 ∷ []) ∷ []; position = 1; capacity = 1000 }
+
 -- A holds Exclusive Access
 pub record WorkedSpan (tag : VolumeTag) : Type 0 where
   -- B's WRITE(6) and PREVENT end in conflict, its REGISTER and ALLOW are GOOD
@@ -98,8 +102,9 @@ pub record WorkedSpan (tag : VolumeTag) : Type 0 where
   pub alone : statuses (unit_with tag held_by_a []) (by_a row) ≡ Good ∷ Good ∷ Good ∷ Good ∷ []
   pub data_beside : payloads (unit_with tag held_by_a []) row ≡ [] ∷ [] ∷ [] ∷ [] ∷ position_1 ∷ [] ∷ [] ∷ (1 ∷ 2 ∷ 3 ∷ 4 ∷ []) ∷ []
   pub data_alone : payloads (unit_with tag held_by_a []) (by_a row) ≡ [] ∷ position_1 ∷ [] ∷ (1 ∷ 2 ∷ 3 ∷ 4 ∷ []) ∷ []
-  -- the same tape, and A still holds, with its key; the generation tells that B registered
-  pub device : (last (unit_with tag held_by_a []) row).device ≡ (last (unit_with tag held_by_a []) (by_a row)).device
+  -- in both runs A's block is on the tape, and B's isn't; A still holds, with its key; the generation tells that B registered
+  pub device_beside : (last (unit_with tag held_by_a []) row).device ≡ drive_at tag written_by_a
+  pub device_alone : (last (unit_with tag held_by_a []) (by_a row)).device ≡ drive_at tag written_by_a
   pub beside : (last (unit_with tag held_by_a []) row).kept.reservations ≡ record { keys = (a, 1) ∷ (b, 2) ∷ []; reservation = Some (type.Ea, a); generation = 2 }
 
 -- WHICH EVENTS ARE STRUCK OUT: B's commands to the unit, and nothing else
