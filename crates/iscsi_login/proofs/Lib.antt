@@ -1,3 +1,6 @@
 pub mod Items
 pub mod Reached
 pub mod Written
+pub mod Shown
+pub mod Turned
+pub mod Exchanged

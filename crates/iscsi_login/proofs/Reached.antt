@@ -52,22 +52,22 @@ text_stays zero n text h = tt
 text_stays (suc most) n text h = item_stays (negotiated_within most) (text_stays most) n (first_item text) h
 
 -- who was let in is one for whom P holds, and what was agreed is in its ranges
-abbrev IsSound : (Admission → SessionType → Type 0) → Admitted → Type 0
+abbrev pub IsSound : (Admission → SessionType → Type 0) → Admitted → Type 0
 IsSound P a = P a.admission a.session_type × AreInRange a.negotiation.parameters
 
-abbrev IsSoundIfOk : (Admission → SessionType → Type 0) → Result Admitted LoginStatus → Type 0
+abbrev pub IsSoundIfOk : (Admission → SessionType → Type 0) → Result Admitted LoginStatus → Type 0
 IsSoundIfOk P (Ok a) = IsSound P a
 IsSoundIfOk P (Err fault) = Unit {0}
 
-abbrev IsSoundIfSome : (Admission → SessionType → Type 0) → Option Admitted → Type 0
+abbrev pub IsSoundIfSome : (Admission → SessionType → Type 0) → Option Admitted → Type 0
 IsSoundIfSome P (Some a) = IsSound P a
 IsSoundIfSome P None = Unit {0}
 
-abbrev IsSoundEnd : (Admission → SessionType → Type 0) → LoginEnd → Type 0
+abbrev pub IsSoundEnd : (Admission → SessionType → Type 0) → LoginEnd → Type 0
 IsSoundEnd P (ends.FullFeature f) = P f.admission f.session_type × AreInRange f.parameters
 IsSoundEnd P (ends.Refused fault) = Unit {0}
 
-abbrev IsSoundLogin : (Admission → SessionType → Type 0) → Login → Type 0
+abbrev pub IsSoundLogin : (Admission → SessionType → Type 0) → Login → Type 0
 IsSoundLogin P (Open l) = IsSoundIfSome P l.admitted
 IsSoundLogin P (Ended end) = IsSoundEnd P end
 
@@ -75,7 +75,7 @@ offered_sound : (P : Admission → SessionType → Type 0) (a : Admitted) (r : R
 offered_sound P a (Ok n) p h = (p, h)
 offered_sound P a (Err fault) p h = tt
 
-text_sound : (P : Admission → SessionType → Type 0) (a : Admitted) (text : List ℕ) → IsSound P a → IsSoundIfOk P (offered_by a text)
+pub text_sound : (P : Admission → SessionType → Type 0) (a : Admitted) (text : List ℕ) → IsSound P a → IsSoundIfOk P (offered_by a text)
 text_sound P a text h = offered_sound P a (negotiated_within (length text + 1) a.negotiation text) h.0 (text_stays (length text + 1) a.negotiation text h.1)
 
 at_target_sound : (P : Admission → SessionType → Type 0) (target : LoginTarget) (s : SessionType) (a : Admission) (fault : Option LoginStatus)
@@ -110,11 +110,11 @@ offered_if_sound : (P : Admission → SessionType → Type 0) (r : Result Admitt
 offered_if_sound P (Ok a) text h = text_sound P a text h
 offered_if_sound P (Err fault) text h = tt
 
-either_sound : (P : Admission → SessionType → Type 0) (b : Bool) (fault : LoginStatus) (r : Result Admitted LoginStatus) → IsSoundIfOk P r → IsSoundIfOk P (cond b r (Err fault))
+pub either_sound : (P : Admission → SessionType → Type 0) (b : Bool) (fault : LoginStatus) (r : Result Admitted LoginStatus) → IsSoundIfOk P r → IsSoundIfOk P (cond b r (Err fault))
 either_sound P true fault r h = h
 either_sound P false fault r h = tt
 
-come_sound : (P : Admission → SessionType → Type 0) (o : Option Admitted) (target : LoginTarget) (text : List ℕ) → ((a : Admission) (s : SessionType) → IsEntry target text a s → P a s) → IsSoundIfSome P o
+pub come_sound : (P : Admission → SessionType → Type 0) (o : Option Admitted) (target : LoginTarget) (text : List ℕ) → ((a : Admission) (s : SessionType) → IsEntry target text a s → P a s) → IsSoundIfSome P o
     → IsSoundIfOk P (admitted_by o target text)
 come_sound P None target text each h = offered_if_sound P (entry_of target text) text (entry_sound P target text each)
 come_sound P (Some a) target text each h = either_sound P (says_the_same target a text) _ (offered_by (names_free a) text) (text_sound P (names_free a) text h)
@@ -129,12 +129,12 @@ choice_sound : (P : Admission → SessionType → Type 0) (b : Bool) (l m : Logi
 choice_sound P true l m h i = h
 choice_sound P false l m h i = i
 
-moved_sound : (P : Admission → SessionType → Type 0) (group : ℕ) (r : LoginRequest) (a : Result Admitted LoginStatus) → IsSoundIfOk P a → IsSoundLogin P (moved_if group r a)
+pub moved_sound : (P : Admission → SessionType → Type 0) (group : ℕ) (r : LoginRequest) (a : Result Admitted LoginStatus) → IsSoundIfOk P a → IsSoundLogin P (moved_if group r a)
 moved_sound P group r (Ok a) h =
     choice_sound P r.transit (moved_to r.next_stage group r a) (open_at group r r.current_stage (Some a)) (moved_to_sound P r.next_stage group r a h) h
 moved_sound P group r (Err fault) h = tt
 
-unless_sound : (P : Admission → SessionType → Type 0) (o : Option LoginStatus) (l : Login) → IsSoundLogin P l → IsSoundLogin P (unless_fault o l)
+pub unless_sound : (P : Admission → SessionType → Type 0) (o : Option LoginStatus) (l : Login) → IsSoundLogin P l → IsSoundLogin P (unless_fault o l)
 unless_sound P (Some fault) l h = tt
 unless_sound P None l h = h
 

@@ -24,12 +24,12 @@ all_written most i n out text whole item h e none before =
 
 -- an item is answered
 pub one_written : (most i : ℕ) (n m : Negotiation) (out new text key value rest whole : List ℕ) (a : KeyAnswer) → i < most → Pair key value rest ≡ first_item text
-    → m ≡ negotiated n key value → a ≡ result_unwrap_or (answered n key value) answer.Nothing → new ≡ out ++ answer_item key a
+    → m ≡ negotiated n key value → a ≡ result_unwrap_or (answered n key value) answer.Nothing → new ≡ out ++ answer_item n.terms.method key a
     → out ++ answers_within (most - i) n text ≡ whole → new ++ answers_within (most - (i + 1)) m rest ≡ whole
 one_written most i n m out new text key value rest whole a h e state answer written before =
     ap (λ xs. xs ++ answers_within (most - (i + 1)) m rest) written
-    ∙ ap (λ (b : Negotiation). (out ++ answer_item key a) ++ answers_within (most - (i + 1)) b rest) state
-    ∙ append_assoc out (answer_item key a) (answers_within (most - (i + 1)) (negotiated n key value) rest)
-    ∙ ap (λ (b : KeyAnswer). out ++ (answer_item key b ++ answers_within (most - (i + 1)) (negotiated n key value) rest)) answer
+    ∙ ap (λ (b : Negotiation). (out ++ answer_item n.terms.method key a) ++ answers_within (most - (i + 1)) b rest) state
+    ∙ append_assoc out (answer_item n.terms.method key a) (answers_within (most - (i + 1)) (negotiated n key value) rest)
+    ∙ ap (λ (b : KeyAnswer). out ++ (answer_item n.terms.method key b ++ answers_within (most - (i + 1)) (negotiated n key value) rest)) answer
     ∙ ap (λ ys. out ++ ys) (sym (item_answers most i n text (Pair key value rest) h e))
     ∙ before

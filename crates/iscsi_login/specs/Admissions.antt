@@ -25,6 +25,7 @@ use Rattle.iscsi_login.specs.declared.admitted.Admitted.{Admitted}
 
 abbrev pub method_of : Authentication → Word
 method_of authentication.None = word.None
+method_of (authentication.Chap secrets) = word.Chap
 
 abbrev pub is_discovery : SessionType → Bool
 is_discovery Normal = false
@@ -75,7 +76,7 @@ offered_if (Ok a) text = offered_by a text
 -- the session is that of the first text (RFC 7143, "InitiatorName", "TargetName", "SessionType"); initiators say the same again
 abbrev pub is_admitted_again : Option Admission → Admission → Bool
 is_admitted_again (Some (Listed sas)) (Listed own) = sas == own
-is_admitted_again (Some Other) Other = true
+is_admitted_again (Some (Other sas)) (Other own) = sas == own
 is_admitted_again _ _ = false
 
 abbrev pub is_initiator_again : LoginTarget → Admission → (again : Option (List ℕ)) → Bool

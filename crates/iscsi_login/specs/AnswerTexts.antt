@@ -1,16 +1,19 @@
 -- The text of a Login Response (RFC 7143, "Text Mode Negotiation").
-use Rattle.std.specs.Prelude.{ℕ, ◌+◌, zero, suc, true, false, List, [], ◌++◌, length, codes, Option, Some, None, Result, Ok, Err, if◌then◌else◌}
+use Rattle.std.specs.Prelude.{ℕ, ◌+◌, zero, suc, Bool, true, false, List, [], ◌++◌, length, codes, Option, Some, None, Result, Ok, Err, if◌then◌else◌}
 use Rattle.std.specs.Result.{result_unwrap_or}
 use Rattle.std.specs.Fmt.{decimal}
 use Rattle.iscsi_pdu.specs.declared.login_request.LoginRequest.{LoginRequest}
 use Rattle.iscsi_pdu.specs.declared.login_status.LoginStatus.{LoginStatus}
 use Rattle.iscsi_keys.specs.Words.{word_text}
+use Rattle.iscsi_keys.specs.declared.word.Word.{Word}
+use Rattle.iscsi_keys.specs.declared.word.Word.TheVariants as word
 use Rattle.iscsi_keys.specs.Texts.{ItemValue, End, Pair, Invalid, first_item, item_bytes}
 use Rattle.iscsi_keys.specs.Negotiations.{answered, negotiated}
 use Rattle.iscsi_keys.specs.declared.answer.KeyAnswer.{KeyAnswer}
 use Rattle.iscsi_keys.specs.declared.answer.KeyAnswer.TheVariants as answer
 use Rattle.iscsi_keys.specs.declared.negotiation.Negotiation.{Negotiation}
 use Rattle.iscsi_login.specs.Admissions.{entry_of}
+use Rattle.iscsi_login.specs.ChapKeys.{is_chap_key}
 use Rattle.iscsi_login.specs.Logins.{stepped}
 use Rattle.iscsi_login.specs.declared.names.SessionType.{SessionType}
 use Rattle.iscsi_login.specs.declared.names.SessionType.TheVariants.{Normal, Discovery}
@@ -22,21 +25,30 @@ use Rattle.iscsi_login.specs.declared.login.OpenLogin.{OpenLogin}
 use Rattle.iscsi_login.specs.declared.login.LoginEnd.TheVariants as ends
 
 -- a key that the initiator has declared is not answered
-abbrev pub answer_item : (key : List ℕ) → KeyAnswer → List ℕ
-answer_item key answer.Nothing = []
-answer_item key (answer.Number n) = item_bytes key (decimal n)
-answer_item key (answer.Boolean true) = item_bytes key (codes "Yes")
-answer_item key (answer.Boolean false) = item_bytes key (codes "No")
-answer_item key (answer.Word word) = item_bytes key (word_text word)
-answer_item key answer.Reject = item_bytes key (codes "Reject")
-answer_item key answer.NotUnderstood = item_bytes key (codes "NotUnderstood")
-answer_item key answer.Irrelevant = item_bytes key (codes "Irrelevant")
+abbrev pub known_answer : (key : List ℕ) → KeyAnswer → List ℕ
+known_answer key answer.Nothing = []
+known_answer key (answer.Number n) = item_bytes key (decimal n)
+known_answer key (answer.Boolean true) = item_bytes key (codes "Yes")
+known_answer key (answer.Boolean false) = item_bytes key (codes "No")
+known_answer key (answer.Word word) = item_bytes key (word_text word)
+known_answer key answer.Reject = item_bytes key (codes "Reject")
+known_answer key answer.NotUnderstood = item_bytes key (codes "NotUnderstood")
+known_answer key answer.Irrelevant = item_bytes key (codes "Irrelevant")
+
+-- the keys that authentication by the method answers itself
+abbrev pub is_key_of : (method : Word) → (key : List ℕ) → Bool
+is_key_of word.Chap key = is_chap_key key
+is_key_of word.None key = false
+is_key_of word.Rfc3720 key = false
+
+abbrev pub answer_item : (method : Word) → (key : List ℕ) → KeyAnswer → List ℕ
+answer_item method key a = if is_key_of method key then [] else known_answer key a
 
 abbrev pub answers_at : (behind : Negotiation → List ℕ → List ℕ) → Negotiation → ItemValue → List ℕ
 answers_at behind n End = []
 answers_at behind n (Invalid fault) = []
 answers_at behind n (Pair key value rest) =
-    answer_item key (result_unwrap_or (answered n key value) answer.Nothing) ++ behind (negotiated n key value) rest
+    answer_item n.terms.method key (result_unwrap_or (answered n key value) answer.Nothing) ++ behind (negotiated n key value) rest
 
 abbrev pub answers_within : ℕ → Negotiation → (text : List ℕ) → List ℕ
 answers_within zero n text = []

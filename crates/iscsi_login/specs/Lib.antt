@@ -5,6 +5,12 @@ pub mod Names
 pub mod Offers
 pub mod Admissions
 pub mod Logins
+pub mod ChapKeys
 pub mod AnswerTexts
 pub mod Responses
+pub mod Chaps
+pub mod Authentications
+pub mod Turns
+pub mod Exchanges
 pub mod Runs
+pub mod ExchangeRuns

@@ -50,6 +50,9 @@ full_feature group r a = record {
   admission = a.admission;
   session_type = a.session_type;
   isid = r.isid;
+  tsih = r.tsih;
+  cid = r.cid;
+  cmd_sn = r.cmd_sn;
   parameters = a.negotiation.parameters;
 }
 

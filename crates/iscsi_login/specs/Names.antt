@@ -18,8 +18,11 @@ declared_within zero wanted text = None
 declared_within (suc items) wanted text = declared_at (declared_within items wanted) wanted (first_item text)
 
 -- each item has some bytes, so a text has no more items than bytes; one more finds its end
+abbrev pub declared_as : (text : List ℕ) → (wanted : List ℕ) → Option (List ℕ)
+declared_as text wanted = declared_within (length text + 1) wanted text
+
 abbrev pub declared : (text : List ℕ) → Key → Option (List ℕ)
-declared text key = declared_within (length text + 1) (key_name key) text
+declared text key = declared_as text (key_name key)
 
 -- (RFC 7143, "SessionType")
 abbrev pub session_type_in : Option (List ℕ) → Option SessionType

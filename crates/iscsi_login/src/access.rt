@@ -1,4 +1,8 @@
 ghost use Rattle.std.specs.Prelude.{◌≡◌};
+ghost use Rattle.iscsi_login.specs.Accesses.{sas_of_name, sas_of_admission};
+
+use byteorder::{BigEndian, ByteOrder};
+use sha2::{Digest, Sha256};
 
 /// The most bytes of an iSCSI name (RFC 7143, "iSCSI Names").
 pub const LONGEST_NAME: usize = 223;
@@ -26,9 +30,32 @@ pub struct Access {
 pub enum Admission {
     /// As the host of this SAS address.
     Listed(u64),
-    /// As any other; which SAS address its name stands for is the caller's to say.
-    Other,
+    /// As any other, with the SAS address that its name stands for.
+    Other(u64),
 }
+
+impl Admission {
+    /// The SAS address of the initiator's nexus.
+    pub fn sas(self) -> u64
+        ensures { result ≡ sas_of_admission self }
+    {
+        match self {
+            Admission::Listed(sas) | Admission::Other(sas) => sas,
+        }
+    }
+}
+
+/// The SAS address that a name stands for: its first digit is 5, and the others are the first 60 bits of the name's SHA-256.
+#[tactic(auto, unfolding(crate::specs::Accesses::sas_of_name))]
+fn sas_of_name(name: &[u8]) -> u64
+    ensures { result ≡ sas_of_name name.now }
+{
+    let digest = Sha256::digest(name);
+    NAA + BigEndian::read_u64(&digest) / 16
+}
+
+/// The first digit of a SAS address: 5, for an address that its maker's identifier begins.
+const NAA: u64 = 0x5000_0000_0000_0000;
 
 impl Access {
     ghost use Rattle.iscsi_login.specs.Accesses.{admitted, admitted_among};
@@ -52,7 +79,7 @@ impl Access {
             }
         }
         if self.any_host {
-            Some(Admission::Other)
+            Some(Admission::Other(sas_of_name(name)))
         } else {
             None
         }

@@ -117,7 +117,7 @@ fn is_initiator_again(target: &LoginTarget, admission: Admission, again: Option<
     };
     match (target.access.admit(name), admission) {
         (Some(Admission::Listed(sas)), Admission::Listed(own)) => sas == own,
-        (Some(Admission::Other), Admission::Other) => true,
+        (Some(Admission::Other(sas)), Admission::Other(own)) => sas == own,
         _ => false,
     }
 }

@@ -1,12 +1,13 @@
 ghost use Rattle.std.specs.Prelude.{◌≡◌, ◌≤◌, ◌++◌, length, OnOk};
 ghost use Rattle.std.specs.Fmt.{decimal};
 ghost use Rattle.iscsi_keys.specs.Texts.{item_bytes};
-ghost use Rattle.iscsi_login.specs.AnswerTexts.{answers_to, answer_item, answers_of, group_tag};
+ghost use Rattle.iscsi_login.specs.AnswerTexts.{answers_to, answer_item, known_answer, is_key_of, answers_of, group_tag};
 
 use crate::admitted::{Admitted, entry_of};
+use crate::chap_keys::{CHAP_A, CHAP_C, CHAP_I, CHAP_N, CHAP_R};
 use crate::names::SessionType;
 use crate::target::LoginTarget;
-use iscsi_keys::{KeyAnswer, Negotiation, TextItem, first_item};
+use iscsi_keys::{KeyAnswer, Negotiation, TextItem, Word, first_item};
 use itoa::Buffer;
 use std::alloc::AllocError;
 
@@ -59,8 +60,9 @@ fn write_offers(out: &mut Vec<u8>, negotiation: Negotiation, text: &[u8]) -> Res
             TextItem::End => return Ok(()),
             TextItem::Invalid(_) => return Ok(()),
             TextItem::Pair { key, value, rest } => {
+                let method = negotiation.terms.method;
                 let answer = negotiation.offer(key, value);
-                write_answer(out, key, answer.unwrap_or(KeyAnswer::Nothing))?;
+                write_answer(out, method, key, answer.unwrap_or(KeyAnswer::Nothing))?;
                 left = rest;
             }
         }
@@ -68,9 +70,35 @@ fn write_offers(out: &mut Vec<u8>, negotiation: Negotiation, text: &[u8]) -> Res
     Ok(())
 }
 
-/// Adds the answer to a key.
-fn write_answer(out: &mut Vec<u8>, key: &[u8], answer: KeyAnswer) -> Result<(), AllocError>
-    ensures { OnOk result (out.new.items ≡ out.old.items ++ answer_item key.now answer) }
+/// Adds the answer to a key, where the authentication that is asked for doesn't answer it.
+fn write_answer(
+    out: &mut Vec<u8>,
+    method: Word,
+    key: &[u8],
+    answer: KeyAnswer,
+) -> Result<(), AllocError>
+    ensures { OnOk result (out.new.items ≡ out.old.items ++ answer_item method key.now answer) }
+{
+    if is_key_of(method, key) {
+        return Ok(());
+    }
+    write_known_answer(out, key, answer)
+}
+
+/// Whether it is a key of the authentication method.
+fn is_key_of(method: Word, key: &[u8]) -> bool
+    ensures { result ≡ is_key_of method key.now }
+{
+    match method {
+        Word::Chap => {
+            key == CHAP_A || key == CHAP_I || key == CHAP_C || key == CHAP_N || key == CHAP_R
+        }
+        Word::None | Word::Rfc3720 => false,
+    }
+}
+
+fn write_known_answer(out: &mut Vec<u8>, key: &[u8], answer: KeyAnswer) -> Result<(), AllocError>
+    ensures { OnOk result (out.new.items ≡ out.old.items ++ known_answer key.now answer) }
 {
     match answer {
         KeyAnswer::Nothing => Ok(()),
@@ -84,14 +112,14 @@ fn write_answer(out: &mut Vec<u8>, key: &[u8], answer: KeyAnswer) -> Result<(), 
     }
 }
 
-fn write_number(out: &mut Vec<u8>, key: &[u8], number: u32) -> Result<(), AllocError>
+pub(crate) fn write_number(out: &mut Vec<u8>, key: &[u8], number: u32) -> Result<(), AllocError>
     ensures { OnOk result (out.new.items ≡ out.old.items ++ item_bytes key.now (decimal number)) }
 {
     let mut buffer = Buffer::new();
     write_pair(out, key, buffer.format(number).as_bytes())
 }
 
-fn write_pair(out: &mut Vec<u8>, key: &[u8], value: &[u8]) -> Result<(), AllocError>
+pub(crate) fn write_pair(out: &mut Vec<u8>, key: &[u8], value: &[u8]) -> Result<(), AllocError>
     ensures { OnOk result (out.new.items ≡ out.old.items ++ item_bytes key.now value.now) }
 {
     out.extend_from_slice(key)?;

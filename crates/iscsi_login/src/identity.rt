@@ -7,6 +7,8 @@ use iscsi_pdu::{LoginRequest, SerialNumber};
 pub struct LoginIdentity {
     /// The initiator's part of the session identifier, six bytes.
     pub isid: u64,
+    /// The target's part, 0 where a new session is asked for.
+    pub tsih: u16,
     pub initiator_task_tag: u32,
     /// The connection identifier.
     pub cid: u16,
@@ -21,6 +23,7 @@ impl LoginIdentity {
     {
         LoginIdentity {
             isid: request.isid,
+            tsih: request.tsih,
             initiator_task_tag: request.initiator_task_tag,
             cid: request.cid,
             cmd_sn: request.cmd_sn,
@@ -32,6 +35,7 @@ impl LoginIdentity {
         ensures { result ≡ is_same self (identity_of request.now) }
     {
         self.isid == request.isid
+            && self.tsih == request.tsih
             && self.initiator_task_tag == request.initiator_task_tag
             && self.cid == request.cid
             && self.cmd_sn.number == request.cmd_sn.number

@@ -1,4 +1,4 @@
-ghost use Rattle.std.specs.Prelude.{◌≡◌, ℕ, ◌<◌, List, true};
+ghost use Rattle.std.specs.Prelude.{◌≡◌, ℕ, ◌<◌, List, Option, true};
 ghost use Rattle.iscsi_pdu.specs.Codes.{stage_code};
 ghost use Rattle.iscsi_pdu.specs.declared.stage.Stage.{Stage};
 ghost use Rattle.iscsi_pdu.specs.declared.login_request.LoginRequest.{LoginRequest};
@@ -6,6 +6,10 @@ ghost use Rattle.iscsi_keys.specs.Parameters.{AreInRange};
 ghost use Rattle.iscsi_login.specs.Stages.{leads_to};
 ghost use Rattle.iscsi_login.specs.Logins.{begun, stepped, step_of};
 ghost use Rattle.iscsi_login.specs.Runs.{Coming, run, IsEntered};
+ghost use Rattle.iscsi_login.specs.Exchanges.{ExchangeValue, started, taken, progress_of};
+ghost use Rattle.iscsi_login.specs.ExchangeRuns.{exchanged, texts_of, IsLetIn};
+ghost use Rattle.iscsi_login.specs.declared.challenge.Challenge.{Challenge};
+ghost use Rattle.iscsi_login.specs.declared.progress.LoginProgress.TheVariants.{Begins};
 ghost use Rattle.iscsi_login.specs.declared.target.LoginTarget.{LoginTarget};
 ghost use Rattle.iscsi_login.specs.declared.login.Login.TheVariants.{Ended};
 ghost use Rattle.iscsi_login.specs.declared.login.LoginEnd.{LoginEnd};
@@ -18,6 +22,19 @@ ghost use Rattle.iscsi_login.specs.declared.login.LoginStep.TheVariants.{Ends};
 pub fn reached_by_name()
     ensures let_in { (group : ℕ) (target : LoginTarget) (comings : List Coming) (f : FullFeature) → run target (begun group) comings ≡ Ended (ends.FullFeature f) → IsEntered target comings f.admission f.session_type }
     ensures in_range { (group : ℕ) (target : LoginTarget) (comings : List Coming) (f : FullFeature) → run target (begun group) comings ≡ Ended (ends.FullFeature f) → AreInRange f.parameters }
+{}
+
+/// Law: whatever comes, in whatever pieces, an exchange reaches the full feature phase only as one of its texts names an initiator
+/// that is let in, and a normal session only as that text names the target; and, where the target asks for CHAP, only as one
+/// carries the digest that a secret of that name makes of the challenge. What it has agreed is in its ranges.
+pub fn begins_by_name()
+    ensures let_in { (group : ℕ) (target : LoginTarget) (challenge : Option Challenge) (comings : List Coming) (f : FullFeature) → (exchanged target (started group challenge) comings).login ≡ Ended (ends.FullFeature f) → IsLetIn target challenge (texts_of comings) f.admission f.session_type }
+    ensures in_range { (group : ℕ) (target : LoginTarget) (challenge : Option Challenge) (comings : List Coming) (f : FullFeature) → (exchanged target (started group challenge) comings).login ≡ Ended (ends.FullFeature f) → AreInRange f.parameters }
+{}
+
+/// Law: where a request is told to begin a session, its login has reached the full feature phase with it.
+pub fn told_as_begun()
+    ensures { (target : LoginTarget) (e : ExchangeValue) (r : LoginRequest) (payload : List ℕ) (f : FullFeature) → progress_of e target r payload ≡ Begins f → (taken e target r payload).login ≡ Ended (ends.FullFeature f) }
 {}
 
 /// Law: a login that has ended stays as it ended, and answers each request by that end.

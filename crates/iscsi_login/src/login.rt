@@ -8,7 +8,7 @@ use crate::names::SessionType;
 use crate::stages::{is_awaited, leads_to};
 use crate::target::LoginTarget;
 use iscsi_keys::SessionParameters;
-use iscsi_pdu::{LoginRequest, LoginStatus, Stage};
+use iscsi_pdu::{LoginRequest, LoginStatus, SerialNumber, Stage};
 use std::alloc::AllocError;
 
 /// A login phase, as far as it has come.
@@ -47,6 +47,12 @@ pub struct FullFeature {
     pub session_type: SessionType,
     /// The initiator's part of the session identifier, six bytes.
     pub isid: u64,
+    /// The target's part as the initiator has given it: 0 where it asks for a new session.
+    pub tsih: u16,
+    /// The connection identifier.
+    pub cid: u16,
+    /// The CmdSN that is expected first.
+    pub cmd_sn: SerialNumber,
     pub parameters: SessionParameters,
 }
 
@@ -99,7 +105,7 @@ impl Login {
     }
 
     /// Adds the text of the answer to a request, after which the login is the next one.
-    fn write_text(
+    pub(crate) fn write_text(
         self,
         next: Login,
         target: &LoginTarget,
@@ -121,7 +127,7 @@ impl Login {
         }
     }
 
-    fn after(self, target: &LoginTarget, request: &LoginRequest, text: &[u8]) -> Login
+    pub(crate) fn after(self, target: &LoginTarget, request: &LoginRequest, text: &[u8]) -> Login
         requires { length text.now ≤ 65536 }
         ensures { result ≡ stepped self target.now request.now text.now }
     {
@@ -131,7 +137,7 @@ impl Login {
         }
     }
 
-    fn answer_to(self, request: &LoginRequest) -> LoginStep
+    pub(crate) fn answer_to(self, request: &LoginRequest) -> LoginStep
         ensures { result ≡ step_of self request.now }
     {
         match self {
@@ -224,6 +230,9 @@ impl OpenLogin {
                 admission: admitted.admission,
                 session_type: admitted.session_type,
                 isid: request.isid,
+                tsih: request.tsih,
+                cid: request.cid,
+                cmd_sn: request.cmd_sn,
                 parameters: admitted.negotiation.parameters,
             })),
             stage => self.at(request, stage, Some(admitted)),

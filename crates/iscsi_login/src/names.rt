@@ -1,6 +1,6 @@
 ghost use Rattle.std.specs.Prelude.{◌≡◌, ◌≤◌, length};
 ghost use Rattle.std.specs.Option.{option_copied};
-ghost use Rattle.iscsi_login.specs.Names.{declared, session_type_in};
+ghost use Rattle.iscsi_login.specs.Names.{declared, declared_as, session_type_in};
 
 use iscsi_keys::{Key, TextItem, first_item};
 
@@ -16,6 +16,14 @@ pub fn declared_value<'a>(text: &'a [u8], key: Key) -> Option<&'a [u8]>
     requires { length text.now ≤ 65536 }
     ensures { option_copied result ≡ declared text.now key }
 {
+    value_named(text, key.name())
+}
+
+/// The value that a text first gives the key of the name.
+pub(crate) fn value_named<'a>(text: &'a [u8], wanted: &[u8]) -> Option<&'a [u8]>
+    requires { length text.now ≤ 65536 }
+    ensures { option_copied result ≡ declared_as text.now wanted.now }
+{
     let mut left = text;
     'items: for _ in 0..text.len() + 1 {
         match first_item(left) {
@@ -24,7 +32,7 @@ pub fn declared_value<'a>(text: &'a [u8], key: Key) -> Option<&'a [u8]>
                 value,
                 rest,
             } => {
-                if name == key.name() {
+                if name == wanted {
                     return Some(value);
                 }
                 left = rest;

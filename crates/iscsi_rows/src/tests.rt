@@ -1,3 +1,4 @@
+mod chap_values;
 mod keys;
 mod logins;
 mod pdus;

@@ -120,7 +120,7 @@ fn a_login_may_begin_with_operational_keys(rt: HostRuntime) -> Result<(), Fail> 
         answer.as_slice(),
         b"TargetPortalGroupTag=1\0X-own=NotUnderstood\0".as_slice()
     );
-    assert!(rt; begun(step)?.admission == Admission::Other);
+    assert!(rt; begun(step)?.admission == Admission::Other(0x533F_C58F_33ED_C169));
     Ok(())
 }
 
@@ -359,7 +359,9 @@ fn a_host_that_is_named_twice_is_the_first_and_no_name_is_none(
         any_host: true,
     };
     assert!(rt; access.admit(b"iqn.2026-11.localhost:a") == Some(Admission::Listed(1)));
-    assert!(rt; access.admit(b"iqn.2026-11.localhost:b") == Some(Admission::Other));
+    assert!(rt;
+        access.admit(b"iqn.2026-11.localhost:b") == Some(Admission::Other(0x5681_B243_1E96_440A))
+    );
     assert!(rt; access.admit(b"") == None);
     Ok(())
 }

@@ -18,7 +18,7 @@ returns-in-Invalid c =
 pub items-preserved : goal.items-preserved
 items-preserved c =
     let answered_so : c.unwrap_or.result ≡ result_unwrap_or (answered c.items.negotiation c.in-Pair.key.now c.in-Pair.value.now) answer.Nothing = search rules in
-    let written : c.write_answer.new.out.items ≡ c.items.out.items ++ answer_item c.in-Pair.key.now c.unwrap_or.result = search rules in
+    let written : c.write_answer.new.out.items ≡ c.items.out.items ++ answer_item c.items.negotiation.terms.method c.in-Pair.key.now c.unwrap_or.result = search rules in
     one_written (length c.args.text.now + 1) c.items.counter c.items.negotiation c.offer-answer.new.self c.items.out.items c.write_answer.new.out.items c.items.left.now
     c.in-Pair.key.now c.in-Pair.value.now c.in-Pair.rest.now _ c.unwrap_or.result c.items-test.true c.in-Pair.ensures.item c.offer-answer.ensures.state answered_so written
     c.items.invariant

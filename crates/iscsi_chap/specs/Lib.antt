@@ -1,0 +1,5 @@
+pub mod Algorithms
+pub mod Digests
+pub mod Binaries
+pub mod Entries
+pub mod Secrets

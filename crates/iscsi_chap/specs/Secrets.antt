@@ -1,0 +1,180 @@
+-- The text of a secrets file: a line a host, NAME USER SECRET, or that and TARGET-USER TARGET-SECRET (profile).
+use Rattle.std.specs.Prelude.{◌≡◌, ℕ, zero, suc, ◌+◌, ◌==◌, ◌&&◌, ◌||◌, not, nat_le, Bool, List, [], ◌∷◌, ◌++◌, length, take, drop, slice_index, map, Option, Some, None, Result, Ok, Err, if◌then◌else◌}
+use Rattle.std.specs.List.{position}
+use Rattle.std.specs.Option.{option_map}
+use denote.Ref.{Bor}
+use Rattle.iscsi_chap.specs.declared.entry.Credentials.{Credentials}
+use Rattle.iscsi_chap.specs.declared.entry.ChapEntry.{ChapEntry}
+use Rattle.iscsi_chap.specs.declared.entry.ChapSecrets.{ChapSecrets}
+use Rattle.iscsi_chap.specs.declared.fields.CredentialsFields.{CredentialsFields}
+use Rattle.iscsi_chap.specs.declared.fields.Fields.{Fields}
+use Rattle.iscsi_chap.specs.declared.words.Word as cut
+use Rattle.iscsi_chap.specs.declared.secrets_fault.LineFault.{LineFault}
+use Rattle.iscsi_chap.specs.declared.secrets_fault.LineFault.TheVariants.{FieldCount, SecretLength}
+use Rattle.iscsi_chap.specs.declared.secrets_fault.SecretsFault.{SecretsFault}
+use Rattle.iscsi_chap.specs.declared.secrets_fault.SecretsFault.TheVariants.{Line, NoMemory}
+
+pub record CredentialsValue : Type 0 where
+  pub user : List ℕ
+  pub secret : List ℕ
+
+pub record EntryValue : Type 0 where
+  pub host : List ℕ
+  pub own : CredentialsValue
+  pub target : Option CredentialsValue
+
+abbrev pub credentials_value : Credentials → CredentialsValue
+credentials_value c = record { user = c.user.items; secret = c.secret.items }
+
+abbrev pub entry_value : ChapEntry → EntryValue
+entry_value e = record { host = e.host.items; own = credentials_value e.own; target = option_map credentials_value e.target }
+
+abbrev pub entry_values : List ChapEntry → List EntryValue
+entry_values entries = map entry_value entries
+
+abbrev pub credentials_fields_value : CredentialsFields → CredentialsValue
+credentials_fields_value c = record { user = c.user.now; secret = c.secret.now }
+
+abbrev pub fields_value : Fields → EntryValue
+fields_value f = record { host = f.host.now; own = credentials_fields_value f.own; target = option_map credentials_fields_value f.target }
+
+-- spaces, 32, tabs, 9, and carriage returns, 13, part words
+abbrev pub is_blank : ℕ → Bool
+is_blank b = (b == 32) || (b == 9) || (b == 13)
+
+-- what stands before a place, or all; and what stands from there on
+abbrev pub front : Option ℕ → (text : List ℕ) → List ℕ
+front None text = text
+front (Some n) text = take n text
+
+abbrev pub back : Option ℕ → (text : List ℕ) → List ℕ
+back None text = []
+back (Some n) text = drop n text
+
+abbrev pub trimmed : (line : List ℕ) → List ℕ
+trimmed line = back (position (λ b. not (is_blank b)) line) line
+
+-- a word, and what is behind it
+pub record WordValue : Type 0 where
+  pub text : List ℕ
+  pub rest : List ℕ
+
+abbrev pub word_of : (words : List ℕ) → WordValue
+word_of words = record { text = front (position is_blank words) words; rest = back (position is_blank words) words }
+
+-- a word that begins with #, 35, begins a comment
+abbrev pub word_at : (words : List ℕ) → Option WordValue
+word_at words =
+    if length words == 0 then None
+    else if slice_index words 0 == 35 then None
+    else Some (word_of words)
+
+unfoldable pub first_word : (line : List ℕ) → Option WordValue
+first_word line = word_at (trimmed line)
+
+abbrev pub some_word_value : cut.Word → WordValue
+some_word_value w = record { text = w.text.now; rest = w.rest.now }
+
+abbrev pub word_value : Option cut.Word → Option WordValue
+word_value None = None
+word_value (Some w) = Some (some_word_value w)
+
+abbrev pub words_from : (others : List ℕ → List (List ℕ)) → Option WordValue → List (List ℕ)
+words_from others None = []
+words_from others (Some w) = w.text ∷ others w.rest
+
+-- so many words at most
+abbrev pub words_within : ℕ → (line : List ℕ) → List (List ℕ)
+words_within zero line = []
+words_within (suc more) line = words_from (words_within more) (first_word line)
+
+-- six words are too many already
+abbrev pub words_of : (line : List ℕ) → List (List ℕ)
+words_of line = words_within 6 line
+
+abbrev pub is_secret : List ℕ → Bool
+is_secret secret = nat_le 12 (length secret) && nat_le (length secret) 128
+
+abbrev pub checked_target : (entry : EntryValue) → Option CredentialsValue → Result (Option EntryValue) LineFault
+checked_target entry None = Ok (Some entry)
+checked_target entry (Some target) = if is_secret target.secret then Ok (Some entry) else Err SecretLength
+
+abbrev pub checked : (host : List ℕ) → (own : CredentialsValue) → (target : Option CredentialsValue) → Result (Option EntryValue) LineFault
+checked host own target =
+    if is_secret own.secret then checked_target (record { host = host; own = own; target = target }) target else Err SecretLength
+
+abbrev pub credentials : (user secret : List ℕ) → CredentialsValue
+credentials user secret = record { user = user; secret = secret }
+
+-- what words say: nothing, or an entry
+abbrev pub entry_by : List (List ℕ) → Result (Option EntryValue) LineFault
+entry_by [] = Ok None
+entry_by (host ∷ user ∷ secret ∷ []) = checked host (credentials user secret) None
+entry_by (host ∷ user ∷ secret ∷ target_user ∷ target_secret ∷ []) =
+    checked host (credentials user secret) (Some (credentials target_user target_secret))
+entry_by _ = Err FieldCount
+
+unfoldable pub line_entry : (line : List ℕ) → Result (Option EntryValue) LineFault
+line_entry line = entry_by (words_of line)
+
+abbrev pub said_value : Result (Option Fields) LineFault → Result (Option EntryValue) LineFault
+said_value (Ok said) = Ok (option_map fields_value said)
+said_value (Err fault) = Err fault
+
+-- the first line, which a line feed, 10, ends, and what is behind that
+abbrev pub line_of : (text : List ℕ) → List ℕ
+line_of text = front (position (λ b. b == 10) text) text
+
+abbrev pub behind : Option ℕ → (text : List ℕ) → Option (List ℕ)
+behind None text = None
+behind (Some n) text = Some (drop (n + 1) text)
+
+abbrev pub rest_of : (text : List ℕ) → Option (List ℕ)
+rest_of text = behind (position (λ b. b == 10) text) text
+
+abbrev pub rest_value : Option (Bor (List ℕ)) → Option (List ℕ)
+rest_value None = None
+rest_value (Some rest) = Some rest.now
+
+-- what some lines say, and then what those behind them say
+abbrev pub with_front : List EntryValue → Result (List EntryValue) (ℕ × LineFault) → Result (List EntryValue) (ℕ × LineFault)
+with_front front (Ok others) = Ok (front ++ others)
+with_front front (Err fault) = Err fault
+
+abbrev pub by_line : (number : ℕ) → Result (Option EntryValue) LineFault → Result (List EntryValue) (ℕ × LineFault) → Result (List EntryValue) (ℕ × LineFault)
+by_line number (Err fault) others = Err (number, fault)
+by_line number (Ok None) others = others
+by_line number (Ok (Some entry)) others = with_front (entry ∷ []) others
+
+abbrev pub lines_at : (others : Option (List ℕ) → Result (List EntryValue) (ℕ × LineFault)) → (number : ℕ) → Option (List ℕ) → Result (List EntryValue) (ℕ × LineFault)
+lines_at others number None = Ok []
+lines_at others number (Some text) = by_line number (line_entry (line_of text)) (others (rest_of text))
+
+-- the entries of so many lines, the first of them of this number, or the first line with a fault
+abbrev pub entries_within : ℕ → (number : ℕ) → Option (List ℕ) → Result (List EntryValue) (ℕ × LineFault)
+entries_within zero number text = Ok []
+entries_within (suc lines) number text = lines_at (entries_within lines (number + 1)) number text
+
+-- but for the last line each has a line feed, so there is one line more than bytes at most
+abbrev pub secrets_in : (text : List ℕ) → Result (List EntryValue) (ℕ × LineFault)
+secrets_in text = entries_within (length text + 1) 1 (Some text)
+
+-- what a line says was added
+abbrev pub TakesLine : (old new : List EntryValue) → Result (Option EntryValue) LineFault → Type 0
+TakesLine old new (Ok None) = new ≡ old
+TakesLine old new (Ok (Some entry)) = new ≡ old ++ entry ∷ []
+TakesLine old new (Err fault) = ⊥
+
+-- this line has the fault, unless memory ran out
+abbrev pub FailsAt : (number : ℕ) → SecretsFault → Result (Option EntryValue) LineFault → Type 0
+FailsAt number (Line n what) said = (n ≡ number) × (said ≡ Err what)
+FailsAt number NoMemory said = Unit {0}
+
+abbrev pub IsFault : SecretsFault → Result (List EntryValue) (ℕ × LineFault) → Type 0
+IsFault (Line n what) said = said ≡ Err (n, what)
+IsFault NoMemory said = Unit {0}
+
+-- what was given is what the text says, unless memory ran out
+abbrev pub GivesSecrets : Result ChapSecrets SecretsFault → Result (List EntryValue) (ℕ × LineFault) → Type 0
+GivesSecrets (Ok secrets) said = said ≡ Ok (entry_values secrets.entries.items)
+GivesSecrets (Err fault) said = IsFault fault said

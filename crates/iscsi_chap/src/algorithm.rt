@@ -1,0 +1,52 @@
+ghost use Rattle.std.specs.Prelude.{◌≡◌};
+ghost use Rattle.iscsi_chap.specs.Algorithms.{algorithm_number, is_number, is_offered, chosen_algorithm};
+
+use iscsi_keys::number_in;
+
+/// The digest that answers a challenge.
+#[derive(Clone, Copy, Debug, PartialEq, Eq)]
+pub enum ChapAlgorithm {
+    Sha256,
+    Md5,
+}
+
+impl ChapAlgorithm {
+    /// Its number (IANA, "PPP Authentication Algorithms").
+    pub fn number(self) -> u32
+        ensures { result ≡ algorithm_number self }
+    {
+        match self {
+            ChapAlgorithm::Sha256 => 7,
+            ChapAlgorithm::Md5 => 5,
+        }
+    }
+}
+
+/// Of the algorithms in a list of `CHAP_A` the one that the target takes: SHA-256 before MD5.
+pub fn chosen_algorithm(list: &[u8]) -> Option<ChapAlgorithm>
+    ensures { result ≡ chosen_algorithm list.now }
+{
+    if is_offered(list, 7) {
+        Some(ChapAlgorithm::Sha256)
+    } else if is_offered(list, 5) {
+        Some(ChapAlgorithm::Md5)
+    } else {
+        None
+    }
+}
+
+fn is_offered(list: &[u8], number: u32) -> bool
+    ensures { result ≡ is_offered list.now number }
+{
+    list.split(|byte| *byte == b',')
+        .any(|element| is_number(element, number))
+}
+
+fn is_number(element: &[u8], number: u32) -> bool
+    ensures { result ≡ is_number element.now number }
+{
+    match number_in(element) {
+        None => false,
+        Some(own) => own == number,
+    }
+}

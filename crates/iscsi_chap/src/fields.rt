@@ -1,0 +1,110 @@
+ghost use Rattle.std.specs.Prelude.{◌≡◌, IfOk};
+ghost use Rattle.std.specs.Option.{option_map};
+ghost use Rattle.iscsi_chap.specs.Secrets.{line_entry, said_value, fields_value, entry_value, credentials_value, credentials_fields_value, is_secret, checked};
+
+use crate::entry::{ChapEntry, Credentials};
+use crate::secrets_fault::LineFault;
+use crate::words::first_word;
+use std::alloc::{AllocError, Global};
+
+/// The fewest bytes of a secret, and the most.
+const SHORTEST_SECRET: usize = 12;
+
+const LONGEST_SECRET: usize = 128;
+
+/// A user and a secret, where they stand in a line.
+#[derive(Clone, Copy)]
+pub(crate) struct CredentialsFields<'a> {
+    pub(crate) user: &'a [u8],
+    pub(crate) secret: &'a [u8],
+}
+
+/// An entry, where it stands in a line.
+#[derive(Clone, Copy)]
+pub(crate) struct Fields<'a> {
+    pub(crate) host: &'a [u8],
+    pub(crate) own: CredentialsFields<'a>,
+    pub(crate) target: Option<CredentialsFields<'a>>,
+}
+
+/// What a line says: nothing, or an entry.
+#[tactic(auto, unfolding(crate::specs::Secrets::line_entry))]
+pub(crate) fn fields_in(line: &[u8]) -> Result<Option<Fields<'_>>, LineFault>
+    ensures { said_value result ≡ line_entry line.now }
+{
+    let Some(host) = first_word(line) else {
+        return Ok(None);
+    };
+    let Some(user) = first_word(host.rest) else {
+        return Err(LineFault::FieldCount);
+    };
+    let Some(secret) = first_word(user.rest) else {
+        return Err(LineFault::FieldCount);
+    };
+    let own = CredentialsFields {
+        user: user.text,
+        secret: secret.text,
+    };
+    let Some(target_user) = first_word(secret.rest) else {
+        return checked(host.text, own, None);
+    };
+    let Some(target_secret) = first_word(target_user.rest) else {
+        return Err(LineFault::FieldCount);
+    };
+    if first_word(target_secret.rest).is_some() {
+        return Err(LineFault::FieldCount);
+    }
+    let target = CredentialsFields {
+        user: target_user.text,
+        secret: target_secret.text,
+    };
+    checked(host.text, own, Some(target))
+}
+
+/// An entry, where its secrets have their lengths.
+fn checked<'a>(
+    host: &'a [u8],
+    own: CredentialsFields<'a>,
+    target: Option<CredentialsFields<'a>>,
+) -> Result<Option<Fields<'a>>, LineFault>
+    ensures { said_value result ≡ checked host.now (credentials_fields_value own.entry) (option_map credentials_fields_value target.entry) }
+{
+    if !is_secret(own.secret) {
+        return Err(LineFault::SecretLength);
+    }
+    if let Some(target) = target
+        && !is_secret(target.secret)
+    {
+        return Err(LineFault::SecretLength);
+    }
+    Ok(Some(Fields { host, own, target }))
+}
+
+fn is_secret(secret: &[u8]) -> bool
+    ensures { result ≡ is_secret secret.now }
+{
+    SHORTEST_SECRET <= secret.len() && secret.len() <= LONGEST_SECRET
+}
+
+/// A copy of an entry.
+pub(crate) fn entry_of(alloc: Global, fields: Fields<'_>) -> Result<ChapEntry, AllocError>
+    ensures { IfOk result (λ entry. entry_value entry ≡ fields_value fields.entry) }
+{
+    Ok(ChapEntry {
+        host: Vec::from_slice(alloc, fields.host)?,
+        own: credentials_of(alloc, fields.own)?,
+        target: match fields.target {
+            None => None,
+            Some(target) => Some(credentials_of(alloc, target)?),
+        },
+    })
+}
+
+fn credentials_of(alloc: Global, fields: CredentialsFields<'_>) -> Result<Credentials, AllocError>
+    ensures { IfOk result (λ own. credentials_value own ≡ credentials_fields_value fields.entry) }
+{
+    Ok(Credentials {
+        user: Vec::from_slice(alloc, fields.user)?,
+        secret: Vec::from_slice(alloc, fields.secret)?,
+    })
+}

@@ -1,0 +1,27 @@
+ghost use Rattle.std.specs.Prelude.{◌≡◌, Some, None, Ok, Err, codes};
+ghost use Rattle.iscsi_chap.specs.Algorithms.{chosen_algorithm};
+ghost use Rattle.iscsi_chap.specs.Secrets.{credentials, line_entry};
+ghost use Rattle.iscsi_chap.specs.declared.algorithm.ChapAlgorithm.TheVariants.{Sha256, Md5};
+ghost use Rattle.iscsi_chap.specs.declared.secrets_fault.LineFault.TheVariants.{FieldCount, SecretLength};
+
+/// Worked rows: the algorithm that is taken from a list.
+pub fn algorithm_rows()
+    ensures sha256_before_md5 { chosen_algorithm (codes "5,7") ≡ Some Sha256 }
+    ensures md5_alone { chosen_algorithm (codes "6,5") ≡ Some Md5 }
+    ensures hexadecimal { chosen_algorithm (codes "0x7") ≡ Some Sha256 }
+    ensures neither { chosen_algorithm (codes "6,77") ≡ None }
+{}
+
+/// Worked rows: the lines of a secrets file.
+#[tactic(auto, unfolding(crate::specs::Secrets::line_entry, crate::specs::Secrets::first_word))]
+pub fn line_rows()
+    ensures empty { line_entry (codes "") ≡ Ok None }
+    ensures comment { line_entry (codes "# a b c") ≡ Ok None }
+    ensures host { line_entry (codes "a  b twelve-bytes") ≡ Ok (Some (record { host = codes "a"; own = credentials (codes "b") (codes "twelve-bytes"); target = None })) }
+    ensures host_and_target { line_entry (codes "a b twelve-bytes c twelve-more-") ≡ Ok (Some (record { host = codes "a"; own = credentials (codes "b") (codes "twelve-bytes"); target = Some (credentials (codes "c") (codes "twelve-more-")) })) }
+    ensures comment_behind { line_entry (codes "a b twelve-bytes #c") ≡ Ok (Some (record { host = codes "a"; own = credentials (codes "b") (codes "twelve-bytes"); target = None })) }
+    ensures two_words { line_entry (codes "a b") ≡ Err FieldCount }
+    ensures four_words { line_entry (codes "a b twelve-bytes c") ≡ Err FieldCount }
+    ensures six_words { line_entry (codes "a b twelve-bytes c twelve-more- d") ≡ Err FieldCount }
+    ensures eleven_bytes { line_entry (codes "a b eleven-byte") ≡ Err SecretLength }
+{}

@@ -1,0 +1,70 @@
+ghost use Rattle.std.specs.Prelude.{◌≡◌, ◌==◌, ◌<◌, length, OnOk, IfErr, IfSome};
+ghost use Rattle.std.specs.List.{position};
+ghost use Rattle.iscsi_chap.specs.Secrets.{GivesSecrets, TakesLine, FailsAt, entry_values, line_entry, secrets_in, line_of, rest_of, rest_value};
+
+use crate::entry::{ChapEntry, ChapSecrets};
+use crate::fields::{entry_of, fields_in};
+use crate::secrets_fault::SecretsFault;
+use std::alloc::Global;
+
+impl ChapSecrets {
+    /// The entries of a secrets file, in the order of its lines, or its first line with a fault. A line is
+    /// `NAME USER SECRET` or `NAME USER SECRET TARGET-USER TARGET-SECRET`, its words parted by spaces or tabs; a word that
+    /// begins with `#` begins a comment; a line without a word says nothing (profile). `NoMemory` may come in place of any
+    /// answer.
+    pub fn parse(alloc: Global, text: &[u8]) -> Result<ChapSecrets, SecretsFault>
+        ensures { GivesSecrets result (secrets_in text.now) }
+    {
+        let mut entries = Vec::new(alloc);
+        let mut rest = Some(text);
+        'lines: for place in 0..text.len() + 1 {
+            let Some(lines) = rest else {
+                return Ok(ChapSecrets { entries });
+            };
+            let (line, others) = first_line(lines);
+            match take_line(&mut entries, place + 1, line) {
+                Ok(()) => rest = others,
+                Err(fault) => return Err(fault),
+            }
+        }
+        Ok(ChapSecrets { entries })
+    }
+}
+
+/// The first line, without its line feed, and what is behind that.
+fn first_line(text: &[u8]) -> (&[u8], Option<&[u8]>)
+    ensures line { result.0.now ≡ line_of text.now }
+    ensures rest { rest_value result.1 ≡ rest_of text.now }
+{
+    match line_end(text) {
+        None => (text, None),
+        Some(place) => (&text[..place], Some(&text[place + 1..])),
+    }
+}
+
+/// Where the first line feed stands.
+fn line_end(text: &[u8]) -> Option<usize>
+    ensures place { result ≡ position (λ b. b == 10) text.now }
+    ensures within { IfSome result (λ place. place < length text.now) }
+{
+    text.iter().position(|byte| *byte == b'\n')
+}
+
+/// Adds the entry of a line, where it has one.
+fn take_line(entries: &mut Vec<ChapEntry>, number: usize, line: &[u8]) -> Result<(), SecretsFault>
+    ensures ok { OnOk result (TakesLine (entry_values entries.old.items) (entry_values entries.new.items) (line_entry line.now)) }
+    ensures err { IfErr result (λ fault. FailsAt number fault (line_entry line.now)) }
+{
+    let fields = match fields_in(line) {
+        Err(what) => return Err(SecretsFault::Line { number, what }),
+        Ok(None) => return Ok(()),
+        Ok(Some(fields)) => fields,
+    };
+    let Ok(entry) = entry_of(*entries.allocator(), fields) else {
+        return Err(SecretsFault::NoMemory);
+    };
+    match entries.push(entry) {
+        Ok(()) => Ok(()),
+        Err(_) => Err(SecretsFault::NoMemory),
+    }
+}

@@ -1,0 +1,22 @@
+use thiserror::Error;
+
+/// What is wrong with a line of a secrets file. No secret is told.
+#[derive(Clone, Copy, Debug, PartialEq, Eq, Error)]
+pub enum LineFault {
+    /// Not `NAME USER SECRET`, nor that with `TARGET-USER TARGET-SECRET` behind it.
+    #[error("expected NAME USER SECRET, or NAME USER SECRET TARGET-USER TARGET-SECRET")]
+    FieldCount,
+    /// A secret of less than 12 bytes, or of more than 128.
+    #[error("a secret has 12 to 128 bytes")]
+    SecretLength,
+}
+
+/// Why a secrets file isn't taken.
+#[derive(Clone, Copy, Debug, PartialEq, Eq, Error)]
+pub enum SecretsFault {
+    /// The first line with a fault, all lines counted from 1.
+    #[error("line {number}: {what}")]
+    Line { number: usize, what: LineFault },
+    #[error("out of memory")]
+    NoMemory,
+}

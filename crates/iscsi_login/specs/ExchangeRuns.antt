@@ -1,0 +1,64 @@
+-- A login's exchange from its first request on, and what its texts show of the initiator.
+use Rattle.std.specs.Prelude.{◌≡◌, ℕ, List, [], ◌∷◌, ◌++◌, Option, Some, None, Any, if◌then◌else◌}
+use Rattle.iscsi_keys.specs.declared.key.Key.TheVariants as key
+use Rattle.iscsi_chap.specs.Binaries.{binary_value}
+use Rattle.iscsi_chap.specs.Digests.{chap_digest}
+use Rattle.iscsi_chap.specs.Entries.{entry_among}
+use Rattle.iscsi_chap.specs.declared.algorithm.ChapAlgorithm.{ChapAlgorithm}
+use Rattle.iscsi_chap.specs.declared.entry.ChapEntry.{ChapEntry}
+use Rattle.iscsi_login.specs.Accesses.{admitted}
+use Rattle.iscsi_login.specs.Admissions.{target_fault}
+use Rattle.iscsi_login.specs.ChapKeys.{name_key, response_key}
+use Rattle.iscsi_login.specs.Exchanges.{ExchangeValue, taken}
+use Rattle.iscsi_login.specs.Names.{declared, declared_as, session_type_in}
+use Rattle.iscsi_login.specs.Runs.{Coming}
+use Rattle.iscsi_login.specs.declared.access.Admission.{Admission}
+use Rattle.iscsi_login.specs.declared.challenge.Challenge.{Challenge}
+use Rattle.iscsi_login.specs.declared.names.SessionType.{SessionType}
+use Rattle.iscsi_login.specs.declared.target.Authentication.{Authentication}
+use Rattle.iscsi_login.specs.declared.target.Authentication.TheVariants as authentication
+use Rattle.iscsi_login.specs.declared.target.LoginTarget.{LoginTarget}
+
+-- each request with its data segment
+abbrev pub exchanged : LoginTarget → ExchangeValue → List Coming → ExchangeValue
+exchanged target e [] = e
+exchanged target e (c ∷ others) = exchanged target (taken e target c.request c.text) others
+
+-- a text is what the data segments of requests with C and of the next one without it are together
+abbrev pub texts_from : (gathered : List ℕ) → List Coming → List (List ℕ)
+texts_from gathered [] = []
+texts_from gathered (c ∷ others) =
+    if c.request.continues then texts_from (gathered ++ c.text) others else (gathered ++ c.text) ∷ texts_from [] others
+
+abbrev pub texts_of : List Coming → List (List ℕ)
+texts_of comings = texts_from [] comings
+
+-- the text is of the initiator of this name, which is let in as this, and wants such a session of the target
+pub record IsEntryOf (target : LoginTarget) (text name : List ℕ) (a : Admission) (s : SessionType) : Type 0 where
+  pub named : declared text key.InitiatorName ≡ Some name
+  pub let_in : admitted target.access name ≡ Some a
+  pub of_type : session_type_in (declared text key.SessionType) ≡ Some s
+  pub at_target : target_fault target s (declared text key.TargetName) ≡ None
+
+-- the text carries the digest that a secret of the host makes of the challenge
+pub record IsProof (entries : List ChapEntry) (challenge : Option Challenge) (host text : List ℕ) : Type 0 where
+  pub asked : Challenge
+  pub algorithm : ChapAlgorithm
+  pub user : List ℕ
+  pub entry : ChapEntry
+  pub response : List ℕ
+  pub is_asked : challenge ≡ Some asked
+  pub as_user : declared_as text name_key ≡ Some user
+  pub has_entry : entry_among entries host user ≡ Some entry
+  pub responds : declared_as text response_key ≡ Some response
+  pub is_digest : binary_value response ≡ Some (chap_digest algorithm asked.identifier entry.own.secret.items asked.bytes)
+
+abbrev pub IsAuthenticated : Authentication → Option Challenge → (host : List ℕ) → (texts : List (List ℕ)) → Type 0
+IsAuthenticated authentication.None challenge host texts = Unit {0}
+IsAuthenticated (authentication.Chap secrets) challenge host texts = Any (IsProof secrets.entries.items challenge host) texts
+
+-- one of the texts is of an initiator that is let in as this, and, where it has to, one authenticates that initiator
+pub record IsLetIn (target : LoginTarget) (challenge : Option Challenge) (texts : List (List ℕ)) (a : Admission) (s : SessionType) : Type 0 where
+  pub name : List ℕ
+  pub entered : Any (λ text. IsEntryOf target text name a s) texts
+  pub authenticated : IsAuthenticated target.authentication challenge name texts
