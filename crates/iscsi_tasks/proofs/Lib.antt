@@ -1,0 +1,5 @@
+pub mod Places
+pub mod Parts
+pub mod Order
+pub mod Pieces
+pub mod Bounds

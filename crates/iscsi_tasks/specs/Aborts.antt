@@ -1,0 +1,31 @@
+-- Tasks that end without having been executed (RFC 7143, "Task Management Function Request").
+use Rattle.std.specs.Prelude.{ℕ, ◌==◌, Bool, false, not, List, [], ◌∷◌, filter, Option, Some, None, if◌then◌else◌}
+use Rattle.iscsi_pdu.specs.Luns.{unit_of}
+use Rattle.iscsi_tasks.specs.Values.{TaskValue, TasksValue}
+use Rattle.iscsi_tasks.specs.Commands.{has_tag, is_waiting, remembered}
+
+abbrev pub tag_of : TaskValue → ℕ
+tag_of t = t.command.initiator_task_tag
+
+-- its Data-Out that are under way are passed over
+abbrev pub without_task : TasksValue → (tag : ℕ) → TasksValue
+without_task s tag =
+    if is_waiting s tag then record s { waiting = filter (λ t. not (has_tag tag t)) s.waiting; passed_over = remembered s.passed_over tag } else s
+
+abbrev pub is_unit : (unit : ℕ) → Option ℕ → Bool
+is_unit unit None = false
+is_unit unit (Some own) = own == unit
+
+abbrev pub is_at : (unit : ℕ) → TaskValue → Bool
+is_at unit t = is_unit unit (unit_of t.command.lun)
+
+-- the tags of those at the unit
+abbrev pub remembered_at : (unit : ℕ) → (tags : List ℕ) → List TaskValue → List ℕ
+remembered_at unit tags [] = tags
+remembered_at unit tags (t ∷ ts) = remembered_at unit (if is_at unit t then remembered tags (tag_of t) else tags) ts
+
+abbrev pub without_unit : TasksValue → (unit : ℕ) → TasksValue
+without_unit s unit = record s {
+  waiting = filter (λ t. not (is_at unit t)) s.waiting;
+  passed_over = remembered_at unit s.passed_over s.waiting;
+}

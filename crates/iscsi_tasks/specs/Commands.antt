@@ -1,0 +1,102 @@
+-- SCSI Commands, as they come (RFC 7143, "Command Numbering and Acknowledging", "SCSI Command").
+use Rattle.std.specs.Prelude.{ℕ, ◌+◌, ◌≤◌, ◌==◌, nat_lt, nat_le, Bool, false, not, ◌&&◌, ◌||◌, List, [], ◌∷◌, ◌++◌, length, drop, position, is_some, Result, Ok, Err, if◌then◌else◌}
+use Rattle.iscsi_pdu.specs.SerialNumbers.{next}
+use Rattle.iscsi_pdu.specs.declared.serial_number.SerialNumber.{SerialNumber}
+use Rattle.iscsi_pdu.specs.declared.scsi_command.ScsiCommand.{ScsiCommand}
+use Rattle.iscsi_pdu.specs.declared.reject_reason.RejectReason.TheVariants.{TaskInProgress}
+use Rattle.iscsi_keys.specs.declared.parameters.SessionParameters.{SessionParameters}
+use Rattle.iscsi_tasks.specs.declared.awaiting.Awaiting.{Awaiting}
+use Rattle.iscsi_tasks.specs.declared.awaiting.Awaiting.TheVariants.{Turn, Data, Failing, Failed}
+use Rattle.iscsi_tasks.specs.declared.taken.TakenCommand.{TakenCommand}
+use Rattle.iscsi_tasks.specs.declared.taken.TakenCommand.TheVariants.{PassedOver, Rejected, Execute, Waits}
+use Rattle.iscsi_tasks.specs.declared.fault.TasksFault.{TasksFault}
+use Rattle.iscsi_tasks.specs.declared.fault.TasksFault.TheVariants.{TooManyWaiting, TooMuchData}
+use Rattle.iscsi_tasks.specs.Values.{TaskValue, TasksValue, held}
+use Rattle.iscsi_tasks.specs.Writes.{wanted, first_awaited}
+
+-- a PDU with a CmdSN is taken if it is for immediate delivery, or the one that is expected
+abbrev pub is_taken : TasksValue → (immediate : Bool) → (cmd_sn : SerialNumber) → Bool
+is_taken s immediate cmd_sn = immediate || (cmd_sn.number == s.exp_cmd_sn.number)
+
+-- immediate delivery uses no number up
+abbrev pub counted : TasksValue → (immediate : Bool) → TasksValue
+counted s immediate = if immediate then s else record s { exp_cmd_sn = next s.exp_cmd_sn }
+
+abbrev pub has_tag : (tag : ℕ) → TaskValue → Bool
+has_tag tag t = t.command.initiator_task_tag == tag
+
+abbrev pub is_waiting : TasksValue → (tag : ℕ) → Bool
+is_waiting s tag = is_some (position (has_tag tag) s.waiting)
+
+-- a task that has failed keeps no data
+abbrev pub unless_failed : Awaiting → (payload : List ℕ) → List ℕ
+unless_failed Turn payload = payload
+unless_failed (Data s) payload = payload
+unless_failed (Failing fault) payload = []
+unless_failed (Failed fault) payload = []
+
+-- without W whatever comes with a command isn't data
+abbrev pub immediate_data : ScsiCommand → Awaiting → (payload : List ℕ) → List ℕ
+immediate_data c awaiting payload = if c.writes then unless_failed awaiting payload else []
+
+abbrev pub task_awaiting : ScsiCommand → Awaiting → (payload : List ℕ) → TaskValue
+task_awaiting c awaiting payload =
+    record { command = c; bytes = immediate_data c awaiting payload; awaiting = awaiting; r2t_sn = record { number = 0 } }
+
+abbrev pub begun_task : SessionParameters → ScsiCommand → (payload : List ℕ) → TaskValue
+begun_task p c payload = task_awaiting c (first_awaited p c (length payload)) payload
+
+-- all data are there that a unit takes
+abbrev pub is_whole_at : (wanted count : ℕ) → Awaiting → Bool
+is_whole_at wanted count Turn = nat_le wanted count
+is_whole_at wanted count _ = false
+
+-- nothing waits before it, and all of its data came with it
+abbrev pub is_at_once : TasksValue → ScsiCommand → (count : ℕ) → Bool
+is_at_once s c count =
+    (length s.waiting == 0) && is_whole_at (wanted s.limit c) count (first_awaited s.parameters c count)
+
+-- the most that wait, and the most bytes of data that they hold in all
+abbrev pub most_waiting : ℕ
+most_waiting = 32
+
+abbrev pub most_held : ℕ
+most_held = 3407872
+
+pub record IsBounded (waiting : List TaskValue) : Type 0 where
+  pub few : length waiting ≤ most_waiting
+  pub little : held waiting ≤ most_held
+
+-- whether one more may wait, with so many bytes of data
+abbrev pub room_for : List TaskValue → (count : ℕ) → Result (Unit {0}) TasksFault
+room_for waiting count =
+    if nat_le most_waiting (length waiting) then Err TooManyWaiting
+    else if nat_le (held waiting + count) most_held then Ok tt
+    else Err TooMuchData
+
+abbrev pub waits_if : Result (Unit {0}) TasksFault → Result TakenCommand TasksFault
+waits_if (Ok room) = Ok Waits
+waits_if (Err fault) = Err fault
+
+abbrev pub command_answer : TasksValue → ScsiCommand → (payload : List ℕ) → Result TakenCommand TasksFault
+command_answer s c payload =
+    if not (is_taken s c.immediate c.cmd_sn) then Ok PassedOver
+    else if is_waiting s c.initiator_task_tag then Ok (Rejected TaskInProgress)
+    else if is_at_once s c (length payload) then Ok (Execute (wanted s.limit c))
+    else waits_if (room_for s.waiting (length (begun_task s.parameters c payload).bytes))
+
+-- the last 64 tags that were passed over are known
+abbrev pub remembered : (tags : List ℕ) → (tag : ℕ) → List ℕ
+remembered tags tag = if nat_lt (length tags) 64 then tags ++ tag ∷ [] else drop 1 tags ++ tag ∷ []
+
+abbrev pub after_command : TasksValue → ScsiCommand → (payload : List ℕ) → Result TakenCommand TasksFault → TasksValue
+after_command s c payload (Ok PassedOver) = record s { passed_over = remembered s.passed_over c.initiator_task_tag }
+after_command s c payload (Ok (Rejected reason)) = counted s c.immediate
+after_command s c payload (Ok (Execute count)) = counted s c.immediate
+after_command s c payload (Ok Waits) = record (counted s c.immediate) { waiting = s.waiting ++ begun_task s.parameters c payload ∷ [] }
+after_command s c payload (Err fault) = s
+
+-- what is executed at once has its data among what came with it
+abbrev pub IsWithin : (count : ℕ) → TakenCommand → Type 0
+IsWithin count (Execute n) = n ≤ count
+IsWithin count _ = Unit {0}

@@ -1,0 +1,9 @@
+pub mod Values
+pub mod Writes
+pub mod Windows
+pub mod Commands
+pub mod DataOuts
+pub mod Next
+pub mod Aborts
+pub mod Runs
+pub mod Rows

@@ -1,0 +1,53 @@
+-- Values of worked rows.
+use Rattle.std.specs.Prelude.{ℕ, Bool, true, false, replicate}
+use Rattle.iscsi_pdu.specs.declared.serial_number.SerialNumber.{SerialNumber}
+use Rattle.iscsi_pdu.specs.declared.task_attribute.TaskAttribute.TheVariants.{Simple}
+use Rattle.iscsi_pdu.specs.declared.scsi_command.ScsiCommand.{ScsiCommand}
+use Rattle.iscsi_pdu.specs.declared.data_out.DataOut.{DataOut}
+use Rattle.iscsi_keys.specs.declared.parameters.SessionParameters.{SessionParameters}
+use Rattle.iscsi_tasks.specs.declared.sequence.DataSequence.{DataSequence}
+
+abbrev pub sn : ℕ → SerialNumber
+sn n = record { number = n }
+
+-- bursts of 8 bytes, the first of 6
+abbrev pub bursts : (immediate_data initial_r2t : Bool) → SessionParameters
+bursts immediate_data initial_r2t = record {
+  max_send_data_segment_length = 8192;
+  max_burst_length = 8;
+  first_burst_length = 6;
+  initial_r2t = initial_r2t;
+  immediate_data = immediate_data;
+  default_time2wait = 2;
+}
+
+-- a write of so many bytes
+abbrev pub write : (length : ℕ) → (is_final : Bool) → ScsiCommand
+write length is_final = record {
+  immediate = false;
+  is_final = is_final;
+  reads = false;
+  writes = true;
+  task_attribute = Simple;
+  lun = 0;
+  initiator_task_tag = 1;
+  expected_data_transfer_length = length;
+  cmd_sn = sn 1;
+  exp_stat_sn = sn 0;
+  cdb = replicate 16 0;
+}
+
+abbrev pub data_out : (tag number offset : ℕ) → (is_final : Bool) → DataOut
+data_out tag number offset is_final = record {
+  is_final = is_final;
+  lun = 0;
+  initiator_task_tag = 1;
+  target_transfer_tag = tag;
+  exp_stat_sn = sn 0;
+  data_sn = sn number;
+  buffer_offset = offset;
+}
+
+-- what an R2T with tag 5 has asked for, up to the eighth byte, behind its first Data-Out
+abbrev pub begun : DataSequence
+begun = record { target_transfer_tag = 5; end = 8; data_sn = sn 1 }

@@ -1,0 +1,38 @@
+-- What contracts see of the tasks of a session.
+use Rattle.std.specs.Prelude.{ℕ, List, [], length, sum_by}
+use Rattle.iscsi_pdu.specs.declared.scsi_command.ScsiCommand.{ScsiCommand}
+use Rattle.iscsi_pdu.specs.declared.serial_number.SerialNumber.{SerialNumber}
+use Rattle.iscsi_keys.specs.declared.parameters.SessionParameters.{SessionParameters}
+use Rattle.iscsi_tasks.specs.declared.awaiting.Awaiting.{Awaiting}
+
+-- a command that waits: its data so far, and the R2TSN of its next R2T
+pub record TaskValue : Type 0 where
+  pub command : ScsiCommand
+  pub bytes : List ℕ
+  pub awaiting : Awaiting
+  pub r2t_sn : SerialNumber
+
+-- what the session goes by; the most data that a unit takes of a command; the commands that wait, in the order in which they are
+-- executed; tags of commands that were passed over or aborted; and the target transfer tag of the next R2T
+pub record TasksValue : Type 0 where
+  pub parameters : SessionParameters
+  pub limit : ℕ
+  pub exp_cmd_sn : SerialNumber
+  pub waiting : List TaskValue
+  pub passed_over : List ℕ
+  pub next_tag : ℕ
+
+-- before the first PDU
+abbrev pub begun_tasks : SessionParameters → (limit : ℕ) → SerialNumber → TasksValue
+begun_tasks parameters limit exp_cmd_sn = record {
+  parameters = parameters;
+  limit = limit;
+  exp_cmd_sn = exp_cmd_sn;
+  waiting = [];
+  passed_over = [];
+  next_tag = 0;
+}
+
+-- how many bytes of data they hold
+abbrev pub held : List TaskValue → ℕ
+held tasks = sum_by (λ t. length t.bytes) tasks

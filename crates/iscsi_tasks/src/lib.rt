@@ -1,0 +1,23 @@
+//! The full feature phase's order and data: the commands of a session that wait for their turn or their data, in the order in
+//! which they are executed, and what is to be done next (RFC 7143).
+#![tactic(auto)]
+
+mod awaiting;
+mod fault;
+mod laws;
+mod next_task;
+mod passed_over;
+mod rows;
+mod sequence;
+mod taken;
+mod task;
+mod tasks;
+mod waiting;
+
+pub use fault::{TaskFault, TasksFault};
+pub use laws::{aborted_is_gone, commands_in_order, data_are_its_own, tasks_are_bounded};
+pub use next_task::{NextTask, TransferRequest};
+pub use rows::{data_rows, number_rows};
+pub use taken::{TakenCommand, TakenData};
+pub use task::Task;
+pub use tasks::{MOST_HELD, Tasks, WINDOW};

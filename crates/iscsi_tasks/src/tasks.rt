@@ -1,0 +1,237 @@
+use crate::awaiting::Awaiting;
+use crate::fault::TasksFault;
+use crate::next_task::NextTask;
+use crate::passed_over::PassedOver;
+use crate::taken::{TakenCommand, TakenData};
+use crate::task::{Task, wanted};
+use crate::waiting::*;
+use iscsi_keys::SessionParameters;
+use iscsi_pdu::{DataOut, RESERVED_TAG, RejectReason, ScsiCommand, SerialNumber};
+use std::alloc::Global;
+use std::marker::Model;
+
+/// How many commands wait at most, and how many an initiator may send ahead while none waits.
+pub const WINDOW: u32 = 32;
+
+/// The most bytes of data that the commands that wait hold in all.
+pub const MOST_HELD: usize = 3_407_872;
+
+/// How many serial numbers there are.
+const NUMBERS: u64 = 0x1_0000_0000;
+
+/// How far MaxCmdSN is ahead of ExpCmdSN while nothing waits, once round the circle.
+const AHEAD: u64 = NUMBERS + WINDOW as u64 - 1;
+
+/// The tasks of a session in full feature, and the numbers by which commands are ordered. It takes PDUs and says what is to be
+/// done next; whoever calls it reads, executes and answers.
+#[derive(Drop)]
+pub struct Tasks {
+    parameters: SessionParameters,
+    limit: u32,
+    exp_cmd_sn: SerialNumber,
+    waiting: Vec<Task>,
+    passed_over: PassedOver,
+    next_tag: u32,
+}
+
+impl Model for Tasks {
+    ghost use Rattle.std.specs.Prelude.{◌≤◌, length};
+    ghost use Rattle.iscsi_tasks.specs.Values.{TasksValue, held};
+
+    ghost Value = { TasksValue };
+
+    ghost view = { λ t. record { parameters = t.parameters; limit = t.limit; exp_cmd_sn = t.exp_cmd_sn; waiting = t.waiting.items; passed_over = t.passed_over; next_tag = t.next_tag } };
+
+    ghost invariant = { λ t. length t.waiting.items ≤ 32 };
+}
+
+impl Tasks {
+    ghost use Rattle.std.specs.Prelude.{◌≡◌, ◌≢◌, length, Err, IfOk, if◌then◌else◌};
+    ghost use Rattle.iscsi_tasks.specs.declared.fault.TasksFault.TheVariants.{NoMemory};
+    ghost use Rattle.iscsi_tasks.specs.Values.{begun_tasks};
+    ghost use Rattle.iscsi_tasks.specs.Windows.{max_cmd_sn};
+    ghost use Rattle.iscsi_tasks.specs.Commands.{is_taken, counted, is_waiting, is_at_once, command_answer, after_command, IsWithin};
+    ghost use Rattle.iscsi_tasks.specs.DataOuts.{data_answer, after_data};
+    ghost use Rattle.iscsi_tasks.specs.Next.{next_of, after_next};
+    ghost use Rattle.iscsi_tasks.specs.Aborts.{without_task, without_unit};
+
+    /// Of a session that begins, whose units take so many bytes of data of a command at most.
+    pub fn new(
+        alloc: Global,
+        parameters: SessionParameters,
+        limit: u32,
+        exp_cmd_sn: SerialNumber,
+    ) -> Tasks
+        ensures { result ≡ begun_tasks parameters limit exp_cmd_sn }
+    {
+        Tasks {
+            parameters,
+            limit,
+            exp_cmd_sn,
+            waiting: Vec::new(alloc),
+            passed_over: PassedOver::new(),
+            next_tag: 0,
+        }
+    }
+
+    /// The number of the command that is expected next.
+    pub fn exp_cmd_sn(&self) -> SerialNumber
+        ensures { result ≡ self.now.exp_cmd_sn }
+    {
+        self.exp_cmd_sn
+    }
+
+    /// The greatest number that an initiator may send: 31 above ExpCmdSN, less the numbered commands that wait.
+    pub fn max_cmd_sn(&self) -> SerialNumber
+        ensures { result ≡ max_cmd_sn self.now }
+    {
+        let numbered = numbered(self.waiting.as_slice());
+        let number = u64::from(self.exp_cmd_sn.number) + AHEAD - u64::from(numbered);
+        SerialNumber {
+            number: (number % NUMBERS) as u32,
+        }
+    }
+
+    /// Whether a PDU that has a CmdSN is taken, or passed over. A SCSI Command goes through `take_command`.
+    pub fn take_number(&mut self, immediate: bool, cmd_sn: SerialNumber) -> bool
+        ensures taken { result ≡ is_taken self.old immediate cmd_sn }
+        ensures state { self.new ≡ (if result then counted self.old immediate else self.old) }
+    {
+        if immediate {
+            return true;
+        }
+        if cmd_sn.number != self.exp_cmd_sn.number {
+            return false;
+        }
+        self.count(false);
+        true
+    }
+
+    /// Uses a number up, but for immediate delivery.
+    fn count(&mut self, immediate: bool)
+        ensures { self.new ≡ counted self.old immediate }
+    {
+        if !immediate {
+            self.exp_cmd_sn = self.exp_cmd_sn.next();
+        }
+    }
+
+    /// Takes a SCSI Command with what came with it. An error changes nothing.
+    pub fn take_command(
+        &mut self,
+        command: &ScsiCommand,
+        payload: &[u8],
+    ) -> Result<TakenCommand, TasksFault>
+        ensures answer { result ≢ Err NoMemory → result ≡ command_answer self.old command.now payload.now }
+        ensures state { self.new ≡ after_command self.old command.now payload.now result }
+        ensures within { IfOk result (IsWithin (length payload.now)) }
+    {
+        if !command.immediate && command.cmd_sn.number != self.exp_cmd_sn.number {
+            self.passed_over.remember(command.initiator_task_tag);
+            return Ok(TakenCommand::PassedOver);
+        }
+        if is_waiting(self.waiting.as_slice(), command.initiator_task_tag) {
+            self.count(command.immediate);
+            return Ok(TakenCommand::Rejected(RejectReason::TaskInProgress));
+        }
+        if self.is_at_once(command, payload.len()) {
+            self.count(command.immediate);
+            let count = wanted(command, self.limit) as usize;
+            return Ok(TakenCommand::Execute(count));
+        }
+        let task = Task::begin(*self.waiting.allocator(), self.parameters, command, payload)?;
+        add(&mut self.waiting, task)?;
+        self.count(command.immediate);
+        Ok(TakenCommand::Waits)
+    }
+
+    /// Whether nothing waits before the command, and all of its data came with it.
+    fn is_at_once(&self, command: &ScsiCommand, count: usize) -> bool
+        ensures { result ≡ is_at_once self.now command.now count }
+    {
+        self.waiting.is_empty()
+            && match Awaiting::behind_command(self.parameters, command, count) {
+                Awaiting::Turn => count >= wanted(command, self.limit) as usize,
+                _ => false,
+            }
+    }
+
+    /// Takes a Data-Out. An error changes nothing.
+    pub fn take_data(&mut self, data_out: &DataOut, payload: &[u8]) -> Result<TakenData, TasksFault>
+        ensures answer { result ≢ Err NoMemory → result ≡ data_answer self.old data_out.now (length payload.now) }
+        ensures state { self.new ≡ after_data self.old data_out.now payload.now result }
+    {
+        match place_of(self.waiting.as_slice(), data_out.initiator_task_tag) {
+            Some(place) => {
+                if !has_room(self.waiting.as_slice(), payload.len()) {
+                    return Err(TasksFault::TooMuchData);
+                }
+                Ok(take_at(&mut self.waiting, place, data_out, payload)?)
+            }
+            None => {
+                if self.passed_over.has(data_out.initiator_task_tag) {
+                    Ok(TakenData::PassedOver)
+                } else {
+                    Ok(TakenData::Rejected(RejectReason::InvalidPduField))
+                }
+            }
+        }
+    }
+
+    /// What is to be done next: it is asked for until nothing is.
+    pub fn next(&mut self) -> NextTask
+        ensures next { result ≡ next_of self.old }
+        ensures state { self.new ≡ after_next self.old }
+    {
+        let Some(task) = self.waiting.first() else {
+            return NextTask::Idle;
+        };
+        match task.awaiting() {
+            Awaiting::Turn => {
+                if task.is_whole(self.limit) {
+                    let mut task = self.waiting.remove(0);
+                    task.hand(self.limit);
+                    NextTask::Execute(task)
+                } else {
+                    let task = &mut self.waiting[0];
+                    let request = task.ask(self.parameters, self.limit, self.next_tag);
+                    self.next_tag = tag_after(self.next_tag);
+                    NextTask::Ask(request)
+                }
+            }
+            Awaiting::Data(_) | Awaiting::Failing(_) => NextTask::Idle,
+            Awaiting::Failed(fault) => NextTask::Fail(self.waiting.remove(0), fault),
+        }
+    }
+
+    /// Lets the command with the tag go unexecuted, if it waits. Its Data-Out that are under way are passed over.
+    pub fn abort_task(&mut self, initiator_task_tag: u32) -> bool
+        ensures found { result ≡ is_waiting self.old initiator_task_tag }
+        ensures state { self.new ≡ without_task self.old initiator_task_tag }
+    {
+        if !is_waiting(self.waiting.as_slice(), initiator_task_tag) {
+            return false;
+        }
+        self.passed_over.remember(initiator_task_tag);
+        drop_tagged(&mut self.waiting, initiator_task_tag);
+        true
+    }
+
+    /// Lets the commands at a unit go unexecuted. Their Data-Out that are under way are passed over.
+    pub fn drop_unit(&mut self, unit: u8)
+        ensures { self.new ≡ without_unit self.old unit }
+    {
+        remember_at(&mut self.passed_over, self.waiting.as_slice(), unit);
+        drop_at(&mut self.waiting, unit);
+    }
+}
+
+ghost use Rattle.std.specs.Prelude.{◌≡◌};
+ghost use Rattle.iscsi_tasks.specs.Next.{tag_after};
+
+/// The target transfer tag after another: FFFFFFFFh is none.
+fn tag_after(tag: u32) -> u32
+    ensures { result ≡ tag_after tag }
+{
+    if tag < RESERVED_TAG - 1 { tag + 1 } else { 0 }
+}
