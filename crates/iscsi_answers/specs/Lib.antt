@@ -1,0 +1,6 @@
+pub mod Written
+pub mod Single
+pub mod DataIns
+pub mod CommandAnswers
+pub mod Texts
+pub mod Laws

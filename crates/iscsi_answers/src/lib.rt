@@ -1,0 +1,24 @@
+//! The PDUs that answer an initiator in full feature: data and the response to a command, and the answers to NOP-Out, text, task
+//! management and logout. No state here: what an answer goes by is handed in.
+#![tactic(auto)]
+
+mod answers;
+mod command_answer;
+mod data_in;
+mod laws;
+mod limits;
+mod send_targets;
+mod sequence;
+mod text;
+mod writing;
+
+pub use answers::{
+    TextTags, write_logout_response, write_nop_in, write_ping, write_ready_to_transfer,
+    write_reject, write_task_management_response, write_text_response,
+};
+pub use command_answer::{AnsweredCommand, UnitAnswer, write_command_answer};
+pub use laws::{data_are_whole, residual_balances, residual_rows, segments_are_short};
+pub use limits::TransferLimits;
+pub use send_targets::{PortalAddress, Portals};
+pub use sequence::SequenceNumbers;
+pub use text::{declared_length, write_text_answers};
