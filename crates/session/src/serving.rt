@@ -74,7 +74,7 @@ fn converse<S: Service, R: Read, W: Write>(
 }
 
 /// Loses a nexus at every unit, also where another has no room for it, and says whether none was BUSY.
-fn lose_all<S: Service>(alloc: Global, service: &mut S, nexus: Nexus, units: u8) -> bool
+pub fn lose_all<S: Service>(alloc: Global, service: &mut S, nexus: Nexus, units: u8) -> bool
     ensures { IsLostBelow S.notes nexus units service.old service.new result }
 {
     let mut is_lost = true;

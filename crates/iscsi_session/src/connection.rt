@@ -1,0 +1,80 @@
+ghost use Rattle.std.specs.Prelude.{IfErr};
+ghost use Rattle.iscsi_session.specs.Faults.{IsLater};
+
+use crate::fault::IscsiFault;
+use iscsi_answers::{SequenceNumbers, TransferLimits};
+use iscsi_login::FullFeature;
+use iscsi_pdu::SerialNumber;
+use iscsi_tasks::Tasks;
+use std::alloc::Global;
+use std::io::Write;
+
+/// The most data of a command that a unit is handed, in bytes: as much as a COMMAND frame has room for behind a CDB of 16 bytes.
+const MOST_DATA: u32 = 131_053;
+
+/// A text that is being answered (RFC 7143, "Text Response").
+#[derive(Drop)]
+pub(crate) struct OpenText {
+    pub(crate) text: Vec<u8>,
+    /// How much of it was sent.
+    pub(crate) sent: usize,
+    /// The target transfer tag that asks for the rest, where there is one.
+    pub(crate) tag: Option<u32>,
+}
+
+/// A connection in full feature.
+#[derive(Drop)]
+pub(crate) struct Connection {
+    pub(crate) tasks: Tasks,
+    pub(crate) limits: TransferLimits,
+    pub(crate) stat_sn: SerialNumber,
+    pub(crate) open_text: OpenText,
+    pub(crate) cid: u16,
+}
+
+impl Connection {
+    /// One that begins, with the StatSN of its first answer.
+    pub(crate) fn new(alloc: Global, begun: &FullFeature, stat_sn: SerialNumber) -> Connection {
+        let parameters = begun.parameters;
+        Connection {
+            tasks: Tasks::new(alloc, parameters, MOST_DATA, begun.cmd_sn),
+            limits: TransferLimits::new(
+                parameters.max_send_data_segment_length,
+                parameters.max_burst_length,
+            ),
+            stat_sn,
+            open_text: OpenText {
+                text: Vec::new(alloc),
+                sent: 0,
+                tag: None,
+            },
+            cid: begun.cid,
+        }
+    }
+
+    /// The numbers that stand in the answer that comes next.
+    pub(crate) fn numbers(&self) -> SequenceNumbers {
+        SequenceNumbers {
+            stat_sn: self.stat_sn,
+            exp_cmd_sn: self.tasks.exp_cmd_sn(),
+            max_cmd_sn: self.tasks.max_cmd_sn(),
+        }
+    }
+
+    /// Behind an answer that takes up a StatSN.
+    pub(crate) fn has_answered(&mut self) {
+        self.stat_sn = self.stat_sn.next();
+    }
+}
+
+/// Writes what was answered.
+pub(crate) fn flush<W: Write>(out: &mut Vec<u8>, writer: &mut W) -> Result<(), IscsiFault>
+    ensures { IfErr result IsLater }
+{
+    let written = writer.write_all(out.as_slice());
+    out.clear();
+    match written {
+        Ok(()) => Ok(()),
+        Err(_) => Err(IscsiFault::Write),
+    }
+}

@@ -1,0 +1,214 @@
+//! Commands: handed to their units, and answered.
+ghost use Rattle.std.specs.Prelude.{◌<◌, ◌^◌, length, IfErr};
+ghost use Rattle.iscsi_session.specs.Faults.{IsLater};
+ghost use Rattle.session.specs.Answering.{ComesByCalls};
+
+use crate::connection::Connection;
+use crate::fault::IscsiFault;
+use crate::requests::reject;
+use iscsi_answers::{AnsweredCommand, UnitAnswer, write_command_answer, write_ready_to_transfer};
+use iscsi_pdu::{DataOut, ScsiCommand, unit_of};
+use iscsi_tasks::{NextTask, TakenCommand, TakenData, TaskFault, TransferRequest};
+use scsi_nexus::Nexus;
+use scsi_sense::{Sense, Status};
+use session::Service;
+use std::alloc::Global;
+
+/// A logical unit number that no unit has.
+const NO_UNIT: u8 = 255;
+
+/// The sense key of a command that ends unexecuted since its data aren't right (SPC-4, "Sense key and additional sense code definitions").
+const ABORTED_COMMAND: u8 = 0x0B;
+
+/// More than can be done next before another PDU comes: each command that waits is executed once, and asked for once.
+const MOST_STEPS: u32 = 65;
+
+/// Hands a command to its unit with its data, and adds what answers it.
+fn execute<S: Service>(
+    alloc: Global,
+    service: &mut S,
+    nexus: Nexus,
+    connection: &mut Connection,
+    command: &ScsiCommand,
+    bytes: &[u8],
+    out: &mut Vec<u8>,
+) -> Result<(), IscsiFault>
+    ensures calls { ComesByCalls S.notes nexus service.old service.new }
+    ensures fault { IfErr result IsLater }
+{
+    let lun = unit_of(command.lun).unwrap_or(NO_UNIT);
+    let done = service.submit(alloc, nexus, lun, &command.cdb, bytes);
+    let reply = &done.receipt().reply;
+    let answer = UnitAnswer {
+        status: reply.status,
+        sense: reply.sense,
+        data: reply.payload.bytes(),
+    };
+    let handed_over = bytes.len().min(u32::MAX as usize) as u32;
+    answer_command(connection, command, handed_over, &answer, out)
+}
+
+/// Adds what answers a command of whose data so many bytes were handed over.
+fn answer_command(
+    connection: &mut Connection,
+    command: &ScsiCommand,
+    handed_over: u32,
+    answer: &UnitAnswer<'_>,
+    out: &mut Vec<u8>,
+) -> Result<(), IscsiFault>
+    requires { length answer.now.data.now < 2 ^ 32 }
+    ensures fault { IfErr result IsLater }
+{
+    let answered = AnsweredCommand {
+        initiator_task_tag: command.initiator_task_tag,
+        reads: command.reads,
+        writes: command.writes,
+        expected_data_transfer_length: command.expected_data_transfer_length,
+        handed_over,
+    };
+    let numbers = connection.numbers();
+    write_command_answer(out, connection.limits, numbers, answered, answer)?;
+    connection.has_answered();
+    Ok(())
+}
+
+/// Answers a command that isn't executed, since its data aren't right.
+fn fail(
+    connection: &mut Connection,
+    command: &ScsiCommand,
+    fault: TaskFault,
+    out: &mut Vec<u8>,
+) -> Result<(), IscsiFault>
+    ensures fault { IfErr result IsLater }
+{
+    let (asc, ascq) = fault.additional_sense();
+    let sense = Sense {
+        key: ABORTED_COMMAND,
+        asc,
+        ascq,
+        ..Sense::none()
+    };
+    let answer = UnitAnswer {
+        status: Status::CheckCondition,
+        sense: Some(sense),
+        data: &[],
+    };
+    answer_command(connection, command, 0, &answer, out)
+}
+
+/// Asks for data.
+fn ask(
+    connection: &mut Connection,
+    request: TransferRequest,
+    out: &mut Vec<u8>,
+) -> Result<(), IscsiFault>
+    ensures fault { IfErr result IsLater }
+{
+    let numbers = connection.numbers();
+    let ready = request.ready_to_transfer(numbers.stat_sn, numbers.exp_cmd_sn, numbers.max_cmd_sn);
+    write_ready_to_transfer(out, ready)?;
+    Ok(())
+}
+
+/// Does what is to be done next, and says whether there was anything.
+fn do_next<S: Service>(
+    alloc: Global,
+    service: &mut S,
+    nexus: Nexus,
+    connection: &mut Connection,
+    next: NextTask,
+    out: &mut Vec<u8>,
+) -> Result<bool, IscsiFault>
+    ensures calls { ComesByCalls S.notes nexus service.old service.new }
+    ensures fault { IfErr result IsLater }
+{
+    match next {
+        NextTask::Idle => Ok(false),
+        NextTask::Execute(task) => {
+            let command = task.command();
+            execute(
+                alloc,
+                service,
+                nexus,
+                connection,
+                &command,
+                task.data(),
+                out,
+            )?;
+            Ok(true)
+        }
+        NextTask::Ask(request) => {
+            ask(connection, request, out)?;
+            Ok(true)
+        }
+        NextTask::Fail(task, fault) => {
+            fail(connection, &task.command(), fault, out)?;
+            Ok(true)
+        }
+    }
+}
+
+/// Goes on with the commands that wait, until they wait for PDUs.
+pub(crate) fn go_on<S: Service>(
+    alloc: Global,
+    service: &mut S,
+    nexus: Nexus,
+    connection: &mut Connection,
+    out: &mut Vec<u8>,
+) -> Result<(), IscsiFault>
+    ensures calls { ComesByCalls S.notes nexus service.old service.new }
+    ensures fault { IfErr result IsLater }
+{
+    'steps: for _ in 0..MOST_STEPS {
+        let next = connection.tasks.next();
+        if !do_next(alloc, service, nexus, connection, next, out)? {
+            return Ok(());
+        }
+    }
+    Ok(())
+}
+
+/// Takes a SCSI Command: executes it at once, or once its turn has come and its data are there.
+pub(crate) fn take_command<S: Service>(
+    alloc: Global,
+    service: &mut S,
+    nexus: Nexus,
+    connection: &mut Connection,
+    command: &ScsiCommand,
+    header: &[u8],
+    payload: &[u8],
+    out: &mut Vec<u8>,
+) -> Result<(), IscsiFault>
+    ensures calls { ComesByCalls S.notes nexus service.old service.new }
+    ensures fault { IfErr result IsLater }
+{
+    match connection.tasks.take_command(command, payload)? {
+        TakenCommand::PassedOver | TakenCommand::Waits => Ok(()),
+        TakenCommand::Rejected(reason) => reject(connection, reason, header, out),
+        TakenCommand::Execute(count) => execute(
+            alloc,
+            service,
+            nexus,
+            connection,
+            command,
+            &payload[..count],
+            out,
+        ),
+    }
+}
+
+/// Takes a Data-Out.
+pub(crate) fn take_data(
+    connection: &mut Connection,
+    data_out: &DataOut,
+    header: &[u8],
+    payload: &[u8],
+    out: &mut Vec<u8>,
+) -> Result<(), IscsiFault>
+    ensures fault { IfErr result IsLater }
+{
+    match connection.tasks.take_data(data_out, payload)? {
+        TakenData::Taken | TakenData::PassedOver => Ok(()),
+        TakenData::Rejected(reason) => reject(connection, reason, header, out),
+    }
+}

@@ -1,0 +1,122 @@
+ghost use Rattle.std.specs.Prelude.{◌≡◌, ◌+◌, ◌-◌, ◌≤◌, ◌<◌, [], length, drop, take, IfOk, OnErr, vec_len};
+ghost use Rattle.std.specs.Io.KnownBytes.{Keeps, IsAtEnd};
+ghost use Rattle.iscsi_session.specs.Reading.{ReadBehind, Refilled, Filled};
+
+use std::alloc::{AllocError, Global};
+use std::io::{self, Read};
+use std::marker::Model;
+
+/// Room for the longest PDU, of some 262,500 bytes, and for others behind it.
+const CAPACITY: usize = 327_680;
+
+/// The bytes of a stream of which no PDU was made yet, at most 327,680. They lie in one buffer that
+/// is made once: a read fills what is free behind them, and what was taken off the front is moved away
+/// only before a read.
+#[derive(Drop)]
+pub(crate) struct ReadBuffer {
+    bytes: Vec<u8>,
+    start: usize,
+    end: usize,
+}
+
+impl Model for ReadBuffer {
+    ghost use Rattle.std.specs.Prelude.{◌≡◌, ◌≤◌, ◌-◌, ℕ, List, take, drop, vec_len};
+
+    ghost Value = { List ℕ };
+
+    ghost view = { λ i. take (i.end - i.start) (drop i.start i.bytes.items) };
+
+    ghost invariant = { λ i. (i.start ≤ i.end) × (i.end ≤ 327680) × (vec_len i.bytes ≡ 327680) };
+}
+
+impl ReadBuffer {
+    /// With nothing in it.
+    pub(crate) fn new(alloc: Global) -> Result<ReadBuffer, AllocError>
+        ensures { IfOk result (λ read_buffer. read_buffer ≡ []) }
+    {
+        Ok(ReadBuffer {
+            bytes: vec![in alloc; 0u8; CAPACITY]?,
+            start: 0,
+            end: 0,
+        })
+    }
+
+    /// What no PDU was made of yet.
+    pub(crate) fn pending(&self) -> &[u8]
+        ensures { result.now ≡ self.now }
+    {
+        &self.bytes.as_slice()[self.start..self.end]
+    }
+
+    /// Takes bytes off the front.
+    pub(crate) fn consume(&mut self, count: usize)
+        requires { count ≤ length self.old }
+        ensures { self.new ≡ drop count self.old }
+    {
+        self.start += count;
+    }
+
+    /// Adds what one read gives, and answers how much that is: 0 where the reader is at its end, or where
+    /// 327,680 bytes are pending, which no stream without a fault leaves. An error of the reader, also an interrupted
+    /// read, leaves what is pending as it was.
+    pub(crate) fn fill<R: Read>(&mut self, reader: &mut R) -> io::Result<usize>
+        ensures ok { IfOk result (λ count. Filled count self.old self.new (R.remaining reader.old) (R.remaining reader.new)) }
+        ensures most { IfOk result (λ count. count ≤ 327680) }
+        ensures end { IfOk result (λ count. count ≡ 0 → length self.old < 327680 → IsAtEnd (R.remaining reader.new)) }
+        ensures err { OnErr result ((self.new ≡ self.old) × Keeps (R.remaining reader.old) (R.remaining reader.new)) }
+    {
+        let (start, end) = (self.start, self.end);
+        let pending = end - start;
+        self.start = 0;
+        self.end = pending;
+        match refill(reader, self.bytes.as_mut_slice(), start, end) {
+            Ok(count) => {
+                self.end = pending + count;
+                Ok(count)
+            }
+            Err(error) => Err(error),
+        }
+    }
+}
+
+/// Moves what lies between two places of a buffer to its front.
+fn move_to_front(buffer: &mut [u8], start: usize, end: usize)
+    requires order { start ≤ end }
+    requires within { end ≤ length buffer.old }
+    ensures len { length buffer.new ≡ length buffer.old }
+    ensures front { take (end - start) buffer.new ≡ take (end - start) (drop start buffer.old) }
+{
+    if start == 0 {
+        return;
+    }
+    buffer.copy_within(start..end, 0);
+}
+
+/// Moves what lies between two places to the front, and reads once into what lies behind it.
+fn refill<R: Read>(reader: &mut R, buffer: &mut [u8], start: usize, end: usize) -> io::Result<usize>
+    requires order { start ≤ end }
+    requires within { end ≤ length buffer.old }
+    ensures len { length buffer.new ≡ length buffer.old }
+    ensures within { IfOk result (λ count. end - start + count ≤ length buffer.old) }
+    ensures ok { IfOk result (λ count. Refilled start (end - start) count buffer.old buffer.new (R.remaining reader.old) (R.remaining reader.new)) }
+    ensures end { IfOk result (λ count. count ≡ 0 → end - start < length buffer.old → IsAtEnd (R.remaining reader.new)) }
+    ensures err { OnErr result ((take (end - start) buffer.new ≡ take (end - start) (drop start buffer.old)) × Keeps (R.remaining reader.old) (R.remaining reader.new)) }
+{
+    move_to_front(buffer, start, end);
+    read_behind(reader, buffer, end - start)
+}
+
+/// One read, into what lies behind a place of a buffer.
+fn read_behind<R: Read>(reader: &mut R, buffer: &mut [u8], end: usize) -> io::Result<usize>
+    requires { end ≤ length buffer.old }
+    ensures len { length buffer.new ≡ length buffer.old }
+    ensures within { IfOk result (λ count. end + count ≤ length buffer.old) }
+    ensures ok { IfOk result (λ count. ReadBehind end count buffer.old buffer.new (R.remaining reader.old) (R.remaining reader.new)) }
+    ensures end { IfOk result (λ count. count ≡ 0 → end < length buffer.old → IsAtEnd (R.remaining reader.new)) }
+    ensures err { OnErr result ((take end buffer.new ≡ take end buffer.old) × Keeps (R.remaining reader.old) (R.remaining reader.new)) }
+{
+    match reader.read(&mut buffer[end..]) {
+        Ok(count) => Ok(count),
+        Err(error) => Err(error),
+    }
+}

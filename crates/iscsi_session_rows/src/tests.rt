@@ -1,0 +1,4 @@
+mod endings;
+mod sessions;
+mod streams;
+mod tasks;
