@@ -1,0 +1,12 @@
+use Rattle.std.proofs.Common.{List, sym, subst}
+use Rattle.library_inventory.specs.declared.placed.PlacedVolume.{PlacedVolume}
+use Rattle.library_inventory.specs.Kept.{AreKept, IsAddable, one_more}
+use Rattle.library_inventory.proofs.inventory.Inventory.add.Goals as goal
+
+pub invariant_of-self-2 : goal.invariant_of-self-2
+invariant_of-self-2 c =
+    let size = c.self.inside.size in
+    let volumes = c.self.inside.volumes.items in
+    subst (λ (vs : List PlacedVolume). AreKept size vs) (sym c.in_ok-push.ensures.items)
+    (one_more volumes c.args.volume c.self.invariant
+    (subst (λ (vs : List PlacedVolume). IsAddable size vs c.args.volume) c.deref.ensures.value c.in_ok-look.ensures.ok))

@@ -1,0 +1,126 @@
+use std::alloc::{AllocError, AllocFailed};
+use thiserror::Error;
+
+/// An option that says what a library is made of.
+#[derive(Clone, Copy, Debug, PartialEq, Eq)]
+pub enum SizeOption {
+    Drives,
+    Slots,
+    Portals,
+}
+
+/// Why a volume isn't added to an inventory, in the order of the tests.
+#[derive(Clone, Copy, Debug, PartialEq, Eq, Error)]
+pub enum AddFault {
+    #[error("no such element")]
+    NoElement,
+    #[error("an element twice")]
+    ElementTwice,
+    #[error("a tag twice")]
+    TagTwice,
+    #[error("want of memory")]
+    NoMemory,
+}
+
+impl<T: Drop> From<AllocFailed<T>> for AddFault {
+    ghost use Rattle.std.specs.Prelude.{◌≡◌};
+    ghost use Rattle.library_inventory.specs.declared.fault.AddFault.TheVariants.{NoMemory};
+
+    ghost from_gives = { λ _ fault. fault ≡ NoMemory };
+
+    fn from(_error: AllocFailed<T>) -> AddFault {
+        AddFault::NoMemory
+    }
+}
+
+/// Why a library can't be started.
+#[derive(Clone, Copy, Debug, PartialEq, Eq, Error)]
+pub enum StartFault {
+    #[error("want of memory")]
+    NoMemory,
+    /// An option disagrees with the inventory: what was given, and what the library is made of.
+    #[error("the option disagrees with the inventory: {given}, and not {kept}")]
+    Disagrees {
+        option: SizeOption,
+        given: u16,
+        kept: u16,
+    },
+    /// So many volumes are in no element, and so many storage elements are free, which are fewer.
+    #[error("more volumes than free storage elements: {volumes}, and {free} are free")]
+    MoreVolumes {
+        volumes: usize,
+        free: usize,
+    },
+    /// Too few of the tags from VOL00001 to VOL04095 are left for the volumes that are to be made.
+    #[error("no tags are left")]
+    NoTags,
+}
+
+impl From<AllocError> for StartFault {
+    ghost use Rattle.std.specs.Prelude.{◌≡◌};
+    ghost use Rattle.library_inventory.specs.declared.fault.StartFault.TheVariants.{NoMemory};
+
+    ghost from_gives = { λ _ fault. fault ≡ NoMemory };
+
+    fn from(_error: AllocError) -> StartFault {
+        StartFault::NoMemory
+    }
+}
+
+/// A key of an inventory's text.
+#[derive(Clone, Copy, Debug, PartialEq, Eq)]
+pub enum InventoryKey {
+    Version,
+    Drives,
+    Slots,
+    Portals,
+    Volume,
+}
+
+/// What is wrong with a volume of an inventory's text.
+#[derive(Clone, Copy, Debug, PartialEq, Eq, Error)]
+pub enum VolumeFault {
+    #[error("no table")]
+    NoTable,
+    /// Its tag isn't there, or isn't one.
+    #[error("no tag")]
+    NoTag,
+    /// It names no element, or several.
+    #[error("no element")]
+    NoElement,
+    #[error("refused")]
+    Refused(AddFault),
+}
+
+/// Why a text isn't that of an inventory.
+#[derive(Clone, Copy, Debug, PartialEq, Eq, Error)]
+pub enum ReadFault {
+    #[error("want of memory")]
+    NoMemory,
+    #[error("the text is no TOML")]
+    NoToml,
+    #[error("unknown version")]
+    UnknownVersion(i64),
+    /// A key isn't there, or its value isn't one that it may have.
+    #[error("bad value")]
+    BadKey(InventoryKey),
+    /// Of the volumes one, counted from 0.
+    #[error("bad volume")]
+    Volume { nth: usize, fault: VolumeFault },
+}
+
+/// Why an inventory has no text.
+#[derive(Clone, Copy, Debug, PartialEq, Eq, Error)]
+pub enum WriteFault {
+    #[error("want of memory")]
+    NoMemory,
+    /// A tag has no name that a file can have.
+    #[error("a tag with no name")]
+    NoName,
+}
+
+impl From<AllocError> for WriteFault {
+    fn from(_error: AllocError) -> WriteFault {
+        WriteFault::NoMemory
+    }
+}

@@ -1,0 +1,81 @@
+ghost use Rattle.std.specs.Prelude.{◌≡◌, ◌++◌, ◌∷◌, [], OnOk, OnErr, IfErr};
+ghost use Rattle.library_inventory.specs.Kept.{AreKept, IsAddable, IsAddFault};
+
+use crate::among::{is_full, is_named};
+use crate::element::LibrarySize;
+use crate::fault::AddFault;
+use crate::placed::PlacedVolume;
+use std::alloc::Global;
+use std::marker::Model;
+
+/// Looks whether a volume may be added behind others.
+fn look(size: LibrarySize, volumes: &[PlacedVolume], volume: PlacedVolume) -> Result<(), AddFault>
+    ensures ok { OnOk result (IsAddable size volumes.now volume) }
+    ensures fault { IfErr result (IsAddFault size volumes.now volume) }
+{
+    if !size.has(volume.element) {
+        return Err(AddFault::NoElement);
+    }
+    if is_full(volumes, volume.element) {
+        return Err(AddFault::ElementTwice);
+    }
+    if is_named(volumes, volume.tag) {
+        return Err(AddFault::TagTwice);
+    }
+    Ok(())
+}
+
+/// What a library is made of, and where its volumes lie: no two have one tag, no two lie in one element, and each element is one of
+/// the library.
+#[derive(Drop)]
+pub struct Inventory {
+    size: LibrarySize,
+    volumes: Vec<PlacedVolume>,
+}
+
+impl Model for Inventory {
+    ghost use Rattle.library_inventory.specs.Kept.{InventoryValue, AreKept};
+
+    ghost Value = { InventoryValue };
+
+    ghost view = { λ inventory. record { size = inventory.size; volumes = inventory.volumes.items } };
+
+    ghost invariant = { λ inventory. AreKept inventory.size inventory.volumes.items };
+}
+
+impl Inventory {
+    /// Of a library in which no volume lies.
+    pub fn new(alloc: Global, size: LibrarySize) -> Inventory
+        ensures { result ≡ record { size = size; volumes = [] } }
+    {
+        Inventory {
+            size,
+            volumes: Vec::new(alloc),
+        }
+    }
+
+    pub fn size(&self) -> LibrarySize
+        ensures { result ≡ self.now.size }
+    {
+        self.size
+    }
+
+    /// The volumes, in the order in which they were added.
+    pub fn volumes(&self) -> &[PlacedVolume]
+        ensures value { result.now ≡ self.now.volumes }
+        ensures kept { AreKept self.now.size self.now.volumes }
+    {
+        &self.volumes
+    }
+
+    /// Adds a volume behind the others; where it is refused nothing changes.
+    pub fn add(&mut self, volume: PlacedVolume) -> Result<(), AddFault>
+        ensures ok { OnOk result (self.new ≡ record { size = self.old.size; volumes = self.old.volumes ++ volume ∷ [] }) }
+        ensures fault { IfErr result (IsAddFault self.old.size self.old.volumes volume) }
+        ensures err { OnErr result (self.new ≡ self.old) }
+    {
+        look(self.size, &self.volumes, volume)?;
+        self.volumes.push(volume)?;
+        Ok(())
+    }
+}

@@ -1,0 +1,29 @@
+//! The inventory of a library: what it is made of, and which volume lies in which element; its text; and where each volume lies at a
+//! start.
+#![tactic(auto)]
+
+mod among;
+mod element;
+mod fault;
+mod given;
+mod inventory;
+mod laws;
+mod made;
+mod name;
+mod placed;
+mod placing;
+mod rows;
+mod text;
+
+pub use element::{Element, LibrarySize};
+pub use fault::{
+    AddFault, InventoryKey, ReadFault, SizeOption, StartFault, VolumeFault, WriteFault,
+};
+pub use given::GivenOptions;
+pub use inventory::Inventory;
+pub use laws::starts_hold_all_images;
+pub use name::{name_of_tag, tag_of_name};
+pub use placed::PlacedVolume;
+pub use placing::{Start, place};
+pub use rows::worked_rows;
+pub use text::{read_inventory, write_inventory};

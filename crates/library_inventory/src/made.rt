@@ -1,0 +1,53 @@
+ghost use Rattle.std.specs.Prelude.{◌≡◌, ◌<◌, IfOk, take};
+ghost use Rattle.library_inventory.specs.Tags.{five_digits, tag_of};
+ghost use Rattle.library_inventory.specs.Starts.{unused_tags};
+
+use crate::among::{has_tag, is_named};
+use crate::placed::PlacedVolume;
+use std::alloc::{AllocError, Global};
+use tape_medium::VolumeTag;
+
+/// The numbers of the tags that volumes are made with begin at 1, and end before this.
+const NUMBERS_END: u16 = 4096;
+
+/// A number as five decimal digits.
+fn five_digits(number: u16) -> [u8; 5]
+    ensures { result ≡ five_digits number }
+{
+    [
+        b'0' + (number / 10_000) as u8,
+        b'0' + (number / 1_000 % 10) as u8,
+        b'0' + (number / 100 % 10) as u8,
+        b'0' + (number / 10 % 10) as u8,
+        b'0' + (number % 10) as u8,
+    ]
+}
+
+/// `VOL` and a number of five digits, padded with spaces.
+fn tag_of(number: u16) -> VolumeTag
+    ensures { result ≡ tag_of number }
+{
+    let [a, b, c, d, e] = five_digits(number);
+    let s = b' ';
+    VolumeTag([
+        b'V', b'O', b'L', a, b, c, d, e, s, s, s, s, s, s, s, s, s, s, s, s, s, s, s, s, s, s, s,
+        s, s, s, s, s,
+    ])
+}
+
+/// The first so many tags that are neither an image's nor named, or all where there are fewer.
+#[tactic(auto, unfolding(crate::specs::Tags::usual_tags))]
+pub(crate) fn made_tags(
+    alloc: Global,
+    named: &[PlacedVolume],
+    images: &[VolumeTag],
+    count: usize,
+) -> Result<Vec<VolumeTag>, AllocError>
+    ensures { IfOk result (λ made. made.items ≡ take count (unused_tags named.now images.now)) }
+{
+    (1..NUMBERS_END)
+        .map(|number| tag_of(number))
+        .filter(|tag| !(has_tag(images, *tag) || is_named(named, *tag)))
+        .take(count)
+        .collect(alloc)
+}

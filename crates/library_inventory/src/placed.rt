@@ -1,0 +1,9 @@
+use crate::element::Element;
+use tape_medium::VolumeTag;
+
+/// A volume, and the element in which it lies.
+#[derive(Clone, Copy, Debug, PartialEq, Eq)]
+pub struct PlacedVolume {
+    pub tag: VolumeTag,
+    pub element: Element,
+}

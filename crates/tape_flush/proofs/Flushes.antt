@@ -1,0 +1,190 @@
+-- What a flush leaves of an image, and how that is read.
+use Rattle.std.proofs.Common.{◌≡◌, inl, inr, ℕ, ◌+◌, ◌-◌, ◌≤◌, List, [], ◌++◌, length, take, drop, map, Option, Some, None, Result, Ok, Err, OnOk, OnErr, sym, ap, subst, ◌∙◌, append_assoc, length-append, arith}
+use Rattle.std.proofs.lemmas.List.{append-nil, take_at, take_all, drop_all}
+use Rattle.std.proofs.Math.Seq.{take-append-add}
+use Rattle.std.specs.Option.{IsSomeAnd}
+use Rattle.tape_medium.specs.Object.{Object}
+use Rattle.tape_image.specs.Images.{image_bytes, AreKeepable}
+use Rattle.tape_image.specs.Reading.{Placed, Waiting, Reads}
+use Rattle.tape_flush.specs.declared.fault.FlushFault.{FlushFault}
+use Rattle.tape_flush.specs.Stores.{TruncatesInPart, Replaces}
+use Rattle.tape_flush.specs.Images.{ImageValue, end_at, ends_from, IsFlushed, Fails, unchanged, uncut, unfinished, object_in, HoldsAll, HoldsFirst, IsWhole, IsHeld, Leaves}
+use Rattle.tape_flush.proofs.Pieces.{keepable-take, keepable-drop}
+use Rattle.tape_flush.proofs.Holding.{Split, split, join, written, same_count, ReadsOn, reads_on, holds_nothing, first_cut, first_behind, first_written}
+
+-- bytes that hold objects for sure, and then the first of others
+abbrev Bytes : List ℕ → List ℕ → (known others : List Object) → Type 0
+Bytes ends bytes known others =
+    (front tail : List ℕ) × (bytes ≡ front ++ tail) × HoldsAll 0 front known ends × HoldsFirst (length front) tail others
+
+front_of : (stay : ℕ) (ends bytes front tail : List ℕ) (known : List Object) → bytes ≡ front ++ tail → (s : Split 0 stay front known ends) → take (end_at ends stay) bytes ≡ s.front
+front_of stay ends bytes front tail known is s =
+    let all : bytes ≡ s.front ++ (s.back ++ tail) = is ∙ ap (λ (z : List ℕ). z ++ tail) s.bytes ∙ append_assoc s.front s.back tail in
+    let size : length s.front ≡ end_at ends stay = omega (arith, s.end) in
+    ap (take (end_at ends stay)) all ∙ take_at s.front (s.back ++ tail) (end_at ends stay) size
+
+-- those that stay, and what was written behind them
+grown : (stay : ℕ) (ends bytes bytes' piece : List ℕ) (known others new : List Object) → stay ≤ length known → AreKeepable new → Bytes ends bytes known others
+    → bytes' ≡ take (end_at ends stay) bytes ++ (image_bytes new ++ piece)
+    → (front : List ℕ) × (bytes' ≡ front ++ piece) × HoldsAll 0 front (take stay known ++ new) (take stay ends ++ ends_from (end_at ends stay) new)
+grown stay ends bytes bytes' piece known others new within can h is =
+    let s : Split 0 stay h.0 known ends = split stay 0 h.0 known ends h.3 within in
+    let first : take (end_at ends stay) bytes ≡ s.front = front_of stay ends bytes h.0 h.1 known h.2 s in
+    let here : 0 + length s.front ≡ end_at ends stay = s.end in (
+      s.front ++ image_bytes new,
+      is ∙ ap (λ (z : List ℕ). z ++ (image_bytes new ++ piece)) first ∙ sym (append_assoc s.front (image_bytes new) piece),
+      join 0 s.front (image_bytes new) (take stay known) new (take stay ends) (ends_from (end_at ends stay) new) s.first
+          (subst (λ (k : ℕ). HoldsAll (0 + length s.front) (image_bytes new) new (ends_from k new)) here (written (0 + length s.front) new can)),
+    )
+
+whole_bytes : (stay : ℕ) (ends bytes bytes' : List ℕ) (known others new : List Object) → stay ≤ length known → AreKeepable new → Bytes ends bytes known others
+    → bytes' ≡ take (end_at ends stay) bytes ++ image_bytes new → HoldsAll 0 bytes' (take stay known ++ new) (take stay ends ++ ends_from (end_at ends stay) new)
+whole_bytes stay ends bytes bytes' known others new within can h is =
+    let g = grown stay ends bytes bytes' [] known others new within can h (is ∙ ap (λ (z : List ℕ). take (end_at ends stay) bytes ++ z) (sym (append-nil (image_bytes new)))) in
+    subst (λ (z : List ℕ). HoldsAll 0 z (take stay known ++ new) (take stay ends ++ ends_from (end_at ends stay) new)) (sym (append-nil g.0) ∙ sym g.1) g.2
+
+abbrev Known : List ℕ → Option (List ℕ) → (known others : List Object) → Type 0
+Known ends c known others = IsSomeAnd c (λ bytes. Bytes ends bytes known others)
+
+known_stay : (ends : List ℕ) (c : Option (List ℕ)) (known others : List Object) (stay : ℕ) → Known ends c known others → stay ≤ length ends → stay ≤ length known
+known_stay ends None known others stay h within = absurd h
+known_stay ends (Some b) known others stay h within = omega (arith, same_count 0 h.0 known ends h.3)
+
+whole_contents : (stay : ℕ) (ends : List ℕ) (c c' : Option (List ℕ)) (known others new : List Object) → stay ≤ length known → AreKeepable new → Known ends c known others
+    → Replaces (end_at ends stay) c c' (image_bytes new) → IsSomeAnd c' (λ bytes. HoldsAll 0 bytes (take stay known ++ new) (take stay ends ++ ends_from (end_at ends stay) new))
+whole_contents stay ends None c' known others new within can h r = absurd h
+whole_contents stay ends (Some b) None known others new within can h r = absurd r
+whole_contents stay ends (Some b) (Some b') known others new within can h r = whole_bytes stay ends b b' known others new within can h r
+
+pub whole_after : (stay : ℕ) (old new : ImageValue) (known others objects : List Object) → stay ≤ length old.ends → AreKeepable objects → IsHeld old known others
+    → IsFlushed stay objects old new → IsWhole new (take stay known ++ objects)
+whole_after stay old new known others objects within can h f =
+    subst (λ (es : List ℕ). IsSomeAnd new.contents (λ bytes. HoldsAll 0 bytes (take stay known ++ objects) es)) (sym f.ends)
+    (whole_contents stay old.ends old.contents new.contents known others objects (known_stay old.ends old.contents known others stay h within) can h f.contents)
+
+-- A FLUSH THAT FAILS
+
+cut_bytes : (stay left : ℕ) (ends bytes : List ℕ) (known others : List Object) → stay ≤ length known → end_at ends stay ≤ left → Bytes ends bytes known others
+    → Bytes (take stay ends) (take left bytes) (take stay known) (drop stay known ++ others)
+cut_bytes stay left ends bytes known others within enough h =
+    let s : Split 0 stay h.0 known ends = split stay 0 h.0 known ends h.3 within in
+    let size : length s.front ≡ end_at ends stay = omega (arith, s.end) in
+    let all : bytes ≡ s.front ++ (s.back ++ h.1) = h.2 ∙ ap (λ (z : List ℕ). z ++ h.1) s.bytes ∙ append_assoc s.front s.back h.1 in
+    let left_is : left ≡ length s.front + (left - length s.front) = omega arith in
+    let length_is : length h.0 ≡ length s.front + length s.back = ap length s.bytes ∙ length-append s.front s.back in
+    let others_in : HoldsAll (length s.front) s.back (drop stay known) (drop stay ends) =
+    subst (λ (k : ℕ). HoldsAll k s.back (drop stay known) (drop stay ends)) (omega arith) s.others in
+    let behind : HoldsFirst (length s.front) (s.back ++ h.1) (drop stay known ++ others) =
+    first_behind (length s.front) s.back h.1 (drop stay known) others (drop stay ends) others_in
+    (subst (λ (k : ℕ). HoldsFirst k h.1 others) length_is h.4) in (
+      s.front,
+      take (left - length s.front) (s.back ++ h.1),
+      ap (take left) all ∙ ap (λ (k : ℕ). take k (s.front ++ (s.back ++ h.1))) left_is ∙ take-append-add s.front (s.back ++ h.1) (left - length s.front),
+      s.first,
+      first_cut (length s.front) (left - length s.front) (s.back ++ h.1) (drop stay known ++ others) behind,
+    )
+
+cut_contents : (stay : ℕ) (ends : List ℕ) (c c' : Option (List ℕ)) (known others : List Object) → stay ≤ length known → Known ends c known others
+    → TruncatesInPart (end_at ends stay) c c' → Known (take stay ends) c' (take stay known) (drop stay known ++ others)
+cut_contents stay ends None c' known others within h r = absurd h
+cut_contents stay ends (Some b) None known others within h r = absurd r.2
+cut_contents stay ends (Some b) (Some b') known others within h r =
+    subst (λ (z : List ℕ). Bytes (take stay ends) z (take stay known) (drop stay known ++ others)) (sym r.2) (cut_bytes stay r.0 ends b known others within r.1 h)
+
+some_bytes : (stay n count : ℕ) (ends bytes bytes' : List ℕ) (known others new : List Object) → stay ≤ length known → AreKeepable new → Bytes ends bytes known others
+    → bytes' ≡ take (end_at ends stay) bytes ++ (image_bytes (take n new) ++ take count (image_bytes (drop n new)))
+    → Bytes (take stay ends ++ ends_from (end_at ends stay) (take n new)) bytes' (take stay known ++ take n new) (drop n new)
+some_bytes stay n count ends bytes bytes' known others new within can h is =
+    let g = grown stay ends bytes bytes' (take count (image_bytes (drop n new))) known others (take n new) within (keepable-take n new can) h is in
+    (g.0, take count (image_bytes (drop n new)), g.1, g.2, first_written (length g.0) count (drop n new) (keepable-drop n new can))
+
+some_contents : (stay n count : ℕ) (ends : List ℕ) (c c' : Option (List ℕ)) (known others new : List Object) → stay ≤ length known → AreKeepable new → Known ends c known others
+    → Replaces (end_at ends stay) c c' (image_bytes (take n new) ++ take count (image_bytes (drop n new)))
+    → Known (take stay ends ++ ends_from (end_at ends stay) (take n new)) c' (take stay known ++ take n new) (drop n new)
+some_contents stay n count ends None c' known others new within can h r = absurd h
+some_contents stay n count ends (Some b) None known others new within can h r = absurd r
+some_contents stay n count ends (Some b) (Some b') known others new within can h r = some_bytes stay n count ends b b' known others new within can h r
+
+pub held_after : (stay : ℕ) (old new : ImageValue) (known others objects : List Object) → stay ≤ length old.ends → AreKeepable objects → IsHeld old known others
+    → Fails stay objects old new → Leaves stay known others objects new
+held_after stay old new known others objects within can h (unchanged same) =
+    let here = known_stay old.ends old.contents known others stay h within in
+    let all : take (length known) known ≡ known = take_all (length known) known (omega arith) in
+    let none : drop (length known) known ≡ [] = drop_all (length known) known (omega arith) in
+    inl (
+      length known,
+      here,
+      subst (λ (v : ImageValue). IsHeld v (take (length known) known) (drop (length known) known ++ others)) (sym same)
+          (subst (λ (ks : List Object). IsHeld old ks (drop (length known) known ++ others)) (sym all)
+          (subst (λ (ks : List Object). IsHeld old known (ks ++ others)) (sym none) h)),
+    )
+held_after stay old new known others objects within can h (uncut ends cut) =
+    let here = known_stay old.ends old.contents known others stay h within in
+    inl (
+      stay,
+      omega arith,
+      subst (λ (es : List ℕ). Known es new.contents (take stay known) (drop stay known ++ others)) (sym ends)
+          (cut_contents stay old.ends old.contents new.contents known others here h cut),
+    )
+held_after stay old new known others objects within can h (unfinished n count few ends more) =
+    let here = known_stay old.ends old.contents known others stay h within in
+    inr (
+      n,
+      subst (λ (es : List ℕ). Known es new.contents (take stay known ++ take n objects) (drop n objects)) (sym ends)
+          (some_contents stay n count old.ends old.contents new.contents known others objects here can h more),
+    )
+
+-- AS THEY ARE TOLD
+
+pub flush_ok : (r : Result (Unit {0}) FlushFault) (stay : ℕ) (old old' new : ImageValue) (objects : List Object) → old' ≡ old → OnOk r (IsFlushed stay objects old' new)
+    → OnOk r (IsFlushed stay objects old new)
+flush_ok r stay old old' new objects same h = subst (λ (v : ImageValue). OnOk r (IsFlushed stay objects v new)) same h
+
+pub flush_err : (r : Result (Unit {0}) FlushFault) (stay : ℕ) (old old' new : ImageValue) (objects : List Object) → old' ≡ old → OnErr r (Fails stay objects old' new)
+    → OnErr r (Fails stay objects old new)
+flush_err r stay old old' new objects same h = subst (λ (v : ImageValue). OnErr r (Fails stay objects v new)) same h
+
+told_whole : (r : Result (Unit {0}) FlushFault) (stay : ℕ) (old new : ImageValue) (objects : List Object) → stay ≤ length old.ends → AreKeepable objects
+    → OnOk r (IsFlushed stay objects old new) → (known others : List Object) → IsHeld old known others → OnOk r (IsWhole new (take stay known ++ objects))
+told_whole (Ok done) stay old new objects within can h known others held = whole_after stay old new known others objects within can held h
+told_whole (Err fault) stay old new objects within can h known others held = tt
+
+told_held : (r : Result (Unit {0}) FlushFault) (stay : ℕ) (old new : ImageValue) (objects : List Object) → stay ≤ length old.ends → AreKeepable objects
+    → OnErr r (Fails stay objects old new) → (known others : List Object) → IsHeld old known others → OnErr r (Leaves stay known others objects new)
+told_held (Ok done) stay old new objects within can h known others held = tt
+told_held (Err fault) stay old new objects within can h known others held = held_after stay old new known others objects within can held h
+
+pub flush_whole : (r : Result (Unit {0}) FlushFault) (stay : ℕ) (old old' new : ImageValue) (objects : List Object) → old' ≡ old → stay ≤ length old.ends → AreKeepable objects
+    → OnOk r (IsFlushed stay objects old' new) → (known others : List Object) → IsHeld old known others → OnOk r (IsWhole new (take stay known ++ objects))
+flush_whole r stay old old' new objects same within can h = told_whole r stay old new objects within can (flush_ok r stay old old' new objects same h)
+
+pub flush_held : (r : Result (Unit {0}) FlushFault) (stay : ℕ) (old old' new : ImageValue) (objects : List Object) → old' ≡ old → stay ≤ length old.ends → AreKeepable objects
+    → OnErr r (Fails stay objects old' new) → (known others : List Object) → IsHeld old known others → OnErr r (Leaves stay known others objects new)
+flush_held r stay old old' new objects same within can h = told_held r stay old new objects within can (flush_err r stay old old' new objects same h)
+
+-- HOW IT IS READ
+
+whole_read : (c : Option (List ℕ)) (ends : List ℕ) (objects : List Object) → IsSomeAnd c (λ bytes. HoldsAll 0 bytes objects ends)
+    → IsSomeAnd c (λ bytes. (found : List Placed) × (whole : ℕ) × Reads 0 bytes found (Waiting whole []) × (map object_in found ≡ objects))
+whole_read None ends objects h = h
+whole_read (Some b) ends objects h =
+    let on : ReadsOn 0 (b ++ []) objects [] (Waiting (0 + length b) []) = reads_on 0 b objects ends [] [] (Waiting (0 + length b) []) h (holds_nothing (0 + length b)) in (
+      on.found,
+      0 + length b,
+      subst (λ (ps : List Placed). Reads 0 b ps (Waiting (0 + length b) [])) (append-nil on.found)
+          (subst (λ (z : List ℕ). Reads 0 z (on.found ++ []) (Waiting (0 + length b) [])) (append-nil b) on.reads),
+      on.are,
+    )
+
+pub whole_is_read : (image : ImageValue) (objects : List Object) → IsWhole image objects
+    → IsSomeAnd image.contents (λ bytes. (found : List Placed) × (whole : ℕ) × Reads 0 bytes found (Waiting whole []) × (map object_in found ≡ objects))
+whole_is_read image objects h = whole_read image.contents image.ends objects h
+
+held_read : (c : Option (List ℕ)) (ends : List ℕ) (known others : List Object) → Known ends c known others → IsSomeAnd c (λ bytes. HoldsFirst 0 bytes (known ++ others))
+held_read None ends known others h = h
+held_read (Some b) ends known others h =
+    subst (λ (z : List ℕ). HoldsFirst 0 z (known ++ others)) (sym h.2)
+    (first_behind 0 h.0 h.1 known others ends h.3 (subst (λ (k : ℕ). HoldsFirst k h.1 others) (omega arith) h.4))
+
+pub held_is_read : (image : ImageValue) (known others : List Object) → IsHeld image known others → IsSomeAnd image.contents (λ bytes. HoldsFirst 0 bytes (known ++ others))
+held_is_read image known others h = held_read image.contents image.ends known others h

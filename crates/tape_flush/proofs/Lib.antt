@@ -1,0 +1,5 @@
+pub mod Pieces
+pub mod Holding
+pub mod Replaced
+pub mod Flushes
+pub mod Opened

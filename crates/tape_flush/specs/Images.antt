@@ -1,0 +1,82 @@
+-- The image of a tape in a file: where each of its objects ends, and what the file holds.
+use Rattle.std.specs.Prelude.{◌≡◌, ◌⊎◌, ℕ, ◌+◌, ◌≤◌, List, [], ◌∷◌, ◌++◌, length, take, drop, map, slice_index_or, Option, IsSomeAnd}
+use Rattle.tape_medium.specs.Object.{Object}
+use Rattle.tape_image.specs.Images.{object_bytes, image_bytes}
+use Rattle.tape_image.specs.Reading.{Placed, Stop, Waiting, Reads}
+use Rattle.tape_flush.specs.Stores.{TruncatesInPart, AppendsSome, Replaces}
+
+-- where each object ends in the file, the bytes of the file, and those that were brought to the disk last
+pub record ImageValue : Type 0 where
+  pub ends : List ℕ
+  pub contents : Option (List ℕ)
+  pub synced : Option (List ℕ)
+
+abbrev pub image_value : (ends : List ℕ) → (contents synced : Option (List ℕ)) → ImageValue
+image_value ends contents synced = record { ends = ends; contents = contents; synced = synced }
+
+-- where the first so many objects end
+abbrev pub end_at : (ends : List ℕ) → (count : ℕ) → ℕ
+end_at ends count = slice_index_or (0 ∷ ends) count 0
+
+-- where each object ends that is written from an offset on
+abbrev pub ends_from : (offset : ℕ) → List Object → List ℕ
+ends_from offset [] = []
+ends_from offset (x ∷ others) = (offset + length (object_bytes x)) ∷ ends_from (offset + length (object_bytes x)) others
+
+-- objects are written behind those that are there, of which there are so many: the first of them, and then some bytes of those behind
+abbrev pub WritesSome : (count : ℕ) → List Object → (ends ends' : List ℕ) → (old new : Option (List ℕ)) → Type 0
+WritesSome count objects ends ends' old new =
+    (written : ℕ) × (written ≤ length objects) × (ends' ≡ ends ++ ends_from (end_at ends count) (take written objects)) × AppendsSome written objects old new
+
+-- A FLUSH, byte by byte: the first objects stay, and what lies behind them is replaced
+pub record IsFlushed (stay : ℕ) (objects : List Object) (old new : ImageValue) : Type 0 where
+  pub ends : new.ends ≡ take stay old.ends ++ ends_from (end_at old.ends stay) objects
+  pub contents : Replaces (end_at old.ends stay) old.contents new.contents (image_bytes objects)
+
+-- A flush that fails: before anything is done; as the file is cut back; or behind the first of the new objects, of which the image
+-- has so many, and then some bytes of those behind
+pub data Fails (stay : ℕ) (objects : List Object) (old new : ImageValue) : Type 0 where
+  unchanged : new ≡ old → Fails stay objects old new
+  uncut : new.ends ≡ take stay old.ends → TruncatesInPart (end_at old.ends stay) old.contents new.contents → Fails stay objects old new
+  unfinished : (written count : ℕ) → written ≤ length objects
+      → new.ends ≡ take stay old.ends ++ ends_from (end_at old.ends stay) (take written objects)
+      → Replaces (end_at old.ends stay) old.contents new.contents (image_bytes (take written objects) ++ take count (image_bytes (drop written objects)))
+      → Fails stay objects old new
+
+-- WHAT THE FILE HOLDS, as images are read; nothing is said of a file whose bytes aren't known
+
+abbrev pub object_in : Placed → Object
+object_in placed = placed.object
+
+-- one object and nothing behind it, perhaps behind erase gaps
+abbrev pub HoldsOne : (offset end : ℕ) → List ℕ → Object → Type 0
+HoldsOne offset end bytes x = (at : ℕ) × Reads offset bytes (record { offset = at; object = x } ∷ []) (Waiting end [])
+
+-- these objects, each up to its end, and nothing behind the last
+abbrev pub HoldsAll : (offset : ℕ) → List ℕ → List Object → (ends : List ℕ) → Type 0
+HoldsAll offset bytes [] [] = bytes ≡ []
+HoldsAll offset bytes [] (end ∷ ends) = ⊥
+HoldsAll offset bytes (x ∷ others) [] = ⊥
+HoldsAll offset bytes (x ∷ others) (end ∷ ends) =
+    (part rest : List ℕ) × (bytes ≡ part ++ rest) × (end ≡ offset + length part) × HoldsOne offset end part x × HoldsAll end rest others ends
+
+-- the first of these objects and no other, wherever reading stops
+abbrev pub HoldsFirst : (offset : ℕ) → List ℕ → List Object → Type 0
+HoldsFirst offset bytes objects =
+    (found : List Placed) × (stop : Stop) × (others : List Object) × Reads offset bytes found stop × (map object_in found ++ others ≡ objects)
+
+-- the image is that of these objects
+abbrev pub IsWhole : ImageValue → List Object → Type 0
+IsWhole image objects = IsSomeAnd image.contents (λ bytes. HoldsAll 0 bytes objects image.ends)
+
+-- the image has these objects for sure, and behind them none, or the first of some others
+abbrev pub IsHeld : ImageValue → (known others : List Object) → Type 0
+IsHeld image known others =
+    IsSomeAnd image.contents
+    (λ bytes. (front tail : List ℕ) × (bytes ≡ front ++ tail) × HoldsAll 0 front known image.ends × HoldsFirst (length front) tail others)
+
+-- what a flush that fails leaves: the first objects of the old tape, at least those that stay, or those and the first of the new ones
+abbrev pub Leaves : (stay : ℕ) → (known others objects : List Object) → ImageValue → Type 0
+Leaves stay known others objects image =
+    ((kept : ℕ) × (stay ≤ kept) × IsHeld image (take kept known) (drop kept known ++ others))
+    ⊎ ((written : ℕ) × IsHeld image (take stay known ++ take written objects) (drop written objects))

@@ -1,0 +1,4 @@
+pub mod Stores
+pub mod Objects
+pub mod Images
+pub mod Openings

@@ -1,0 +1,24 @@
+//! Tapes that are kept in files: an image is cut back to the objects that stay, what replaces the others is written behind them,
+//! and all of it is brought to the disk. Whatever fails, the image holds the first objects of one of the two tapes.
+#![tactic(auto)]
+
+mod appending;
+mod ends;
+mod fault;
+mod image_file;
+mod laws;
+mod memory;
+mod object;
+mod opening;
+mod replacing;
+mod rows;
+mod store;
+
+pub use fault::{FlushFault, OpenFault};
+pub use image_file::ImageFile;
+pub use laws::{held_images_are_read, whole_images_are_read};
+pub use memory::MemoryStore;
+pub use object::TapeObject;
+pub use opening::{OpenedImage, open_image};
+pub use rows::worked_rows;
+pub use store::{ImageStore, StoreFault};

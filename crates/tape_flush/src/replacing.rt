@@ -1,0 +1,74 @@
+ghost use Rattle.std.specs.Prelude.{◌≡◌, ◌≤◌, ◌++◌, take, vec_len, OnOk, OnErr};
+ghost use Rattle.std.specs.Io.KnownBytes.{Appends};
+ghost use Rattle.tape_image.specs.Images.{image_bytes, AreKeepable};
+ghost use Rattle.tape_flush.specs.Images.{end_at, ends_from, image_value, IsFlushed, Fails, WritesSome};
+ghost use Rattle.tape_flush.specs.Objects.{objects_of};
+ghost use Rattle.tape_flush.specs.Stores.{Truncates, TruncatesInPart};
+
+use crate::appending::{PIECE, append_all};
+use crate::ends::{end_at, note_ends};
+use crate::fault::FlushFault;
+use crate::object::TapeObject;
+use crate::store::{ImageStore, StoreFault};
+use std::alloc::Global;
+
+/// Cuts a file back to where its first objects end, and forgets the others, also where it fails.
+fn cut_back<S: ImageStore>(
+    store: &mut S,
+    ends: &mut Vec<u64>,
+    stay: usize,
+) -> Result<(), StoreFault>
+    requires { stay ≤ vec_len ends.old }
+    ensures ends { ends.new.items ≡ take stay ends.old.items }
+    ensures ok { OnOk result (Truncates (end_at ends.old.items stay) (S.contents store.old) (S.contents store.new)) }
+    ensures err { OnErr result (TruncatesInPart (end_at ends.old.items stay) (S.contents store.old) (S.contents store.new)) }
+{
+    let end = end_at(ends, stay);
+    ends.truncate(stay);
+    store.truncate(end)
+}
+
+/// Writes objects behind those that are in a file, and notes where those end that are in it for sure.
+fn write_on<S: ImageStore>(
+    store: &mut S,
+    ends: &mut Vec<u64>,
+    piece: &mut Vec<u8>,
+    objects: &[TapeObject<'_>],
+) -> Result<(), FlushFault>
+    requires { AreKeepable (objects_of objects.now) }
+    ensures ends { OnOk result (ends.new.items ≡ ends.old.items ++ ends_from (end_at ends.old.items (vec_len ends.old)) (objects_of objects.now)) }
+    ensures ok { OnOk result (Appends (S.contents store.old) (S.contents store.new) (image_bytes (objects_of objects.now))) }
+    ensures err { OnErr result (WritesSome (vec_len ends.old) (objects_of objects.now) ends.old.items ends.new.items (S.contents store.old) (S.contents store.new)) }
+{
+    let count = ends.len();
+    note_ends(ends, objects)?;
+    match append_all(store, piece, objects) {
+        Ok(()) => Ok(()),
+        Err(unfinished) => {
+            ends.truncate(count + unfinished.written);
+            Err(unfinished.fault)
+        }
+    }
+}
+
+/// Cuts a file back to the objects that stay, and writes others behind them. All memory is taken before that.
+pub(crate) fn replace<S: ImageStore>(
+    alloc: Global,
+    store: &mut S,
+    ends: &mut Vec<u64>,
+    stay: usize,
+    objects: &[TapeObject<'_>],
+) -> Result<(), FlushFault>
+    requires stay { stay ≤ vec_len ends.old }
+    requires keepable { AreKeepable (objects_of objects.now) }
+    ensures ok { OnOk result (IsFlushed stay (objects_of objects.now) (image_value ends.old.items (S.contents store.old) (S.synced store.old)) (image_value ends.new.items (S.contents store.new) (S.synced store.new))) }
+    ensures err { OnErr result (Fails stay (objects_of objects.now) (image_value ends.old.items (S.contents store.old) (S.synced store.old)) (image_value ends.new.items (S.contents store.new) (S.synced store.new))) }
+{
+    let mut piece = Vec::with_capacity(alloc, PIECE)?;
+    ends.reserve(objects.len())?;
+    cut_back(store, ends, stay)?;
+    match write_on(store, ends, &mut piece, objects) {
+        Ok(()) => Ok(()),
+        Err(fault) => Err(fault),
+    }
+}
