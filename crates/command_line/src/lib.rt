@@ -4,6 +4,7 @@
 mod commands;
 mod fault;
 mod laws;
+mod options;
 mod reading;
 mod task;
 

@@ -1,0 +1,289 @@
+//! The options of the program's commands, in tables, and how `clap` is told of them.
+
+use clap::{Arg, ArgAction, Command, value_parser};
+use program_options::{LibraryOptions, ServeTimes};
+use scsi_nexus::TARGET_PORTS;
+use std::alloc::{AllocError, Global};
+
+/// What is given behind an option.
+#[derive(Clone, Copy)]
+enum OptionValue {
+    /// Nothing: it is said, or it isn't.
+    Switch,
+    /// A text, by what the help calls it.
+    Text(&'static str),
+    /// A number of 8 bits, by what the help calls it, with the least and the greatest.
+    Number8(&'static str, u8, u8),
+    /// A number of 16 bits.
+    Number16(&'static str, u16, u16),
+    /// A number of 32 bits.
+    Number32(&'static str, u32, u32),
+}
+
+/// An option of a command.
+#[derive(Clone, Copy)]
+pub(crate) struct OptionRow {
+    name: &'static str,
+    value: OptionValue,
+    presence: Presence,
+    /// The option beside which it can't be said.
+    excludes: Option<&'static str>,
+    help: &'static str,
+}
+
+/// Whether an option has to be said.
+#[derive(Clone, Copy)]
+enum Presence {
+    Required,
+    Optional,
+    /// It has this value where it isn't said.
+    Default(&'static str),
+}
+
+/// What the help calls a time.
+const SECONDS: &str = "SECONDS";
+
+/// What the help says of a class of commands.
+pub(crate) const CLASS: &str = "The one class of commands to print, by its name in the table";
+
+/// What a library is made of.
+pub(crate) const LIBRARY: [OptionRow; 4] = [
+    OptionRow {
+        name: "drives",
+        value: OptionValue::Number8("D", 1, LibraryOptions::MAX.drives),
+        presence: Presence::Default("1"),
+        excludes: None,
+        help: "How many drives there are, as logical units from 1 on",
+    },
+    OptionRow {
+        name: "slots",
+        value: OptionValue::Number16("S", 1, LibraryOptions::MAX.slots),
+        presence: Presence::Default("8"),
+        excludes: None,
+        help: "How many storage elements the changer has",
+    },
+    OptionRow {
+        name: "portals",
+        value: OptionValue::Number8("P", 0, LibraryOptions::MAX.portals),
+        presence: Presence::Default("0"),
+        excludes: None,
+        help: "How many import/export elements the changer has",
+    },
+    OptionRow {
+        name: "volumes",
+        value: OptionValue::Number16("V", 0, LibraryOptions::MAX.volumes),
+        presence: Presence::Default("1"),
+        excludes: None,
+        help: "How many volumes lie in the first storage elements",
+    },
+];
+
+/// Replies in words.
+pub(crate) const EXPLAIN: [OptionRow; 1] = [OptionRow {
+    name: "explain",
+    value: OptionValue::Switch,
+    presence: Presence::Optional,
+    excludes: None,
+    help: "Prints behind each reply a line that begins with # and says it in words",
+}];
+
+/// The records, of which one may be asked for.
+pub(crate) const AUDIT: [OptionRow; 2] = [
+    OptionRow {
+        name: "audit",
+        value: OptionValue::Switch,
+        presence: Presence::Optional,
+        excludes: None,
+        help: "Prints a line for each record of each unit behind the replies, LUN 0 first",
+    },
+    OptionRow {
+        name: "spans",
+        value: OptionValue::Switch,
+        presence: Presence::Optional,
+        excludes: Some("audit"),
+        help: "The same, each with the reservation that stood before its record",
+    },
+];
+
+/// Where the library of a client is, and as which host it comes.
+pub(crate) const CLIENT: [OptionRow; 3] = [
+    OptionRow {
+        name: "socket",
+        value: OptionValue::Text("PATH"),
+        presence: Presence::Required,
+        excludes: None,
+        help: "Where the socket's file of the served library is",
+    },
+    OptionRow {
+        name: "sas",
+        value: OptionValue::Text("HEX"),
+        presence: Presence::Required,
+        excludes: None,
+        help: "The SAS address of the host, in 16 hexadecimal digits",
+    },
+    OptionRow {
+        name: "port",
+        value: OptionValue::Number16("P", 1, TARGET_PORTS),
+        presence: Presence::Required,
+        excludes: None,
+        help: "The target port by which the host comes",
+    },
+];
+
+/// Where a library is served, for how long, and to how many.
+pub(crate) const PLACE: [OptionRow; 3] = [
+    OptionRow {
+        name: "socket",
+        value: OptionValue::Text("PATH"),
+        presence: Presence::Required,
+        excludes: None,
+        help: "Where the socket's file is made",
+    },
+    OptionRow {
+        name: "sessions",
+        value: OptionValue::Number8("N", 1, 64),
+        presence: Presence::Optional,
+        excludes: None,
+        help: "How many connections are accepted, each as a session; without it the library is served until standard input ends",
+    },
+    OptionRow {
+        name: "workers",
+        value: OptionValue::Number8("W", 1, 64),
+        presence: Presence::Optional,
+        excludes: Some("sessions"),
+        help: "How many sessions there may be at a time until standard input ends, 8 where nothing is said",
+    },
+];
+
+/// When and how the records of a served library are printed.
+pub(crate) const RECORDS: [OptionRow; 2] = [
+    OptionRow {
+        name: "spans",
+        value: OptionValue::Switch,
+        presence: Presence::Optional,
+        excludes: None,
+        help: "Prints with each line the reservation that stood before its record",
+    },
+    OptionRow {
+        name: "drain",
+        value: OptionValue::Switch,
+        presence: Presence::Optional,
+        excludes: Some("spans"),
+        help: "Prints the records after each session, and within one whenever a unit has 4,096 of them, and keeps them no longer; \
+            without it the server keeps all, some 255 bytes a command, so a long-lived server wants it",
+    },
+];
+
+/// How long a served library waits for its hosts.
+pub(crate) const TIMES: [OptionRow; 4] = [
+    OptionRow {
+        name: "grace",
+        value: OptionValue::Number32(SECONDS, 0, ServeTimes::MAX_GRACE),
+        presence: Presence::Default("10"),
+        excludes: None,
+        help: "How many seconds sessions go on once no more connections are accepted",
+    },
+    OptionRow {
+        name: "login-timeout",
+        value: OptionValue::Number32(SECONDS, 0, ServeTimes::MAX_TIMEOUT),
+        presence: Presence::Default("10"),
+        excludes: None,
+        help: "After how many seconds a connection is closed whose LOGIN hasn't come whole, 0 for never",
+    },
+    OptionRow {
+        name: "idle-timeout",
+        value: OptionValue::Number32(SECONDS, 0, ServeTimes::MAX_TIMEOUT),
+        presence: Presence::Default("0"),
+        excludes: None,
+        help: "After how many seconds a session is ended from which nothing came, 0 for never",
+    },
+    OptionRow {
+        name: "write-timeout",
+        value: OptionValue::Number32(SECONDS, 0, ServeTimes::MAX_TIMEOUT),
+        presence: Presence::Default("30"),
+        excludes: None,
+        help: "After how many seconds a reply that can't be written ends its session as a failed write, 0 for never",
+    },
+];
+
+/// What is told of sessions.
+pub(crate) const LOG: [OptionRow; 1] = [OptionRow {
+    name: "log",
+    value: OptionValue::Switch,
+    presence: Presence::Optional,
+    excludes: None,
+    help: "Prints a line on standard error for each session that begins and ends, and for what a host was refused \
+            for want of memory or of a slot",
+}];
+
+/// A command with the options of a table, in its order.
+pub(crate) fn with_options<'a>(
+    alloc: Global,
+    command: Command<'a>,
+    rows: &[OptionRow],
+) -> Result<Command<'a>, AllocError> {
+    let mut command = command;
+    for row in rows {
+        command = command.arg(argument_of(alloc, row)?)?;
+    }
+    Ok(command)
+}
+
+/// An option, as `clap` has it.
+fn argument_of<'a>(alloc: Global, row: &OptionRow) -> Result<Arg<'a>, AllocError> {
+    let argument = Arg::new(alloc, row.name).long(row.name).help(row.help);
+    let argument = with_presence(with_value(argument, row.value), row.presence);
+    with_exclusion(argument, row.excludes)
+}
+
+fn with_value<'a>(argument: Arg<'a>, value: OptionValue) -> Arg<'a> {
+    match value {
+        OptionValue::Switch => argument.action(ArgAction::SetTrue),
+        OptionValue::Text(name) => argument.value_name(name),
+        OptionValue::Number8(name, least, most) => with_number8(
+            argument.value_name(name),
+            least,
+            most,
+        ),
+        OptionValue::Number16(name, least, most) => with_number16(
+            argument.value_name(name),
+            least,
+            most,
+        ),
+        OptionValue::Number32(name, least, most) => with_number32(
+            argument.value_name(name),
+            least,
+            most,
+        ),
+    }
+}
+
+fn with_number8<'a>(argument: Arg<'a>, least: u8, most: u8) -> Arg<'a> {
+    argument.value_parser(value_parser!(u8).range(i64::from(least)..=i64::from(most)))
+}
+
+fn with_number16<'a>(argument: Arg<'a>, least: u16, most: u16) -> Arg<'a> {
+    argument.value_parser(value_parser!(u16).range(i64::from(least)..=i64::from(most)))
+}
+
+fn with_number32<'a>(argument: Arg<'a>, least: u32, most: u32) -> Arg<'a> {
+    argument.value_parser(value_parser!(u32).range(i64::from(least)..=i64::from(most)))
+}
+
+fn with_presence<'a>(argument: Arg<'a>, presence: Presence) -> Arg<'a> {
+    match presence {
+        Presence::Required => argument.required(true),
+        Presence::Optional => argument,
+        Presence::Default(value) => argument.default_value(value),
+    }
+}
+
+fn with_exclusion<'a>(
+    argument: Arg<'a>,
+    excludes: Option<&'static str>,
+) -> Result<Arg<'a>, AllocError> {
+    match excludes {
+        Some(other) => argument.conflicts_with(other),
+        None => Ok(argument),
+    }
+}
