@@ -3,3 +3,4 @@ pub mod Parts
 pub mod Order
 pub mod Pieces
 pub mod Bounds
+pub mod Window

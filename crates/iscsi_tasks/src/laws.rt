@@ -1,11 +1,13 @@
-ghost use Rattle.std.specs.Prelude.{◌≡◌, ℕ, true, not, List, ◌++◌, map, filter};
+ghost use Rattle.std.specs.Prelude.{◌≡◌, ◌<◌, ◌^◌, ℕ, true, not, List, ◌++◌, map, filter};
 ghost use Rattle.std.specs.List.{AllByRecursion};
+ghost use Rattle.iscsi_pdu.specs.SerialNumbers.{distance};
 ghost use Rattle.iscsi_pdu.specs.declared.serial_number.SerialNumber.{SerialNumber};
 ghost use Rattle.iscsi_keys.specs.declared.parameters.SessionParameters.{SessionParameters};
 ghost use Rattle.iscsi_tasks.specs.Values.{TasksValue, begun_tasks};
+ghost use Rattle.iscsi_tasks.specs.Windows.{max_cmd_sn};
 ghost use Rattle.iscsi_tasks.specs.Commands.{has_tag, is_waiting, IsBounded};
 ghost use Rattle.iscsi_tasks.specs.Aborts.{is_at, without_task, without_unit};
-ghost use Rattle.iscsi_tasks.specs.Runs.{Act, run, commands, handed_out, taken_in, executed, EndsNone, IsPartOf, IsMadeOf};
+ghost use Rattle.iscsi_tasks.specs.Runs.{Act, run, stepped, commands, handed_out, taken_in, executed, EndsNone, IsPartOf, IsMadeOf};
 
 /// Law: commands are handed out in the order in which they were taken, none of them twice, and those that still wait come behind
 /// them; what is executed is among what is handed out. Where no task management ends one, none is lost.
@@ -30,4 +32,9 @@ pub fn data_are_its_own()
 /// Law: whatever comes, no more commands wait than may, and their data stay within bounds.
 pub fn tasks_are_bounded()
     ensures { (p : SessionParameters) (limit : ℕ) (n : SerialNumber) (acts : List Act) → IsBounded (run (begun_tasks p limit n) acts).waiting }
+{}
+
+/// Law: whatever comes, MaxCmdSN stays or moves on, by less than half the circle, and never back.
+pub fn window_moves_on()
+    ensures { (p : SessionParameters) (limit : ℕ) (n : SerialNumber) (acts : List Act) (act : Act) → n.number < 2 ^ 32 → distance (max_cmd_sn (run (begun_tasks p limit n) acts)) (max_cmd_sn (stepped (run (begun_tasks p limit n) acts) act)) < 2 ^ 31 }
 {}

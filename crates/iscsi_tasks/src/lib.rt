@@ -15,7 +15,9 @@ mod tasks;
 mod waiting;
 
 pub use fault::{TaskFault, TasksFault};
-pub use laws::{aborted_is_gone, commands_in_order, data_are_its_own, tasks_are_bounded};
+pub use laws::{
+    aborted_is_gone, commands_in_order, data_are_its_own, tasks_are_bounded, window_moves_on,
+};
 pub use next_task::{NextTask, TransferRequest};
 pub use rows::{data_rows, number_rows};
 pub use taken::{TakenCommand, TakenData};
