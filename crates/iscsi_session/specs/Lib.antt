@@ -1,3 +1,12 @@
 pub mod Reading
 pub mod Faults
+pub mod Executing
+pub mod Managing
+pub mod Saying
+pub mod Talking
+pub mod LoggingIn
+pub mod Handing
+pub mod Serving
 pub mod Leaving
+pub mod Claims
+pub mod Rows

@@ -1,4 +1,5 @@
-ghost use Rattle.std.specs.Prelude.{IfErr};
+ghost use Rattle.std.specs.Prelude.{◌≡◌, [], IfErr, OnOk};
+ghost use Rattle.std.specs.Io.KnownBytes.{Appends};
 ghost use Rattle.iscsi_session.specs.Faults.{IsLater};
 
 use crate::fault::IscsiFault;
@@ -33,8 +34,14 @@ pub(crate) struct Connection {
 }
 
 impl Connection {
+    ghost use Rattle.std.specs.Prelude.{◌≡◌};
+    ghost use Rattle.iscsi_tasks.specs.Values.{begun_tasks};
+    ghost use Rattle.iscsi_session.specs.Executing.{numbers};
+
     /// One that begins, with the StatSN of its first answer.
-    pub(crate) fn new(alloc: Global, begun: &FullFeature, stat_sn: SerialNumber) -> Connection {
+    pub(crate) fn new(alloc: Global, begun: &FullFeature, stat_sn: SerialNumber) -> Connection
+        ensures { result.tasks ≡ begun_tasks begun.now.parameters 131053 begun.now.cmd_sn }
+    {
         let parameters = begun.parameters;
         Connection {
             tasks: Tasks::new(alloc, parameters, MOST_DATA, begun.cmd_sn),
@@ -53,7 +60,9 @@ impl Connection {
     }
 
     /// The numbers that stand in the answer that comes next.
-    pub(crate) fn numbers(&self) -> SequenceNumbers {
+    pub(crate) fn numbers(&self) -> SequenceNumbers
+        ensures { result ≡ numbers self.now.tasks self.now.stat_sn }
+    {
         SequenceNumbers {
             stat_sn: self.stat_sn,
             exp_cmd_sn: self.tasks.exp_cmd_sn(),
@@ -62,14 +71,18 @@ impl Connection {
     }
 
     /// Behind an answer that takes up a StatSN.
-    pub(crate) fn has_answered(&mut self) {
+    pub(crate) fn has_answered(&mut self)
+        ensures { self.new.tasks ≡ self.old.tasks }
+    {
         self.stat_sn = self.stat_sn.next();
     }
 }
 
 /// Writes what was answered.
 pub(crate) fn flush<W: Write>(out: &mut Vec<u8>, writer: &mut W) -> Result<(), IscsiFault>
-    ensures { IfErr result IsLater }
+    ensures fault { IfErr result IsLater }
+    ensures written { OnOk result (Appends (W.contents writer.old) (W.contents writer.new) out.old.items) }
+    ensures empty { out.new.items ≡ [] }
 {
     let written = writer.write_all(out.as_slice());
     out.clear();

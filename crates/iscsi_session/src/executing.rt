@@ -1,7 +1,12 @@
 //! Commands: handed to their units, and answered.
-ghost use Rattle.std.specs.Prelude.{◌<◌, ◌^◌, length, IfErr};
+ghost use Rattle.std.specs.Prelude.{◌≡◌, ◌<◌, ◌^◌, ◌++◌, ℕ, List, length, IfErr, OnOk};
+ghost use Rattle.iscsi_pdu.specs.Pdus.{TargetPduValue};
+ghost use Rattle.iscsi_answers.specs.Written.{bytes_of_all};
+ghost use Rattle.iscsi_tasks.specs.Next.{next_of};
+ghost use Rattle.iscsi_tasks.specs.Runs.{Commanded, DataCame, stepped};
+ghost use Rattle.iscsi_tasks.specs.declared.next_task.NextTask.TheVariants.{Idle};
 ghost use Rattle.iscsi_session.specs.Faults.{IsLater};
-ghost use Rattle.session.specs.Answering.{ComesByCalls};
+ghost use Rattle.iscsi_session.specs.Executing.{Acts, Adds, Does, Executes, GoesOn, OrElse, Tells, answer_to, demand, failure, is_idle, next_outcome, outcome};
 
 use crate::connection::Connection;
 use crate::fault::IscsiFault;
@@ -20,9 +25,6 @@ const NO_UNIT: u8 = 255;
 /// The sense key of a command that ends unexecuted since its data aren't right (SPC-4, "Sense key and additional sense code definitions").
 const ABORTED_COMMAND: u8 = 0x0B;
 
-/// More than can be done next before another PDU comes: each command that waits is executed once, and asked for once.
-const MOST_STEPS: u32 = 65;
-
 /// Hands a command to its unit with its data, and adds what answers it.
 fn execute<S: Service>(
     alloc: Global,
@@ -33,8 +35,9 @@ fn execute<S: Service>(
     bytes: &[u8],
     out: &mut Vec<u8>,
 ) -> Result<(), IscsiFault>
-    ensures calls { ComesByCalls S.notes nexus service.old service.new }
     ensures fault { IfErr result IsLater }
+    ensures tasks { connection.new.tasks ≡ connection.old.tasks }
+    ensures executed { (said : List TargetPduValue) × Executes S.notes nexus service.old connection.old.tasks command.now bytes.now said service.new × Adds result out.old.items out.new.items said }
 {
     let lun = unit_of(command.lun).unwrap_or(NO_UNIT);
     let done = service.submit(alloc, nexus, lun, &command.cdb, bytes);
@@ -58,6 +61,8 @@ fn answer_command(
 ) -> Result<(), IscsiFault>
     requires { length answer.now.data.now < 2 ^ 32 }
     ensures fault { IfErr result IsLater }
+    ensures tasks { connection.new.tasks ≡ connection.old.tasks }
+    ensures answered { OnOk result (out.new.items ≡ out.old.items ++ bytes_of_all (answer_to connection.old.tasks connection.old.limits connection.old.stat_sn command.now handed_over answer.now.status answer.now.sense answer.now.data.now)) }
 {
     let answered = AnsweredCommand {
         initiator_task_tag: command.initiator_task_tag,
@@ -80,6 +85,8 @@ fn fail(
     out: &mut Vec<u8>,
 ) -> Result<(), IscsiFault>
     ensures fault { IfErr result IsLater }
+    ensures tasks { connection.new.tasks ≡ connection.old.tasks }
+    ensures failed { OnOk result (out.new.items ≡ out.old.items ++ bytes_of_all (failure connection.old.tasks connection.old.limits connection.old.stat_sn command.now fault)) }
 {
     let (asc, ascq) = fault.additional_sense();
     let sense = Sense {
@@ -103,6 +110,8 @@ fn ask(
     out: &mut Vec<u8>,
 ) -> Result<(), IscsiFault>
     ensures fault { IfErr result IsLater }
+    ensures tasks { connection.new.tasks ≡ connection.old.tasks }
+    ensures asked { OnOk result (out.new.items ≡ out.old.items ++ bytes_of_all (demand connection.old.tasks connection.old.stat_sn request)) }
 {
     let numbers = connection.numbers();
     let ready = request.ready_to_transfer(numbers.stat_sn, numbers.exp_cmd_sn, numbers.max_cmd_sn);
@@ -110,7 +119,7 @@ fn ask(
     Ok(())
 }
 
-/// Does what is to be done next, and says whether there was anything.
+/// Does what is to be done next.
 fn do_next<S: Service>(
     alloc: Global,
     service: &mut S,
@@ -118,12 +127,13 @@ fn do_next<S: Service>(
     connection: &mut Connection,
     next: NextTask,
     out: &mut Vec<u8>,
-) -> Result<bool, IscsiFault>
-    ensures calls { ComesByCalls S.notes nexus service.old service.new }
+) -> Result<(), IscsiFault>
     ensures fault { IfErr result IsLater }
+    ensures tasks { connection.new.tasks ≡ connection.old.tasks }
+    ensures done { (said : List TargetPduValue) × Does S.notes nexus service.old connection.old.tasks (next_outcome next) said service.new × Adds result out.old.items out.new.items said }
 {
     match next {
-        NextTask::Idle => Ok(false),
+        NextTask::Idle => Ok(()),
         NextTask::Execute(task) => {
             let command = task.command();
             execute(
@@ -134,18 +144,18 @@ fn do_next<S: Service>(
                 &command,
                 task.data(),
                 out,
-            )?;
-            Ok(true)
+            )
         }
-        NextTask::Ask(request) => {
-            ask(connection, request, out)?;
-            Ok(true)
-        }
-        NextTask::Fail(task, fault) => {
-            fail(connection, &task.command(), fault, out)?;
-            Ok(true)
-        }
+        NextTask::Ask(request) => ask(connection, request, out),
+        NextTask::Fail(task, fault) => fail(connection, &task.command(), fault, out),
     }
+}
+
+/// Whether nothing is to be done next.
+fn is_idle(next: &NextTask) -> bool
+    ensures { result ≡ is_idle next.now }
+{
+    matches!(next, NextTask::Idle)
 }
 
 /// Goes on with the commands that wait, until they wait for PDUs.
@@ -156,16 +166,17 @@ pub(crate) fn go_on<S: Service>(
     connection: &mut Connection,
     out: &mut Vec<u8>,
 ) -> Result<(), IscsiFault>
-    ensures calls { ComesByCalls S.notes nexus service.old service.new }
     ensures fault { IfErr result IsLater }
+    ensures gone { (times : ℕ) × (said : List TargetPduValue) × GoesOn S.notes nexus times connection.old.tasks service.old said connection.new.tasks service.new × Adds result out.old.items out.new.items said }
+    ensures idle { OnOk result (next_of connection.new.tasks ≡ Idle) }
 {
-    'steps: for _ in 0..MOST_STEPS {
+    'steps: loop {
         let next = connection.tasks.next();
-        if !do_next(alloc, service, nexus, connection, next, out)? {
+        if is_idle(&next) {
             return Ok(());
         }
+        do_next(alloc, service, nexus, connection, next, out)?;
     }
-    Ok(())
 }
 
 /// Takes a SCSI Command: executes it at once, or once its turn has come and its data are there.
@@ -179,11 +190,12 @@ pub(crate) fn take_command<S: Service>(
     payload: &[u8],
     out: &mut Vec<u8>,
 ) -> Result<(), IscsiFault>
-    ensures calls { ComesByCalls S.notes nexus service.old service.new }
     ensures fault { IfErr result IsLater }
+    ensures taken { OrElse result ((connection.new.tasks ≡ connection.old.tasks) × (service.new ≡ service.old)) ((said : List TargetPduValue) × Acts S.notes nexus connection.old.tasks service.old (Commanded command.now payload.now) said connection.new.tasks service.new × Adds result out.old.items out.new.items said) }
 {
     match connection.tasks.take_command(command, payload)? {
-        TakenCommand::PassedOver | TakenCommand::Waits => Ok(()),
+        TakenCommand::PassedOver => Ok(()),
+        TakenCommand::Waits => Ok(()),
         TakenCommand::Rejected(reason) => reject(connection, reason, header, out),
         TakenCommand::Execute(count) => execute(
             alloc,
@@ -206,9 +218,11 @@ pub(crate) fn take_data(
     out: &mut Vec<u8>,
 ) -> Result<(), IscsiFault>
     ensures fault { IfErr result IsLater }
+    ensures taken { OrElse result (connection.new.tasks ≡ connection.old.tasks) ((said : List TargetPduValue) × (connection.new.tasks ≡ stepped connection.old.tasks (DataCame data_out.now payload.now)) × Tells connection.new.tasks (outcome connection.old.tasks (DataCame data_out.now payload.now)) said × Adds result out.old.items out.new.items said) }
 {
     match connection.tasks.take_data(data_out, payload)? {
-        TakenData::Taken | TakenData::PassedOver => Ok(()),
+        TakenData::Taken => Ok(()),
+        TakenData::PassedOver => Ok(()),
         TakenData::Rejected(reason) => reject(connection, reason, header, out),
     }
 }

@@ -3,6 +3,7 @@
 #![tactic(auto)]
 
 mod answering;
+mod claiming;
 mod connection;
 mod discovery;
 mod executing;
@@ -12,10 +13,13 @@ mod managing;
 mod portal;
 mod read_buffer;
 mod requests;
+mod rows;
 mod serving;
 mod talking;
 
+pub use claiming::{Claim, SessionIdentity, SessionRegister, claim_of, claim_rows};
 pub use fault::{IscsiEnd, IscsiFault};
 pub use iscsi_answers::PortalAddress;
 pub use portal::Portal;
+pub use rows::{handing_rows, outcome_rows};
 pub use serving::serve;

@@ -1,5 +1,11 @@
 //! The login of a connection.
+ghost use Rattle.std.specs.Prelude.{◌≡◌, List, [], ℕ, IfOk};
+ghost use Rattle.std.specs.Io.KnownBytes.{Appends};
+ghost use Rattle.iscsi_pdu.specs.declared.login_request.LoginRequest.{LoginRequest};
+ghost use Rattle.iscsi_pdu.specs.declared.initiator_header.InitiatorHeader.TheVariants as sent;
+ghost use Rattle.iscsi_login.specs.Exchanges.{taken};
 ghost use Rattle.iscsi_session.specs.Faults.{IsLater};
+ghost use Rattle.iscsi_session.specs.LoggingIn.{Exchanges, HasReached, LogsIn, UnlessRefused, WhereBegins, WhereBegun};
 
 use crate::connection::flush;
 use crate::fault::{IscsiEnd, IscsiFault};
@@ -27,7 +33,10 @@ fn take_pdu(
     exchange: &mut LoginExchange,
     pdu: &InitiatorPdu<'_>,
     out: &mut Vec<u8>,
-) -> Result<LoginProgress, AllocError> {
+) -> Result<LoginProgress, AllocError>
+    ensures taken { IfOk result (λ progress. UnlessRefused progress ((request : LoginRequest) × (pdu.now.header ≡ sent.LoginRequest request) × (exchange.new ≡ taken exchange.old target.now request pdu.now.payload.now))) }
+    ensures begins { IfOk result (λ progress. WhereBegins progress (HasReached exchange.new)) }
+{
     match &pdu.header {
         InitiatorHeader::LoginRequest(request) => {
             exchange.take(target, request, pdu.payload, out)
@@ -45,7 +54,10 @@ fn take_pdus(
     exchange: &mut LoginExchange,
     read_buffer: &mut ReadBuffer,
     out: &mut Vec<u8>,
-) -> Result<LoginProgress, IscsiFault> {
+) -> Result<LoginProgress, IscsiFault>
+    ensures taken { IfOk result (λ progress. UnlessRefused progress (Exchanges target.now exchange.old exchange.new read_buffer.old read_buffer.new)) }
+    ensures begins { IfOk result (λ progress. WhereBegins progress (HasReached exchange.new)) }
+{
     'pdus: loop {
         let pending = read_buffer.pending();
         match parse_initiator_pdu(TARGET_MAX_RECV_DATA_SEGMENT_LENGTH, pending) {
@@ -74,7 +86,12 @@ pub(crate) fn await_login<R: Read, W: Write>(
     reader: &mut R,
     writer: &mut W,
     turns: u64,
-) -> Result<LoginWait, IscsiFault> {
+) -> Result<LoginWait, IscsiFault>
+    requires { read_buffer.old ≡ [] }
+    ensures came { IfOk result (λ wait. WhereBegun wait (λ begun. LogsIn target.now exchange.old exchange.new (R.remaining reader.old) (R.remaining reader.new) read_buffer.new)) }
+    ensures begins { IfOk result (λ wait. WhereBegun wait (HasReached exchange.new)) }
+    ensures written { IfOk result (λ wait. WhereBegun wait (λ begun. (told : List ℕ) × Appends (W.contents writer.old) (W.contents writer.new) told)) }
+{
     'reads: for turn in 0..turns {
         match read_buffer.fill(reader) {
             Ok(0) => return Ok(LoginWait::Ended(end_of(read_buffer.pending()))),

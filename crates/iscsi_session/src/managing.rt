@@ -1,13 +1,16 @@
 //! Task management (RFC 7143, "Task Management Function Request").
-ghost use Rattle.std.specs.Prelude.{IfErr};
+ghost use Rattle.std.specs.Prelude.{◌≡◌, List, IfErr, Some};
+ghost use Rattle.iscsi_pdu.specs.Pdus.{TargetPduValue};
+ghost use Rattle.iscsi_pdu.specs.Luns as luns;
 ghost use Rattle.iscsi_session.specs.Faults.{IsLater};
-ghost use Rattle.session.specs.Answering.{ComesByCalls};
+ghost use Rattle.iscsi_session.specs.Executing.{Adds};
+ghost use Rattle.iscsi_session.specs.Managing.{AbortsTask, AbortsTaskSet, Manages, ManagesTasks, Resets, ResetsBelow, ResetsUnit, reset_result, unit_below};
 
 use crate::connection::Connection;
 use crate::fault::IscsiFault;
 use iscsi_answers::write_task_management_response;
 use iscsi_pdu::{TaskManagementFunction, TaskManagementRequest, TaskManagementResult, unit_of};
-use scsi_nexus::Nexus;
+use iscsi_tasks::Tasks;
 use scsi_sense::Status;
 use session::Service;
 use std::alloc::Global;
@@ -16,13 +19,12 @@ use std::alloc::Global;
 pub(crate) fn manage<S: Service>(
     alloc: Global,
     service: &mut S,
-    nexus: Nexus,
     connection: &mut Connection,
     request: &TaskManagementRequest,
     out: &mut Vec<u8>,
 ) -> Result<(), IscsiFault>
-    ensures calls { ComesByCalls S.notes nexus service.old service.new }
     ensures fault { IfErr result IsLater }
+    ensures managed { (said : List TargetPduValue) × ManagesTasks S.notes S.count request.now connection.old.tasks service.old said connection.new.tasks service.new × Adds result out.old.items out.new.items said }
 {
     if !connection
         .tasks
@@ -30,7 +32,7 @@ pub(crate) fn manage<S: Service>(
     {
         return Ok(());
     }
-    let result = result_of(alloc, service, nexus, connection, request);
+    let result = result_of(alloc, service, &mut connection.tasks, request);
     let numbers = connection.numbers();
     write_task_management_response(out, numbers, request.initiator_task_tag, result)?;
     connection.has_answered();
@@ -41,75 +43,87 @@ pub(crate) fn manage<S: Service>(
 fn result_of<S: Service>(
     alloc: Global,
     service: &mut S,
-    nexus: Nexus,
-    connection: &mut Connection,
+    tasks: &mut Tasks,
     request: &TaskManagementRequest,
 ) -> TaskManagementResult
-    ensures calls { ComesByCalls S.notes nexus service.old service.new }
+    ensures managed { Manages S.notes (S.count service.old) request.now tasks.old service.old request.now.function tasks.new service.new result }
 {
+    let unit = unit_below(service.units(), unit_of(request.lun));
     match request.function {
-        TaskManagementFunction::AbortTask
-        | TaskManagementFunction::AbortTaskSet
-        | TaskManagementFunction::LogicalUnitReset => match unit_of(request.lun) {
-            Some(unit) if unit < service.units() => {
-                manage_unit(alloc, service, nexus, connection, request, unit)
-            }
-            _ => TaskManagementResult::LunDoesNotExist,
-        },
-        TaskManagementFunction::TargetWarmReset => reset_all(alloc, service, nexus, connection),
+        TaskManagementFunction::AbortTask => abort_task(tasks, request.referenced_task_tag, unit),
+        TaskManagementFunction::AbortTaskSet => abort_task_set(tasks, unit),
+        TaskManagementFunction::LogicalUnitReset => reset_unit(alloc, service, tasks, unit),
+        TaskManagementFunction::TargetWarmReset => reset_all(alloc, service, tasks),
         TaskManagementFunction::TaskReassign => {
             TaskManagementResult::TaskAllegianceReassignmentNotSupported
         }
-        TaskManagementFunction::ClearAca
-        | TaskManagementFunction::ClearTaskSet
-        | TaskManagementFunction::TargetColdReset
-        | TaskManagementFunction::Reserved => TaskManagementResult::FunctionNotSupported,
+        TaskManagementFunction::ClearAca => TaskManagementResult::FunctionNotSupported,
+        TaskManagementFunction::ClearTaskSet => TaskManagementResult::FunctionNotSupported,
+        TaskManagementFunction::TargetColdReset => TaskManagementResult::FunctionNotSupported,
+        TaskManagementFunction::Reserved => TaskManagementResult::FunctionNotSupported,
     }
 }
 
-/// A function that names a unit.
-fn manage_unit<S: Service>(
-    alloc: Global,
-    service: &mut S,
-    nexus: Nexus,
-    connection: &mut Connection,
-    request: &TaskManagementRequest,
-    unit: u8,
-) -> TaskManagementResult
-    ensures calls { ComesByCalls S.notes nexus service.old service.new }
+/// The unit that a LUN names, where it is one of so many.
+fn unit_below(units: u8, named: Option<u8>) -> Option<u8>
+    ensures { result ≡ unit_below units named }
 {
-    match request.function {
-        TaskManagementFunction::AbortTask => {
-            if connection.tasks.abort_task(request.referenced_task_tag) {
-                TaskManagementResult::FunctionComplete
-            } else {
-                TaskManagementResult::TaskDoesNotExist
-            }
-        }
-        TaskManagementFunction::LogicalUnitReset => {
-            connection.tasks.drop_unit(unit);
-            reset(alloc, service, nexus, unit)
-        }
-        _ => {
-            connection.tasks.drop_unit(unit);
+    match named {
+        Some(unit) if unit < units => Some(unit),
+        _ => None,
+    }
+}
+
+fn abort_task(tasks: &mut Tasks, tag: u32, unit: Option<u8>) -> TaskManagementResult
+    ensures { AbortsTask tasks.old tag unit tasks.new result }
+{
+    if unit.is_none() {
+        return TaskManagementResult::LunDoesNotExist;
+    }
+    if tasks.abort_task(tag) {
+        TaskManagementResult::FunctionComplete
+    } else {
+        TaskManagementResult::TaskDoesNotExist
+    }
+}
+
+fn abort_task_set(tasks: &mut Tasks, unit: Option<u8>) -> TaskManagementResult
+    ensures { AbortsTaskSet tasks.old unit tasks.new result }
+{
+    match unit {
+        Some(unit) => {
+            tasks.drop_unit(unit);
             TaskManagementResult::FunctionComplete
         }
+        None => TaskManagementResult::LunDoesNotExist,
+    }
+}
+
+fn reset_unit<S: Service>(
+    alloc: Global,
+    service: &mut S,
+    tasks: &mut Tasks,
+    unit: Option<u8>,
+) -> TaskManagementResult
+    ensures { ResetsUnit S.notes tasks.old service.old unit tasks.new service.new result }
+{
+    match unit {
+        Some(unit) => {
+            tasks.drop_unit(unit);
+            reset(alloc, service, unit)
+        }
+        None => TaskManagementResult::LunDoesNotExist,
     }
 }
 
 /// Resets every unit in ascending order.
-fn reset_all<S: Service>(
-    alloc: Global,
-    service: &mut S,
-    nexus: Nexus,
-    connection: &mut Connection,
-) -> TaskManagementResult
-    ensures calls { ComesByCalls S.notes nexus service.old service.new }
+fn reset_all<S: Service>(alloc: Global, service: &mut S, tasks: &mut Tasks) -> TaskManagementResult
+    ensures reset { ResetsBelow S.notes (S.count service.old) tasks.old service.old tasks.new service.new }
 {
     let mut result = TaskManagementResult::FunctionComplete;
     'units: for unit in 0..service.units() {
-        connection.tasks.drop_unit(unit);
-        let ended = reset(alloc, service, nexus, unit);
+        tasks.drop_unit(unit);
+        let ended = reset(alloc, service, unit);
         if ended != TaskManagementResult::FunctionComplete {
             result = ended;
         }
@@ -117,11 +131,18 @@ fn reset_all<S: Service>(
     result
 }
 
-/// Resets a unit. It is rejected where the unit has no room for it, which changes nothing there.
-fn reset<S: Service>(alloc: Global, service: &mut S, nexus: Nexus, unit: u8) -> TaskManagementResult
-    ensures calls { ComesByCalls S.notes nexus service.old service.new }
+/// Resets a unit, and says how that ended.
+fn reset<S: Service>(alloc: Global, service: &mut S, unit: u8) -> TaskManagementResult
+    ensures reset { Resets S.notes unit service.old service.new result }
 {
-    match service.reset(alloc, unit).receipt().reply.status {
+    reset_result(service.reset(alloc, unit).receipt().reply.status)
+}
+
+/// How a reset is told whose unit has answered so. It is rejected where the unit has no room for it, which changes nothing there.
+fn reset_result(status: Status) -> TaskManagementResult
+    ensures { result ≡ reset_result status }
+{
+    match status {
         Status::Good => TaskManagementResult::FunctionComplete,
         Status::CheckCondition => TaskManagementResult::LunDoesNotExist,
         Status::Busy | Status::ReservationConflict => TaskManagementResult::FunctionRejected,

@@ -1,5 +1,9 @@
 //! NOP-Out, text and logout, which concern no unit, and what is rejected.
-ghost use Rattle.std.specs.Prelude.{◌≤◌, length, IfErr};
+ghost use Rattle.std.specs.Prelude.{◌≡◌, ◌≤◌, ◌++◌, List, length, take, IfErr, OnOk};
+ghost use Rattle.iscsi_pdu.specs.Pdus.{TargetPduValue};
+ghost use Rattle.iscsi_answers.specs.Written.{bytes_of_all};
+ghost use Rattle.iscsi_session.specs.Executing.{refusal};
+ghost use Rattle.iscsi_session.specs.Saying.{AddsPlain, behind_other, numbered};
 ghost use Rattle.iscsi_session.specs.Faults.{IsLater};
 
 use crate::connection::{Connection, OpenText};
@@ -12,8 +16,8 @@ use iscsi_answers::{
 use iscsi_keys::Key;
 use iscsi_login::{SessionType, declared_value};
 use iscsi_pdu::{
-    BASIC_HEADER_SEGMENT, LogoutReason, LogoutRequest, LogoutResult, NopOut, RESERVED_TAG,
-    RejectReason, TextRequest,
+    BASIC_HEADER_SEGMENT, InitiatorHeader, InitiatorPdu, LogoutReason, LogoutRequest, LogoutResult,
+    NopOut, RESERVED_TAG, RejectReason, SerialNumber, TextRequest,
 };
 use std::alloc::AllocError;
 
@@ -28,6 +32,8 @@ pub(crate) fn reject(
     out: &mut Vec<u8>,
 ) -> Result<(), IscsiFault>
     ensures fault { IfErr result IsLater }
+    ensures tasks { connection.new.tasks ≡ connection.old.tasks }
+    ensures rejected { OnOk result (out.new.items ≡ out.old.items ++ bytes_of_all (refusal connection.old.tasks connection.old.stat_sn reason (take 48 header.now))) }
 {
     write_reject(out, connection.numbers(), reason, basic_header(header))?;
     connection.has_answered();
@@ -36,41 +42,128 @@ pub(crate) fn reject(
 
 /// The basic header segment of a PDU, in its bytes.
 fn basic_header(pdu: &[u8]) -> &[u8]
-    ensures { length result.now ≤ 48 }
+    ensures header { result.now ≡ take 48 pdu.now }
+    ensures short { length result.now ≤ 48 }
 {
-    &pdu[..pdu.len().min(BASIC_HEADER_SEGMENT)]
+    &pdu[..BASIC_HEADER_SEGMENT.min(pdu.len())]
+}
+
+/// Answers a PDU that concerns no task, or whose task a discovery session hasn't, and says whether the connection ends by it.
+pub(crate) fn answer_other(
+    connection: &mut Connection,
+    portal: &Portal<'_>,
+    session_type: SessionType,
+    pdu: &InitiatorPdu<'_>,
+    header: &[u8],
+    out: &mut Vec<u8>,
+) -> Result<bool, IscsiFault>
+    ensures fault { IfErr result IsLater }
+    ensures tasks { connection.new.tasks ≡ behind_other connection.old.tasks pdu.now.header }
+    ensures said { OnOk result (AddsPlain out.old.items out.new.items) }
+{
+    let payload = pdu.payload;
+    match &pdu.header {
+        InitiatorHeader::NopOut(nop_out) => take_nop_out(connection, nop_out, payload, out),
+        InitiatorHeader::TextRequest(request) => {
+            take_text(
+                connection,
+                portal,
+                session_type,
+                request,
+                header,
+                payload,
+                out,
+            )
+        }
+        InitiatorHeader::LogoutRequest(request) => take_logout(connection, request, header, out),
+        InitiatorHeader::Unknown(request) => {
+            take_unsupported(connection, request.immediate, request.cmd_sn, header, out)
+        }
+        InitiatorHeader::LoginRequest(_) => {
+            turn_down(connection, RejectReason::ProtocolError, header, out)
+        }
+        InitiatorHeader::SnackRequest(_) => {
+            turn_down(connection, RejectReason::CommandNotSupported, header, out)
+        }
+        InitiatorHeader::ScsiCommand(command) => {
+            take_unsupported(connection, command.immediate, command.cmd_sn, header, out)
+        }
+        InitiatorHeader::DataOut(_) => {
+            turn_down(connection, RejectReason::CommandNotSupported, header, out)
+        }
+        InitiatorHeader::TaskManagementRequest(request) => {
+            take_unsupported(connection, request.immediate, request.cmd_sn, header, out)
+        }
+    }
+}
+
+/// Rejects a PDU by which the connection doesn't end.
+fn turn_down(
+    connection: &mut Connection,
+    reason: RejectReason,
+    header: &[u8],
+    out: &mut Vec<u8>,
+) -> Result<bool, IscsiFault>
+    ensures fault { IfErr result IsLater }
+    ensures tasks { connection.new.tasks ≡ connection.old.tasks }
+    ensures said { OnOk result (AddsPlain out.old.items out.new.items) }
+{
+    reject(connection, reason, header, out)?;
+    Ok(false)
+}
+
+/// Takes a PDU that has a number, and is for what there isn't here.
+fn take_unsupported(
+    connection: &mut Connection,
+    immediate: bool,
+    cmd_sn: SerialNumber,
+    header: &[u8],
+    out: &mut Vec<u8>,
+) -> Result<bool, IscsiFault>
+    ensures fault { IfErr result IsLater }
+    ensures tasks { connection.new.tasks ≡ numbered connection.old.tasks immediate cmd_sn }
+    ensures said { OnOk result (AddsPlain out.old.items out.new.items) }
+{
+    if !connection.tasks.take_number(immediate, cmd_sn) {
+        return Ok(false);
+    }
+    turn_down(connection, RejectReason::CommandNotSupported, header, out)
 }
 
 /// Takes a NOP-Out: an answer to a ping of the target's own is not answered.
-pub(crate) fn take_nop_out(
+fn take_nop_out(
     connection: &mut Connection,
     nop_out: &NopOut,
     payload: &[u8],
     out: &mut Vec<u8>,
-) -> Result<(), IscsiFault>
+) -> Result<bool, IscsiFault>
     ensures fault { IfErr result IsLater }
+    ensures tasks { connection.new.tasks ≡ numbered connection.old.tasks nop_out.now.immediate nop_out.now.cmd_sn }
+    ensures said { OnOk result (AddsPlain out.old.items out.new.items) }
 {
     let is_taken = connection
         .tasks
         .take_number(nop_out.immediate, nop_out.cmd_sn);
     if !is_taken || nop_out.initiator_task_tag == RESERVED_TAG {
-        return Ok(());
+        return Ok(false);
     }
     let numbers = connection.numbers();
     let tag = nop_out.initiator_task_tag;
     write_nop_in(out, connection.limits, numbers, tag, payload)?;
     connection.has_answered();
-    Ok(())
+    Ok(false)
 }
 
 /// Takes a logout, and says whether the connection ends.
-pub(crate) fn take_logout(
+fn take_logout(
     connection: &mut Connection,
     request: &LogoutRequest,
     header: &[u8],
     out: &mut Vec<u8>,
 ) -> Result<bool, IscsiFault>
     ensures fault { IfErr result IsLater }
+    ensures tasks { connection.new.tasks ≡ numbered connection.old.tasks request.now.immediate request.now.cmd_sn }
+    ensures said { OnOk result (AddsPlain out.old.items out.new.items) }
 {
     if !connection
         .tasks
@@ -86,8 +179,7 @@ pub(crate) fn take_logout(
             LogoutResult::ConnectionRecoveryNotSupported
         }
         LogoutReason::Reserved => {
-            reject(connection, RejectReason::ProtocolError, header, out)?;
-            return Ok(false);
+            return turn_down(connection, RejectReason::ProtocolError, header, out);
         }
     };
     write_logout_response(
@@ -101,7 +193,7 @@ pub(crate) fn take_logout(
 }
 
 /// Takes a text request: a new one, or one that asks for what is left of the answer to the last.
-pub(crate) fn take_text(
+fn take_text(
     connection: &mut Connection,
     portal: &Portal<'_>,
     session_type: SessionType,
@@ -109,26 +201,28 @@ pub(crate) fn take_text(
     header: &[u8],
     payload: &[u8],
     out: &mut Vec<u8>,
-) -> Result<(), IscsiFault>
+) -> Result<bool, IscsiFault>
     ensures fault { IfErr result IsLater }
+    ensures tasks { connection.new.tasks ≡ numbered connection.old.tasks request.now.immediate request.now.cmd_sn }
+    ensures said { OnOk result (AddsPlain out.old.items out.new.items) }
 {
     if !connection
         .tasks
         .take_number(request.immediate, request.cmd_sn)
     {
-        return Ok(());
+        return Ok(false);
     }
     let is_new = request.target_transfer_tag == RESERVED_TAG;
     let is_asked_for = connection.open_text.tag == Some(request.target_transfer_tag);
     if request.continues || payload.len() > MOST_TEXT || !is_new && !is_asked_for {
-        return reject(connection, RejectReason::ProtocolError, header, out);
+        return turn_down(connection, RejectReason::ProtocolError, header, out);
     }
     if is_new {
         begin_text(&mut connection.open_text, session_type, portal, payload)?;
     }
     answer_text(connection, request, out)?;
     declare(&mut connection.limits, payload);
-    Ok(())
+    Ok(false)
 }
 
 /// Begins the answer to a text, and forgets what was left of another.
@@ -162,6 +256,8 @@ fn answer_text(
     out: &mut Vec<u8>,
 ) -> Result<(), IscsiFault>
     ensures fault { IfErr result IsLater }
+    ensures tasks { connection.new.tasks ≡ connection.old.tasks }
+    ensures said { OnOk result (AddsPlain out.old.items out.new.items) }
 {
     let numbers = connection.numbers();
     let tags = TextTags {

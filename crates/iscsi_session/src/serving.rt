@@ -1,8 +1,15 @@
-ghost use Rattle.std.specs.Prelude.{◌≡◌, ◌⊎◌, IfErr};
+ghost use Rattle.std.specs.Prelude.{◌≡◌, ◌⊎◌, ◌++◌, ℕ, Bool, true, List, [], IfErr, OnOk};
+ghost use Rattle.iscsi_pdu.specs.Pdus.{TargetPduValue};
+ghost use Rattle.iscsi_login.specs.declared.names.SessionType.TheVariants.{Normal};
+ghost use Rattle.iscsi_tasks.specs.Values.{TasksValue};
+ghost use Rattle.iscsi_tasks.specs.Next.{next_of};
+ghost use Rattle.iscsi_tasks.specs.declared.next_task.NextTask.TheVariants.{Idle};
 ghost use Rattle.iscsi_session.specs.Faults.{IsLater};
-ghost use Rattle.session.specs.Answering.{ComesByCalls};
 ghost use Rattle.iscsi_session.specs.Leaving.{Leaves};
+ghost use Rattle.iscsi_session.specs.Talking.{Converses};
+ghost use Rattle.iscsi_session.specs.Serving.{Holds, Serves, WritesLast, first_tasks};
 
+use crate::claiming::{Claim, SessionIdentity, SessionRegister, claim_of};
 use crate::connection::{Connection, flush};
 use crate::discovery::{NO_NEXUS, NoUnits};
 use crate::fault::{IscsiEnd, IscsiFault};
@@ -32,11 +39,16 @@ use std::io::{Read, Write};
 /// However a session that logged in ends, its nexus is lost at every unit, once, and then leaves the directory; where a loss was
 /// BUSY the end is `NoMemory`. A discovery session, and one that isn't let in, change nothing at the service.
 ///
+/// Where the login asks for the place of a session that lives (`claim_of`), that one is ended by the register first; where it hasn't
+/// ended in time, the login is refused.
+///
 /// A reader that fails by `WouldBlock` or `TimedOut` says that nothing came for a while: in full feature the target pings once, and
 /// where nothing comes then either, or during login, the end is `Silent`.
-pub fn serve<S: Service, R: Read, W: Write>(
+#[tactic(auto, unfolding(crate::specs::Serving::Serves))]
+pub fn serve<S: Service, G: SessionRegister, R: Read, W: Write>(
     alloc: Global,
     service: &mut S,
+    register: &G,
     portal: &Portal<'_>,
     challenge: Option<Challenge>,
     tsih: u16,
@@ -46,6 +58,7 @@ pub fn serve<S: Service, R: Read, W: Write>(
 ) -> Result<IscsiEnd, IscsiFault>
     ensures service { Leaves S.notes S.count portal.now.group service.old service.new }
     ensures refused { IfErr result (λ fault. IsLater fault ⊎ (service.new ≡ service.old)) }
+    ensures session { Serves S.notes S.count portal.now.target.now challenge portal.now.group service.old (R.remaining reader.old) (R.remaining reader.new) (W.contents writer.old) (W.contents writer.new) result service.new }
 {
     let mut read_buffer = ReadBuffer::new(alloc)?;
     let mut out = Vec::with_capacity(alloc, ROOM)?;
@@ -63,19 +76,10 @@ pub fn serve<S: Service, R: Read, W: Write>(
         LoginWait::Begins { begun, turns } => (begun, turns),
         LoginWait::Ended(end) => return Ok(end),
     };
-    if begun.tsih != 0 {
-        return Err(refuse(
-            &mut exchange,
-            LoginStatus::SessionDoesNotExist,
-            &mut out,
-            writer,
-        ));
-    }
     match begun.session_type {
-        SessionType::Discovery => greet_and_converse(
+        SessionType::Discovery => discover(
             alloc,
             &mut NoUnits,
-            NO_NEXUS,
             portal,
             &mut exchange,
             tsih,
@@ -89,6 +93,7 @@ pub fn serve<S: Service, R: Read, W: Write>(
         SessionType::Normal => hold(
             alloc,
             service,
+            register,
             portal,
             &mut exchange,
             tsih,
@@ -118,8 +123,8 @@ fn refuse<W: Write>(
     }
 }
 
-/// A normal session, from the last request of its login to its end.
-fn hold<S: Service, R: Read, W: Write>(
+/// A discovery session, from the last request of its login to its end. It takes the place of none.
+fn discover<S: Service, R: Read, W: Write>(
     alloc: Global,
     service: &mut S,
     portal: &Portal<'_>,
@@ -131,18 +136,85 @@ fn hold<S: Service, R: Read, W: Write>(
     reader: &mut R,
     writer: &mut W,
     turns: u64,
+) -> Result<IscsiEnd, IscsiFault> {
+    if begun.tsih != 0 {
+        return Err(refuse(exchange, LoginStatus::SessionDoesNotExist, out, writer));
+    }
+    greet_and_converse(
+        alloc,
+        service,
+        NO_NEXUS,
+        portal,
+        exchange,
+        tsih,
+        begun,
+        read_buffer,
+        out,
+        reader,
+        writer,
+        turns,
+    )
+}
+
+/// Has the nexus of a login enter the directory, behind the session whose place it takes, if it does, and gives its key; else says how
+/// the login is refused.
+fn enter<S: Service, G: SessionRegister>(
+    service: &mut S,
+    register: &G,
+    nexus: Nexus,
+    begun: &FullFeature,
+) -> Result<usize, LoginStatus>
+    ensures { service.new ≡ service.old }
+{
+    match claim_of(begun, register.living(nexus)) {
+        Claim::New => {}
+        Claim::PlaceOf(session) => {
+            if !register.end(nexus, session) {
+                return Err(LoginStatus::TargetError);
+            }
+        }
+        Claim::Refused(status) => return Err(status),
+    }
+    match service.login(nexus) {
+        Ok(key) => Ok(key),
+        Err(fault) => Err(status_of(fault)),
+    }
+}
+
+/// A normal session, from the last request of its login to its end.
+fn hold<S: Service, G: SessionRegister, R: Read, W: Write>(
+    alloc: Global,
+    service: &mut S,
+    register: &G,
+    portal: &Portal<'_>,
+    exchange: &mut LoginExchange,
+    tsih: u16,
+    begun: &FullFeature,
+    read_buffer: &mut ReadBuffer,
+    out: &mut Vec<u8>,
+    reader: &mut R,
+    writer: &mut W,
+    turns: u64,
 ) -> Result<IscsiEnd, IscsiFault>
+    requires { begun.now.session_type ≡ Normal }
     ensures service { Leaves S.notes S.count portal.now.group service.old service.new }
     ensures refused { IfErr result (λ fault. IsLater fault ⊎ (service.new ≡ service.old)) }
+    ensures session { (service.new ≡ service.old) ⊎ ((said : List TargetPduValue) × (all : Bool) × (held : Holds S.notes S.count portal.now.group begun.now service.old read_buffer.old (R.remaining reader.old) (R.remaining reader.new) said all service.new) × OnOk result ((all ≡ true) × (next_of held.ended ≡ Idle) × WritesLast (W.contents writer.old) (W.contents writer.new) said)) }
 {
     let nexus = Nexus {
         sas: begun.admission.sas(),
         port: portal.group,
     };
-    let key = match service.login(nexus) {
+    let key = match enter(service, register, nexus, begun) {
         Ok(key) => key,
-        Err(fault) => return Err(refuse(exchange, status_of(fault), out, writer)),
+        Err(status) => return Err(refuse(exchange, status, out, writer)),
     };
+    let session = SessionIdentity {
+        isid: begun.isid,
+        tsih,
+        cid: begun.cid,
+    };
+    register.note(nexus, session);
     let ended = greet_and_converse(
         alloc,
         service,
@@ -196,8 +268,8 @@ fn greet_and_converse<S: Service, R: Read, W: Write>(
     writer: &mut W,
     turns: u64,
 ) -> Result<IscsiEnd, IscsiFault>
-    ensures calls { ComesByCalls S.notes nexus service.old service.new }
     ensures fault { IfErr result IsLater }
+    ensures talks { begun.now.session_type ≡ Normal → (said : List TargetPduValue) × (ended : TasksValue) × (rest : List ℕ) × Converses S.notes S.count nexus (first_tasks begun.now) service.old read_buffer.old (R.remaining reader.old) (R.remaining reader.new) said ended service.new rest × OnOk result ((next_of ended ≡ Idle) × WritesLast (W.contents writer.old) (W.contents writer.new) said) }
 {
     exchange.accept(tsih, out)?;
     let mut connection = Connection::new(alloc, begun, exchange.next_stat_sn());

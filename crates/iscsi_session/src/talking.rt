@@ -1,7 +1,13 @@
 //! A connection in full feature, from what is pending behind its login to its end.
-ghost use Rattle.std.specs.Prelude.{◌≡◌, ◌<◌, length, Ok, IfErr};
+ghost use Rattle.std.specs.Prelude.{◌≡◌, ◌⊎◌, ◌++◌, ◌<◌, ℕ, [], List, length, IfErr, Ok, OnOk};
+ghost use Rattle.iscsi_pdu.specs.Pdus.{TargetPduValue};
+ghost use Rattle.iscsi_answers.specs.Written.{bytes_of_all};
+ghost use Rattle.iscsi_login.specs.declared.names.SessionType.TheVariants.{Normal};
+ghost use Rattle.iscsi_tasks.specs.Next.{next_of};
+ghost use Rattle.iscsi_tasks.specs.declared.next_task.NextTask.TheVariants.{Idle};
 ghost use Rattle.iscsi_session.specs.Faults.{IsLater};
-ghost use Rattle.session.specs.Answering.{ComesByCalls};
+ghost use Rattle.iscsi_session.specs.Talking.{Answers, Converses, IsPinged, Writes};
+ghost use Rattle.iscsi_session.specs.Reading.{Added};
 
 use crate::answering::answer;
 use crate::connection::{Connection, flush};
@@ -49,9 +55,11 @@ fn answer_some<S: Service>(
     read_buffer: &mut ReadBuffer,
     out: &mut Vec<u8>,
 ) -> Result<Pause, IscsiFault>
-    ensures calls { ComesByCalls S.notes nexus service.old service.new }
+    requires { next_of connection.old.tasks ≡ Idle }
     ensures fault { IfErr result IsLater }
     ensures full { result ≡ Ok Pause.FlushDue → length read_buffer.new < length read_buffer.old }
+    ensures talks { session_type ≡ Normal → (said : List TargetPduValue) × (rest : List ℕ) × Answers S.notes S.count nexus connection.old.tasks service.old read_buffer.old said connection.new.tasks service.new rest × OnOk result ((rest ≡ read_buffer.new) × (out.new.items ≡ out.old.items ++ bytes_of_all said)) }
+    ensures idle { OnOk result (next_of connection.new.tasks ≡ Idle) }
 {
     'pdus: loop {
         let pending = read_buffer.pending();
@@ -94,8 +102,11 @@ fn answer_all<S: Service, W: Write>(
     out: &mut Vec<u8>,
     writer: &mut W,
 ) -> Result<bool, IscsiFault>
-    ensures calls { ComesByCalls S.notes nexus service.old service.new }
+    requires { next_of connection.old.tasks ≡ Idle }
     ensures fault { IfErr result IsLater }
+    ensures talks { session_type ≡ Normal → (said : List TargetPduValue) × (rest : List ℕ) × Answers S.notes S.count nexus connection.old.tasks service.old read_buffer.old said connection.new.tasks service.new rest × OnOk result ((rest ≡ read_buffer.new) × Writes (W.contents writer.old) (W.contents writer.new) out.old.items out.new.items said) }
+    ensures idle { OnOk result (next_of connection.new.tasks ≡ Idle) }
+    ensures empty { out.new.items ≡ [] }
 {
     'batches: loop {
         let pause = answer_some(
@@ -117,8 +128,36 @@ fn answer_all<S: Service, W: Write>(
     }
 }
 
-/// Answers what is pending and what comes, until the connection ends, by at most `turns` reads. Where nothing came for a while it
-/// pings once; where nothing came for another the connection ends.
+/// Reads once, and says whether that shows the end of input. Where nothing came for a while it adds a ping, once; where nothing came for
+/// another the connection ends.
+fn read_on<R: Read>(
+    connection: &Connection,
+    read_buffer: &mut ReadBuffer,
+    out: &mut Vec<u8>,
+    reader: &mut R,
+    is_pinged: &mut bool,
+) -> Result<bool, IscsiFault>
+    ensures fault { IfErr result IsLater }
+    ensures reads { Added read_buffer.old read_buffer.new (R.remaining reader.old) (R.remaining reader.new) }
+    ensures pings { OnOk result ((out.new.items ≡ out.old.items) ⊎ IsPinged connection.now.tasks out.old.items out.new.items) }
+{
+    match read_buffer.fill(reader) {
+        Ok(count) => {
+            *is_pinged = false;
+            Ok(count == 0)
+        }
+        Err(error) => {
+            if read_fault(&error) != IscsiFault::Silent || *is_pinged {
+                return Err(read_fault(&error));
+            }
+            write_ping(out, connection.numbers(), PING_TAG)?;
+            *is_pinged = true;
+            Ok(false)
+        }
+    }
+}
+
+/// Answers what is pending and what comes, until the connection ends, by at most `turns` reads.
 pub(crate) fn converse<S: Service, R: Read, W: Write>(
     alloc: Global,
     service: &mut S,
@@ -132,35 +171,14 @@ pub(crate) fn converse<S: Service, R: Read, W: Write>(
     writer: &mut W,
     turns: u64,
 ) -> Result<IscsiEnd, IscsiFault>
-    ensures calls { ComesByCalls S.notes nexus service.old service.new }
+    requires { next_of connection.old.tasks ≡ Idle }
     ensures fault { IfErr result IsLater }
+    ensures talks { session_type ≡ Normal → (said : List TargetPduValue) × (rest : List ℕ) × Converses S.notes S.count nexus connection.old.tasks service.old read_buffer.old (R.remaining reader.old) (R.remaining reader.new) said connection.new.tasks service.new rest × OnOk result (Writes (W.contents writer.old) (W.contents writer.new) out.old.items [] said) }
+    ensures idle { OnOk result (next_of connection.new.tasks ≡ Idle) }
 {
-    if !answer_all(
-        alloc,
-        service,
-        nexus,
-        portal,
-        session_type,
-        connection,
-        read_buffer,
-        out,
-        writer,
-    )? {
-        return Ok(IscsiEnd::Logout);
-    }
     let mut is_pinged = false;
-    'reads: for _ in 0..turns {
-        match read_buffer.fill(reader) {
-            Ok(0) => return Ok(end_of(read_buffer.pending())),
-            Ok(_) => is_pinged = false,
-            Err(error) => {
-                if read_fault(&error) != IscsiFault::Silent || is_pinged {
-                    return Err(read_fault(&error));
-                }
-                write_ping(out, connection.numbers(), PING_TAG)?;
-                is_pinged = true;
-            }
-        }
+    let mut left = turns;
+    'turns: loop {
         if !answer_all(
             alloc,
             service,
@@ -174,6 +192,12 @@ pub(crate) fn converse<S: Service, R: Read, W: Write>(
         )? {
             return Ok(IscsiEnd::Logout);
         }
+        if left == 0 {
+            return Err(IscsiFault::Read);
+        }
+        left -= 1;
+        if read_on(connection, read_buffer, out, reader, &mut is_pinged)? {
+            return Ok(end_of(read_buffer.pending()));
+        }
     }
-    Err(IscsiFault::Read)
 }

@@ -1,3 +1,4 @@
+mod claims;
 mod endings;
 mod sessions;
 mod streams;

@@ -1,6 +1,8 @@
 //! A service that notes its calls, and streams that come in pieces.
 use iscsi_login::{Access, Authentication, Host, LoginTarget};
-use iscsi_session::{IscsiEnd, IscsiFault, Portal, PortalAddress, serve};
+use iscsi_session::{
+    IscsiEnd, IscsiFault, Portal, PortalAddress, SessionIdentity, SessionRegister, serve,
+};
 use kept_unit::{Done, EventKind};
 use scsi_nexus::Nexus;
 use session::{Service, SessionFault};
@@ -67,6 +69,25 @@ impl Service for Noting {
     fn logout(&mut self, _key: usize) {}
 }
 
+/// One session that lives, or none, which ends when it is asked to, or doesn't.
+#[derive(Clone, Copy)]
+pub(super) struct Beside {
+    pub(super) living: Option<SessionIdentity>,
+    pub(super) ends: bool,
+}
+
+impl SessionRegister for Beside {
+    fn living(&self, _nexus: Nexus) -> Option<SessionIdentity> {
+        self.living
+    }
+
+    fn end(&self, _nexus: Nexus, session: SessionIdentity) -> bool {
+        self.ends && self.living == Some(session)
+    }
+
+    fn note(&self, _nexus: Nexus, _session: SessionIdentity) {}
+}
+
 /// Gives its bytes in pieces of a size, and then fails so many times by what says that nothing came.
 #[derive(Drop)]
 pub(super) struct Pieces<'a> {
@@ -114,10 +135,24 @@ fn target(alloc: Global) -> Result<LoginTarget, Fail> {
     })
 }
 
-/// Serves a stream at portal group 1 of two.
+/// Serves a stream at portal group 1 of two, where no other session lives.
 pub(super) fn serve_stream<R: Read>(
     alloc: Global,
     is_connected: bool,
+    reader: &mut R,
+) -> Result<Served, Fail> {
+    let beside = Beside {
+        living: None,
+        ends: false,
+    };
+    serve_beside(alloc, is_connected, beside, reader)
+}
+
+/// Serves a stream at portal group 1 of two.
+pub(super) fn serve_beside<R: Read>(
+    alloc: Global,
+    is_connected: bool,
+    beside: Beside,
     reader: &mut R,
 ) -> Result<Served, Fail> {
     let target = target(alloc)?;
@@ -144,6 +179,7 @@ pub(super) fn serve_stream<R: Read>(
     let ended = serve(
         alloc,
         &mut service,
+        &beside,
         &portal,
         None,
         7,

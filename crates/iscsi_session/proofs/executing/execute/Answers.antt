@@ -1,6 +1,15 @@
-use Rattle.std.proofs.Common.{inl}
-use Rattle.session.proofs.Called.{one_called}
 use Rattle.iscsi_session.proofs.executing.execute.Goals as goal
 
-pub returns-clause-calls : goal.returns-clause-calls
-returns-clause-calls g c = one_called g.S.Service.notes c.args.nexus c.args.service.now c.submit-done.new.self _ (inl c.submit-done.ensures.answer.0) c.submit-done.ensures.notes
+pub returns-clause-executed : goal.returns-clause-executed
+returns-clause-executed g c = (
+  _,
+  record {
+    done = c.submit-done.result;
+    limits = c.args.connection.now.limits;
+    stat_sn = c.args.connection.now.stat_sn;
+    is_answer = (cc, cc, cc);
+    noted = c.submit-done.ensures.notes;
+    said_is = cc;
+  },
+  c.answer_command.ensures.answered,
+)

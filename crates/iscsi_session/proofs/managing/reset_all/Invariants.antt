@@ -1,5 +1,5 @@
-use Rattle.session.specs.Answering.{ComesByCalls}
+use Rattle.iscsi_session.specs.Managing.{ResetsBelow}
 use Rattle.iscsi_session.proofs.managing.reset_all.Given as goal
 
 abbrev pub invariant-units : goal.invariant-units
-invariant-units g l = ComesByCalls g.S.Service.notes l.nexus l.fn.service l.service
+invariant-units g l = ResetsBelow g.S.Service.notes l.unit l.fn.tasks l.fn.service l.tasks l.service

@@ -1,0 +1,5 @@
+use Rattle.iscsi_session.proofs.Acted.{plain_one}
+use Rattle.iscsi_session.proofs.requests.take_nop_out.Goals as goal
+
+pub returns-clause-said : goal.returns-clause-said
+returns-clause-said c = plain_one _ _ _ c.in_ok-write_nop_in.ensures tt

@@ -1,0 +1,74 @@
+-- What task management does (RFC 7143, "Task Management Function Request"). `notes s d t` says that a call with the answer d makes t of the
+-- service s.
+use Rattle.std.specs.Prelude.{◌≡◌, ℕ, zero, suc, nat_lt, MatchBool, List, [], ◌∷◌, Option, Some, None, if◌then◌else◌}
+use Rattle.scsi_sense.specs.declared.status.Status.{Status}
+use Rattle.scsi_sense.specs.declared.status.Status.TheVariants as status
+use Rattle.kept_unit.specs.Answers as event
+use Rattle.kept_unit.specs.Answers.{DoneValue, IsAnswer}
+use Rattle.iscsi_pdu.specs.Luns.{unit_of}
+use Rattle.iscsi_pdu.specs.Pdus.{TargetPduValue}
+use Rattle.iscsi_pdu.specs.declared.serial_number.SerialNumber.{SerialNumber}
+use Rattle.iscsi_pdu.specs.declared.task_management.TaskManagementFunction.{TaskManagementFunction}
+use Rattle.iscsi_pdu.specs.declared.task_management.TaskManagementFunction.TheVariants as asked
+use Rattle.iscsi_pdu.specs.declared.task_management_request.TaskManagementRequest.{TaskManagementRequest}
+use Rattle.iscsi_pdu.specs.declared.task_management_result.TaskManagementResult.{TaskManagementResult}
+use Rattle.iscsi_pdu.specs.declared.task_management_result.TaskManagementResult.TheVariants.{FunctionComplete, TaskDoesNotExist, LunDoesNotExist, TaskAllegianceReassignmentNotSupported, FunctionNotSupported, FunctionRejected}
+use Rattle.iscsi_tasks.specs.Values.{TasksValue}
+use Rattle.iscsi_tasks.specs.Commands.{is_taken, is_waiting, counted}
+use Rattle.iscsi_tasks.specs.Aborts.{without_task, without_unit}
+use Rattle.iscsi_answers.specs.Single.{task_management_answer}
+use Rattle.iscsi_session.specs.Executing.{numbers}
+
+-- how a reset of a unit is told; where the unit has no room for it nothing has changed there
+abbrev pub reset_result : Status → TaskManagementResult
+reset_result status.Good = FunctionComplete
+reset_result status.CheckCondition = LunDoesNotExist
+reset_result status.Busy = FunctionRejected
+reset_result status.ReservationConflict = FunctionRejected
+
+-- a unit is reset, once
+abbrev pub Resets : {S : Type 0} → (S → DoneValue → S → Type 0) → (unit : ℕ) → S → S → TaskManagementResult → Type 0
+Resets notes unit s t result = (d : DoneValue) × IsAnswer d None unit event.Reset × notes s d t × (result ≡ reset_result d.reply.status)
+
+-- and each unit below one, in ascending order, with all of its tasks dropped
+abbrev pub ResetsBelow : {S : Type 0} → (S → DoneValue → S → Type 0) → (units : ℕ) → TasksValue → S → TasksValue → S → Type 0
+ResetsBelow notes zero k s k' t = (k' ≡ k) × (t ≡ s)
+ResetsBelow {S} notes (suc unit) k s k' t =
+    (k1 : TasksValue) × (m : S) × (result : TaskManagementResult) × ResetsBelow notes unit k s k1 m × (k' ≡ without_unit k1 unit) × Resets notes unit m t result
+
+-- the unit that a LUN names, of so many
+abbrev pub unit_below : (units : ℕ) → Option ℕ → Option ℕ
+unit_below units None = None
+unit_below units (Some unit) = if nat_lt unit units then Some unit else None
+
+abbrev pub AbortsTask : TasksValue → (tag : ℕ) → Option ℕ → TasksValue → TaskManagementResult → Type 0
+AbortsTask k tag None k' result = (k' ≡ k) × (result ≡ LunDoesNotExist)
+AbortsTask k tag (Some unit) k' result = (k' ≡ without_task k tag) × (result ≡ (if is_waiting k tag then FunctionComplete else TaskDoesNotExist))
+
+abbrev pub AbortsTaskSet : TasksValue → Option ℕ → TasksValue → TaskManagementResult → Type 0
+AbortsTaskSet k None k' result = (k' ≡ k) × (result ≡ LunDoesNotExist)
+AbortsTaskSet k (Some unit) k' result = (k' ≡ without_unit k unit) × (result ≡ FunctionComplete)
+
+abbrev pub ResetsUnit : {S : Type 0} → (S → DoneValue → S → Type 0) → TasksValue → S → Option ℕ → TasksValue → S → TaskManagementResult → Type 0
+ResetsUnit notes k s None k' t result = (k' ≡ k) × (t ≡ s) × (result ≡ LunDoesNotExist)
+ResetsUnit notes k s (Some unit) k' t result = (k' ≡ without_unit k unit) × Resets notes unit s t result
+
+-- what a function does
+abbrev pub Manages : {S : Type 0} → (S → DoneValue → S → Type 0) → (units : ℕ) → TaskManagementRequest → TasksValue → S → TaskManagementFunction → TasksValue → S → TaskManagementResult → Type 0
+Manages notes units r k s asked.AbortTask k' t result = AbortsTask k r.referenced_task_tag (unit_below units (unit_of r.lun)) k' result × (t ≡ s)
+Manages notes units r k s asked.AbortTaskSet k' t result = AbortsTaskSet k (unit_below units (unit_of r.lun)) k' result × (t ≡ s)
+Manages notes units r k s asked.LogicalUnitReset k' t result = ResetsUnit notes k s (unit_below units (unit_of r.lun)) k' t result
+Manages notes units r k s asked.TargetWarmReset k' t result = ResetsBelow notes units k s k' t
+Manages notes units r k s asked.TaskReassign k' t result = (k' ≡ k) × (t ≡ s) × (result ≡ TaskAllegianceReassignmentNotSupported)
+Manages notes units r k s asked.ClearAca k' t result = (k' ≡ k) × (t ≡ s) × (result ≡ FunctionNotSupported)
+Manages notes units r k s asked.ClearTaskSet k' t result = (k' ≡ k) × (t ≡ s) × (result ≡ FunctionNotSupported)
+Manages notes units r k s asked.TargetColdReset k' t result = (k' ≡ k) × (t ≡ s) × (result ≡ FunctionNotSupported)
+Manages notes units r k s asked.Reserved k' t result = (k' ≡ k) × (t ≡ s) × (result ≡ FunctionNotSupported)
+
+-- a request is taken or passed over by its number, and what was taken is answered
+abbrev pub ManagesTasks : {S : Type 0} → (S → DoneValue → S → Type 0) → (count : S → ℕ) → TaskManagementRequest → TasksValue → S → (said : List TargetPduValue) → TasksValue → S → Type 0
+ManagesTasks notes count r k s said k' t =
+    MatchBool (is_taken k r.immediate r.cmd_sn)
+    ((result : TaskManagementResult) × (stat_sn : SerialNumber) × Manages notes (count s) r (counted k r.immediate) s r.function k' t result
+    × (said ≡ task_management_answer (numbers k' stat_sn) r.initiator_task_tag result ∷ []))
+    ((said ≡ []) × (k' ≡ k) × (t ≡ s))

@@ -1,0 +1,25 @@
+-- Values of worked rows.
+use Rattle.std.specs.Prelude.{ℕ, true, false, List, [], ◌∷◌}
+use Rattle.iscsi_pdu.specs.Pdus.{InitiatorPduValue}
+use Rattle.iscsi_pdu.specs.declared.initiator_header.InitiatorHeader.{InitiatorHeader}
+use Rattle.iscsi_pdu.specs.declared.initiator_header.InitiatorHeader.TheVariants as sent
+use Rattle.iscsi_tasks.specs.Rows.{bursts, data_out, sn, write}
+use Rattle.iscsi_tasks.specs.Runs.{Act, AskedNext, Commanded, DataCame}
+use Rattle.iscsi_tasks.specs.Values.{TasksValue, begun_tasks}
+
+-- tasks that expect such a number first; immediate data are agreed, and unsolicited Data-Out too
+abbrev pub expecting : (number : ℕ) → TasksValue
+expecting number = begun_tasks (bursts true false) 131053 (sn number)
+
+abbrev pub pdu : InitiatorHeader → (payload : List ℕ) → InitiatorPduValue
+pdu header payload = record { header = header; extended_cdb = []; payload = payload }
+
+-- a write of four bytes of which two come with it, and the two others, by the tag of an R2T
+abbrev pub halves : List Act
+halves = Commanded (write 4 true) (7 ∷ 8 ∷ []) ∷ (AskedNext ∷ (DataCame (data_out 0 0 2 true) (9 ∷ 10 ∷ []) ∷ (AskedNext ∷ [])))
+
+abbrev pub command_pdu : InitiatorPduValue
+command_pdu = pdu (sent.ScsiCommand (write 4 true)) (7 ∷ 8 ∷ [])
+
+abbrev pub data_pdu : InitiatorPduValue
+data_pdu = pdu (sent.DataOut (data_out 0 0 2 true)) (9 ∷ 10 ∷ [])

@@ -1,0 +1,28 @@
+ghost use Rattle.std.specs.Prelude.{◌≡◌, List, [], ◌∷◌, true, replicate, Some, None};
+ghost use Rattle.kept_unit.specs.Answers as event;
+ghost use Rattle.iscsi_pdu.specs.Luns.{unit_of};
+ghost use Rattle.iscsi_pdu.specs.declared.reject_reason.RejectReason.TheVariants.{InvalidPduField};
+ghost use Rattle.iscsi_tasks.specs.Rows.{data_out, write};
+ghost use Rattle.iscsi_tasks.specs.Runs.{AskedNext, Commanded, DataCame, executed, run};
+ghost use Rattle.iscsi_session.specs.Executing.{Execute, Nothing, Reject, outcome};
+ghost use Rattle.iscsi_session.specs.Handing.{brought, brought_in, handed};
+ghost use Rattle.iscsi_session.specs.Managing.{unit_below};
+ghost use Rattle.iscsi_session.specs.Rows.{command_pdu, data_pdu, expecting, halves};
+ghost use Rattle.iscsi_session.specs.Talking.{Came, Silence};
+
+/// Worked rows: what comes of a write that is expected, with its data or before they are there, of one that isn't, and of data for no task.
+pub fn outcome_rows()
+    ensures at_once { outcome (expecting 1) (Commanded (write 2 true) (7 ∷ 8 ∷ [])) ≡ Execute (write 2 true) (7 ∷ 8 ∷ []) }
+    ensures waits { outcome (expecting 1) (Commanded (write 4 true) (7 ∷ 8 ∷ [])) ≡ Nothing }
+    ensures passed_over { outcome (expecting 2) (Commanded (write 2 true) (7 ∷ 8 ∷ [])) ≡ Nothing }
+    ensures no_task { outcome (expecting 1) (DataCame (data_out 0 0 2 true) (9 ∷ 10 ∷ [])) ≡ Reject InvalidPduField }
+    ensures last { outcome (run (expecting 1) (Commanded (write 4 true) (7 ∷ 8 ∷ []) ∷ (AskedNext ∷ (DataCame (data_out 0 0 2 true) (9 ∷ 10 ∷ []) ∷ [])))) AskedNext ≡ Execute (write 4 true) (7 ∷ (8 ∷ (9 ∷ (10 ∷ [])))) }
+{}
+
+/// Worked rows: a write whose data come in two halves is handed over once, to the unit of its LUN, with both.
+pub fn handing_rows()
+    ensures brought { brought halves ≡ brought_in (Came command_pdu ∷ (Silence ∷ (Came data_pdu ∷ []))) }
+    ensures handed { handed (executed (expecting 1) halves) ≡ (0, event.Command (replicate 16 0) (7 ∷ (8 ∷ (9 ∷ (10 ∷ []))))) ∷ [] }
+    ensures unit { unit_below 3 (unit_of 0x0002000000000000) ≡ Some 2 }
+    ensures no_unit { unit_below 3 (unit_of 0x0003000000000000) ≡ None }
+{}
