@@ -1,11 +1,13 @@
 -- Tasks that can be done as they stand (profile).
-use Rattle.std.specs.Prelude.{◌≤◌}
+use Rattle.std.specs.Prelude.{◌≤◌, Option, Some, None, IfSome, String, vec_len}
+use Rattle.std.specs.Global.{Global}
 use Rattle.program_options.specs.Options.{AreInRange}
 use Rattle.program_options.specs.ServeUntil.{workers_of}
 use Rattle.program_options.specs.declared.library_options.LibraryOptions.{LibraryOptions}
 use Rattle.command_line.specs.declared.task.Task.{Task}
 use Rattle.command_line.specs.declared.task.Task.TheVariants.{Replay, Serve, Client, Cells}
 use Rattle.command_line.specs.declared.task.ServeOptions.{ServeOptions}
+use Rattle.command_line.specs.declared.task.IscsiOptions.{IscsiOptions}
 use Rattle.command_line.specs.declared.task.ClientOptions.{ClientOptions}
 
 -- in range, with a storage element for each volume
@@ -13,8 +15,20 @@ pub record MakesLibrary (options : LibraryOptions) : Type 0 where
   pub range : AreInRange options
   pub fits : options.volumes ≤ options.slots
 
--- by 1 to 64 workers
+-- at 1 to 4 portals
+pub record IsIscsiOptions (iscsi : IscsiOptions) : Type 0 where
+  pub some_portals : 1 ≤ vec_len iscsi.portals
+  pub few_portals : vec_len iscsi.portals ≤ 4
+
+-- at a socket, by iSCSI, or both
+abbrev pub IsPlace : Option (String Global) → Option IscsiOptions → Type 0
+IsPlace None None = ⊥
+IsPlace None (Some iscsi) = IsIscsiOptions iscsi
+IsPlace (Some socket) iscsi = IfSome iscsi IsIscsiOptions
+
+-- somewhere, by 1 to 64 workers at each place
 pub record IsServeOptions (serving : ServeOptions) : Type 0 where
+  pub place : IsPlace serving.socket serving.iscsi
   pub some_workers : 1 ≤ workers_of serving.until
   pub few_workers : workers_of serving.until ≤ 64
 

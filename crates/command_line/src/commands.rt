@@ -1,12 +1,23 @@
 //! What the program's commands are and say of themselves.
 
 use crate::options::{
-    AUDIT, CLASS, CLIENT, EXPLAIN, LIBRARY, LOG, PLACE, RECORDS, TIMES, with_options,
+    AUDIT, CELLS, CLIENT, EXPLAIN, ISCSI, LIBRARY, LOG, OptionRow, PLACE, RECORDS, TIMES,
+    with_options,
 };
-use clap::{Arg, Command};
+use clap::Command;
 use std::alloc::{AllocError, Global};
 
-/// What the help of each command ends with.
+/// A command of the program.
+#[derive(Clone, Copy)]
+struct CommandRow {
+    name: &'static str,
+    about: &'static str,
+    /// What its help ends with.
+    examples: &'static str,
+    /// Its options, in tables.
+    tables: &'static [&'static [OptionRow]],
+}
+
 const REPLAY_EXAMPLE: &str =
     "Examples, of a library with two drives, with its records behind the replies, and of replies in words:
   vtl replay --drives 2 --audit < examples/four_commands.script
@@ -15,7 +26,9 @@ const REPLAY_EXAMPLE: &str =
 const SERVE_EXAMPLE: &str =
     "Examples, of a library for two hosts, and of one that is served until its standard input ends:
   vtl serve --socket /run/vtl/socket --sessions 2
-  vtl serve --socket /run/vtl/socket --workers 16 --drain --log";
+  vtl serve --socket /run/vtl/socket --workers 16 --drain --log
+An example of a library for one host by iSCSI:
+  vtl serve --iscsi 127.0.0.1:3260 --host iqn.2026-11.example:a=500000000000000a --drain --log";
 
 const CLIENT_EXAMPLE: &str =
     "Example, of a host that asks logical unit 0 whether it is ready, and reads the reply in words:
@@ -30,12 +43,40 @@ const EXAMPLES: &str = "Examples:
   vtl serve --socket /run/vtl/socket --sessions 2
   vtl client --socket /run/vtl/socket --sas 500000000000000a --port 1 < examples/host_a.script";
 
+const COMMANDS: [CommandRow; 4] = [
+    CommandRow {
+        name: "replay",
+        about: "Runs the script of standard input and prints a line for each reply",
+        examples: REPLAY_EXAMPLE,
+        tables: &[&LIBRARY, &EXPLAIN, &AUDIT],
+    },
+    CommandRow {
+        name: "serve",
+        about: "Serves the library behind a Unix socket or by iSCSI, and prints a line for each record",
+        examples: SERVE_EXAMPLE,
+        tables: &[&LIBRARY, &PLACE, &ISCSI, &RECORDS, &TIMES, &LOG],
+    },
+    CommandRow {
+        name: "client",
+        about: "Sends the script of standard input to a served library as one host, and prints a line for each reply",
+        examples: CLIENT_EXAMPLE,
+        tables: &[&CLIENT, &EXPLAIN],
+    },
+    CommandRow {
+        name: "cells",
+        about: "Prints which commands the permission table of persistent reservations allows",
+        examples: CELLS_EXAMPLE,
+        tables: &[&CELLS],
+    },
+];
+
 /// The program with its commands.
 pub(crate) fn program<'a>(alloc: Global) -> Result<Command<'a>, AllocError> {
-    let program = with_subcommand(bare_program(alloc), replay_command(alloc)?)?;
-    let program = with_subcommand(program, serve_command(alloc)?)?;
-    let program = with_subcommand(program, client_command(alloc)?)?;
-    with_subcommand(program, cells_command(alloc)?)
+    let mut program = bare_program(alloc);
+    for row in &COMMANDS {
+        program = with_command(alloc, program, row)?;
+    }
+    Ok(program)
 }
 
 fn bare_program<'a>(alloc: Global) -> Command<'a> {
@@ -54,42 +95,21 @@ fn command_named<'a>(
     Command::new(alloc, name).about(about).after_help(examples)
 }
 
-fn with_subcommand<'a>(
+/// A program with one more command.
+fn with_command<'a>(
+    alloc: Global,
     program: Command<'a>,
-    command: Command<'a>,
+    row: &CommandRow,
 ) -> Result<Command<'a>, AllocError> {
+    let command = command_of(alloc, row)?;
     program.subcommand(command)
 }
 
-fn replay_command<'a>(alloc: Global) -> Result<Command<'a>, AllocError> {
-    let about = "Runs the script of standard input and prints a line for each reply";
-    let replay = command_named(alloc, "replay", about, REPLAY_EXAMPLE);
-    let replay = with_options(alloc, replay, &LIBRARY)?;
-    let replay = with_options(alloc, replay, &EXPLAIN)?;
-    with_options(alloc, replay, &AUDIT)
-}
-
-fn serve_command<'a>(alloc: Global) -> Result<Command<'a>, AllocError> {
-    let about = "Serves the library behind a Unix socket, and prints a line for each record";
-    let serve = command_named(alloc, "serve", about, SERVE_EXAMPLE);
-    let serve = with_options(alloc, serve, &LIBRARY)?;
-    let serve = with_options(alloc, serve, &PLACE)?;
-    let serve = with_options(alloc, serve, &RECORDS)?;
-    let serve = with_options(alloc, serve, &TIMES)?;
-    with_options(alloc, serve, &LOG)
-}
-
-fn client_command<'a>(alloc: Global) -> Result<Command<'a>, AllocError> {
-    let about =
-        "Sends the script of standard input to a served library as one host, and prints a line for each reply";
-    let client = command_named(alloc, "client", about, CLIENT_EXAMPLE);
-    let client = with_options(alloc, client, &CLIENT)?;
-    with_options(alloc, client, &EXPLAIN)
-}
-
-/// The command that prints the permission table.
-fn cells_command<'a>(alloc: Global) -> Result<Command<'a>, AllocError> {
-    let about = "Prints which commands the permission table of persistent reservations allows";
-    let class = Arg::new(alloc, "class").value_name("CLASS").help(CLASS);
-    command_named(alloc, "cells", about, CELLS_EXAMPLE).arg(class)
+/// A command with its options.
+fn command_of<'a>(alloc: Global, row: &CommandRow) -> Result<Command<'a>, AllocError> {
+    let mut command = command_named(alloc, row.name, row.about, row.examples);
+    for rows in row.tables {
+        command = with_options(alloc, command, *rows)?;
+    }
+    Ok(command)
 }

@@ -14,6 +14,8 @@ pub enum CommandLineFault {
     NoClass(String),
     /// Options that are each within their range mean nothing.
     Options(#[from] OptionFault),
+    /// The same of one word.
+    Word(OptionFault, String),
     NoMemory,
 }
 
@@ -30,6 +32,7 @@ impl fmt::Display for CommandLineFault {
                 write!(f, "vtl: no class of commands is named {name}")
             }
             CommandLineFault::Options(fault) => write!(f, "{fault}"),
+            CommandLineFault::Word(fault, word) => write!(f, "{fault}: {word}"),
             CommandLineFault::NoMemory => f.write_str("vtl: want of memory"),
         }
     }
@@ -51,6 +54,7 @@ impl CommandLineFault {
             CommandLineFault::NotText => 2,
             CommandLineFault::NoClass(_) => 2,
             CommandLineFault::Options(_) => 2,
+            CommandLineFault::Word(_, _) => 2,
             CommandLineFault::NoMemory => 3,
         }
     }

@@ -8,10 +8,14 @@ use std::alloc::{AllocError, Global};
 /// What is given behind an option.
 #[derive(Clone, Copy)]
 enum OptionValue {
+    /// A text without the option's name, by what the help calls it.
+    Operand(&'static str),
     /// Nothing: it is said, or it isn't.
     Switch,
     /// A text, by what the help calls it.
     Text(&'static str),
+    /// The same, as often as it is said.
+    Texts(&'static str),
     /// A number of 8 bits, by what the help calls it, with the least and the greatest.
     Number8(&'static str, u8, u8),
     /// A number of 16 bits.
@@ -28,6 +32,8 @@ pub(crate) struct OptionRow {
     presence: Presence,
     /// The option beside which it can't be said.
     excludes: Option<&'static str>,
+    /// The option without which it can't be said.
+    needs: Option<&'static str>,
     help: &'static str,
 }
 
@@ -43,9 +49,6 @@ enum Presence {
 /// What the help calls a time.
 const SECONDS: &str = "SECONDS";
 
-/// What the help says of a class of commands.
-pub(crate) const CLASS: &str = "The one class of commands to print, by its name in the table";
-
 /// What a library is made of.
 pub(crate) const LIBRARY: [OptionRow; 4] = [
     OptionRow {
@@ -53,6 +56,7 @@ pub(crate) const LIBRARY: [OptionRow; 4] = [
         value: OptionValue::Number8("D", 1, LibraryOptions::MAX.drives),
         presence: Presence::Default("1"),
         excludes: None,
+        needs: None,
         help: "How many drives there are, as logical units from 1 on",
     },
     OptionRow {
@@ -60,6 +64,7 @@ pub(crate) const LIBRARY: [OptionRow; 4] = [
         value: OptionValue::Number16("S", 1, LibraryOptions::MAX.slots),
         presence: Presence::Default("8"),
         excludes: None,
+        needs: None,
         help: "How many storage elements the changer has",
     },
     OptionRow {
@@ -67,6 +72,7 @@ pub(crate) const LIBRARY: [OptionRow; 4] = [
         value: OptionValue::Number8("P", 0, LibraryOptions::MAX.portals),
         presence: Presence::Default("0"),
         excludes: None,
+        needs: None,
         help: "How many import/export elements the changer has",
     },
     OptionRow {
@@ -74,6 +80,7 @@ pub(crate) const LIBRARY: [OptionRow; 4] = [
         value: OptionValue::Number16("V", 0, LibraryOptions::MAX.volumes),
         presence: Presence::Default("1"),
         excludes: None,
+        needs: None,
         help: "How many volumes lie in the first storage elements",
     },
 ];
@@ -84,6 +91,7 @@ pub(crate) const EXPLAIN: [OptionRow; 1] = [OptionRow {
     value: OptionValue::Switch,
     presence: Presence::Optional,
     excludes: None,
+    needs: None,
     help: "Prints behind each reply a line that begins with # and says it in words",
 }];
 
@@ -94,6 +102,7 @@ pub(crate) const AUDIT: [OptionRow; 2] = [
         value: OptionValue::Switch,
         presence: Presence::Optional,
         excludes: None,
+        needs: None,
         help: "Prints a line for each record of each unit behind the replies, LUN 0 first",
     },
     OptionRow {
@@ -101,6 +110,7 @@ pub(crate) const AUDIT: [OptionRow; 2] = [
         value: OptionValue::Switch,
         presence: Presence::Optional,
         excludes: Some("audit"),
+        needs: None,
         help: "The same, each with the reservation that stood before its record",
     },
 ];
@@ -112,6 +122,7 @@ pub(crate) const CLIENT: [OptionRow; 3] = [
         value: OptionValue::Text("PATH"),
         presence: Presence::Required,
         excludes: None,
+        needs: None,
         help: "Where the socket's file of the served library is",
     },
     OptionRow {
@@ -119,6 +130,7 @@ pub(crate) const CLIENT: [OptionRow; 3] = [
         value: OptionValue::Text("HEX"),
         presence: Presence::Required,
         excludes: None,
+        needs: None,
         help: "The SAS address of the host, in 16 hexadecimal digits",
     },
     OptionRow {
@@ -126,24 +138,37 @@ pub(crate) const CLIENT: [OptionRow; 3] = [
         value: OptionValue::Number16("P", 1, TARGET_PORTS),
         presence: Presence::Required,
         excludes: None,
+        needs: None,
         help: "The target port by which the host comes",
     },
 ];
+
+/// Which part of the permission table is printed.
+pub(crate) const CELLS: [OptionRow; 1] = [OptionRow {
+    name: "class",
+    value: OptionValue::Operand("CLASS"),
+    presence: Presence::Optional,
+    excludes: None,
+    needs: None,
+    help: "The one class of commands to print, by its name in the table",
+}];
 
 /// Where a library is served, for how long, and to how many.
 pub(crate) const PLACE: [OptionRow; 3] = [
     OptionRow {
         name: "socket",
         value: OptionValue::Text("PATH"),
-        presence: Presence::Required,
+        presence: Presence::Optional,
         excludes: None,
+        needs: None,
         help: "Where the socket's file is made",
     },
     OptionRow {
         name: "sessions",
         value: OptionValue::Number8("N", 1, 64),
         presence: Presence::Optional,
-        excludes: None,
+        excludes: Some("iscsi"),
+        needs: None,
         help: "How many connections are accepted, each as a session; without it the library is served until standard input ends",
     },
     OptionRow {
@@ -151,7 +176,60 @@ pub(crate) const PLACE: [OptionRow; 3] = [
         value: OptionValue::Number8("W", 1, 64),
         presence: Presence::Optional,
         excludes: Some("sessions"),
-        help: "How many sessions there may be at a time until standard input ends, 8 where nothing is said",
+        needs: None,
+        help: "How many sessions there may be at a time at each place until standard input ends, 8 where nothing is said",
+    },
+];
+
+/// Where initiators of iSCSI come in, who they may be, and what they must show of themselves.
+pub(crate) const ISCSI: [OptionRow; 6] = [
+    OptionRow {
+        name: "iscsi",
+        value: OptionValue::Texts("ADDRESS:PORT"),
+        presence: Presence::Optional,
+        excludes: None,
+        needs: None,
+        help: "Where initiators of iSCSI come in, up to 4 times: the k-th is portal group k and target port k",
+    },
+    OptionRow {
+        name: "target-name",
+        value: OptionValue::Text("NAME"),
+        presence: Presence::Optional,
+        excludes: None,
+        needs: Some("iscsi"),
+        help: "The target's iSCSI name, iqn.2026-11.localhost:vtl where nothing is said",
+    },
+    OptionRow {
+        name: "host",
+        value: OptionValue::Texts("NAME=SAS"),
+        presence: Presence::Optional,
+        excludes: None,
+        needs: Some("iscsi"),
+        help: "Lets the initiator of this iSCSI name in, as the nexus of this SAS address, up to 64 times",
+    },
+    OptionRow {
+        name: "any-host",
+        value: OptionValue::Switch,
+        presence: Presence::Optional,
+        excludes: None,
+        needs: Some("iscsi"),
+        help: "Lets every other initiator in too, as a SAS address that is made of its name",
+    },
+    OptionRow {
+        name: "chap",
+        value: OptionValue::Text("FILE"),
+        presence: Presence::Optional,
+        excludes: None,
+        needs: Some("iscsi"),
+        help: "A file with a line NAME USER SECRET for each host, which has to show by CHAP that it has its secret",
+    },
+    OptionRow {
+        name: "no-authentication",
+        value: OptionValue::Switch,
+        presence: Presence::Optional,
+        excludes: Some("chap"),
+        needs: Some("iscsi"),
+        help: "Lets initiators in by their names alone, whoever reaches a portal",
     },
 ];
 
@@ -162,6 +240,7 @@ pub(crate) const RECORDS: [OptionRow; 2] = [
         value: OptionValue::Switch,
         presence: Presence::Optional,
         excludes: None,
+        needs: None,
         help: "Prints with each line the reservation that stood before its record",
     },
     OptionRow {
@@ -169,18 +248,20 @@ pub(crate) const RECORDS: [OptionRow; 2] = [
         value: OptionValue::Switch,
         presence: Presence::Optional,
         excludes: Some("spans"),
+        needs: None,
         help: "Prints the records after each session, and within one whenever a unit has 4,096 of them, and keeps them no longer; \
             without it the server keeps all, some 255 bytes a command, so a long-lived server wants it",
     },
 ];
 
 /// How long a served library waits for its hosts.
-pub(crate) const TIMES: [OptionRow; 4] = [
+pub(crate) const TIMES: [OptionRow; 5] = [
     OptionRow {
         name: "grace",
         value: OptionValue::Number32(SECONDS, 0, ServeTimes::MAX_GRACE),
         presence: Presence::Default("10"),
         excludes: None,
+        needs: None,
         help: "How many seconds sessions go on once no more connections are accepted",
     },
     OptionRow {
@@ -188,6 +269,7 @@ pub(crate) const TIMES: [OptionRow; 4] = [
         value: OptionValue::Number32(SECONDS, 0, ServeTimes::MAX_TIMEOUT),
         presence: Presence::Default("10"),
         excludes: None,
+        needs: None,
         help: "After how many seconds a connection is closed whose LOGIN hasn't come whole, 0 for never",
     },
     OptionRow {
@@ -195,6 +277,7 @@ pub(crate) const TIMES: [OptionRow; 4] = [
         value: OptionValue::Number32(SECONDS, 0, ServeTimes::MAX_TIMEOUT),
         presence: Presence::Default("0"),
         excludes: None,
+        needs: None,
         help: "After how many seconds a session is ended from which nothing came, 0 for never",
     },
     OptionRow {
@@ -202,7 +285,16 @@ pub(crate) const TIMES: [OptionRow; 4] = [
         value: OptionValue::Number32(SECONDS, 0, ServeTimes::MAX_TIMEOUT),
         presence: Presence::Default("30"),
         excludes: None,
+        needs: None,
         help: "After how many seconds a reply that can't be written ends its session as a failed write, 0 for never",
+    },
+    OptionRow {
+        name: "idle-ping",
+        value: OptionValue::Number32(SECONDS, 0, ServeTimes::MAX_TIMEOUT),
+        presence: Presence::Default("30"),
+        excludes: None,
+        needs: None,
+        help: "After how many seconds an initiator of iSCSI from which nothing came is asked whether it is still there, 0 for never",
     },
 ];
 
@@ -212,6 +304,7 @@ pub(crate) const LOG: [OptionRow; 1] = [OptionRow {
     value: OptionValue::Switch,
     presence: Presence::Optional,
     excludes: None,
+    needs: None,
     help: "Prints a line on standard error for each session that begins and ends, and for what a host was refused \
             for want of memory or of a slot",
 }];
@@ -231,15 +324,25 @@ pub(crate) fn with_options<'a>(
 
 /// An option, as `clap` has it.
 fn argument_of<'a>(alloc: Global, row: &OptionRow) -> Result<Arg<'a>, AllocError> {
-    let argument = Arg::new(alloc, row.name).long(row.name).help(row.help);
-    let argument = with_presence(with_value(argument, row.value), row.presence);
-    with_exclusion(argument, row.excludes)
+    let argument = with_value(named_argument(alloc, row), row.value);
+    let argument = with_presence(argument, row.presence);
+    with_needs(with_exclusion(argument, row.excludes)?, row.needs)
+}
+
+/// An option with its name and what the help says of it.
+fn named_argument<'a>(alloc: Global, row: &OptionRow) -> Arg<'a> {
+    let argument = Arg::new(alloc, row.name).help(row.help);
+    match row.value {
+        OptionValue::Operand(_) => argument,
+        _ => argument.long(row.name),
+    }
 }
 
 fn with_value<'a>(argument: Arg<'a>, value: OptionValue) -> Arg<'a> {
     match value {
         OptionValue::Switch => argument.action(ArgAction::SetTrue),
-        OptionValue::Text(name) => argument.value_name(name),
+        OptionValue::Operand(name) | OptionValue::Text(name) => argument.value_name(name),
+        OptionValue::Texts(name) => argument.value_name(name).action(ArgAction::Append),
         OptionValue::Number8(name, least, most) => with_number8(
             argument.value_name(name),
             least,
@@ -284,6 +387,13 @@ fn with_exclusion<'a>(
 ) -> Result<Arg<'a>, AllocError> {
     match excludes {
         Some(other) => argument.conflicts_with(other),
+        None => Ok(argument),
+    }
+}
+
+fn with_needs<'a>(argument: Arg<'a>, needs: Option<&'static str>) -> Result<Arg<'a>, AllocError> {
+    match needs {
+        Some(other) => argument.requires_arg(other),
         None => Ok(argument),
     }
 }

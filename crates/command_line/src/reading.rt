@@ -1,29 +1,41 @@
-ghost use Rattle.std.specs.Prelude.{IfOk};
-ghost use Rattle.command_line.specs.Tasks.{IsClientOptions, IsDoable, IsServeOptions, MakesLibrary};
+ghost use Rattle.std.specs.Prelude.{IfOk, IfSome};
+ghost use Rattle.command_line.specs.Tasks.{IsClientOptions, IsDoable, IsIscsiOptions, IsServeOptions, MakesLibrary};
 
 use crate::commands::program;
 use crate::fault::CommandLineFault;
-use crate::task::{ClientOptions, ServeOptions, Task};
+use crate::task::{ClientOptions, IscsiOptions, ServeOptions, Task};
 use clap::ArgMatches;
 use output_lines::{Audit, Explanations};
 use permission_chart::class_named;
 use permit_tables::Class;
-use program_options::{LibraryOptions, OptionFault, ServeTimes, ServeUntil, nexus_of};
+use program_options::{
+    LibraryOptions, NamedHost, OptionFault, ServeTimes, ServeUntil, host_beside, is_iscsi_name,
+    nexus_of, portal_of,
+};
 use scsi_nexus::TARGET_PORTS;
 use std::alloc::{AllocError, Global};
+use std::net::SocketAddr;
 
 /// How many workers serve sessions until standard input ends, where nothing else is asked for.
 const DEFAULT_WORKERS: u8 = 8;
+
+/// The target's iSCSI name, where nothing else is asked for (profile).
+const DEFAULT_TARGET_NAME: &str = "iqn.2026-11.localhost:vtl";
 
 /// The task that the words of a command line name, the first of them the program's own name.
 pub fn task_of(alloc: Global, words: &[String]) -> Result<Task, CommandLineFault>
     ensures { IfOk result IsDoable }
 {
-    let command = program(alloc)?;
-    let matches = command.try_get_matches_from(words)?;
+    let matches = program(alloc)?.try_get_matches_from(words)?;
+    task_in(alloc, &matches)
+}
+
+/// The task of what `clap` has read.
+fn task_in(alloc: Global, matches: &ArgMatches) -> Result<Task, CommandLineFault>
+    ensures { IfOk result IsDoable }
+{
     if let Some(serve) = matches.subcommand_matches("serve") {
-        let library = library_of(serve)?;
-        return Ok(Task::Serve(library, serve_options_of(alloc, serve)?, records_of(serve)));
+        return serve_task(alloc, serve);
     }
     if let Some(client) = matches.subcommand_matches("client") {
         return Ok(Task::Client(client_options_of(alloc, client)?, explanations_of(client)));
@@ -32,13 +44,24 @@ pub fn task_of(alloc: Global, words: &[String]) -> Result<Task, CommandLineFault
         return Ok(Task::Cells(class_of(alloc, cells)?));
     }
     match matches.subcommand_matches("replay") {
-        Some(replay) => {
-            let library = library_of(replay)?;
-            Ok(Task::Replay(library, explanations_of(replay), audit_of(replay)))
-        }
+        Some(replay) => replay_task(replay),
         // `clap` asks for a subcommand, and there is no other.
         None => Ok(Task::Replay(LibraryOptions::DEFAULT, Explanations::Off, Audit::Off)),
     }
+}
+
+fn serve_task(alloc: Global, serve: &ArgMatches) -> Result<Task, CommandLineFault>
+    ensures { IfOk result IsDoable }
+{
+    let library = library_of(serve)?;
+    Ok(Task::Serve(library, serve_options_of(alloc, serve)?, records_of(serve)))
+}
+
+fn replay_task(replay: &ArgMatches) -> Result<Task, CommandLineFault>
+    ensures { IfOk result IsDoable }
+{
+    let library = library_of(replay)?;
+    Ok(Task::Replay(library, explanations_of(replay), audit_of(replay)))
 }
 
 /// What the library of a command is made of.
@@ -116,16 +139,31 @@ fn times_of(command: &ArgMatches) -> ServeTimes {
         command
             .get_one::<u32>("write-timeout")
             .unwrap_or(ServeTimes::DEFAULT_WRITE),
+        command
+            .get_one::<u32>("idle-ping")
+            .unwrap_or(ServeTimes::DEFAULT_PING),
     )
 }
 
+/// The value of an option that need not be given.
+fn text_of(alloc: Global, value: Option<&str>) -> Result<Option<String>, AllocError> {
+    match value {
+        Some(text) => Ok(Some(String::from_str(alloc, text)?)),
+        None => Ok(None),
+    }
+}
+
 /// Where the library of a command is served, for how long, and what is printed meanwhile.
-fn serve_options_of(alloc: Global, command: &ArgMatches) -> Result<ServeOptions, AllocError>
+fn serve_options_of(alloc: Global, command: &ArgMatches) -> Result<ServeOptions, CommandLineFault>
     ensures { IfOk result IsServeOptions }
 {
-    // `clap` sees to it that no value is out of its range, nor the path absent: what stands behind each getter but that of
-    // the workers says that to the prover alone.
-    let socket = String::from_str(alloc, command.get_str("socket").unwrap_or(""))?;
+    let socket = text_of(alloc, command.get_str("socket"))?;
+    let iscsi = iscsi_options_of(alloc, command)?;
+    if socket.is_none() && iscsi.is_none() {
+        return Err(CommandLineFault::Options(OptionFault::NoPlace));
+    }
+    // `clap` sees to it that no value is out of its range: what stands behind the getter of the sessions says that to the
+    // prover alone.
     let until = match command.get_one::<u8>("sessions") {
         Some(sessions) => ServeUntil::Sessions(sessions.clamp(1, 64)),
         None => {
@@ -135,6 +173,7 @@ fn serve_options_of(alloc: Global, command: &ArgMatches) -> Result<ServeOptions,
     };
     Ok(ServeOptions {
         socket,
+        iscsi,
         until,
         drain: command.get_flag("drain"),
         times: times_of(command),
@@ -142,11 +181,100 @@ fn serve_options_of(alloc: Global, command: &ArgMatches) -> Result<ServeOptions,
     })
 }
 
+/// What initiators of iSCSI come to, if they are to.
+fn iscsi_options_of(
+    alloc: Global,
+    command: &ArgMatches,
+) -> Result<Option<IscsiOptions>, CommandLineFault>
+    ensures { IfOk result (λ iscsi. IfSome iscsi IsIscsiOptions) }
+{
+    let Some(addresses) = command.get_strs("iscsi") else {
+        return Ok(None);
+    };
+    let chap = text_of(alloc, command.get_str("chap"))?;
+    let is_said = chap.is_some() || command.get_flag("no-authentication");
+    let portals = portals_of(alloc, addresses, is_said)?;
+    let hosts = hosts_of(alloc, command)?;
+    let any_host = command.get_flag("any-host");
+    if hosts.is_empty() && !any_host {
+        return Err(CommandLineFault::Options(OptionFault::NobodyLetIn));
+    }
+    let target_name = target_name_of(alloc, command)?;
+    if portals.len() > usize::from(TARGET_PORTS) {
+        return Err(CommandLineFault::Options(OptionFault::ManyPortals));
+    }
+    // An option that is given has a value: this says it to the prover alone.
+    if portals.is_empty() {
+        return Ok(None);
+    }
+    Ok(Some(IscsiOptions {
+        portals,
+        target_name,
+        hosts,
+        any_host,
+        chap,
+    }))
+}
+
+/// The portals of so many addresses.
+fn portals_of(
+    alloc: Global,
+    words: &[&str],
+    is_said: bool,
+) -> Result<Vec<SocketAddr>, CommandLineFault> {
+    let mut portals = Vec::new(alloc);
+    for word in words {
+        match portal_of(*word, is_said) {
+            Ok(portal) => portals.push(portal).map_err(AllocError::from)?,
+            Err(fault) => return Err(refused_word(alloc, fault, *word)),
+        }
+    }
+    Ok(portals)
+}
+
+/// Whom a command lets in by name.
+fn hosts_of(alloc: Global, command: &ArgMatches) -> Result<Vec<NamedHost>, CommandLineFault> {
+    let mut hosts = Vec::new(alloc);
+    let Some(words) = command.get_strs("host") else {
+        return Ok(hosts);
+    };
+    for word in words {
+        match host_beside(&hosts, word.as_bytes()) {
+            Ok(host) => {
+                let host = host.to_host(alloc)?;
+                hosts.push(host).map_err(AllocError::from)?;
+            }
+            Err(fault) => return Err(refused_word(alloc, fault, *word)),
+        }
+    }
+    Ok(hosts)
+}
+
+/// The target's iSCSI name.
+fn target_name_of(alloc: Global, command: &ArgMatches) -> Result<String, CommandLineFault> {
+    let name = command
+        .get_str("target-name")
+        .unwrap_or(DEFAULT_TARGET_NAME);
+    if is_iscsi_name(name.as_bytes()) {
+        Ok(String::from_str(alloc, name)?)
+    } else {
+        Err(refused_word(alloc, OptionFault::BadName, name))
+    }
+}
+
+/// A fault of one word.
+fn refused_word(alloc: Global, fault: OptionFault, word: &str) -> CommandLineFault {
+    match String::from_str(alloc, word) {
+        Ok(word) => CommandLineFault::Word(fault, word),
+        Err(_) => CommandLineFault::NoMemory,
+    }
+}
+
 /// Where the library of a client's command is met, and as which host.
 fn client_options_of(alloc: Global, command: &ArgMatches) -> Result<ClientOptions, CommandLineFault>
     ensures { IfOk result IsClientOptions }
 {
-    // As above, of all three.
+    // As above: `clap` sees to it that none of the three is absent or out of its range.
     let port = command
         .get_one::<u16>("port")
         .unwrap_or(1)

@@ -1,7 +1,8 @@
 use output_lines::{Audit, Explanations};
 use permit_tables::Class;
-use program_options::{LibraryOptions, ServeTimes, ServeUntil};
+use program_options::{LibraryOptions, NamedHost, ServeTimes, ServeUntil};
 use scsi_nexus::Nexus;
+use std::net::SocketAddr;
 
 /// What the program is asked to do.
 #[derive(Debug, Drop, PartialEq, Eq)]
@@ -9,7 +10,7 @@ pub enum Task {
     /// Run the script of standard input at a library, and print its replies, in words too where that is wanted, and
     /// what is wanted of the records.
     Replay(LibraryOptions, Explanations, Audit),
-    /// Serve a library at a socket, and print what is wanted of the records.
+    /// Serve a library at a socket or by iSCSI, and print what is wanted of the records.
     Serve(LibraryOptions, ServeOptions, Audit),
     /// Send the script of standard input to a served library, and print its replies, in words too where that is wanted.
     Client(ClientOptions, Explanations),
@@ -20,8 +21,10 @@ pub enum Task {
 /// Where a library is served, for how long, when its records are printed, and what is told of its sessions.
 #[derive(Debug, Drop, PartialEq, Eq)]
 pub struct ServeOptions {
-    /// The path of the socket's file.
-    pub socket: String,
+    /// The path of the socket's file, if there is to be one.
+    pub socket: Option<String>,
+    /// What initiators of iSCSI come to, if they are to.
+    pub iscsi: Option<IscsiOptions>,
     pub until: ServeUntil,
     /// Whether records are printed after each session, and within one whenever a unit has many of them, and are kept no longer.
     pub drain: bool,
@@ -29,6 +32,21 @@ pub struct ServeOptions {
     pub times: ServeTimes,
     /// Whether a line tells of each session that begins or ends, and of what a host was refused for want of memory or of a slot.
     pub log: bool,
+}
+
+/// Where initiators of iSCSI come in, and who they may be.
+#[derive(Debug, Drop, PartialEq, Eq)]
+pub struct IscsiOptions {
+    /// The portals: the first is portal group 1 and target port 1, and so on.
+    pub portals: Vec<SocketAddr>,
+    /// The target's iSCSI name.
+    pub target_name: String,
+    /// Who is let in by name.
+    pub hosts: Vec<NamedHost>,
+    /// Whether every other name is let in too.
+    pub any_host: bool,
+    /// The path of the file with the secrets by which initiators show who they are. `None`: they need show nothing.
+    pub chap: Option<String>,
 }
 
 /// Where a library is met, and as which host.

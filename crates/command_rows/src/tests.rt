@@ -55,7 +55,7 @@ fn refused(alloc: Global, line: &str) -> Result<(u8, String), Fail> {
 /// A line that names no task, the exit status, and some words of what is told.
 type Refused = (&'static str, u8, &'static str);
 
-const REFUSED: [Refused; 64] = [
+const REFUSED: [Refused; 93] = [
     ("vtl", 2, "requires a subcommand"),
     ("vtl server", 2, "unrecognized subcommand 'server'"),
     ("vtl serve --sessions 1", 2, "--socket <PATH>"),
@@ -207,6 +207,119 @@ const REFUSED: [Refused; 64] = [
         0,
         "a host was refused for want of memory or of a slot",
     ),
+    (
+        "vtl serve --help",
+        0,
+        "asked whether it is still there, 0 for never [default: 30]",
+    ),
+    (
+        "vtl serve --help",
+        0,
+        "--iscsi 127.0.0.1:3260 --host iqn.2026-11.example:a=500000000000000a",
+    ),
+    ("vtl serve", 2, "--iscsi <ADDRESS:PORT>"),
+    (
+        "vtl serve --iscsi 127.0.0.1:3260 --any-host --sessions 1",
+        2,
+        "cannot be used with",
+    ),
+    (
+        "vtl serve --iscsi 127.0.0.1:3260",
+        2,
+        "vtl: --iscsi lets nobody in: say --host <NAME=SAS> for each host, or --any-host",
+    ),
+    (
+        "vtl serve --iscsi localhost:3260 --any-host",
+        2,
+        "say one as 127.0.0.1:3260 or [::1]:3260: localhost:3260",
+    ),
+    (
+        "vtl serve --iscsi 127.0.0.1 --any-host",
+        2,
+        "say one as 127.0.0.1:3260 or [::1]:3260: 127.0.0.1",
+    ),
+    (
+        "vtl serve --iscsi 0.0.0.0:3260 --any-host",
+        2,
+        "vtl: other machines reach this address: say --chap <FILE>, or --no-authentication if all of them may come in: 0.0.0.0:3260",
+    ),
+    (
+        "vtl serve --iscsi 127.0.0.1:1 --iscsi [::]:3260 --any-host",
+        2,
+        "if all of them may come in: [::]:3260",
+    ),
+    (
+        "vtl serve --iscsi 127.0.0.1:1 --iscsi 127.0.0.1:2 --iscsi 127.0.0.1:3 --iscsi 127.0.0.1:4 --iscsi 127.0.0.1:5 --any-host",
+        2,
+        "vtl: more than 4 times --iscsi: there are 4 target ports",
+    ),
+    (
+        "vtl serve --iscsi 127.0.0.1:1 --host iqn.2026-11.a:b",
+        2,
+        "vtl: no host: say a name and a SAS address, as iqn.2026-11.example:a=500000000000000a: iqn.2026-11.a:b",
+    ),
+    (
+        "vtl serve --iscsi 127.0.0.1:1 --host iqn.2026-11.a:b=500000000000000",
+        2,
+        "vtl: no SAS address behind the name of a host: say its 16 hexadecimal digits: iqn.2026-11.a:b=500000000000000",
+    ),
+    (
+        "vtl serve --iscsi 127.0.0.1:1 --host iqn.2026-11.a:B=500000000000000a",
+        2,
+        "vtl: no iSCSI name: say one in small letters, as iqn.2026-11.example:a: iqn.2026-11.a:B=500000000000000a",
+    ),
+    (
+        "vtl serve --iscsi 127.0.0.1:1 --host iqn.2026-11.a:b=500000000000000a --host iqn.2026-11.a:b=500000000000000b",
+        2,
+        "vtl: a name is let in twice: say it once, with one SAS address: iqn.2026-11.a:b=500000000000000b",
+    ),
+    (
+        "vtl serve --iscsi 127.0.0.1:1 --host iqn.2026-11.a:b=500000000000000a --host iqn.2026-11.a:c=500000000000000A",
+        2,
+        "vtl: two names have one SAS address: say one of its own for each: iqn.2026-11.a:c=500000000000000A",
+    ),
+    (
+        "vtl serve --iscsi 127.0.0.1:1 --any-host --target-name vtl",
+        2,
+        "vtl: no iSCSI name: say one in small letters, as iqn.2026-11.example:a: vtl",
+    ),
+    (
+        "vtl serve --socket s --host iqn.2026-11.a:b=500000000000000a",
+        2,
+        "--iscsi <ADDRESS:PORT>",
+    ),
+    (
+        "vtl serve --socket s --any-host",
+        2,
+        "--iscsi <ADDRESS:PORT>",
+    ),
+    ("vtl serve --socket s --chap f", 2, "--iscsi <ADDRESS:PORT>"),
+    (
+        "vtl serve --socket s --no-authentication",
+        2,
+        "--iscsi <ADDRESS:PORT>",
+    ),
+    (
+        "vtl serve --socket s --target-name iqn.2026-11.a:b",
+        2,
+        "--iscsi <ADDRESS:PORT>",
+    ),
+    (
+        "vtl serve --iscsi 127.0.0.1:1 --any-host --chap f --no-authentication",
+        2,
+        "cannot be used with",
+    ),
+    (
+        "vtl serve --iscsi 127.0.0.1:1 --any-host --idle-ping 86401",
+        2,
+        "86401 is not in 0..=86400",
+    ),
+    ("vtl serve --iscsi", 2, "a value is required for"),
+    ("vtl replay --iscsi 127.0.0.1:1", 2, "unexpected argument"),
+    ("vtl client --any-host", 2, "unexpected argument"),
+    ("vtl serve --help", 0, "--any-host"),
+    ("vtl serve --help", 0, "--chap <FILE>"),
+    ("vtl serve --help", 0, "--no-authentication"),
     ("vtl cells --help", 0, "  vtl cells 'WRITE(6)'"),
     (
         "vtl client --help",
@@ -254,12 +367,18 @@ const REFUSED: [Refused; 64] = [
     ("vtl --version", 0, "vtl 0.1.0"),
 ];
 
+fn assert_refused(rt: &impl Abort, alloc: Global, row: &Refused) -> Result<(), Fail> {
+    let (line, expected, text) = *row;
+    let (status, shown) = refused(alloc, line)?;
+    assert_same(rt, status, expected, line);
+    assert_same(rt, shown.contains(text), true, text);
+    Ok(())
+}
+
 #[test]
 fn task_of_refuses_wrong_lines_and_shows_help(rt: HostRuntime) -> Result<(), Fail> {
-    for (line, expected, text) in REFUSED {
-        let (status, shown) = refused(rt.alloc(), line)?;
-        assert_same(&rt, status, expected, line);
-        assert_same(&rt, shown.contains(text), true, text);
+    for row in &REFUSED {
+        assert_refused(&rt, rt.alloc(), row)?;
     }
     Ok(())
 }
@@ -309,7 +428,8 @@ const REPLAYED: [(&'static str, Replayed); 6] = [
 
 #[test]
 fn task_of_reads_the_options_of_replay(rt: HostRuntime) -> Result<(), Fail> {
-    for (line, expected) in REPLAYED {
+    for row in &REPLAYED {
+        let (line, expected) = *row;
         assert_same(&rt, replayed(rt.alloc(), line)?, expected, line);
     }
     Ok(())
@@ -327,8 +447,9 @@ fn served(
     let Task::Serve(library, serving, audit) = task(alloc, line)? else {
         return Err("another task".into());
     };
-    if serving.socket.as_str() != socket {
-        return Err("another socket".into());
+    match &serving.socket {
+        Some(path) if path.as_str() == socket => {}
+        _ => return Err("another socket".into()),
     }
     let size = (library.drives, library.slots);
     let served = (serving.until, (serving.drain, serving.log), audit);
@@ -356,7 +477,8 @@ const SERVED: [(&'static str, Served); 4] = [
 
 #[test]
 fn task_of_reads_where_and_until_when_to_serve(rt: HostRuntime) -> Result<(), Fail> {
-    for (line, expected) in SERVED {
+    for row in &SERVED {
+        let (line, expected) = *row;
         let (size, found, _) = served(rt.alloc(), line, "/run/vtl")?;
         assert_same(&rt, size, (2, 8), line);
         assert_same(&rt, found, expected, line);
@@ -364,53 +486,156 @@ fn task_of_reads_where_and_until_when_to_serve(rt: HostRuntime) -> Result<(), Fa
     Ok(())
 }
 
-/// The seconds of a grace, and those after which a LOGIN, an idle host and a write are given up.
-type Waits = (u64, Option<u64>, Option<u64>, Option<u64>);
+/// The seconds of a grace, those after which a LOGIN, an idle host and a write are given up, and those after which an initiator of
+/// iSCSI is asked whether it is there.
+type Waits = (u64, Option<u64>, Option<u64>, Option<u64>, Option<u64>);
 
 fn times_of(waits: Waits) -> ServeTimes {
-    let (grace, login, idle, write) = waits;
+    let (grace, login, idle, write, ping) = waits;
     ServeTimes {
         grace: Duration::from_secs(grace),
         login: login.map(Duration::from_secs),
         idle: idle.map(Duration::from_secs),
         write: write.map(Duration::from_secs),
+        ping: ping.map(Duration::from_secs),
     }
 }
 
-const WAITS: [(&'static str, Waits); 7] = [
-    ("vtl serve --socket s", (10, Some(10), None, Some(30))),
+const WAITS: [(&'static str, Waits); 8] = [
     (
-        "vtl serve --socket s --grace 0 --login-timeout 0 --idle-timeout 0 --write-timeout 0",
-        (0, None, None, None),
+        "vtl serve --socket s",
+        (10, Some(10), None, Some(30), Some(30)),
     ),
     (
-        "vtl serve --socket s --grace 3600 --login-timeout 86400 --idle-timeout 86400 --write-timeout 86400",
-        (3600, Some(86_400), Some(86_400), Some(86_400)),
+        "vtl serve --socket s --grace 0 --login-timeout 0 --idle-timeout 0 --write-timeout 0 --idle-ping 0",
+        (0, None, None, None, None),
+    ),
+    (
+        "vtl serve --socket s --grace 3600 --login-timeout 86400 --idle-timeout 86400 --write-timeout 86400 --idle-ping 86400",
+        (3600, Some(86_400), Some(86_400), Some(86_400), Some(86_400)),
     ),
     (
         "vtl serve --grace 1 --socket s",
-        (1, Some(10), None, Some(30)),
+        (1, Some(10), None, Some(30), Some(30)),
     ),
     (
         "vtl serve --socket s --login-timeout=2",
-        (10, Some(2), None, Some(30)),
+        (10, Some(2), None, Some(30), Some(30)),
     ),
     (
         "vtl serve --socket s --idle-timeout 3",
-        (10, Some(10), Some(3), Some(30)),
+        (10, Some(10), Some(3), Some(30), Some(30)),
     ),
     (
         "vtl serve --socket s --write-timeout 4",
-        (10, Some(10), None, Some(4)),
+        (10, Some(10), None, Some(4), Some(30)),
+    ),
+    (
+        "vtl serve --socket s --idle-ping 5",
+        (10, Some(10), None, Some(30), Some(5)),
     ),
 ];
 
 #[test]
 fn task_of_reads_how_long_hosts_are_waited_for(rt: HostRuntime) -> Result<(), Fail> {
-    for (line, waits) in WAITS {
+    for row in &WAITS {
+        let (line, waits) = *row;
         let (_, _, times) = served(rt.alloc(), line, "s")?;
         assert_same(&rt, times, times_of(waits), line);
     }
+    Ok(())
+}
+
+/// How many portals and hosts there are, whether every other name is let in too, and whether secrets are asked for.
+type Reached = (usize, usize, bool, bool);
+
+/// What initiators of iSCSI come to by a line, and whether there is a socket too.
+fn reached(alloc: Global, line: &str, target_name: &str) -> Result<(Reached, bool), Fail> {
+    let Task::Serve(_, serving, _) = task(alloc, line)? else {
+        return Err("another task".into());
+    };
+    let Some(iscsi) = &serving.iscsi else {
+        return Err("no portals".into());
+    };
+    if iscsi.target_name.as_str() != target_name {
+        return Err("another target".into());
+    }
+    let counts = (
+        iscsi.portals.len(),
+        iscsi.hosts.len(),
+        iscsi.any_host,
+        iscsi.chap.is_some(),
+    );
+    Ok((counts, serving.socket.is_some()))
+}
+
+const REACHED: [(&'static str, &'static str, Reached, bool); 4] = [
+    (
+        "vtl serve --iscsi 127.0.0.1:3260 --any-host",
+        "iqn.2026-11.localhost:vtl",
+        (1, 0, true, false),
+        false,
+    ),
+    (
+        "vtl serve --socket s --iscsi [::1]:3260 --iscsi 127.0.0.2:0 --host iqn.2026-11.a:b=500000000000000a --host eui.02004567A425678D=500000000000000b",
+        "iqn.2026-11.localhost:vtl",
+        (2, 2, false, false),
+        true,
+    ),
+    (
+        "vtl serve --iscsi 0.0.0.0:3260 --any-host --no-authentication --target-name iqn.2026-11.example:tapes",
+        "iqn.2026-11.example:tapes",
+        (1, 0, true, false),
+        false,
+    ),
+    (
+        "vtl serve --iscsi 192.0.2.1:3260 --chap secrets --any-host --host naa.52004567BA64678D=500000000000000a",
+        "iqn.2026-11.localhost:vtl",
+        (1, 1, true, true),
+        false,
+    ),
+];
+
+#[test]
+fn task_of_reads_what_initiators_come_to(rt: HostRuntime) -> Result<(), Fail> {
+    for row in &REACHED {
+        let (line, target_name, expected, has_socket) = *row;
+        let (counts, socket) = reached(rt.alloc(), line, target_name)?;
+        assert_same(&rt, counts, expected, line);
+        assert_same(&rt, socket, has_socket, line);
+    }
+    Ok(())
+}
+
+/// The first portal of a line, and the name and the address of its first host.
+fn first_of(alloc: Global, line: &str) -> Result<(String, Vec<u8>, u64), Fail> {
+    let Task::Serve(_, serving, _) = task(alloc, line)? else {
+        return Err("another task".into());
+    };
+    let Some(iscsi) = &serving.iscsi else {
+        return Err("no portals".into());
+    };
+    let portal = *iscsi.portals.first().ok_or("no portal")?;
+    let host = iscsi.hosts.first().ok_or("no host")?;
+    Ok((
+        portal.to_string(alloc)?,
+        Vec::from_slice(alloc, &host.name)?,
+        host.sas,
+    ))
+}
+
+#[test]
+fn task_of_reads_addresses_and_names(rt: HostRuntime) -> Result<(), Fail> {
+    let line = "vtl serve --iscsi [::1]:3260 --host iqn.2026-11.a:b=500000000000000a";
+    let (portal, name, sas) = first_of(rt.alloc(), line)?;
+    assert_same(&rt, portal.as_str() == "[::1]:3260", true, line);
+    assert_same(
+        &rt,
+        name.as_slice() == b"iqn.2026-11.a:b".as_slice(),
+        true,
+        line,
+    );
+    assert_same(&rt, sas, 0x5000_0000_0000_000A, line);
     Ok(())
 }
 
@@ -446,7 +671,8 @@ const HOSTS: [(&'static str, Explanations); 2] = [
 
 #[test]
 fn task_of_reads_which_host_a_client_is(rt: HostRuntime) -> Result<(), Fail> {
-    for (line, explanations) in HOSTS {
+    for row in &HOSTS {
+        let (line, explanations) = *row;
         let expected = ((0x5000_0000_0000_000B, 4), explanations);
         assert_same(&rt, host(rt.alloc(), line, "/run/vtl")?, expected, line);
     }
@@ -469,7 +695,8 @@ const CELLS: [(&'static str, Option<Class>); 3] = [
 
 #[test]
 fn task_of_reads_which_cells_to_print(rt: HostRuntime) -> Result<(), Fail> {
-    for (line, expected) in CELLS {
+    for row in &CELLS {
+        let (line, expected) = *row;
         assert_same(&rt, class(rt.alloc(), line)?, expected, line);
     }
     Ok(())

@@ -1,6 +1,9 @@
 pub mod Faults
 pub mod Hosts
+pub mod HostsLetIn
+pub mod IscsiNames
 pub mod Options
+pub mod Portals
 pub mod Rows
 pub mod ServeTimes
 pub mod ServeUntil

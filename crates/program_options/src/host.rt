@@ -12,12 +12,19 @@ pub fn nexus_of(hex: &str, port: u16) -> Result<Nexus, OptionFault>
     requires last_port { port ≤ 4 }
     ensures { result ≡ nexus_by (sas_in hex.now) port }
 {
+    match sas_of(hex.as_bytes()) {
+        Some(sas) => Ok(Nexus { sas, port }),
+        None => Err(OptionFault::BadNexus),
+    }
+}
+
+/// A SAS address, by its 16 hexadecimal digits.
+pub(crate) fn sas_of(digits: &[u8]) -> Option<u64>
+    ensures { result ≡ sas_in digits.now }
+{
     // Eight bytes are read of 16 digits and of no other number of them.
-    match <[u8; 8] as FromHex>::from_hex(hex.as_bytes()) {
-        Ok(sas) => Ok(Nexus {
-            sas: u64::from_be_bytes(sas),
-            port,
-        }),
-        Err(_) => Err(OptionFault::BadNexus),
+    match <[u8; 8] as FromHex>::from_hex(digits) {
+        Ok(sas) => Some(u64::from_be_bytes(sas)),
+        Err(_) => None,
     }
 }

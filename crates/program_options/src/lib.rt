@@ -1,17 +1,23 @@
-//! What the options of the program's commands mean: what a library is made of, how long it is served and waits for its hosts,
-//! and which host a client is.
+//! What the options of the program's commands mean: what a library is made of, where and how long it is served and waits for its hosts,
+//! whom it lets in, and which host a client is.
 #![tactic(auto)]
 
 mod host;
+mod iscsi_name;
 mod laws;
 mod library_options;
+mod named_host;
 mod option_fault;
+mod portal;
 mod serve_times;
 mod serve_until;
 
 pub use host::nexus_of;
+pub use iscsi_name::is_iscsi_name;
 pub use laws::worked_rows;
 pub use library_options::{LibraryOptions, MAX_READS};
+pub use named_host::{HostText, NamedHost, host_beside};
 pub use option_fault::OptionFault;
+pub use portal::portal_of;
 pub use serve_times::ServeTimes;
 pub use serve_until::ServeUntil;

@@ -1,13 +1,81 @@
 use std::fmt;
 use thiserror::Error;
 
-/// Why options that are each within their range mean nothing.
+/// Why options that are each within their range mean nothing, and what to say in their place.
 #[derive(Clone, Copy, Debug, PartialEq, Eq, Error)]
 pub enum OptionFault {
     /// There are more volumes than storage elements.
     MoreVolumes,
     /// A SAS address that isn't 16 hexadecimal digits.
     BadNexus,
+    /// A library is served nowhere.
+    NoPlace,
+    /// More portals than the target has ports.
+    ManyPortals,
+    /// A portal that is no IP address with a port.
+    BadAddress,
+    /// A portal that others than programs of this machine reach, where it wasn't said what initiators must show of themselves.
+    OpenAddress,
+    /// Portals at which nobody is let in.
+    NobodyLetIn,
+    /// A host that is no name with a SAS address.
+    BadHost,
+    /// A host whose SAS address isn't 16 hexadecimal digits.
+    BadSas,
+    /// No iSCSI name.
+    BadName,
+    /// More hosts than are let in by name.
+    ManyHosts,
+    /// A host whose name has stood already.
+    NameTwice,
+    /// A host whose SAS address has stood already.
+    SasTwice,
+}
+
+impl OptionFault {
+    ghost use Rattle.std.specs.Prelude.{◌≡◌};
+    ghost use Rattle.program_options.specs.Faults.{option_fault_text};
+
+    /// Its line.
+    pub fn text(self) -> &'static str
+        ensures { result.now ≡ option_fault_text self }
+    {
+        match self {
+            OptionFault::MoreVolumes => "vtl: more volumes than slots",
+            OptionFault::BadNexus => "vtl: bad nexus",
+            OptionFault::NoPlace => {
+                "vtl: nowhere to serve: say --socket <PATH> or --iscsi <ADDRESS:PORT>"
+            }
+            OptionFault::ManyPortals => "vtl: more than 4 times --iscsi: there are 4 target ports",
+            OptionFault::BadAddress => {
+                "vtl: no IP address with a port: say one as 127.0.0.1:3260 or [::1]:3260"
+            }
+            OptionFault::OpenAddress => {
+                "vtl: other machines reach this address: say --chap <FILE>, or --no-authentication if all of them may come in"
+            }
+            OptionFault::NobodyLetIn => {
+                "vtl: --iscsi lets nobody in: say --host <NAME=SAS> for each host, or --any-host"
+            }
+            OptionFault::BadHost => {
+                "vtl: no host: say a name and a SAS address, as iqn.2026-11.example:a=500000000000000a"
+            }
+            OptionFault::BadSas => {
+                "vtl: no SAS address behind the name of a host: say its 16 hexadecimal digits"
+            }
+            OptionFault::BadName => {
+                "vtl: no iSCSI name: say one in small letters, as iqn.2026-11.example:a"
+            }
+            OptionFault::ManyHosts => {
+                "vtl: more than 64 times --host: say --any-host in place of some"
+            }
+            OptionFault::NameTwice => {
+                "vtl: a name is let in twice: say it once, with one SAS address"
+            }
+            OptionFault::SasTwice => {
+                "vtl: two names have one SAS address: say one of its own for each"
+            }
+        }
+    }
 }
 
 impl fmt::Display for OptionFault {
@@ -17,9 +85,6 @@ impl fmt::Display for OptionFault {
     ghost output = { λ fault. Some (option_fault_text fault) };
 
     fn fmt<W: fmt::Write>(&self, f: &mut fmt::Formatter<W>) -> fmt::Result {
-        match self {
-            OptionFault::MoreVolumes => f.write_str("vtl: more volumes than slots"),
-            OptionFault::BadNexus => f.write_str("vtl: bad nexus"),
-        }
+        f.write_str(self.text())
     }
 }

@@ -16,6 +16,8 @@ pub struct ServeTimes {
     pub idle: Option<Duration>,
     /// After which a reply that can't be written ends its session. `None`: never.
     pub write: Option<Duration>,
+    /// After which an initiator of iSCSI from which nothing came is asked whether it is still there. `None`: never.
+    pub ping: Option<Duration>,
 }
 
 impl ServeTimes {
@@ -28,6 +30,8 @@ impl ServeTimes {
 
     pub const DEFAULT_WRITE: u32 = 30;
 
+    pub const DEFAULT_PING: u32 = 30;
+
     /// The most seconds of grace that may be asked for (profile).
     pub const MAX_GRACE: u32 = 3600;
 
@@ -35,17 +39,19 @@ impl ServeTimes {
     pub const MAX_TIMEOUT: u32 = 86_400;
 
     /// Each in seconds, where 0 of any but the grace is never.
-    pub fn of_seconds(grace: u32, login: u32, idle: u32, write: u32) -> ServeTimes
+    pub fn of_seconds(grace: u32, login: u32, idle: u32, write: u32, ping: u32) -> ServeTimes
         ensures grace { as_nanos result.grace ≡ nanos_of grace }
         ensures login { option_map as_nanos result.login ≡ timeout_nanos login }
         ensures idle { option_map as_nanos result.idle ≡ timeout_nanos idle }
         ensures write { option_map as_nanos result.write ≡ timeout_nanos write }
+        ensures ping { option_map as_nanos result.ping ≡ timeout_nanos ping }
     {
         ServeTimes {
             grace: Duration::from_secs(u64::from(grace)),
             login: timeout_of(login),
             idle: timeout_of(idle),
             write: timeout_of(write),
+            ping: timeout_of(ping),
         }
     }
 }
@@ -54,7 +60,8 @@ impl Default for ServeTimes {
     ghost is_default = { λ times. (as_nanos times.grace ≡ nanos_of 10)
         × (option_map as_nanos times.login ≡ timeout_nanos 10)
         × (option_map as_nanos times.idle ≡ timeout_nanos 0)
-        × (option_map as_nanos times.write ≡ timeout_nanos 30) };
+        × (option_map as_nanos times.write ≡ timeout_nanos 30)
+        × (option_map as_nanos times.ping ≡ timeout_nanos 30) };
 
     fn default() -> ServeTimes {
         ServeTimes::of_seconds(
@@ -62,6 +69,7 @@ impl Default for ServeTimes {
             ServeTimes::DEFAULT_LOGIN,
             ServeTimes::DEFAULT_IDLE,
             ServeTimes::DEFAULT_WRITE,
+            ServeTimes::DEFAULT_PING,
         )
     }
 }

@@ -14,3 +14,7 @@ returns-clause-addresses c = record {
   nexus = refl;
   no_nexus = refl;
 }
+
+pub returns-clause-hosts : goal.returns-clause-hosts
+unfolding decode_pairs
+returns-clause-hosts c = record { host = refl; no_sign = refl; short_address = refl; two_signs = refl; no_name = refl }

@@ -1,0 +1,8 @@
+use Rattle.std.proofs.Common.{◌≡◌, drop}
+use lib.Pointwise.{pointwise}
+use Rattle.program_options.specs.IscsiNames.{fits}
+use Rattle.program_options.proofs.iscsi_name.has_form.Given as goal
+
+-- what is left is to have the form that is left
+abbrev pub invariant-loop-place : goal.invariant-loop-place
+invariant-loop-place l = pointwise fits (drop l.place-index l.form) l.left ≡ pointwise fits l.form l.text
