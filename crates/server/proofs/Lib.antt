@@ -1,3 +1,4 @@
 pub mod Closed
 pub mod HandingOut
+pub mod Seats
 pub mod Written

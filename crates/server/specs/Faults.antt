@@ -5,18 +5,21 @@ use Rattle.scsi_nexus.specs.declared.nexus.Nexus.{Nexus}
 use Rattle.scsi_nexus.specs.Text.{nexus_text}
 use Rattle.session.specs.declared.fault.SessionFault.{SessionFault}
 use Rattle.session.specs.declared.fault.SessionFault.TheVariants as session
+use Rattle.iscsi_session.specs.declared.fault.IscsiFault.TheVariants as iscsi
 use Rattle.lun_router.specs.declared.closing.CloseFault.{CloseFault}
 use Rattle.lun_router.specs.declared.closing.CloseFault.TheVariants as close
 use Rattle.server.specs.declared.server_fault.Cause.{Cause}
-use Rattle.server.specs.declared.server_fault.Cause.TheVariants.{Fault, Silence}
+use Rattle.server.specs.declared.server_fault.Cause.TheVariants.{Fault, Iscsi, Silence}
 use Rattle.server.specs.declared.server_fault.FaultySession.{FaultySession}
 use Rattle.server.specs.declared.server_fault.ServerFault.{ServerFault}
 use Rattle.server.specs.declared.server_fault.ServerFault.TheVariants as fault
+use Rattle.server.specs.IscsiFaults.{iscsi_words}
 
--- where nothing came in time a read failed
-abbrev pub fault_of : Cause → SessionFault
-fault_of (Fault fault) = fault
-fault_of Silence = session.Read
+-- a read that failed since nothing came in time
+abbrev pub silent : Cause → Cause
+silent (Fault session.Read) = Silence
+silent (Iscsi iscsi.Read) = Silence
+silent cause = cause
 
 -- the place in the order in which faults are told
 abbrev pub rank : ServerFault → ℕ
@@ -52,6 +55,7 @@ session_words session.NoMemory = codes "want of memory"
 
 abbrev pub cause_words : Cause → List ℕ
 cause_words (Fault fault) = session_words fault
+cause_words (Iscsi fault) = iscsi_words fault
 cause_words Silence = codes "nothing came in time"
 
 abbrev pub close_words : CloseFault → List ℕ

@@ -17,9 +17,9 @@ abbrev pub SettlesService : (drained : List ℕ) → LibraryServiceValue → Lib
 SettlesService drained p q = Settles drained p.seat q.seat × (q.units ≡ p.units)
 
 -- the same by some numbers, or nothing has changed
-abbrev pub MaySettle : LibraryServiceValue → LibraryServiceValue → Type 0
-MaySettle p q = (q ≡ p) ⊎ ((drained : List ℕ) × SettlesService drained p q)
+abbrev pub MaySettle : {S : Type 0} → (settles : List ℕ → S → S → Type 0) → S → S → Type 0
+MaySettle settles p q = (q ≡ p) ⊎ ((drained : List ℕ) × settles drained p q)
 
 -- what a call with this answer does for a worker: the same, and then the seat may be settled
-abbrev pub DoesForWorker : LibraryServiceValue → DoneValue → LibraryServiceValue → Type 0
-DoesForWorker p d q = (m : LibraryServiceValue) × DoesToService p d m × MaySettle m q
+abbrev pub DoesForWorker : {S : Type 0} → (notes : S → DoneValue → S → Type 0) → (settles : List ℕ → S → S → Type 0) → S → DoneValue → S → Type 0
+DoesForWorker {S} notes settles p d q = (m : S) × notes p d m × MaySettle settles m q

@@ -11,11 +11,6 @@ use Rattle.output_lines.specs.AuditLines.{audit_text}
 use Rattle.server.specs.declared.serving.RecordOutput.{RecordOutput}
 use Rattle.server.specs.declared.serving.RecordOutput.TheVariants.{AtTheEnd, AsTheyCome}
 use Rattle.server.specs.Batches.{GoesOn, HandsOut}
-use Rattle.server.specs.LibraryService.{LibraryServiceValue}
-
--- how many units there are
-abbrev pub units_of_service : LibraryServiceValue → ℕ
-units_of_service p = p.units
 
 -- a unit that may be absent
 abbrev pub if_there : Option UnitView → List UnitView

@@ -4,11 +4,9 @@ ghost use Rattle.output_lines.specs.AuditLines.{lines_of_records};
 ghost use Rattle.server.specs.Batches.{AreDrained, GoesOn, WritesSome, left_in, left_of, line_ends, unwritten_records};
 
 use crate::event::UnwrittenRecords;
+use crate::record_source::RecordSource;
 use crate::server_fault::ServerFault;
 use audit_log::Record;
-use kept_unit::UnitLedger;
-use library_device::Device;
-use lun_router::{Library, Pass};
 use output_lines::records_text;
 use std::alloc::{AllocError, Global};
 use std::io::Write;
@@ -125,19 +123,7 @@ impl Batch {
     }
 
     /// Takes the records of a unit, and says which number the last has.
-    pub fn take<
-        L0: UnitLedger,
-        L1: UnitLedger,
-        L2: UnitLedger,
-        L3: UnitLedger,
-        L4: UnitLedger,
-        R: Wait,
-    >(
-        &mut self,
-        rt: &R,
-        library: &Library<L0, L1, L2, L3, L4, Device, Pass>,
-        lun: u8,
-    ) -> Option<u64>
+    pub fn take<D: RecordSource, R: Wait>(&mut self, rt: &R, library: &D, lun: u8) -> Option<u64>
         requires none { self.old.records.items ≡ [] }
         ensures drained { AreDrained self.new.records.items }
         ensures left { left_in self.new ≡ lines_of_records self.new.records.items }

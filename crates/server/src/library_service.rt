@@ -7,6 +7,30 @@ use std::alloc::{AllocError, Global};
 use std::marker::Model;
 use std::sync::{Mutex, Wait};
 
+/// What a worker has of a library, whichever ledgers that has: a seat, with the directory of its sessions beside it.
+pub(crate) trait SeatService: Service + Drop {
+    ghost use Rattle.std.specs.Prelude.{◌≡◌, ℕ, List, OnOk, OnErr};
+
+    type Seat: Drop;
+
+    /// What settling the seat by these numbers does.
+    ghost settles: { List ℕ → Self → Self → Type 0 };
+
+    /// Whether a nexus has a slot at a unit, or finds one.
+    fn has_room(&self, nexus: Nexus, lun: u8) -> bool;
+
+    /// How many calls the seat has noted since they were settled.
+    fn noted(&self) -> usize;
+
+    /// Settles what the seat has noted of records that were handed out, up to these numbers by LUN, 0 where none was.
+    fn settle(&mut self, drained: &[u64; 5]) -> Result<(), AllocError>
+        ensures ok { OnOk result (settles drained.now self.old self.new) }
+        ensures err { OnErr result (self.new ≡ self.old) };
+
+    /// The seat, with which the library is closed.
+    fn leave_seat(self) -> Self::Seat;
+}
+
 /// A seat at a library, and the directory of its sessions beside it. Contracts see what the seat holds, and how many
 /// units the library has.
 #[derive(Drop)]
@@ -19,12 +43,10 @@ pub struct LibraryService<
     L4: UnitLedger,
     R: Wait,
 > {
-    pub(crate) rt: &'a R,
-    pub(crate) library: &'a Library<L0, L1, L2, L3, L4, Device, Pass>,
-    pub(crate) directory: &'a Mutex<Directory>,
-    pub(crate) seat: Seat<L0, L1, L2, L3, L4>,
-    /// Who asked last for a session.
-    pub(crate) nexus: Option<Nexus>,
+    rt: &'a R,
+    library: &'a Library<L0, L1, L2, L3, L4, Device, Pass>,
+    directory: &'a Mutex<Directory>,
+    seat: Seat<L0, L1, L2, L3, L4>,
 }
 
 impl<
@@ -69,7 +91,6 @@ impl<
             library,
             directory,
             seat,
-            nexus: None,
         }
     }
 
@@ -82,11 +103,6 @@ impl<
         self.seat.settle(drained)
     }
 
-    /// Whether a nexus has a slot at a unit, or finds one.
-    pub(crate) fn has_room(&self, nexus: Nexus, lun: u8) -> bool {
-        self.library.has_room(self.rt, nexus, lun)
-    }
-
     /// The seat, with which the library is closed.
     pub fn into_seat(self) -> Seat<L0, L1, L2, L3, L4>
         ensures { result ≡ self.entry.seat }
@@ -96,7 +112,6 @@ impl<
             library: _,
             directory: _,
             seat,
-            nexus: _,
         } = self;
         seat
     }
@@ -143,11 +158,42 @@ impl<
     }
 
     fn login(&mut self, nexus: Nexus) -> Result<usize, SessionFault> {
-        self.nexus = Some(nexus);
         self.directory.lock(self.rt).login(nexus)
     }
 
     fn logout(&mut self, key: usize) {
         self.directory.lock(self.rt).logout(key)
+    }
+}
+
+impl<
+    'a,
+    L0: UnitLedger,
+    L1: UnitLedger,
+    L2: UnitLedger,
+    L3: UnitLedger,
+    L4: UnitLedger,
+    R: Wait,
+> SeatService for LibraryService<'a, L0, L1, L2, L3, L4, R> {
+    ghost use Rattle.server.specs.LibraryService.{SettlesService};
+
+    type Seat = Seat<L0, L1, L2, L3, L4>;
+
+    ghost settles = { SettlesService };
+
+    fn has_room(&self, nexus: Nexus, lun: u8) -> bool {
+        self.library.has_room(self.rt, nexus, lun)
+    }
+
+    fn noted(&self) -> usize {
+        self.seat.entries().len()
+    }
+
+    fn settle(&mut self, drained: &[u64; 5]) -> Result<(), AllocError> {
+        self.settle_seat(drained)
+    }
+
+    fn leave_seat(self) -> Seat<L0, L1, L2, L3, L4> {
+        self.into_seat()
     }
 }

@@ -1,3 +1,5 @@
+use iscsi_session::{SessionIdentity, SessionRegister};
+use scsi_nexus::Nexus;
 use slab::Slab;
 use std::alloc::Global;
 use std::io;
@@ -6,17 +8,63 @@ use std::os::unix::net::UnixStream;
 use std::sync::{Condvar, Mutex, Wait};
 use std::time::{Clock, Duration};
 
-/// Whether sessions may begin, and the streams of those that go on.
+/// How many seconds a session is waited for whose place another one takes.
+const END_OF_SESSION: u64 = 5;
+
+/// Who a session of iSCSI is.
+#[derive(Clone, Copy, Debug, PartialEq, Eq)]
+struct Initiator {
+    nexus: Nexus,
+    session: SessionIdentity,
+}
+
+/// A session that goes on.
 #[derive(Drop)]
-struct LiveStreams {
+struct LiveSession {
+    stream: UnixStream,
+    /// Since its login, where it is one of iSCSI.
+    initiator: Option<Initiator>,
+}
+
+/// Whether sessions may begin, and those that go on.
+#[derive(Drop)]
+struct LiveList {
     is_closed: bool,
-    streams: Slab<UnixStream>,
+    sessions: Slab<LiveSession>,
+}
+
+impl LiveList {
+    /// The session that goes on as a nexus, if it is one of iSCSI.
+    fn living(&self, nexus: Nexus) -> Option<SessionIdentity> {
+        for (_, live) in self.sessions.iter() {
+            if let Some(initiator) = live.initiator {
+                if initiator.nexus == nexus {
+                    return Some(initiator.session);
+                }
+            }
+        }
+        None
+    }
+
+    fn has(&self, initiator: Initiator) -> bool {
+        self.living(initiator.nexus) == Some(initiator.session)
+    }
+
+    /// Shuts the stream of an initiator's session down, which then reads the end of its input.
+    fn shut_down(&self, initiator: Initiator) {
+        for (_, live) in self.sessions.iter() {
+            if live.initiator == Some(initiator) {
+                // One that can't be has ended by itself.
+                let _ = live.stream.shutdown(Shutdown::Both);
+            }
+        }
+    }
 }
 
 /// The sessions that go on, so that they can be ended from outside.
 #[derive(Drop)]
 pub struct LiveSessions {
-    live: Mutex<LiveStreams>,
+    live: Mutex<LiveList>,
     /// Told whenever one has ended.
     ended: Condvar,
 }
@@ -25,9 +73,9 @@ impl LiveSessions {
     /// None goes on, and sessions may begin.
     pub fn new(alloc: Global) -> LiveSessions {
         LiveSessions {
-            live: Mutex::new(LiveStreams {
+            live: Mutex::new(LiveList {
                 is_closed: false,
-                streams: Slab::new(alloc),
+                sessions: Slab::new(alloc),
             }),
             ended: Condvar::new(),
         }
@@ -49,28 +97,73 @@ impl LiveSessions {
         let live = self.live.lock(rt);
         let (live, _) = self
             .ended
-            .wait_timeout_while(rt, live, grace, |live| !live.streams.is_empty());
-        for (_, stream) in live.streams.iter() {
+            .wait_timeout_while(rt, live, grace, |live| !live.sessions.is_empty());
+        for (_, live) in live.sessions.iter() {
             // One that can't be has ended by itself.
-            let _ = stream.shutdown(Shutdown::Both);
+            let _ = live.stream.shutdown(Shutdown::Both);
         }
     }
 
     /// Enters a session by a second descriptor of its stream, and gives its key. `None` where no session may begin.
     pub(crate) fn enter<R: Wait>(&self, rt: &R, stream: &UnixStream) -> io::Result<Option<usize>> {
-        let second = stream.try_clone()?;
+        let session = LiveSession {
+            stream: stream.try_clone()?,
+            initiator: None,
+        };
         let mut live = self.live.lock(rt);
         if live.is_closed {
             return Ok(None);
         }
-        Ok(Some(live.streams.insert(second)?))
+        Ok(Some(live.sessions.insert(session)?))
     }
 
     /// Forgets a session that has ended, by its key.
     pub(crate) fn leave<R: Wait>(&self, rt: &R, key: usize) {
         let mut live = self.live.lock(rt);
-        let _ = live.streams.try_remove(key);
+        let _ = live.sessions.try_remove(key);
         drop(live);
         self.ended.notify_all();
+    }
+
+    /// Notes who the session of a key is.
+    fn note<R: Wait>(&self, rt: &R, key: usize, initiator: Initiator) {
+        let mut live = self.live.lock(rt);
+        if let Some(session) = live.sessions.get_mut(key) {
+            session.initiator = Some(initiator);
+        }
+    }
+
+    /// Shuts down the session of an initiator, and waits until it has ended: whether it has in time.
+    fn end<R: Clock + Wait>(&self, rt: &R, initiator: Initiator) -> bool {
+        let live = self.live.lock(rt);
+        live.shut_down(initiator);
+        let time = Duration::from_secs(END_OF_SESSION);
+        let (live, _) = self
+            .ended
+            .wait_timeout_while(rt, live, time, |live| live.has(initiator));
+        !live.has(initiator)
+    }
+}
+
+/// The sessions that go on, as one of them sees them, by its key.
+#[derive(Clone, Copy)]
+pub(crate) struct SessionsBeside<'a, R: Clock + Wait> {
+    pub rt: &'a R,
+    pub sessions: &'a LiveSessions,
+    pub key: usize,
+}
+
+impl<'a, R: Clock + Wait> SessionRegister for SessionsBeside<'a, R> {
+    fn living(&self, nexus: Nexus) -> Option<SessionIdentity> {
+        self.sessions.live.lock(self.rt).living(nexus)
+    }
+
+    fn end(&self, nexus: Nexus, session: SessionIdentity) -> bool {
+        self.sessions.end(self.rt, Initiator { nexus, session })
+    }
+
+    fn note(&self, nexus: Nexus, session: SessionIdentity) {
+        self.sessions
+            .note(self.rt, self.key, Initiator { nexus, session })
     }
 }

@@ -6,11 +6,9 @@ ghost use Rattle.server.specs.Events.{change_of};
 use crate::batch::Batch;
 use crate::event::Event;
 use crate::handed_out::HandedOut;
+use crate::record_source::RecordSource;
 use crate::server_fault::ServerFault;
 use crate::teller::Teller;
-use kept_unit::UnitLedger;
-use library_device::Device;
-use lun_router::{Library, Pass};
 use std::alloc::Global;
 use std::io::Write;
 use std::sync::atomic::{AtomicBool, Ordering};
@@ -151,19 +149,11 @@ impl RecordDrain {
 
     /// Writes what is left of a batch, and then a line for each record of a unit. What can't be written is left in the batch, and
     /// as long as something is, units keep their records.
-    fn hand_out_unit<
-        L0: UnitLedger,
-        L1: UnitLedger,
-        L2: UnitLedger,
-        L3: UnitLedger,
-        L4: UnitLedger,
-        R: Wait,
-        W: Write,
-    >(
+    fn hand_out_unit<D: RecordSource, R: Wait, W: Write>(
         &self,
         rt: &R,
         alloc: Global,
-        library: &Library<L0, L1, L2, L3, L4, Device, Pass>,
+        library: &D,
         lun: u8,
         batch: &mut Batch,
         writer: &mut W,
@@ -179,19 +169,11 @@ impl RecordDrain {
     }
 
     /// The same of each unit, LUN 0 first.
-    fn hand_out_units<
-        L0: UnitLedger,
-        L1: UnitLedger,
-        L2: UnitLedger,
-        L3: UnitLedger,
-        L4: UnitLedger,
-        R: Wait,
-        W: Write,
-    >(
+    fn hand_out_units<D: RecordSource, R: Wait, W: Write>(
         &self,
         rt: &R,
         alloc: Global,
-        library: &Library<L0, L1, L2, L3, L4, Device, Pass>,
+        library: &D,
         batch: &mut Batch,
         writer: &mut W,
     ) -> Result<(), ServerFault>
@@ -204,20 +186,11 @@ impl RecordDrain {
     }
 
     /// The same, and tells where that fails for the first time and where it no longer does.
-    fn hand_out<
-        L0: UnitLedger,
-        L1: UnitLedger,
-        L2: UnitLedger,
-        L3: UnitLedger,
-        L4: UnitLedger,
-        R: Wait,
-        W: Write,
-        E: Write,
-    >(
+    fn hand_out<D: RecordSource, R: Wait, W: Write, E: Write>(
         &self,
         rt: &R,
         alloc: Global,
-        library: &Library<L0, L1, L2, L3, L4, Device, Pass>,
+        library: &D,
         batch: &mut Batch,
         writer: &mut W,
         teller: &Teller<E>,
@@ -234,20 +207,11 @@ impl RecordDrain {
     }
 
     /// Hands records out whenever that is due, until nobody will ask any more.
-    pub fn hand_out_as_asked<
-        L0: UnitLedger,
-        L1: UnitLedger,
-        L2: UnitLedger,
-        L3: UnitLedger,
-        L4: UnitLedger,
-        R: Wait,
-        W: Write,
-        E: Write,
-    >(
+    pub fn hand_out_as_asked<D: RecordSource, R: Wait, W: Write, E: Write>(
         &self,
         rt: &R,
         alloc: Global,
-        library: &Library<L0, L1, L2, L3, L4, Device, Pass>,
+        library: &D,
         batch: &mut Batch,
         writer: &mut W,
         teller: &Teller<E>,

@@ -1,6 +1,8 @@
 ghost use Rattle.std.specs.Prelude.{◌≡◌};
-ghost use Rattle.server.specs.Faults.{cause_words, close_words, earlier, fault_of, is_before, rank, session_words};
+ghost use Rattle.server.specs.Faults.{cause_words, close_words, earlier, is_before, rank, session_words, silent};
 
+use crate::iscsi_words::iscsi_words;
+use iscsi_session::IscsiFault;
 use lun_router::CloseFault;
 use scsi_nexus::Nexus;
 use session::SessionFault;
@@ -12,18 +14,20 @@ use thiserror::Error;
 #[derive(Clone, Copy, Debug, PartialEq, Eq)]
 pub enum Cause {
     Fault(SessionFault),
+    /// The fault of a session of iSCSI.
+    Iscsi(IscsiFault),
     /// A read failed since nothing came in time.
     Silence,
 }
 
 impl Cause {
-    /// The fault of the session.
-    pub fn fault(self) -> SessionFault
-        ensures { result ≡ fault_of self }
+    /// The cause, where what was waited for last didn't come in time: a read that failed is silence.
+    pub fn silent(self) -> Cause
+        ensures { result ≡ silent self }
     {
         match self {
-            Cause::Fault(fault) => fault,
-            Cause::Silence => SessionFault::Read,
+            Cause::Fault(SessionFault::Read) | Cause::Iscsi(IscsiFault::Read) => Cause::Silence,
+            _ => self,
         }
     }
 }
@@ -141,6 +145,7 @@ fn cause_words(cause: Cause) -> &'static str
 {
     match cause {
         Cause::Fault(fault) => session_words(fault),
+        Cause::Iscsi(fault) => iscsi_words(fault),
         Cause::Silence => "nothing came in time",
     }
 }

@@ -1,32 +1,30 @@
-ghost use Rattle.std.specs.Prelude.{◌≡◌, ◌<◌, IsOk, OnOk};
+ghost use Rattle.std.specs.Prelude.{◌≡◌, ◌<◌, ◌≤◌, length, IsOk, OnOk};
 ghost use Rattle.logical_unit.specs.UnitView.{units_of};
 ghost use Rattle.lun_router.specs.Opening.{IsSince};
 ghost use Rattle.server.specs.Batches.{HandsOut, left_in};
 ghost use Rattle.server.specs.Serving.{DrainsAndCloses, ServesLibrary};
 
+use crate::acceptor::{Acceptor, ServeLimits};
 use crate::batch::Batch;
 use crate::closing::close_and_write;
+use crate::door::Door;
 use crate::event::Event;
-use crate::library_service::LibraryService;
 use crate::record_drain::RecordDrain;
 use crate::server_fault::{ServerFault, earlier};
-use crate::staff::staff_of;
+use crate::staffing::{serve_all, serve_and_end};
 use crate::teller::Teller;
-use crate::worker::{Acceptor, ServeLimits};
 use kept_unit::UnitLedger;
 use library_device::Device;
 use lun_router::{Blanks, Library, Pass, Seat};
 use output_lines::Audit;
-use session::Directory;
 use std::alloc::Global;
 use std::io::Write;
 use std::marker::Brand;
-use std::os::unix::net::UnixListener;
+use std::random::RandomSource;
+use std::sync::Wait;
 use std::sync::ledger::Blank;
-use std::sync::{Mutex, Wait};
-use std::thread::Threads;
+use std::thread::{self, Threads};
 use std::time::Clock;
-use std::{mem, thread};
 use target_core::TargetCore;
 
 /// What is written of the records of a library that is served.
@@ -39,25 +37,31 @@ pub enum RecordOutput {
     AsTheyCome,
 }
 
-/// Serves a target to connections of a listener, each by a worker and as the nexus that its LOGIN names, and tells what
-/// happens. After the last has ended the library is closed, and what is wanted of the records is written, LUN 0 first, also
+/// Serves a target to connections of doors, each by a worker and as the nexus that its LOGIN names or its initiator is let in as, and
+/// tells what happens. After the last has ended the library is closed, and what is wanted of the records is written, LUN 0 first, also
 /// where a session had a fault. Lines that can't be written are kept and tried again; those that never can be are told.
 ///
 /// Of the faults that happened the first in the order of `ServerFault` is told; no clause says which of them happened.
-pub fn serve_library<R: Clock + Threads + Wait + Sync, W: Write + Send, E: Write + Send>(
+pub fn serve_library<
+    R: Clock + RandomSource + Threads + Wait + Sync,
+    W: Write + Send,
+    E: Write + Send,
+>(
     rt: &R,
     alloc: Global,
     core: TargetCore<Device>,
-    listener: &UnixListener,
+    doors: &[Door<'_>],
     limits: ServeLimits<'_>,
     records: RecordOutput,
     writer: &mut W,
     teller: &Teller<E>,
 ) -> Result<(), ServerFault>
     requires some { 0 < limits.workers }
+    requires doors { (0 < length doors.now) × (length doors.now ≤ 5) }
     ensures { OnOk result (ServesLibrary (units_of core) records (W.contents writer.old) (W.contents writer.new)) }
 {
-    let parts = u64::from(limits.workers);
+    let seats = seats_at(limits.workers, doors.len());
+    let parts = seats as u64;
     let blanks = Blanks {
         zero: Blank::new(parts),
         one: Blank::new(parts),
@@ -65,22 +69,20 @@ pub fn serve_library<R: Clock + Threads + Wait + Sync, W: Write + Send, E: Write
         three: Blank::new(parts),
         four: Blank::new(parts),
     };
-    let acceptor = Acceptor {
-        listener,
-        limits,
-        accepted: Mutex::new(0),
-    };
+    let acceptor = Acceptor::new(doors, limits);
     serve_with_ledgers::<Brand, Brand, Brand, Brand, Brand, R, W, E>(
-        rt,
-        alloc,
-        core,
-        usize::from(limits.workers),
-        blanks,
-        &acceptor,
-        records,
-        writer,
-        teller,
+        rt, alloc, core, seats, blanks, &acceptor, records, writer, teller,
     )
+}
+
+/// How many seats there are at so many doors, each with so many workers.
+#[tactic(auto, using(crate::proofs::Seats::some_seats, crate::proofs::Seats::few_seats))]
+fn seats_at(workers: u8, doors: usize) -> usize
+    requires workers { 0 < workers }
+    requires doors { (0 < doors) × (doors ≤ 5) }
+    ensures { (0 < result) × (result ≤ 1275) }
+{
+    usize::from(workers) * doors
 }
 
 /// The same, generic over the five ledgers.
@@ -90,7 +92,7 @@ fn serve_with_ledgers<
     L2: UnitLedger + Send + Sync,
     L3: UnitLedger + Send + Sync,
     L4: UnitLedger + Send + Sync,
-    R: Clock + Threads + Wait + Sync,
+    R: Clock + RandomSource + Threads + Wait + Sync,
     W: Write + Send,
     E: Write + Send,
 >(
@@ -188,7 +190,7 @@ fn serve_and_write<
     L2: UnitLedger + Send + Sync,
     L3: UnitLedger + Send + Sync,
     L4: UnitLedger + Send + Sync,
-    R: Clock + Threads + Wait + Sync,
+    R: Clock + RandomSource + Threads + Wait + Sync,
     W: Write + Send,
     E: Write + Send,
 >(
@@ -219,56 +221,4 @@ fn serve_and_write<
         ),
     );
     served
-}
-
-/// Serves sessions with a worker at each seat. Then none asks any more that records be handed out.
-fn serve_and_end<
-    'x,
-    L0: UnitLedger + Send + Sync,
-    L1: UnitLedger + Send + Sync,
-    L2: UnitLedger + Send + Sync,
-    L3: UnitLedger + Send + Sync,
-    L4: UnitLedger + Send + Sync,
-    R: Clock + Threads + Wait + Sync,
-    E: Write + Send,
->(
-    rt: &'x R,
-    alloc: Global,
-    library: &'x Library<L0, L1, L2, L3, L4, Device, Pass>,
-    seats: &mut Vec<Seat<L0, L1, L2, L3, L4>>,
-    acceptor: &Acceptor<'_>,
-    drain: &'x RecordDrain,
-    teller: &'x Teller<E>,
-) -> Result<Option<ServerFault>, ServerFault> {
-    let served = serve_all(rt, alloc, library, seats, acceptor, Some(drain), teller);
-    drain.end(rt);
-    served
-}
-
-/// Serves sessions with a worker at each seat, to which the seats go and come back: the fault that is told of the sessions, if there was one.
-fn serve_all<
-    'x,
-    L0: UnitLedger + Send + Sync,
-    L1: UnitLedger + Send + Sync,
-    L2: UnitLedger + Send + Sync,
-    L3: UnitLedger + Send + Sync,
-    L4: UnitLedger + Send + Sync,
-    R: Clock + Threads + Wait + Sync,
-    E: Write + Send,
->(
-    rt: &'x R,
-    alloc: Global,
-    library: &'x Library<L0, L1, L2, L3, L4, Device, Pass>,
-    seats: &mut Vec<Seat<L0, L1, L2, L3, L4>>,
-    acceptor: &Acceptor<'_>,
-    drain: Option<&'x RecordDrain>,
-    teller: &'x Teller<E>,
-) -> Result<Option<ServerFault>, ServerFault> {
-    let directory = Mutex::new(Directory::new(alloc));
-    let taken = mem::replace(seats, Vec::new(alloc));
-    let mut staff = staff_of(rt, alloc, library, &directory, taken, drain, teller)?;
-    staff.work(rt, alloc, acceptor);
-    let (back, served) = staff.into_seats();
-    *seats = back;
-    Ok(served)
 }

@@ -1,95 +1,64 @@
-use crate::library_service::LibraryService;
+use crate::library_service::SeatService;
 use crate::record_drain::RecordDrain;
 use crate::server_fault::{ServerFault, earlier};
 use crate::teller::Teller;
-use crate::worker::{Acceptor, Worker};
+use crate::worker::Worker;
 use crate::worker_service::WorkerService;
-use kept_unit::UnitLedger;
-use library_device::Device;
-use lun_router::{Library, Pass, Seat};
-use session::Directory;
+use iscsi_login::Host;
 use std::alloc::{AllocError, Global};
 use std::io::Write;
-use std::sync::{Mutex, Wait};
-use std::thread::{self, Threads};
-use std::time::Clock;
+use std::sync::Wait;
+use std::sync::atomic::AtomicBool;
 
 /// The workers of a library, and room for the seats that they give back.
 #[derive(Drop)]
-pub(crate) struct Staff<
-    'a,
-    L0: UnitLedger,
-    L1: UnitLedger,
-    L2: UnitLedger,
-    L3: UnitLedger,
-    L4: UnitLedger,
-    R: Clock + Wait,
-    E: Write,
-> {
-    workers: Vec<Worker<'a, L0, L1, L2, L3, L4, R, E>>,
-    back: Vec<Seat<L0, L1, L2, L3, L4>>,
+pub(crate) struct Staff<'a, S: SeatService, R: Wait, E: Write> {
+    pub workers: Vec<Worker<'a, S, R, E>>,
+    back: Vec<S::Seat>,
 }
 
-/// A worker at each seat. All that is needed for giving the seats back is there before the first session.
-pub(crate) fn staff_of<
-    'a,
-    L0: UnitLedger,
-    L1: UnitLedger,
-    L2: UnitLedger,
-    L3: UnitLedger,
-    L4: UnitLedger,
-    R: Clock + Wait,
-    E: Write,
->(
-    rt: &'a R,
-    alloc: Global,
-    library: &'a Library<L0, L1, L2, L3, L4, Device, Pass>,
-    directory: &'a Mutex<Directory>,
-    seats: Vec<Seat<L0, L1, L2, L3, L4>>,
-    drain: Option<&'a RecordDrain>,
-    teller: &'a Teller<E>,
-) -> Result<Staff<'a, L0, L1, L2, L3, L4, R, E>, AllocError> {
-    let mut back = Vec::new(alloc);
-    back.reserve(seats.len())?;
-    let mut workers = Vec::new(alloc);
-    for seat in seats {
+impl<'a, S: SeatService, R: Wait, E: Write> Staff<'a, S, R, E> {
+    /// No workers, with room for the seats of so many.
+    pub fn new(alloc: Global, count: usize) -> Result<Staff<'a, S, R, E>, AllocError> {
+        let mut back = Vec::new(alloc);
+        back.reserve(count)?;
+        Ok(Staff {
+            workers: Vec::new(alloc),
+            back,
+        })
+    }
+
+    /// One more worker, who serves by this.
+    pub fn hire(
+        &mut self,
+        rt: &'a R,
+        seat_service: S,
+        is_in: &'a AtomicBool,
+        hosts: &'a [Host],
+        drain: Option<&'a RecordDrain>,
+        teller: &'a Teller<E>,
+    ) -> Result<(), AllocError> {
         let service = WorkerService {
-            library_service: LibraryService::new(rt, library, directory, seat),
+            seat_service,
+            rt,
             drain,
             teller,
+            is_in,
+            hosts,
+            number: 0,
+            is_initiator: false,
+            nexus: None,
             commands: 0,
         };
-        workers.push(Worker {
+        self.workers.push(Worker {
             service,
             fault: None,
         })?;
-    }
-    Ok(Staff { workers, back })
-}
-
-impl<
-    'a,
-    L0: UnitLedger + Send + Sync,
-    L1: UnitLedger + Send + Sync,
-    L2: UnitLedger + Send + Sync,
-    L3: UnitLedger + Send + Sync,
-    L4: UnitLedger + Send + Sync,
-    R: Clock + Threads + Wait + Sync,
-    E: Write + Send,
-> Staff<'a, L0, L1, L2, L3, L4, R, E> {
-    /// Has all workers serve sessions until there are no more.
-    pub fn work(&mut self, rt: &R, alloc: Global, acceptor: &Acceptor<'_>) {
-        let count = self.workers.len();
-        thread::for_each_mut(
-            rt,
-            self.workers.as_mut_slice(),
-            count.max(1),
-            &|_place, worker| worker.work(alloc, acceptor),
-        );
+        Ok(())
     }
 
     /// The seats, and the fault that is told of the sessions, if there was one.
-    pub fn into_seats(self) -> (Vec<Seat<L0, L1, L2, L3, L4>>, Option<ServerFault>) {
+    pub fn into_seats(self) -> (Vec<S::Seat>, Option<ServerFault>) {
         let Staff { workers, mut back } = self;
         let mut told = None;
         for worker in workers {

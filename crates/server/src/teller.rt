@@ -1,8 +1,10 @@
 ghost use Rattle.std.specs.Prelude.{◌++◌, ◌∷◌, [], OnOk};
 ghost use Rattle.std.specs.Io.KnownBytes.{Appends};
 ghost use Rattle.server.specs.Events.{event_text};
+ghost use Rattle.server.specs.Logins.{logged_in_text};
 
 use crate::event::Event;
+use crate::logged_in::LoggedIn;
 use std::io::{self, Write};
 use std::sync::{Mutex, Wait};
 
@@ -31,6 +33,17 @@ impl<E: Write> Teller<E> {
         }
     }
 
+    /// Tells that an initiator has logged in, if that is to be told.
+    pub(crate) fn tell_login<R: Wait>(&self, rt: &R, login: &LoggedIn<'_>) {
+        match self.telling {
+            Telling::Faults => {}
+            Telling::Everything => {
+                let mut errors = self.errors.lock(rt);
+                let _ = write_login(&mut *errors, login);
+            }
+        }
+    }
+
     /// Tells an event, if it is to be told. Where its line can't be written there is nobody to tell.
     pub(crate) fn tell<R: Wait>(&self, rt: &R, event: &Event) {
         match self.telling {
@@ -41,6 +54,13 @@ impl<E: Write> Teller<E> {
             }
         }
     }
+}
+
+/// Writes the line of an initiator that has logged in.
+fn write_login<E: Write>(errors: &mut E, login: &LoggedIn<'_>) -> io::Result<()>
+    ensures { OnOk result (Appends (E.contents errors.old) (E.contents errors.new) (logged_in_text login.now ++ 10 ∷ [])) }
+{
+    writeln!(errors, "{login}")
 }
 
 /// Writes an event's line.

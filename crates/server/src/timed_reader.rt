@@ -1,53 +1,57 @@
-use std::io::{self, Read};
+use std::io::{self, ErrorKind, Read};
 use std::os::unix::net::UnixStream;
+use std::sync::atomic::{AtomicBool, Ordering};
 use std::time::{Clock, Duration, Instant};
 
-/// How many bytes a LOGIN has: four of its length, one of its kind, eight of the SAS address and two of the port.
-const LOGIN_SIZE: usize = 15;
-
-/// What is read next.
+/// How long a connection is waited for. `None`: for ever.
 #[derive(Clone, Copy, Debug, PartialEq, Eq)]
-enum Phase {
-    /// So many bytes of the LOGIN.
-    Login(usize),
-    /// What comes first behind it.
-    Behind,
-    /// What comes then.
-    Further,
+pub(crate) struct Patience {
+    /// Until its host is logged in.
+    pub login: Option<Duration>,
+    /// From then on, as long as nothing comes.
+    pub idle: Option<Duration>,
+    /// The same, before a read is given up for once.
+    pub ping: Option<Duration>,
 }
 
-/// Reads what a host sends, which has to log in by a time, and may later on be silent for so long. A read that takes longer
-/// fails.
+/// Reads what a host sends, which has to log in by a time, and may later on be silent for so long. A read by which it is late
+/// fails, and so do all that follow. One that takes as long as until a ping fails by `TimedOut`, which no other does.
 #[derive(Drop)]
 pub(crate) struct TimedReader<'a, C: Clock> {
     clock: &'a C,
     stream: &'a UnixStream,
-    /// `None`: its LOGIN may take for ever.
+    /// Whether the host is logged in.
+    is_in: &'a AtomicBool,
+    patience: Patience,
+    /// `None`: its login may take for ever.
     login_by: Option<Instant>,
-    /// `None`: it may be silent for ever.
-    idle: Option<Duration>,
-    phase: Phase,
+    /// How long nothing has come since the host is logged in.
+    silence: Duration,
+    /// How long a read of the stream waits now. `None`: nothing was said.
+    wait: Option<Option<Duration>>,
     is_late: bool,
 }
 
 impl<'a, C: Clock> TimedReader<'a, C> {
-    /// Nothing has been read yet; the time for the LOGIN begins now.
+    /// Nothing has been read yet; the time for the login begins now.
     pub fn new(
         clock: &'a C,
         stream: &'a UnixStream,
-        login: Option<Duration>,
-        idle: Option<Duration>,
+        is_in: &'a AtomicBool,
+        patience: Patience,
     ) -> io::Result<TimedReader<'a, C>> {
-        let login_by = match login {
+        let login_by = match patience.login {
             Some(time) => Instant::now(clock)?.checked_add(time),
             None => None,
         };
         Ok(TimedReader {
             clock,
             stream,
+            is_in,
+            patience,
             login_by,
-            idle,
-            phase: Phase::Login(LOGIN_SIZE),
+            silence: Duration::ZERO,
+            wait: None,
             is_late: false,
         })
     }
@@ -57,58 +61,85 @@ impl<'a, C: Clock> TimedReader<'a, C> {
         self.is_late
     }
 
-    /// Says how long the next read may wait.
-    fn limit_wait(&mut self) -> io::Result<()> {
-        match self.phase {
-            Phase::Login(_) => {
-                let left = self.left_for_login()?;
-                self.stream.set_read_timeout(left)
-            }
-            Phase::Behind => self.stream.set_read_timeout(self.idle),
-            Phase::Further => Ok(()),
+    fn is_in(&self) -> bool {
+        self.is_in.load(Ordering::SeqCst)
+    }
+
+    /// How long the next read may wait. `None`: for ever.
+    fn next_wait(&self) -> io::Result<Option<Duration>> {
+        if self.is_in() {
+            let left = match self.patience.idle {
+                Some(idle) => Some(idle.saturating_sub(self.silence)),
+                None => None,
+            };
+            return Ok(shorter(self.patience.ping, left));
+        }
+        match self.login_by {
+            Some(by) => Ok(Some(by.saturating_duration_since(Instant::now(self.clock)?))),
+            None => Ok(None),
         }
     }
 
-    /// How long is left for the LOGIN. `None`: for ever.
-    fn left_for_login(&mut self) -> io::Result<Option<Duration>> {
-        let Some(by) = self.login_by else {
-            return Ok(None);
-        };
-        let left = by.saturating_duration_since(Instant::now(self.clock)?);
-        if left.is_zero() {
-            self.is_late = true;
-            return Err(io::Error::from(io::ErrorKind::TimedOut));
+    /// Says how long the next read may wait, where that isn't said already.
+    fn limit_wait(&mut self, wait: Option<Duration>) -> io::Result<()> {
+        if self.wait != Some(wait) {
+            self.stream.set_read_timeout(wait)?;
+            self.wait = Some(wait);
         }
-        Ok(Some(left))
+        Ok(())
+    }
+
+    /// Whether a host may not be silent for so long.
+    fn is_too_long(&self, silence: Duration) -> bool {
+        match self.patience.idle {
+            Some(idle) => silence >= idle,
+            None => false,
+        }
+    }
+
+    /// Why a read failed for which nothing came in so long.
+    fn kind_behind(&mut self, wait: Option<Duration>) -> ErrorKind {
+        if self.is_in() {
+            self.silence = self.silence.saturating_add(wait.unwrap_or(Duration::ZERO));
+            if !self.is_too_long(self.silence) {
+                return ErrorKind::TimedOut;
+            }
+        }
+        self.is_late = true;
+        ErrorKind::ConnectionAborted
     }
 }
 
-/// What is read next where so many bytes were read.
-fn phase_behind(phase: Phase, count: usize) -> Phase {
-    match phase {
-        Phase::Login(left) if count < left => Phase::Login(left - count),
-        Phase::Login(_) => Phase::Behind,
-        Phase::Behind | Phase::Further => Phase::Further,
+/// The shorter of two times, of which either may be for ever.
+fn shorter(one: Option<Duration>, other: Option<Duration>) -> Option<Duration> {
+    match (one, other) {
+        (Some(one), Some(other)) => Some(one.min(other)),
+        (Some(time), None) | (None, Some(time)) => Some(time),
+        (None, None) => None,
     }
 }
 
 impl<'a, C: Clock> Read for TimedReader<'a, C> {
     fn read(&mut self, buffer: &mut [u8]) -> io::Result<usize> {
-        self.limit_wait()?;
+        let wait = self.next_wait()?;
+        if self.is_late || wait == Some(Duration::ZERO) {
+            self.is_late = true;
+            return Err(io::Error::from(ErrorKind::ConnectionAborted));
+        }
+        self.limit_wait(wait)?;
         let mut stream = self.stream;
         match stream.read(buffer) {
             Ok(count) => {
-                self.phase = phase_behind(self.phase, count);
+                self.silence = Duration::ZERO;
                 Ok(count)
             }
-            Err(error) => {
+            Err(error) => match error.kind() {
                 // Which of the two a read gives whose time is up depends on the system.
-                self.is_late = matches!(
-                    error.kind(),
-                    io::ErrorKind::WouldBlock | io::ErrorKind::TimedOut
-                );
-                Err(error)
-            }
+                ErrorKind::WouldBlock | ErrorKind::TimedOut => {
+                    Err(io::Error::from(self.kind_behind(wait)))
+                }
+                _ => Err(error),
+            },
         }
     }
 }

@@ -1,11 +1,12 @@
 ghost use Rattle.server.specs.LibraryService.{MaySettle};
 
 use crate::event::Event;
-use crate::library_service::LibraryService;
+use crate::library_service::SeatService;
+use crate::logged_in::{LoggedIn, name_of};
 use crate::record_drain::RecordDrain;
 use crate::teller::Teller;
-use kept_unit::{Done, UnitLedger};
-use lun_router::Seat;
+use iscsi_login::Host;
+use kept_unit::Done;
 use scsi_nexus::Nexus;
 use scsi_sense::Status;
 use session::{Service, SessionFault};
@@ -13,62 +14,40 @@ use std::alloc::Global;
 use std::io::Write;
 use std::marker::Model;
 use std::sync::Wait;
+use std::sync::atomic::{AtomicBool, Ordering};
 
 /// A seat that has noted so many calls since they were settled is settled again.
 const MANY: usize = 4096;
 
 /// As `WorkerService::tend`, where records are handed out.
-fn tend_with<
-    'a,
-    L0: UnitLedger,
-    L1: UnitLedger,
-    L2: UnitLedger,
-    L3: UnitLedger,
-    L4: UnitLedger,
-    R: Wait,
->(
-    service: &mut LibraryService<'a, L0, L1, L2, L3, L4, R>,
+fn tend_with<S: SeatService, R: Wait>(
+    rt: &R,
+    service: &mut S,
     drain: &RecordDrain,
     lun: u8,
     number: u64,
 )
-    ensures { MaySettle service.old service.new }
+    ensures { MaySettle S.settles service.old service.new }
 {
-    drain.ask_within_session(service.rt, lun, number);
-    if service.seat.entries().len() >= MANY {
+    drain.ask_within_session(rt, lun, number);
+    if service.noted() >= MANY {
         settle_with(service, drain);
     }
 }
 
 /// As `WorkerService::tidy`, where records are handed out.
-fn tidy_with<
-    'a,
-    L0: UnitLedger,
-    L1: UnitLedger,
-    L2: UnitLedger,
-    L3: UnitLedger,
-    L4: UnitLedger,
-    R: Wait,
->(service: &mut LibraryService<'a, L0, L1, L2, L3, L4, R>, drain: &RecordDrain)
-    ensures { MaySettle service.old service.new }
+fn tidy_with<S: SeatService, R: Wait>(rt: &R, service: &mut S, drain: &RecordDrain)
+    ensures { MaySettle S.settles service.old service.new }
 {
-    drain.ask(service.rt);
+    drain.ask(rt);
     settle_with(service, drain);
 }
 
 /// Settles the seat by what was handed out so far. Where that finds no room, it is tried again later.
-fn settle_with<
-    'a,
-    L0: UnitLedger,
-    L1: UnitLedger,
-    L2: UnitLedger,
-    L3: UnitLedger,
-    L4: UnitLedger,
-    R: Wait,
->(service: &mut LibraryService<'a, L0, L1, L2, L3, L4, R>, drain: &RecordDrain)
-    ensures { MaySettle service.old service.new }
+fn settle_with<S: SeatService>(service: &mut S, drain: &RecordDrain)
+    ensures { MaySettle S.settles service.old service.new }
 {
-    let Ok(()) = service.settle_seat(&drain.numbers()) else {
+    let Ok(()) = service.settle(&drain.numbers()) else {
         return;
     };
 }
@@ -76,121 +55,102 @@ fn settle_with<
 /// What a worker serves its sessions by, one after another: a library's service, beside which it asks that records be handed out
 /// where a unit has many of them, settles its seat, and tells of commands that were BUSY.
 #[derive(Drop)]
-pub(crate) struct WorkerService<
-    'a,
-    L0: UnitLedger,
-    L1: UnitLedger,
-    L2: UnitLedger,
-    L3: UnitLedger,
-    L4: UnitLedger,
-    R: Wait,
-    E: Write,
-> {
-    pub library_service: LibraryService<'a, L0, L1, L2, L3, L4, R>,
+pub(crate) struct WorkerService<'a, S: SeatService, R: Wait, E: Write> {
+    pub seat_service: S,
+    pub rt: &'a R,
     /// Where records are handed out, if they are.
     pub drain: Option<&'a RecordDrain>,
     pub teller: &'a Teller<E>,
+    /// Whether the session's host is logged in.
+    pub is_in: &'a AtomicBool,
+    /// Who is let in by name at portals.
+    pub hosts: &'a [Host],
+    /// The session's place in the order of accepting, from 1 on.
+    pub number: u64,
+    /// Whether it has come in at a portal.
+    pub is_initiator: bool,
+    /// Who asked last for a session.
+    pub nexus: Option<Nexus>,
     /// How many commands the session has sent.
     pub commands: u64,
 }
 
-impl<
-    'a,
-    L0: UnitLedger,
-    L1: UnitLedger,
-    L2: UnitLedger,
-    L3: UnitLedger,
-    L4: UnitLedger,
-    R: Wait,
-    E: Write,
-> Model for WorkerService<'a, L0, L1, L2, L3, L4, R, E> {
-    ghost use Rattle.server.specs.LibraryService.{LibraryServiceValue};
+impl<'a, S: SeatService, R: Wait, E: Write> Model for WorkerService<'a, S, R, E> {
+    ghost Value = { S };
 
-    ghost Value = { LibraryServiceValue };
-
-    ghost view = { λ p. p.library_service };
+    ghost view = { λ p. p.seat_service };
 }
 
-impl<
-    'a,
-    L0: UnitLedger,
-    L1: UnitLedger,
-    L2: UnitLedger,
-    L3: UnitLedger,
-    L4: UnitLedger,
-    R: Wait,
-    E: Write,
-> WorkerService<'a, L0, L1, L2, L3, L4, R, E> {
+impl<'a, S: SeatService, R: Wait, E: Write> WorkerService<'a, S, R, E> {
     ghost use Rattle.std.specs.Prelude.{◌≡◌};
+
+    /// Another session begins, whose host isn't logged in yet.
+    pub fn begin(&mut self, number: u64, is_initiator: bool)
+        ensures { self.new ≡ self.old }
+    {
+        self.number = number;
+        self.is_initiator = is_initiator;
+        self.is_in.store(false, Ordering::SeqCst);
+        self.nexus = None;
+        self.commands = 0;
+    }
+
+    /// Tells that the session's host has logged in, where it is an initiator of iSCSI.
+    fn tell_login(&self, nexus: Nexus) {
+        if self.is_initiator {
+            let login = LoggedIn {
+                number: self.number,
+                nexus,
+                name: name_of(self.hosts, nexus.sas),
+            };
+            self.teller.tell_login(self.rt, &login);
+        }
+    }
 
     /// Tells of a command that was BUSY, and whether for want of a slot.
     fn tell_busy(&self, nexus: Nexus, lun: u8) {
-        let event = if self.library_service.has_room(nexus, lun) {
+        let event = if self.seat_service.has_room(nexus, lun) {
             Event::Busy(nexus, lun)
         } else {
             Event::NoSlot(nexus, lun)
         };
-        self.teller.tell(self.library_service.rt, &event);
+        self.teller.tell(self.rt, &event);
     }
 
     /// Asks that records be handed out where the unit has many, up to the one of this number, and settles the seat where it has
     /// noted many calls.
     fn tend(&mut self, lun: u8, number: u64)
-        ensures { MaySettle self.old self.new }
+        ensures { MaySettle S.settles self.old self.new }
     {
-        let WorkerService {
-            library_service,
-            drain,
-            ..
-        } = self;
-        match drain {
-            Some(drain) => tend_with(library_service, *drain, lun, number),
+        match self.drain {
+            Some(drain) => tend_with(self.rt, &mut self.seat_service, drain, lun, number),
             None => {}
         }
     }
 
     /// Asks behind a session that all records be handed out, and settles the seat.
     pub fn tidy(&mut self)
-        ensures { MaySettle self.old self.new }
+        ensures { MaySettle S.settles self.old self.new }
     {
-        let WorkerService {
-            library_service,
-            drain,
-            ..
-        } = self;
-        match drain {
-            Some(drain) => tidy_with(library_service, *drain),
+        match self.drain {
+            Some(drain) => tidy_with(self.rt, &mut self.seat_service, drain),
             None => {}
         }
     }
 
     /// The seat, with which the library is closed.
-    pub fn into_seat(self) -> Seat<L0, L1, L2, L3, L4>
-        ensures { result ≡ self.entry.seat }
-    {
-        let WorkerService {
-            library_service,
-            ..
-        } = self;
-        library_service.into_seat()
+    pub fn into_seat(self) -> S::Seat {
+        let WorkerService { seat_service, .. } = self;
+        seat_service.leave_seat()
     }
 }
 
-impl<
-    'a,
-    L0: UnitLedger,
-    L1: UnitLedger,
-    L2: UnitLedger,
-    L3: UnitLedger,
-    L4: UnitLedger,
-    R: Wait,
-    E: Write,
-> Service for WorkerService<'a, L0, L1, L2, L3, L4, R, E> {
+impl<'a, S: SeatService, R: Wait, E: Write> Service for WorkerService<'a, S, R, E> {
     ghost use Rattle.server.specs.LibraryService.{DoesForWorker};
 
-    ghost notes = { DoesForWorker };
+    ghost notes = { DoesForWorker S.notes S.settles };
 
-    ghost count = { λ p. p.units };
+    ghost count = { S.count };
 
     fn submit<'b>(
         &mut self,
@@ -200,7 +160,7 @@ impl<
         cdb: &'b [u8],
         bytes: &'b [u8],
     ) -> Done<'b> {
-        let done = self.library_service.submit(alloc, nexus, lun, cdb, bytes);
+        let done = self.seat_service.submit(alloc, nexus, lun, cdb, bytes);
         self.commands = self.commands.saturating_add(1);
         let reply = &done.receipt().reply;
         if reply.status == Status::Busy {
@@ -211,26 +171,32 @@ impl<
     }
 
     fn reset(&mut self, alloc: Global, lun: u8) -> Done<'static> {
-        let done = self.library_service.reset(alloc, lun);
+        let done = self.seat_service.reset(alloc, lun);
         self.tend(lun, done.receipt().reply.number);
         done
     }
 
     fn lose(&mut self, alloc: Global, nexus: Nexus, lun: u8) -> Done<'static> {
-        let done = self.library_service.lose(alloc, nexus, lun);
+        let done = self.seat_service.lose(alloc, nexus, lun);
         self.tend(lun, done.receipt().reply.number);
         done
     }
 
     fn units(&self) -> u8 {
-        self.library_service.units()
+        self.seat_service.units()
     }
 
     fn login(&mut self, nexus: Nexus) -> Result<usize, SessionFault> {
-        self.library_service.login(nexus)
+        self.nexus = Some(nexus);
+        let entered = self.seat_service.login(nexus);
+        if entered.is_ok() {
+            self.is_in.store(true, Ordering::SeqCst);
+            self.tell_login(nexus);
+        }
+        entered
     }
 
     fn logout(&mut self, key: usize) {
-        self.library_service.logout(key)
+        self.seat_service.logout(key)
     }
 }

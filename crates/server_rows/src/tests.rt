@@ -1,7 +1,9 @@
 mod drains;
 mod endings;
 mod hosts;
+mod initiators;
 mod listeners;
+mod portals;
 mod streams;
 
 use changer_server::Changer;
@@ -11,17 +13,19 @@ use lun_router::CloseFault;
 use output_lines::Audit;
 use scsi_nexus::Nexus;
 use server::{
-    Cause, FaultySession, LiveSessions, RecordOutput, ServeLimits, ServeTerm, ServerFault, Teller,
-    Telling, WaitTimes, earlier, serve_library,
+    Cause, Door, FaultySession, LiveSessions, RecordOutput, ServeLimits, ServeTerm, ServerFault,
+    Teller, Telling, WaitTimes, earlier, serve_library,
 };
 use session::SessionFault;
 use std::alloc::Global;
+use std::fmt::Debug;
 use std::fs::Files;
 use std::io::{self, Read, Write};
-use std::net::{Net, Shutdown};
-use std::os::fd::OwnedFd;
+use std::net::Net;
 use std::os::unix::net::{SocketAddr, SocketAddrExt, UnixListener, UnixStream};
 use std::process::{self, Abort};
+use std::random::RandomSource;
+use std::str;
 use std::sync::{Condvar, Mutex, Wait};
 use std::test::Fail;
 use std::thread::{self, Threads};
@@ -130,6 +134,34 @@ const ONE_KEY_8: &[u8] = b"\0\0\0\x1b\x82\0\0\0\0\0\0\0\0\0\x08\
 /// Key 1 holds Exclusive Access; of record 9.
 const HELD_9: &[u8] = b"\0\0\0\x23\x82\0\0\0\0\0\0\0\0\0\x09\
     \0\0\0\x01\0\0\0\x10\0\0\0\0\0\0\0\x01\0\0\0\0\0\x03\0\0";
+
+/// Compares what was found with what is expected. Each `assert_eq!` costs the proof of the function that it stands in some ten times
+/// this call.
+fn assert_same<T: Copy + PartialEq + Debug>(
+    rt: &impl Abort,
+    found: T,
+    expected: T,
+    shows: &'static str,
+) {
+    assert!(rt; found == expected, "{shows}: {found:?}, not {expected:?}");
+}
+
+/// The same of bytes.
+fn assert_bytes(rt: &impl Abort, found: &[u8], expected: &[u8], shows: &'static str) {
+    assert!(rt; found == expected, "{shows}: {found:?}");
+}
+
+/// Looks for a line in what was told.
+fn assert_told(rt: &impl Abort, told: &[u8], line: &'static str) {
+    assert!(rt; holds(told, line), "{line}");
+}
+
+fn holds(text: &[u8], line: &str) -> bool {
+    match str::from_utf8(text) {
+        Ok(text) => text.contains(line),
+        Err(_) => false,
+    }
+}
 
 /// What a client sends.
 #[derive(Clone, Copy)]
@@ -383,12 +415,12 @@ fn is_taken<R: Clock + Net + Wait>(
     alloc: Global,
     address: &SocketAddr,
     streams: &mut Vec<UnixStream>,
-    ending: &Ending<'_>,
+    ending: &Ending<'_, '_>,
     step: Step,
 ) -> io::Result<bool> {
     match step {
         Step::Connects => streams.push(UnixStream::connect_addr(rt, address)?)?,
-        Step::Ends => ending.end(rt)?,
+        Step::Ends => ending.end(rt),
         Step::Opens => ending.gate.open(rt),
         Step::Passes => ending.gate.pass(rt),
         Step::Says(place, _, _)
@@ -408,7 +440,7 @@ fn talk<R: Clock + Net + Wait>(
     alloc: Global,
     address: &SocketAddr,
     connections: usize,
-    ending: &Ending<'_>,
+    ending: &Ending<'_, '_>,
     steps: &[Step],
 ) -> io::Result<bool> {
     let mut streams = Vec::new(alloc);
@@ -442,6 +474,7 @@ const PATIENT: WaitTimes = WaitTimes {
     login: None,
     idle: None,
     write: None,
+    ping: None,
 };
 
 /// A meeting of so many sessions, whose records are told at the end.
@@ -485,55 +518,47 @@ impl Gate {
 
 /// A served library, to who ends it, and the gate between its writer and its client.
 #[derive(Drop)]
-struct Ending<'a> {
+struct Ending<'a, 'd> {
     sessions: &'a LiveSessions,
     gate: &'a Gate,
-    /// A second descriptor of the listener.
-    second: UnixStream,
+    doors: &'d [Door<'d>],
 }
 
-impl<'a> Ending<'a> {
-    fn of(
-        sessions: &'a LiveSessions,
-        gate: &'a Gate,
-        listener: &UnixListener,
-    ) -> io::Result<Ending<'a>> {
-        Ok(Ending {
-            sessions,
-            gate,
-            second: UnixStream::from(OwnedFd::from(listener.try_clone()?)),
-        })
-    }
-
+impl<'a, 'd> Ending<'a, 'd> {
     /// Has no more sessions begin, and ends those that go on.
-    fn end<R: Clock + Wait>(&self, rt: &R) -> io::Result<()> {
+    fn end<R: Clock + Wait>(&self, rt: &R) {
         self.sessions.close(rt);
-        self.second.shutdown(Shutdown::Both)?;
+        for door in self.doors {
+            door.shut_down();
+        }
         self.sessions.end_after(rt, Duration::ZERO);
-        Ok(())
     }
 }
 
 /// Serves a target to a client in a second thread. What the server answers, and whether the client was told what it should be.
 fn serve_and_talk<
-    R: AllocGlobal + Clock + Files + Net + Sync + Threads + Wait,
+    R: AllocGlobal + Clock + Files + Net + RandomSource + Sync + Threads + Wait,
     W: Write + Send,
     E: Write + Send,
 >(
     rt: &R,
     core: TargetCore<Device>,
-    listener: &UnixListener,
+    doors: &[Door<'_>; 1],
     address: &SocketAddr,
     meeting: Meeting,
     steps: &[Step],
     output: &mut W,
     gate: &Gate,
     teller: &Teller<E>,
-) -> io::Result<(Result<(), ServerFault>, io::Result<bool>)> {
+) -> (Result<(), ServerFault>, io::Result<bool>) {
     let alloc = rt.alloc();
     let sessions = LiveSessions::new(alloc);
-    let ending = Ending::of(&sessions, gate, listener)?;
-    Ok(thread::join(
+    let ending = Ending {
+        sessions: &sessions,
+        gate,
+        doors,
+    };
+    thread::join(
         rt,
         || {
             let limits = ServeLimits {
@@ -546,7 +571,7 @@ fn serve_and_talk<
                 rt,
                 alloc,
                 core,
-                listener,
+                doors,
                 limits,
                 meeting.records,
                 output,
@@ -554,7 +579,7 @@ fn serve_and_talk<
             )
         },
         || talk(rt, alloc, address, meeting.connections, &ending, steps),
-    ))
+    )
 }
 
 /// What came of a meeting.
@@ -567,18 +592,18 @@ struct Met {
 
 /// Serves the target to a client, at an address that is no file. What the server answers, writes and tells, where the client was
 /// told what it should be.
-fn meet<R: AllocGlobal + Clock + Files + Net + Sync + Threads + Wait, W: Write + Send>(
-    rt: &R,
-    id: u32,
-    meeting: Meeting,
-    steps: &[Step],
-    output: &mut W,
-) -> Result<Met, Fail> {
+fn meet<
+    R: AllocGlobal + Clock + Files + Net + RandomSource + Sync + Threads + Wait,
+    W: Write + Send,
+>(rt: &R, id: u32, meeting: Meeting, steps: &[Step], output: &mut W) -> Result<Met, Fail> {
     meet_at_gate(rt, id, meeting, steps, output, &Gate::new())
 }
 
 /// The same, with a gate between the writer and the client.
-fn meet_at_gate<R: AllocGlobal + Clock + Files + Net + Sync + Threads + Wait, W: Write + Send>(
+fn meet_at_gate<
+    R: AllocGlobal + Clock + Files + Net + RandomSource + Sync + Threads + Wait,
+    W: Write + Send,
+>(
     rt: &R,
     id: u32,
     meeting: Meeting,
@@ -589,43 +614,25 @@ fn meet_at_gate<R: AllocGlobal + Clock + Files + Net + Sync + Threads + Wait, W:
     let alloc = rt.alloc();
     let name = format!(in alloc; "vtl-{}-{id}", meeting.name)?;
     let address = SocketAddr::from_abstract_name(name.as_bytes())?;
-    let listener = UnixListener::bind_addr(rt, &address)?;
+    let doors = [Door::of_socket(UnixListener::bind_addr(rt, &address)?)?];
     let mut told = Vec::new(alloc);
     let teller = Teller::new(Telling::Everything, &mut told);
     let (served, talked) = serve_and_talk(
         rt,
         target(alloc)?,
-        &listener,
+        &doors,
         &address,
         meeting,
         steps,
         output,
         gate,
         &teller,
-    )?;
+    );
     drop(teller);
     if !talked? {
         return Err("another reply".into());
     }
     Ok(Met { served, told })
-}
-
-/// Serves a target to a client, and compares how the server ends and, where they are given, the lines that it writes.
-fn assert_met<R: Abort + AllocGlobal + Clock + Files + Net + Sync + Threads + Wait>(
-    rt: &R,
-    id: u32,
-    meeting: Meeting,
-    steps: &[Step],
-    end: Result<(), ServerFault>,
-    lines: Option<&[u8]>,
-) -> Result<(), Fail> {
-    let mut written = Vec::new(rt.alloc());
-    let met = meet(rt, id, meeting, steps, &mut written)?;
-    assert_eq!(rt; met.served, end, "{}", meeting.name);
-    if let Some(lines) = lines {
-        assert_eq!(rt; written.as_slice(), lines, "{}", meeting.name);
-    }
-    Ok(())
 }
 
 /// A's one command, and its loss.
@@ -639,12 +646,8 @@ const ONE: [Step; 4] = [
     Step::IsLeft(0),
 ];
 
-#[test]
-fn serve_library_answers_and_records_one_session(rt: HostRuntime) -> Result<(), Fail> {
-    let id = process::id(rt.process());
-    assert_met(&rt, id, sessions("one", 1), &ONE, Ok(()), Some(LINES_OF_A))
-}
-
+/// A nexus may log in again once its connection has ended. It is told of its loss, and has its key and its reservation;
+/// it no longer prevents removal.
 const AGAIN: [Step; 15] = [
     Step::Says(0, Frame::LoginOfA, Answer::Accepted),
     Step::Says(0, Frame::DriveReady, POWER_ON_1),
@@ -666,14 +669,8 @@ const AGAIN: [Step; 15] = [
     Step::IsLeft(1),
 ];
 
-/// A nexus may log in again once its connection has ended. It is told of its loss, and has its key and its reservation;
-/// it no longer prevents removal.
-#[test]
-fn login_after_a_logout_finds_key_and_reservation(rt: HostRuntime) -> Result<(), Fail> {
-    let id = process::id(rt.process());
-    assert_met(&rt, id, sessions("again", 2), &AGAIN, Ok(()), None)
-}
-
+/// A nexus that has a session can't have another. The lines are written where a session had a fault, too; the fault has its number and
+/// its nexus.
 const TWO: [Step; 6] = [
     Step::Says(0, Frame::LoginOfA, Answer::Accepted),
     Step::Says(1, Frame::LoginOfA, Answer::AlreadyConnected),
@@ -690,20 +687,7 @@ const SECOND_REFUSED: Result<(), ServerFault> = Err(ServerFault::Session(FaultyS
     cause: Cause::Fault(SessionFault::AlreadyConnected),
 }));
 
-/// The lines are written where a session had a fault, too; the fault has its number and its nexus.
-#[test]
-fn login_of_a_connected_nexus_is_the_fault_told(rt: HostRuntime) -> Result<(), Fail> {
-    let id = process::id(rt.process());
-    assert_met(
-        &rt,
-        id,
-        sessions("two", 2),
-        &TWO,
-        SECOND_REFUSED,
-        Some(LINES_OF_A),
-    )
-}
-
+/// A's reservation keeps B, who comes by a connection of its own, from the drive.
 const CONFLICT: [Step; 11] = [
     Step::Says(0, Frame::LoginOfA, Answer::Accepted),
     Step::Says(1, Frame::LoginOfB, Answer::Accepted),
@@ -726,20 +710,7 @@ const LINES_OF_BOTH: &[u8] = b"1 500000000000000a.1 TEST-UNIT-READY 2 - - 02\n\
     6 500000000000000b.1 LOSS 6 - - 00\n\
     7 500000000000000a.1 LOSS 6 - - 00\n";
 
-/// A's reservation keeps B, who comes by a connection of its own, from the drive.
-#[test]
-fn write_of_another_session_meets_a_reservation(rt: HostRuntime) -> Result<(), Fail> {
-    let id = process::id(rt.process());
-    assert_met(
-        &rt,
-        id,
-        sessions("conflict", 2),
-        &CONFLICT,
-        Ok(()),
-        Some(LINES_OF_BOTH),
-    )
-}
-
+/// Two hosts at one tape: keys that are cut, a conflict that leaves the tape as it was, and a unit that isn't there.
 const ONE_TAPE: [Step; 25] = [
     Step::Says(0, Frame::LoginOfA, Answer::Accepted),
     Step::Says(1, Frame::LoginOfB, Answer::Accepted),
@@ -793,14 +764,6 @@ const LINES_OF_THE_TAPE: &[u8] = b"1 500000000000000a.1 TEST-UNIT-READY 2 - - 02
     18 500000000000000b.1 LOSS 6 - - 00\n\
     19 500000000000000a.1 LOSS 6 - - 00\n";
 
-/// Two hosts at one tape: keys that are cut, a conflict that leaves the tape as it was, and a unit that isn't there.
-#[test]
-fn write_and_read_of_two_hosts_at_one_tape(rt: HostRuntime) -> Result<(), Fail> {
-    let id = process::id(rt.process());
-    let lines = Some(LINES_OF_THE_TAPE);
-    assert_met(&rt, id, sessions("tape", 2), &ONE_TAPE, Ok(()), lines)
-}
-
 const DRIVE_AND_CHANGER: [Step; 9] = [
     Step::Says(0, Frame::LoginOfA, Answer::Accepted),
     Step::Says(0, Frame::DriveReady, POWER_ON_1),
@@ -818,6 +781,52 @@ const LINES_AT_THE_END: &[u8] = b"1 500000000000000b.1 TEST-UNIT-READY 2 - - 02\
     2 500000000000000b.1 LOSS 6 - - 00\n\
     1 500000000000000a.1 TEST-UNIT-READY 2 - - 02\n\
     2 500000000000000a.1 LOSS 6 - - 00\n";
+
+/// A part of the server's address, how many sessions there are, what the client does, how the server ends, and, where they are compared,
+/// the lines that it writes.
+type Row = (
+    &'static str,
+    u8,
+    &'static [Step],
+    Result<(), ServerFault>,
+    Option<&'static [u8]>,
+);
+
+const ROWS: [Row; 5] = [
+    ("one", 1, &ONE, Ok(()), Some(LINES_OF_A)),
+    ("again", 2, &AGAIN, Ok(()), None),
+    ("two", 2, &TWO, SECOND_REFUSED, Some(LINES_OF_A)),
+    ("conflict", 2, &CONFLICT, Ok(()), Some(LINES_OF_BOTH)),
+    ("tape", 2, &ONE_TAPE, Ok(()), Some(LINES_OF_THE_TAPE)),
+];
+
+/// Serves a target to a client, and compares how the server ends and, where they are given, the lines that it writes.
+fn assert_met<R: Abort + AllocGlobal + Clock + Files + Net + RandomSource + Sync + Threads + Wait>(
+    rt: &R,
+    id: u32,
+    meeting: Meeting,
+    steps: &[Step],
+    end: Result<(), ServerFault>,
+    lines: Option<&[u8]>,
+) -> Result<(), Fail> {
+    let mut written = Vec::new(rt.alloc());
+    let met = meet(rt, id, meeting, steps, &mut written)?;
+    assert_same(rt, met.served, end, meeting.name);
+    if let Some(lines) = lines {
+        assert_bytes(rt, written.as_slice(), lines, meeting.name);
+    }
+    Ok(())
+}
+
+#[test]
+fn serve_library_answers_and_records_sessions(rt: HostRuntime) -> Result<(), Fail> {
+    let id = process::id(rt.process());
+    for row in &ROWS {
+        let (name, count, steps, end, lines) = *row;
+        assert_met(&rt, id, sessions(name, count), steps, end, lines)?;
+    }
+    Ok(())
+}
 
 /// A single worker serves one session after another, until it is told that there are no more.
 #[test]
@@ -879,8 +888,8 @@ const SHOWN: [Shown; 6] = [
 fn assert_shown(rt: &impl Abort, alloc: Global, row: &Shown) -> Result<(), Fail> {
     let (fault, text, status) = *row;
     let shown = fault.to_string(alloc)?;
-    assert_eq!(rt; shown.as_str(), text);
-    assert_eq!(rt; fault.status(), status, "{text}");
+    assert_bytes(rt, shown.as_bytes(), text.as_bytes(), text);
+    assert_same(rt, fault.status(), status, text);
     Ok(())
 }
 
@@ -890,10 +899,11 @@ fn faults_of_a_server_have_their_lines_and_order(rt: HostRuntime) -> Result<(), 
     for row in &SHOWN {
         assert_shown(&rt, rt.alloc(), row)?;
         let fault = row.0;
-        assert_eq!(rt; earlier(told, Some(fault)), Some(told.unwrap_or(fault)));
+        let first = Some(told.unwrap_or(fault));
+        assert_same(&rt, earlier(told, Some(fault)), first, row.1);
         told = earlier(Some(fault), told);
     }
     let first = SHOWN.first().ok_or("no row")?;
-    assert_eq!(rt; told, Some(first.0));
+    assert_same(&rt, told, Some(first.0), "the fault that is told");
     Ok(())
 }

@@ -1,8 +1,12 @@
-//! A library that is served at a socket whose file is made for it: for a number of sessions, or until standard input ends.
+//! A library that is served at a socket whose file is made for it, at portals of iSCSI, or at both: for a number of sessions, or until
+//! standard input ends.
 #![tactic(auto)]
 
+mod iscsi_target;
 mod laws;
 mod notice;
+mod places;
+mod secrets_file;
 mod socket;
 mod socket_fault;
 mod socket_file;

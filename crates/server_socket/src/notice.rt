@@ -1,18 +1,19 @@
 ghost use Rattle.std.specs.Prelude.{◌≡◌, ◌∷◌, ◌++◌, [], OnOk};
 ghost use Rattle.std.specs.Io.KnownBytes.{Appends};
-ghost use Rattle.server_socket.specs.Notices.{notice_text, plural};
+ghost use Rattle.server_socket.specs.Notices.{at_each, notice_text, plural};
 
 use std::fmt;
 use std::io::{self, Write};
 
-/// What is told of the socket where serving begins.
+/// What is told of the places where serving begins.
 #[derive(Clone, Copy, Debug)]
 pub(crate) enum Notice<'a> {
     /// The file at this path was taken away.
     TookAway(&'a str),
-    /// Hosts can connect at this path, to a library of so many units, by so many workers.
+    /// Hosts can connect at so many places, to a library of so many units, by so many workers at each.
     Serving {
-        socket: &'a str,
+        places: &'a str,
+        count: usize,
         units: usize,
         workers: u8,
     },
@@ -39,14 +40,16 @@ impl<'a> fmt::Display for Notice<'a> {
         match self {
             Notice::TookAway(path) => write!(f, "vtl: took {path} away: nobody listened there"),
             Notice::Serving {
-                socket,
+                places,
+                count,
                 units,
                 workers,
             } => {
                 let more = plural(*workers);
+                let at_each = at_each(*count);
                 write!(
                     f,
-                    "vtl: serving at {socket}: {units} units, {workers} worker{more}"
+                    "vtl: serving at {places}: {units} units, {workers} worker{more}{at_each}"
                 )
             }
         }
@@ -58,4 +61,11 @@ fn plural(count: u8) -> &'static str
     ensures { result.now ≡ plural count }
 {
     if count == 1 { "" } else { "s" }
+}
+
+/// What stands behind a number that holds at each of so many places.
+fn at_each(count: usize) -> &'static str
+    ensures { result.now ≡ at_each count }
+{
+    if count == 1 { "" } else { " at each" }
 }

@@ -1,13 +1,14 @@
-//! The library behind a Unix socket.
+//! The library behind a Unix socket and portals of iSCSI.
 
-ghost use Rattle.std.specs.Prelude.{◌≡◌, ◌≤◌};
+ghost use Rattle.std.specs.Prelude.{◌≡◌, ◌<◌, ◌≤◌, vec_len};
 ghost use Rattle.command_line.specs.Tasks.{IsServeOptions, MakesLibrary};
 ghost use Rattle.program_options.specs.ServeUntil.{workers_of};
-ghost use Rattle.server_socket.specs.Serving.{records_of, term_of};
+ghost use Rattle.server_socket.specs.Serving.{records_of, telling_of, term_of};
 
+use crate::iscsi_target::target_of;
 use crate::notice::{Notice, tell};
+use crate::places::{Places, open_places};
 use crate::socket_fault::SocketFault;
-use crate::socket_file::{SocketFile, make_socket_file};
 use command_line::ServeOptions;
 use library_device::Device;
 use output_lines::Audit;
@@ -16,20 +17,33 @@ use server::{
     LiveSessions, RecordOutput, ServeLimits, ServeTerm, ServerFault, Teller, Telling, WaitTimes,
     serve_library,
 };
+use std::alloc::{AllocError, Global};
 use std::fs::Files;
 use std::io::{self, Read, Write};
-use std::net::Net;
+use std::net::{Net, TcpListener, TcpStream};
+use std::random::RandomSource;
 use std::sync::Wait;
 use std::thread::{self, Threads};
 use std::time::Clock;
 use stocked_library::library;
 use target_core::TargetCore;
 
-/// Serves a library at a socket whose file it makes, writes the lines that are wanted of the records to standard output, and
-/// tells on `errors` what happens. The file is removed at the end, if it is still its own. Where somebody listens there already,
-/// or another file is there, nothing is served and that stays; a socket's file where nobody listens is taken away.
+/// Serves a library at a socket whose file it makes, at portals of iSCSI, or at both, writes the lines that are wanted of the
+/// records to standard output, and tells on `errors` what happens. The file is removed at the end, if it is still its own. Where
+/// somebody listens at one of the places already, or another file is there, nothing is served and that stays; a socket's file where nobody
+/// listens is taken away.
+#[tactic(auto, using(crate::proofs::PlaceLemmas::some_places, crate::proofs::PlaceLemmas::few_places))]
 pub fn serve<
-    R: AllocGlobal + Clock + Files + Input + Net + Print + Sync + Threads + Wait,
+    R: AllocGlobal
+        + Clock
+        + Files
+        + Input
+        + Net<Listener = TcpListener, Stream = TcpStream>
+        + Print
+        + RandomSource
+        + Sync
+        + Threads
+        + Wait,
     E: Write + Send,
 >(
     rt: &R,
@@ -41,39 +55,57 @@ pub fn serve<
     requires library { MakesLibrary options }
     requires some { IsServeOptions serving }
 {
-    let core = library(rt.alloc(), &options)?;
     let ServeOptions {
         socket,
+        iscsi,
         until,
         drain,
         times,
         log,
     } = serving;
-    let socket_file = make_socket_file(rt, socket, errors)?;
-    let serving = Notice::Serving {
-        socket: socket_file.path(),
-        units: core.all().len(),
-        workers: until.workers(),
-    };
-    tell(errors, &serving);
-    let telling = if log {
-        Telling::Everything
-    } else {
-        Telling::Faults
-    };
-    let teller = Teller::new(telling, errors);
-    let served = serve_until(
-        rt,
-        core,
-        &socket_file,
+    let made = target_of(rt, iscsi)?;
+    let places = open_places(rt, &made.portals, &made.target, socket, errors)?;
+    let service = ServiceOptions {
         until,
         times,
-        records_of(drain, audit),
-        &teller,
-    );
+        records: records_of(drain, audit),
+        telling: telling_of(log),
+    };
+    let served = serve_at(rt, options, &places, service, errors);
     // What the sessions came to is told in any case.
-    socket_file.leave(rt);
-    Ok(served?)
+    places.leave(rt);
+    served
+}
+
+/// How a library is served wherever that is.
+#[derive(Clone, Copy)]
+struct ServiceOptions {
+    until: ServeUntil,
+    times: ServeTimes,
+    records: RecordOutput,
+    telling: Telling,
+}
+
+/// Serves a library at places, and tells before where they are.
+fn serve_at<
+    R: AllocGlobal + Clock + Files + Input + Print + RandomSource + Sync + Threads + Wait,
+    E: Write + Send,
+>(
+    rt: &R,
+    options: LibraryOptions,
+    places: &Places<'_>,
+    service: ServiceOptions,
+    errors: &mut E,
+) -> Result<(), SocketFault>
+    requires library { MakesLibrary options }
+    requires some { 1 ≤ workers_of service.until }
+    requires doors { (0 < vec_len places.now.doors) × (vec_len places.now.doors ≤ 5) }
+{
+    let core = library(rt.alloc(), &options)?;
+    tell_places(rt.alloc(), places, core.all().len(), service.until, errors)?;
+    let teller = Teller::new(service.telling, errors);
+    serve_until(rt, core, places, service, &teller)?;
+    Ok(())
 }
 
 /// When records are written.
@@ -87,26 +119,62 @@ fn records_of(drain: bool, audit: Audit) -> RecordOutput
     }
 }
 
+/// What is told of sessions.
+fn telling_of(log: bool) -> Telling
+    ensures { result ≡ telling_of log }
+{
+    if log {
+        Telling::Everything
+    } else {
+        Telling::Faults
+    }
+}
+
+/// Tells where so many units are served.
+fn tell_places<E: Write>(
+    alloc: Global,
+    places: &Places<'_>,
+    units: usize,
+    until: ServeUntil,
+    errors: &mut E,
+) -> Result<(), AllocError> {
+    let text = places.text(alloc)?;
+    let serving = Notice::Serving {
+        places: text.as_str(),
+        count: places.doors.len(),
+        units,
+        workers: until.workers(),
+    };
+    tell(errors, &serving);
+    Ok(())
+}
+
 /// Serves a target for a term, in a second thread: this one waits for the end of standard input, where that ends the term.
 fn serve_until<
-    R: AllocGlobal + Clock + Files + Input + Net + Print + Sync + Threads + Wait,
+    R: AllocGlobal + Clock + Files + Input + Print + RandomSource + Sync + Threads + Wait,
     E: Write + Send,
 >(
     rt: &R,
     core: TargetCore<Device>,
-    socket_file: &SocketFile,
-    until: ServeUntil,
-    times: ServeTimes,
-    records: RecordOutput,
+    places: &Places<'_>,
+    service: ServiceOptions,
     teller: &Teller<E>,
 ) -> Result<(), ServerFault>
-    requires { 1 ≤ workers_of until }
+    requires some { 1 ≤ workers_of service.until }
+    requires doors { (0 < vec_len places.now.doors) × (vec_len places.now.doors ≤ 5) }
 {
+    let ServiceOptions {
+        until,
+        times,
+        records,
+        telling: _,
+    } = service;
     let sessions = LiveSessions::new(rt.alloc());
     let (served, ()) = thread::join(
         rt,
         || -> Result<(), ServerFault>
-            requires { 1 ≤ workers_of until }
+            requires some { 1 ≤ workers_of until }
+            requires doors { (0 < vec_len places.now.doors) × (vec_len places.now.doors ≤ 5) }
         {
             let mut writer = io::writer(rt);
             let limits = limits_of(until, times, &sessions);
@@ -114,7 +182,7 @@ fn serve_until<
                 rt,
                 rt.alloc(),
                 core,
-                socket_file.listener(),
+                &places.doors,
                 limits,
                 records,
                 &mut writer,
@@ -126,7 +194,7 @@ fn serve_until<
             ServeUntil::InputEnds(_) => {
                 await_end_of_input(rt);
                 sessions.close(rt);
-                socket_file.shut_down();
+                places.shut_down();
                 sessions.end_after(rt, times.grace);
             }
         },
@@ -146,6 +214,7 @@ fn limits_of(until: ServeUntil, times: ServeTimes, sessions: &LiveSessions) -> S
             login: times.login,
             idle: times.idle,
             write: times.write,
+            ping: times.ping,
         },
         sessions,
     }

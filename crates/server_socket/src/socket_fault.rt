@@ -1,3 +1,7 @@
+ghost use Rattle.std.specs.Prelude.{◌≡◌};
+ghost use Rattle.server_socket.specs.Faults.{line_words};
+
+use iscsi_chap::LineFault;
 use server::ServerFault;
 use std::alloc::AllocError;
 use std::fmt;
@@ -9,13 +13,20 @@ use thiserror::Error;
 pub enum SocketFault {
     /// A file is at the path of the socket already.
     IsThere(String),
-    /// The socket can't be made at this path.
+    /// The socket can't be made at this path, or nobody can listen at this address.
     CannotListen(String),
+    /// Somebody listens at this address already.
+    IsTaken(String),
+    /// The file of secrets can't be read.
+    CannotRead(String),
+    /// Others than its owner may read or change the file of secrets.
+    OpenSecrets(String),
+    /// A line of the file of secrets, all lines counted from 1, is none.
+    BadSecrets(String, usize, LineFault),
     Server(#[from] ServerFault),
 }
 
 impl SocketFault {
-    ghost use Rattle.std.specs.Prelude.{◌≡◌};
     ghost use Rattle.server_socket.specs.Faults.{socket_status};
 
     /// Why there is no listener at a path.
@@ -26,12 +37,30 @@ impl SocketFault {
         }
     }
 
-    /// The exit status of a program that ends by it: 3 for want of memory, else 4 (profile).
+    /// Why there is no listener at an address.
+    pub fn of_portal(address: String, kind: ErrorKind) -> SocketFault {
+        match kind {
+            ErrorKind::AddrInUse => SocketFault::IsTaken(address),
+            _ => SocketFault::CannotListen(address),
+        }
+    }
+
+    /// Why the file of secrets wasn't read.
+    pub fn of_reading(path: String, kind: ErrorKind) -> SocketFault {
+        match kind {
+            ErrorKind::OutOfMemory => SocketFault::Server(ServerFault::NoMemory),
+            _ => SocketFault::CannotRead(path),
+        }
+    }
+
+    /// The exit status of a program that ends by it: 2 where a file of secrets is refused, 3 for want of memory, else 4 (profile).
     pub fn status(&self) -> u8
         ensures { result ≡ socket_status self.now }
     {
         match self {
-            SocketFault::IsThere(_) | SocketFault::CannotListen(_) => 4,
+            SocketFault::IsThere(_) | SocketFault::CannotListen(_) | SocketFault::IsTaken(_) => 4,
+            SocketFault::CannotRead(_) => 4,
+            SocketFault::OpenSecrets(_) | SocketFault::BadSecrets(_, _, _) => 2,
             SocketFault::Server(fault) => fault.status(),
         }
     }
@@ -52,8 +81,34 @@ impl fmt::Display for SocketFault {
             SocketFault::CannotListen(path) => {
                 write!(f, "vtl: device fault\nvtl: cannot listen on {path}")
             }
+            SocketFault::IsTaken(address) => write!(
+                f,
+                "vtl: device fault\nvtl: cannot listen on {address}: somebody listens there already"
+            ),
+            SocketFault::CannotRead(path) => {
+                write!(f, "vtl: device fault\nvtl: cannot read {path}")
+            }
+            SocketFault::OpenSecrets(path) => write!(
+                f,
+                "vtl: others than its owner may read or change {path}: say chmod 600 {path}"
+            ),
+            SocketFault::BadSecrets(path, number, what) => {
+                let words = line_words(*what);
+                write!(f, "vtl: {path}, line {number}: {words}")
+            }
             SocketFault::Server(fault) => write!(f, "{fault}"),
         }
+    }
+}
+
+/// What is to be said in place of a line of a file of secrets.
+fn line_words(fault: LineFault) -> &'static str
+    ensures { result.now ≡ line_words fault }
+{
+    match fault {
+        LineFault::FieldCount =>
+            "say NAME USER SECRET, or NAME USER SECRET TARGET-USER TARGET-SECRET",
+        LineFault::SecretLength => "a secret has 12 to 128 bytes",
     }
 }
 

@@ -2,10 +2,10 @@
 
 use crate::notice::{Notice, tell};
 use crate::socket_fault::SocketFault;
+use server::Door;
 use std::fs::{self, Files};
 use std::io::{self, Write};
-use std::net::{Net, Shutdown};
-use std::os::fd::OwnedFd;
+use std::net::Net;
 use std::os::unix::fs::{FileTypeExt, MetadataExt};
 use std::os::unix::net::{UnixListener, UnixStream};
 
@@ -16,38 +16,33 @@ struct FileIdentity {
     inode: u64,
 }
 
-/// A socket that is listened at, with its file.
+/// The file of a socket that is listened at.
 #[derive(Drop)]
 pub(crate) struct SocketFile {
     path: String,
-    listener: UnixListener,
-    /// A second descriptor of the listener, as a stream, which can be shut down.
-    second: UnixStream,
     /// `None` where the file was gone at once.
     file: Option<FileIdentity>,
 }
 
 /// Listens at a path, where a socket's file that nobody listens at is taken away and told of.
-pub(crate) fn make_socket_file<R: Files + Net, E: Write>(
+pub(crate) fn make_socket_file<'a, R: Files + Net, E: Write>(
     rt: &R,
     path: String,
     errors: &mut E,
-) -> Result<SocketFile, SocketFault> {
+) -> Result<(SocketFile, Door<'a>), SocketFault> {
     let listener = match listen(rt, path.as_str(), errors) {
         Ok(listener) => listener,
         Err(error) => return Err(SocketFault::of_listening(path, error.kind())),
     };
-    let second = match listener.try_clone() {
-        Ok(second) => UnixStream::from(OwnedFd::from(second)),
-        Err(error) => return Err(SocketFault::of_listening(path, error.kind())),
-    };
     let file = identity(rt, path.as_str());
-    Ok(SocketFile {
-        path,
-        listener,
-        second,
-        file,
-    })
+    let socket_file = SocketFile { path, file };
+    match Door::of_socket(listener) {
+        Ok(door) => Ok((socket_file, door)),
+        Err(error) => {
+            socket_file.leave(rt);
+            Err(SocketFault::of_listening(socket_file.path, error.kind()))
+        }
+    }
 }
 
 fn listen<R: Files + Net, E: Write>(
@@ -94,18 +89,8 @@ impl SocketFile {
         self.path.as_str()
     }
 
-    pub fn listener(&self) -> &UnixListener {
-        &self.listener
-    }
-
-    /// From now on nobody connects, and who waits for a connection waits no longer, whatever became of the file.
-    pub fn shut_down(&self) {
-        // A listener can always be shut down.
-        let _ = self.second.shutdown(Shutdown::Both);
-    }
-
     /// Removes the file, if it is still the socket's own.
-    pub fn leave<R: Files>(self, rt: &R) {
+    pub fn leave<R: Files>(&self, rt: &R) {
         let path = self.path.as_str();
         let file = identity(rt, path);
         if file.is_some() && file == self.file {

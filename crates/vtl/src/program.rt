@@ -13,7 +13,8 @@ use replay::{ReplayFault, replay};
 use server_socket::serve;
 use std::fs::Files;
 use std::io::Write;
-use std::net::Net;
+use std::net::{Net, TcpListener, TcpStream};
+use std::random::RandomSource;
 use std::rt::Env;
 use std::sync::Wait;
 use std::thread::Threads;
@@ -23,7 +24,17 @@ use stocked_library::library;
 
 /// Does what the command line asks for, writes on `errors` why it couldn't, and answers the exit status.
 pub fn run<
-    R: AllocGlobal + Clock + Env + Files + Input + Net + Print + Sync + Threads + Wait,
+    R: AllocGlobal
+        + Clock
+        + Env
+        + Files
+        + Input
+        + Net<Listener = TcpListener, Stream = TcpStream>
+        + Print
+        + RandomSource
+        + Sync
+        + Threads
+        + Wait,
     W: Write + Send,
 >(rt: &R, errors: &mut W) -> u8 {
     let outcome = perform(rt, errors);
@@ -65,7 +76,17 @@ fn print_outcome<R: Print, W: Write>(
 }
 
 fn perform<
-    R: AllocGlobal + Clock + Env + Files + Input + Net + Print + Sync + Threads + Wait,
+    R: AllocGlobal
+        + Clock
+        + Env
+        + Files
+        + Input
+        + Net<Listener = TcpListener, Stream = TcpStream>
+        + Print
+        + RandomSource
+        + Sync
+        + Threads
+        + Wait,
     W: Write + Send,
 >(rt: &R, errors: &mut W) -> Result<(), ProgramFault> {
     match task_of_arguments(rt)? {

@@ -1,20 +1,24 @@
 //! Records that are handed out while a library is served, to writers that fail or stall.
 
-use super::{Answer, Frame, Gate, Meeting, Met, POWER_ON_1, Step, meet, meet_at_gate, sessions};
+use super::{
+    Answer, Frame, Gate, Meeting, Met, POWER_ON_1, Step, assert_bytes, assert_same, assert_told,
+    holds, meet, meet_at_gate, sessions,
+};
 use server::{RecordOutput, ServeTerm, ServerFault};
 use std::alloc::{AllocGlobal, Global};
 use std::fs::Files;
 use std::io::{self, Write};
 use std::net::Net;
 use std::process::Abort;
+use std::random::RandomSource;
 use std::sync::Wait;
 use std::test::Fail;
 use std::thread::Threads;
 use std::time::{Clock, Duration};
-use std::{process, str, thread};
+use std::{process, thread};
 
 /// Which writes fail, or wait.
-#[derive(Clone, Copy, Debug, PartialEq, Eq)]
+#[derive(Clone, Copy)]
 enum Trouble {
     None,
     /// Those from one number to another fail, from 1 on.
@@ -94,7 +98,7 @@ const LINES_AS_THEY_COME: &[u8] = b"1 500000000000000a.1 TEST-UNIT-READY 2 - - 0
 
 /// Serves the two sessions by one worker, to a writer with some trouble that takes 20 bytes at a time: what came of it, and what
 /// was written.
-fn meet_drained<R: AllocGlobal + Clock + Files + Net + Sync + Threads + Wait>(
+fn meet_drained<R: AllocGlobal + Clock + Files + Net + RandomSource + Sync + Threads + Wait>(
     rt: &R,
     id: u32,
     name: &'static str,
@@ -115,16 +119,9 @@ fn meet_drained<R: AllocGlobal + Clock + Files + Net + Sync + Threads + Wait>(
 fn serve_library_writes_records_after_each_session(rt: HostRuntime) -> Result<(), Fail> {
     let id = process::id(rt.process());
     let (met, written) = meet_drained(&rt, id, "drained", Trouble::None)?;
-    assert_eq!(rt; met.served, Ok(()));
-    assert_eq!(rt; written.as_slice(), LINES_AS_THEY_COME);
+    assert_same(&rt, met.served, Ok(()), "drained");
+    assert_bytes(&rt, written.as_slice(), LINES_AS_THEY_COME, "drained");
     Ok(())
-}
-
-fn holds(text: &[u8], line: &str) -> bool {
-    match str::from_utf8(text) {
-        Ok(text) => text.contains(line),
-        Err(_) => false,
-    }
 }
 
 const KEPT: &str = "vtl: lines of records could not be written, and are kept\n";
@@ -137,28 +134,31 @@ fn serve_library_keeps_lines_whose_write_fails(rt: HostRuntime) -> Result<(), Fa
     let id = process::id(rt.process());
     for at in 1..8u64 {
         let (met, written) = meet_drained(&rt, id, "kept", Trouble::Fails(at, at))?;
-        assert_eq!(rt; met.served, Ok(()), "{at}");
-        assert_eq!(rt; written.as_slice(), LINES_AS_THEY_COME, "{at}");
-        assert!(rt; holds(&met.told, KEPT), "{at}");
+        assert_same(&rt, met.served, Ok(()), "kept");
+        assert_bytes(&rt, written.as_slice(), LINES_AS_THEY_COME, "kept");
+        assert_told(&rt, &met.told, KEPT);
     }
     Ok(())
 }
+
+/// What is told of lines that never can be written.
+const LOST: [&str; 3] = [
+    KEPT,
+    "vtl: 2 records of logical unit 1 were not written, numbers 1 to 2\n",
+    "vtl: 2 records of logical unit 0 were not written, numbers 1 to 2\n",
+];
 
 /// While lines can't be written the units keep their records, and at the end it is told which have no line.
 #[test]
 fn serve_library_tells_which_records_were_not_written(rt: HostRuntime) -> Result<(), Fail> {
     let id = process::id(rt.process());
     let (met, written) = meet_drained(&rt, id, "lost", Trouble::Fails(1, u64::MAX))?;
-    assert_eq!(rt; met.served, Err(ServerFault::Write));
-    assert!(rt; written.is_empty());
-    assert!(rt; holds(&met.told, KEPT));
-    assert!(rt; !holds(&met.told, CAUGHT_UP));
-    for line in &[
-        "vtl: 2 records of logical unit 1 were not written, numbers 1 to 2\n",
-        "vtl: 2 records of logical unit 0 were not written, numbers 1 to 2\n",
-    ] {
-        assert!(rt; holds(&met.told, *line), "{line}");
+    assert_same(&rt, met.served, Err(ServerFault::Write), "lost");
+    assert_bytes(&rt, written.as_slice(), &[], "lost");
+    for line in LOST {
+        assert_told(&rt, &met.told, line);
     }
+    assert_same(&rt, holds(&met.told, CAUGHT_UP), false, CAUGHT_UP);
     Ok(())
 }
 
@@ -182,10 +182,10 @@ fn serve_library_hands_many_records_out_within_a_session(rt: HostRuntime) -> Res
         ..sessions("long", 1)
     };
     let met = meet_at_gate(&rt, id, meeting, &LONG, &mut writer, &gate)?;
-    assert_eq!(rt; met.served, Ok(()));
-    assert!(rt; writer.writes >= 2);
+    assert_same(&rt, met.served, Ok(()), "long");
+    assert_same(&rt, writer.writes >= 2, true, "more than one write");
     let counts = counts_of(&rt, rt.alloc(), &writer.written)?;
-    assert_eq!(rt; counts, (5_001, 0));
+    assert_same(&rt, counts, (5_001, 0), "long");
     Ok(())
 }
 
@@ -201,7 +201,7 @@ fn counts_of(rt: &impl Abort, alloc: Global, written: &[u8]) -> Result<(u64, u64
         } else if line.starts_with(next_of_b.as_bytes()) {
             of_b = of_b.saturating_add(1);
         } else {
-            assert!(rt; line.is_empty(), "{of_a}, {of_b}");
+            assert_same(rt, line.len(), 0, "a line out of its place");
         }
     }
     Ok((of_a, of_b))
@@ -241,10 +241,10 @@ fn serve_library_goes_on_while_its_reader_stalls(rt: HostRuntime) -> Result<(), 
         ..sessions("stalled", 2)
     };
     let met = meet_at_gate(&rt, id, meeting, &STALLED, &mut writer, &gate)?;
-    assert_eq!(rt; met.served, Ok(()));
-    assert!(rt; !holds(&met.told, KEPT));
+    assert_same(&rt, met.served, Ok(()), "stalled");
+    assert_same(&rt, holds(&met.told, KEPT), false, KEPT);
     let counts = counts_of(&rt, rt.alloc(), &writer.written)?;
-    assert_eq!(rt; counts, (7_003, 5_001));
+    assert_same(&rt, counts, (7_003, 5_001), "stalled");
     Ok(())
 }
 
@@ -294,9 +294,9 @@ fn serve_library_keeps_no_more_records_than_its_reader_leaves_room_for(
         ..sessions("slow", 1)
     };
     let met = meet(&rt, id, meeting, &MANY_MORE, &mut writer)?;
-    assert_eq!(rt; met.served, Ok(()));
-    assert!(rt; writer.most <= 8_193, "{}", writer.most);
+    assert_same(&rt, met.served, Ok(()), "slow");
+    assert_same(&rt, writer.most <= 8_193, true, "few lines in a write");
     let counts = counts_of(&rt, rt.alloc(), &writer.written)?;
-    assert_eq!(rt; counts, (40_001, 0));
+    assert_same(&rt, counts, (40_001, 0), "slow");
     Ok(())
 }

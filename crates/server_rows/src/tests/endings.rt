@@ -1,6 +1,8 @@
 //! Hosts that do nothing, and a server that is ended while they are there.
 
-use super::{A, Answer, Frame, Meeting, PATIENT, POWER_ON_1, Step, meet, sessions};
+use super::{
+    A, Answer, Frame, Meeting, PATIENT, POWER_ON_1, Step, assert_bytes, assert_same, meet, sessions,
+};
 use server::{
     Cause, EndedSession, Event, FaultySession, ServeTerm, ServerFault, UnwrittenRecords, WaitTimes,
 };
@@ -33,7 +35,7 @@ const READS_NOTHING: [Step; 2] = [
 ];
 
 /// Which time is short.
-#[derive(Clone, Copy, Debug)]
+#[derive(Clone, Copy)]
 enum Short {
     Login,
     Idle,
@@ -91,7 +93,7 @@ fn serve_library_ends_sessions_of_hosts_that_do_nothing(rt: HostRuntime) -> Resu
         };
         let mut output = Vec::new(rt.alloc());
         let met = meet(&rt, id, meeting, steps, &mut output)?;
-        assert_eq!(rt; met.served, faulty(cause, is_in), "{name}");
+        assert_same(&rt, met.served, faulty(cause, is_in), name);
     }
     Ok(())
 }
@@ -116,16 +118,18 @@ const ENDED_WHILE_ONE_READS_NOTHING: [Step; 3] = [
     Step::Ends,
 ];
 
+/// How many connections there are, and what a client does.
+const ENDED: [(&'static str, usize, &'static [Step]); 3] = [
+    ("in-a-session", 1, &ENDED_IN_A_SESSION),
+    ("others-waiting", 40, &ENDED_WITH_OTHERS_WAITING),
+    ("one-reads-nothing", 1, &ENDED_WHILE_ONE_READS_NOTHING),
+];
+
 /// Until it is closed a session's fault is none of the server's.
 #[test]
 fn serve_library_ends_whatever_hosts_do(rt: HostRuntime) -> Result<(), Fail> {
     let id = process::id(rt.process());
-    let rows: [(&str, usize, &[Step]); 3] = [
-        ("in-a-session", 1, &ENDED_IN_A_SESSION),
-        ("others-waiting", 40, &ENDED_WITH_OTHERS_WAITING),
-        ("one-reads-nothing", 1, &ENDED_WHILE_ONE_READS_NOTHING),
-    ];
-    for row in &rows {
+    for row in &ENDED {
         let (name, connections, steps) = *row;
         let meeting = Meeting {
             term: ServeTerm::UntilClosed,
@@ -134,7 +138,7 @@ fn serve_library_ends_whatever_hosts_do(rt: HostRuntime) -> Result<(), Fail> {
         };
         let mut output = Vec::new(rt.alloc());
         let met = meet(&rt, id, meeting, steps, &mut output)?;
-        assert_eq!(rt; met.served, Ok(()), "{name}");
+        assert_same(&rt, met.served, Ok(()), name);
     }
     Ok(())
 }
@@ -202,7 +206,7 @@ const EVENTS: [Told; 9] = [
 fn assert_told(rt: &impl Abort, alloc: Global, row: &Told) -> Result<(), Fail> {
     let (event, line) = *row;
     let shown = event.to_string(alloc)?;
-    assert_eq!(rt; shown.as_str(), line);
+    assert_bytes(rt, shown.as_bytes(), line.as_bytes(), line);
     Ok(())
 }
 

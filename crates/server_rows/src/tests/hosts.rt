@@ -1,15 +1,18 @@
 //! A host and a served library, over a socket.
 
+use super::{assert_bytes, assert_same};
 use client_session::{ClientSessionFault, converse};
 use output_lines::{Audit, Explanations};
 use program_options::LibraryOptions;
 use scsi_nexus::Nexus;
 use server::{
-    LiveSessions, RecordOutput, ServeLimits, ServeTerm, ServerFault, Teller, Telling, serve_library,
+    Door, LiveSessions, RecordOutput, ServeLimits, ServeTerm, ServerFault, Teller, Telling,
+    serve_library,
 };
 use std::fs::Files;
 use std::net::Net;
 use std::os::unix::net::{SocketAddr, SocketAddrExt, UnixListener, UnixStream};
+use std::random::RandomSource;
 use std::sync::Wait;
 use std::test::Fail;
 use std::thread::{self, Threads};
@@ -54,7 +57,7 @@ fn send<R: AllocGlobal + Net>(
 }
 
 /// Serves the usual library for a session of A's, in a second thread, at an address that is no file.
-fn meet<R: AllocGlobal + Clock + Files + Net + Sync + Threads + Wait>(
+fn meet<R: AllocGlobal + Clock + Files + Net + RandomSource + Sync + Threads + Wait>(
     rt: &R,
     id: u32,
     script: &str,
@@ -62,7 +65,7 @@ fn meet<R: AllocGlobal + Clock + Files + Net + Sync + Threads + Wait>(
     let alloc = rt.alloc();
     let name = format!(in alloc; "vtl-host-{id}")?;
     let address = SocketAddr::from_abstract_name(name.as_bytes())?;
-    let listener = UnixListener::bind_addr(rt, &address)?;
+    let doors = [Door::of_socket(UnixListener::bind_addr(rt, &address)?)?];
     let core = library(alloc, &LibraryOptions::DEFAULT)?;
     let mut records = Vec::new(alloc);
     let mut replies = Vec::new(alloc);
@@ -81,7 +84,7 @@ fn meet<R: AllocGlobal + Clock + Files + Net + Sync + Threads + Wait>(
                 rt,
                 alloc,
                 core,
-                &listener,
+                &doors,
                 limits,
                 RecordOutput::AtTheEnd(Audit::Lines),
                 &mut records,
@@ -98,17 +101,19 @@ fn meet<R: AllocGlobal + Clock + Files + Net + Sync + Threads + Wait>(
     })
 }
 
+const REPLIES: &[u8] = b"02 700006000000000a00000000290000000000 -\n00 - -\n";
+
+const RECORDS: &[u8] = b"1 500000000000000a.1 TEST-UNIT-READY 2 - - 02\n\
+    2 500000000000000a.1 TEST-UNIT-READY 6 TEST-UNIT-READY/NONE/OTHER - 00\n\
+    3 500000000000000a.1 LOSS 6 - - 00\n";
+
 #[test]
 fn converse_has_the_replies_of_a_served_library(rt: HostRuntime) -> Result<(), Fail> {
     let id = process::id(rt.process());
     let met = meet(&rt, id, "0 000000000000\n0 000000000000\n")?;
-    assert_eq!(rt; met.conversed, Ok(()));
-    assert_eq!(rt; met.hosted, Ok(()));
-    let replies = b"02 700006000000000a00000000290000000000 -\n00 - -\n";
-    assert_eq!(rt; met.replies.as_slice(), replies.as_slice());
-    let records = b"1 500000000000000a.1 TEST-UNIT-READY 2 - - 02\n\
-        2 500000000000000a.1 TEST-UNIT-READY 6 TEST-UNIT-READY/NONE/OTHER - 00\n\
-        3 500000000000000a.1 LOSS 6 - - 00\n";
-    assert_eq!(rt; met.records.as_slice(), records.as_slice());
+    assert_same(&rt, met.conversed, Ok(()), "the host");
+    assert_same(&rt, met.hosted, Ok(()), "the server");
+    assert_bytes(&rt, met.replies.as_slice(), REPLIES, "the replies");
+    assert_bytes(&rt, met.records.as_slice(), RECORDS, "the records");
     Ok(())
 }

@@ -1,14 +1,33 @@
 //! What is told of a socket that can't be made.
+ghost use Rattle.std.specs.Prelude.{IfOk};
+ghost use Rattle.command_line.specs.Tasks.{IsServeOptions};
 
+use super::portals::refused;
+use super::{assert_bytes, assert_same};
 use command_line::ServeOptions;
 use output_lines::Audit;
 use program_options::{LibraryOptions, ServeTimes, ServeUntil};
 use server_socket::serve;
+use std::alloc::{AllocError, Global};
 use std::net::Net;
 use std::os::unix::net::{UnixListener, UnixStream};
 use std::test::Fail;
 use std::time::{Clock, Duration};
 use std::{env, fs, io, process, thread};
+
+/// One session at a socket.
+fn options_at(alloc: Global, socket: &str) -> Result<ServeOptions, AllocError>
+    ensures { IfOk result IsServeOptions }
+{
+    Ok(ServeOptions {
+        socket: Some(String::from_str(alloc, socket)?),
+        iscsi: None,
+        until: ServeUntil::Sessions(1),
+        drain: false,
+        times: ServeTimes::default(),
+        log: false,
+    })
+}
 
 /// A socket whose file is there already is left as it is.
 #[test]
@@ -17,57 +36,25 @@ fn serve_leaves_a_file_that_is_there(rt: HostRuntime) -> Result<(), Fail> {
     let path = env::temp_dir(&rt)?.join(rt.alloc(), name.as_str())?;
     let socket = path.to_str().ok_or("a path that is no text")?;
     let _there = UnixListener::bind(&rt, socket)?;
-    let serving = ServeOptions {
-        socket: String::from_str(rt.alloc(), socket)?,
-        until: ServeUntil::Sessions(1),
-        drain: false,
-        times: ServeTimes::default(),
-        log: false,
-    };
-    let mut told = Vec::new(rt.alloc());
-    let served = serve(
-        &rt,
-        LibraryOptions::DEFAULT,
-        serving,
-        Audit::Lines,
-        &mut told,
-    );
-    fs::remove_file(&rt, socket)?;
-    let Err(fault) = served else {
-        return Err("served".into());
-    };
-    let shown = fault.to_string(rt.alloc())?;
+    let told = refused(&rt, options_at(rt.alloc(), socket)?);
+    let removed = fs::remove_file(&rt, socket);
+    let (status, shown) = told?;
+    removed?;
     let expected = format!(in rt.alloc();
         "vtl: device fault\nvtl: cannot listen on {socket}: it is there already"
     )?;
-    assert_eq!(rt; shown.as_str(), expected.as_str());
-    assert_eq!(rt; fault.status(), 4);
-    assert!(rt; told.is_empty());
+    assert_bytes(&rt, shown.as_bytes(), expected.as_bytes(), "there");
+    assert_same(&rt, status, 4, "there");
     Ok(())
 }
 
+const NOWHERE: &[u8] = b"vtl: device fault\nvtl: cannot listen on /nowhere/at/all";
+
 #[test]
 fn serve_refuses_a_path_without_a_folder(rt: HostRuntime) -> Result<(), Fail> {
-    let serving = ServeOptions {
-        socket: String::from_str(rt.alloc(), "/nowhere/at/all")?,
-        until: ServeUntil::Sessions(1),
-        drain: false,
-        times: ServeTimes::default(),
-        log: false,
-    };
-    let mut told = Vec::new(rt.alloc());
-    let Err(fault) = serve(
-        &rt,
-        LibraryOptions::DEFAULT,
-        serving,
-        Audit::Lines,
-        &mut told,
-    ) else {
-        return Err("served".into());
-    };
-    let shown = fault.to_string(rt.alloc())?;
-    let expected = "vtl: device fault\nvtl: cannot listen on /nowhere/at/all";
-    assert_eq!(rt; shown.as_str(), expected);
+    let (status, shown) = refused(&rt, options_at(rt.alloc(), "/nowhere/at/all")?)?;
+    assert_bytes(&rt, shown.as_bytes(), NOWHERE, "nowhere");
+    assert_same(&rt, status, 4, "nowhere");
     Ok(())
 }
 
@@ -78,13 +65,7 @@ fn serve_takes_a_file_away_that_nobody_listens_at(rt: HostRuntime) -> Result<(),
     let path = env::temp_dir(&rt)?.join(rt.alloc(), name.as_str())?;
     let socket = path.to_str().ok_or("a path that is no text")?;
     drop(UnixListener::bind(&rt, socket)?);
-    let serving = ServeOptions {
-        socket: String::from_str(rt.alloc(), socket)?,
-        until: ServeUntil::Sessions(1),
-        drain: false,
-        times: ServeTimes::default(),
-        log: false,
-    };
+    let serving = options_at(rt.alloc(), socket)?;
     let mut told = Vec::new(rt.alloc());
     let (served, connected) = thread::join(
         &rt,
@@ -102,8 +83,8 @@ fn serve_takes_a_file_away_that_nobody_listens_at(rt: HostRuntime) -> Result<(),
     let expected = format!(in rt.alloc();
         "vtl: took {socket} away: nobody listened there\nvtl: serving at {socket}: 2 units, 1 worker\n"
     )?;
-    assert_eq!(rt; told.as_slice(), expected.as_bytes());
-    assert!(rt; !fs::exists(&rt, socket)?);
+    assert_bytes(&rt, told.as_slice(), expected.as_bytes(), "left over");
+    assert_same(&rt, fs::exists(&rt, socket)?, false, "the file at the end");
     Ok(())
 }
 

@@ -3,7 +3,7 @@ ghost use Rattle.std.specs.Prelude.{◌≡◌, ◌<◌};
 ghost use Rattle.logical_unit.specs.UnitView.{units_of};
 ghost use Rattle.lun_router.specs.Opening.{IsSince};
 
-use super::{LINES_OF_A, target};
+use super::{LINES_OF_A, assert_bytes, assert_same, target};
 use kept_unit::UnitLedger;
 use library_device::Device;
 use lun_router::{Blanks, CloseFault, Library, Pass, Seat};
@@ -148,7 +148,7 @@ fn stream_of(alloc: Global, row: Row) -> (Reader, Writer) {
 }
 
 /// With which seats a library is closed.
-#[derive(Clone, Copy, Debug, PartialEq, Eq)]
+#[derive(Clone, Copy)]
 enum Seats {
     All,
     None,
@@ -161,6 +161,16 @@ struct Closed {
     /// The lines of its records.
     lines: Vec<u8>,
     told: Vec<u8>,
+}
+
+/// Compares how a row's session ended, and what was written.
+fn assert_answered(rt: &impl Abort, row: Row, ended: Result<End, SessionFault>, written: &[u8]) {
+    let (input, failing_read, failing_write, end, replies, _) = row;
+    let expected = REPLIES.get(..replies).unwrap_or(REPLIES);
+    assert!(rt;
+        ended == end && written == expected,
+        "{input:?}, {failing_read}, {failing_write}: {ended:?}, {written:?}"
+    );
 }
 
 /// Serves a row's session at a library, and closes it.
@@ -194,16 +204,10 @@ fn serve_and_close<
         &mut writer,
     );
     seats.push(seat)?;
-    let (input, failing_read, failing_write, end, replies, _) = row;
-    assert_eq!(rt; ended, end, "{input:?}, {failing_read}, {failing_write}");
-    let expected = REPLIES.get(..replies).unwrap_or(REPLIES);
-    assert_eq!(rt;
-        writer.written.as_slice(),
-        expected,
-        "{input:?}, {failing_read}, {failing_write}"
-    );
-    if closing == Seats::None {
-        seats.clear();
+    assert_answered(rt, row, ended, &writer.written);
+    match closing {
+        Seats::All => {}
+        Seats::None => seats.clear(),
     }
     let mut lines = Vec::new(alloc);
     let mut told = Vec::new(alloc);
@@ -268,15 +272,11 @@ fn close_behind<R: Abort + Wait>(
 /// Serves a row's session at a library of its own, and compares the records.
 fn assert_served<R: Abort + Wait>(rt: &R, alloc: Global, row: Row) -> Result<(), Fail> {
     let closed = close_behind(rt, alloc, row, Seats::All)?;
-    let (input, failing_read, failing_write, _, _, is_recorded) = row;
+    let (_, _, _, _, _, is_recorded) = row;
     let expected: &[u8] = if is_recorded { LINES_OF_A } else { &[] };
-    assert_eq!(rt;
-        closed.lines.as_slice(),
-        expected,
-        "{input:?}, {failing_read}, {failing_write}"
-    );
-    assert_eq!(rt; closed.closed, Ok(()));
-    assert!(rt; closed.told.is_empty());
+    assert_bytes(rt, closed.lines.as_slice(), expected, "the lines");
+    assert_same(rt, closed.closed, Ok(()), "the end");
+    assert_bytes(rt, closed.told.as_slice(), &[], "what is told");
     Ok(())
 }
 
@@ -346,6 +346,10 @@ fn serve_ends_by_a_write_that_fails_or_a_faulty_stream(rt: HostRuntime) -> Resul
     Ok(())
 }
 
+const SEAT_MISSING: Result<(), ServerFault> = Err(ServerFault::Close(CloseFault::SeatMissing));
+
+const TWO_UNWRITTEN: &[u8] = b"vtl: 2 records of logical unit 0 were not written, numbers 1 to 2\n";
+
 /// Where a library can't be closed, it is told which records have no line.
 #[test]
 fn close_and_write_tells_of_the_records_of_a_library_that_is_not_closed(
@@ -353,14 +357,8 @@ fn close_and_write_tells_of_the_records_of_a_library_that_is_not_closed(
 ) -> Result<(), Fail> {
     let row = (Input::Session(33), 0, 0, Ok(End::Logout), 44, true);
     let closed = close_behind(&rt, rt.alloc(), row, Seats::None)?;
-    assert_eq!(rt;
-        closed.closed,
-        Err(ServerFault::Close(CloseFault::SeatMissing))
-    );
-    assert!(rt; closed.lines.is_empty());
-    assert_eq!(rt;
-        closed.told.as_slice(),
-        b"vtl: 2 records of logical unit 0 were not written, numbers 1 to 2\n".as_slice()
-    );
+    assert_same(&rt, closed.closed, SEAT_MISSING, "the end");
+    assert_bytes(&rt, closed.lines.as_slice(), &[], "the lines");
+    assert_bytes(&rt, closed.told.as_slice(), TWO_UNWRITTEN, "what is told");
     Ok(())
 }

@@ -1,0 +1,116 @@
+use iscsi_login::LoginTarget;
+use std::io;
+use std::net::{Shutdown, SocketAddr, TcpListener};
+use std::os::fd::OwnedFd;
+use std::os::unix::net::{UnixListener, UnixStream};
+use std::sync::Mutex;
+
+/// What comes in at a door.
+#[derive(Drop)]
+enum Entrance<'a> {
+    /// Sessions of frames.
+    Socket(UnixListener),
+    /// Sessions of iSCSI.
+    Portal(TcpListener, PortalDoor<'a>),
+}
+
+/// A portal of an iSCSI target.
+#[derive(Clone, Copy)]
+pub(crate) struct PortalDoor<'a> {
+    pub target: &'a LoginTarget,
+    /// Its portal group, and the target port of those who come in there.
+    pub group: u16,
+    /// Where it listens.
+    pub address: SocketAddr,
+}
+
+/// Where connections come in, until it is shut down.
+#[derive(Drop)]
+pub struct Door<'a> {
+    entrance: Entrance<'a>,
+    /// A second descriptor of the listener, as a stream, which can be shut down.
+    second: UnixStream,
+    /// Held by who waits for the next connection.
+    pub(crate) turn: Mutex<()>,
+}
+
+/// A connection that has come in, and where at a portal it did.
+#[derive(Drop)]
+pub(crate) struct Visitor {
+    pub stream: UnixStream,
+    pub came_to: Option<SocketAddr>,
+}
+
+impl<'a> Door<'a> {
+    /// Where hosts come in whose sessions are of frames.
+    pub fn of_socket(listener: UnixListener) -> io::Result<Door<'a>> {
+        let second = UnixStream::from(OwnedFd::from(listener.try_clone()?));
+        Ok(Door {
+            entrance: Entrance::Socket(listener),
+            second,
+            turn: Mutex::new(()),
+        })
+    }
+
+    /// Where initiators of iSCSI come in to a target, as to its portal group of this number. All portals of a library that is served
+    /// are of one target.
+    pub fn of_portal(
+        listener: TcpListener,
+        target: &'a LoginTarget,
+        group: u16,
+    ) -> io::Result<Door<'a>> {
+        let second = UnixStream::from(OwnedFd::from(listener.try_clone()?));
+        let portal = PortalDoor {
+            target,
+            group,
+            address: listener.local_addr()?,
+        };
+        Ok(Door {
+            entrance: Entrance::Portal(listener, portal),
+            second,
+            turn: Mutex::new(()),
+        })
+    }
+
+    /// Where its portal listens, if it is one.
+    pub fn address(&self) -> Option<SocketAddr> {
+        Some(self.portal()?.address)
+    }
+
+    /// From now on nobody comes in, and who waits for a connection waits no longer.
+    pub fn shut_down(&self) {
+        // A listener can always be shut down.
+        let _ = self.second.shutdown(Shutdown::Both);
+    }
+
+    pub(crate) fn portal(&self) -> Option<PortalDoor<'a>> {
+        match &self.entrance {
+            Entrance::Socket(_) => None,
+            Entrance::Portal(_, portal) => Some(*portal),
+        }
+    }
+
+    /// Waits for the next connection. What is a socket of TCP is read, written, timed and shut down by its descriptor just as a
+    /// Unix socket is, so that one type of stream does for both.
+    pub(crate) fn accept(&self) -> io::Result<Visitor> {
+        match &self.entrance {
+            Entrance::Socket(listener) => {
+                let (stream, _) = listener.accept()?;
+                Ok(Visitor {
+                    stream,
+                    came_to: None,
+                })
+            }
+            Entrance::Portal(listener, portal) => {
+                let (stream, _) = listener.accept()?;
+                // Without these a reply comes later, and an address that is only seen from here is told.
+                let _ = stream.set_nodelay(true);
+                let came_to = stream.local_addr().unwrap_or(portal.address);
+                Ok(Visitor {
+                    stream: UnixStream::from(OwnedFd::from(stream)),
+                    came_to: Some(came_to),
+                })
+            }
+        }
+    }
+}

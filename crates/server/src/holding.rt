@@ -1,0 +1,212 @@
+//! A session from its connection on, with the times that its host has.
+ghost use Rattle.std.specs.Prelude.{◌⊎◌, IfOk, IfErr};
+ghost use Rattle.iscsi_session.specs.Leaving.{Leaves};
+ghost use Rattle.session.specs.Serving.{BreaksOff, IsKeptOut, Serves};
+ghost use Rattle.server.specs.LibraryService.{DoesForWorker};
+
+use crate::acceptor::{Acceptor, WaitTimes};
+use crate::door::{Door, PortalDoor};
+use crate::library_service::SeatService;
+use crate::live_sessions::SessionsBeside;
+use crate::server_fault::{Cause, FaultySession};
+use crate::timed_reader::{Patience, TimedReader};
+use crate::worker::Visit;
+use crate::worker_service::WorkerService;
+use iscsi_login::{Authentication, Challenge};
+use iscsi_session::{IscsiEnd, IscsiFault, Portal, PortalAddress};
+use session::{End, Service, SessionFault, serve};
+use std::alloc::{AllocError, Global};
+use std::io::{Read, Write};
+use std::net::SocketAddr;
+use std::random::RandomSource;
+use std::sync::Wait;
+use std::time::Clock;
+
+/// Serves a session of a connection, for no longer than its host may be silent, or take for a reply, and names its fault, if it
+/// had one.
+pub(crate) fn hold<'a, S: SeatService, R: Clock + RandomSource + Wait, E: Write>(
+    alloc: Global,
+    rt: &R,
+    service: &mut WorkerService<'a, S, R, E>,
+    acceptor: &Acceptor<'_>,
+    visit: Visit<'_, '_>,
+) -> Result<End, FaultySession> {
+    let stream = &visit.visitor.stream;
+    let times = acceptor.limits.times;
+    let is_in = service.is_in;
+    let limited = stream.set_write_timeout(times.write);
+    let (Ok(mut reader), Ok(())) = (
+        TimedReader::new(rt, stream, is_in, patience_at(visit.door, times)),
+        limited,
+    ) else {
+        return Err(FaultySession {
+            number: visit.number,
+            nexus: None,
+            cause: Cause::Fault(SessionFault::Read),
+        });
+    };
+    let mut writer = stream;
+    match meet(
+        alloc,
+        rt,
+        service,
+        acceptor,
+        visit,
+        &mut reader,
+        &mut writer,
+    ) {
+        Ok(end) => Ok(end),
+        Err(cause) => Err(FaultySession {
+            number: visit.number,
+            nexus: service.nexus,
+            cause: if reader.is_late() {
+                cause.silent()
+            } else {
+                cause
+            },
+        }),
+    }
+}
+
+/// How long the hosts of a door are waited for: nobody is pinged whose session is of frames.
+fn patience_at(door: &Door<'_>, times: WaitTimes) -> Patience {
+    Patience {
+        login: times.login,
+        idle: times.idle,
+        ping: match door.portal() {
+            Some(_) => times.ping,
+            None => None,
+        },
+    }
+}
+
+/// Serves a session of a door.
+fn meet<'a, S: SeatService, R: Clock + RandomSource + Wait, E: Write, I: Read, O: Write>(
+    alloc: Global,
+    rt: &R,
+    service: &mut WorkerService<'a, S, R, E>,
+    acceptor: &Acceptor<'_>,
+    visit: Visit<'_, '_>,
+    reader: &mut I,
+    writer: &mut O,
+) -> Result<End, Cause> {
+    match visit.door.portal() {
+        None => match converse(alloc, service, reader, writer) {
+            Ok(end) => Ok(end),
+            Err(fault) => Err(Cause::Fault(fault)),
+        },
+        Some(portal) => {
+            match converse_by_iscsi(alloc, rt, service, acceptor, portal, visit, reader, writer) {
+                Ok(end) => Ok(end),
+                Err(fault) => Err(Cause::Iscsi(fault)),
+            }
+        }
+    }
+}
+
+/// Serves one session of frames.
+fn converse<'a, S: SeatService, R: Wait, E: Write, I: Read, O: Write>(
+    alloc: Global,
+    service: &mut WorkerService<'a, S, R, E>,
+    reader: &mut I,
+    writer: &mut O,
+) -> Result<End, SessionFault>
+    ensures session { IfOk result (λ end. Serves (DoesForWorker S.notes S.settles) S.count service.old (I.remaining reader.old) (I.remaining reader.new) (O.contents writer.old) (O.contents writer.new) end service.new) }
+    ensures broken { IfErr result (λ fault. IsKeptOut service.old (O.contents writer.old) (O.contents writer.new) fault service.new ⊎ BreaksOff (DoesForWorker S.notes S.settles) S.count service.old (I.remaining reader.old) fault service.new) }
+{
+    serve(alloc, service, reader, writer, u64::MAX)
+}
+
+/// Serves one session of iSCSI, at a portal where it has come in.
+fn converse_by_iscsi<S: Service, R: Clock + RandomSource + Wait, I: Read, O: Write>(
+    alloc: Global,
+    rt: &R,
+    service: &mut S,
+    acceptor: &Acceptor<'_>,
+    door: PortalDoor<'_>,
+    visit: Visit<'_, '_>,
+    reader: &mut I,
+    writer: &mut O,
+) -> Result<End, IscsiFault>
+    ensures { Leaves S.notes S.count door.entry.group service.old service.new }
+{
+    let came_to = visit.visitor.came_to.unwrap_or(door.address);
+    let portals = addresses_from(alloc, acceptor.doors(), came_to)?;
+    let address = came_to.to_string(alloc)?;
+    let portal = Portal {
+        target: door.target,
+        group: door.group,
+        address: address.as_str(),
+        portals: &portals,
+    };
+    let challenge = challenge_for(rt, &door.target.authentication);
+    let tsih = u16::try_from(visit.key.saturating_add(1)).unwrap_or(u16::MAX);
+    let register = SessionsBeside {
+        rt,
+        sessions: acceptor.limits.sessions,
+        key: visit.key,
+    };
+    let ended = iscsi_session::serve(
+        alloc,
+        service,
+        &register,
+        &portal,
+        challenge,
+        tsih,
+        reader,
+        writer,
+        u64::MAX,
+    )?;
+    Ok(match ended {
+        IscsiEnd::Logout => End::Logout,
+        IscsiEnd::Closed => End::Closed,
+        IscsiEnd::Cut => End::Cut,
+    })
+}
+
+/// Where the portals among doors are found by who has come to an address.
+fn addresses_from(
+    alloc: Global,
+    doors: &[Door<'_>],
+    came_to: SocketAddr,
+) -> Result<Vec<PortalAddress>, AllocError> {
+    let mut addresses = Vec::new(alloc);
+    for door in doors {
+        if let Some(portal) = door.portal() {
+            addresses.push(PortalAddress {
+                address: told_address(portal.address, came_to).to_string(alloc)?,
+                group: portal.group,
+            })?;
+        }
+    }
+    Ok(addresses)
+}
+
+/// Where a portal is found by who has come to an address: one that listens at all addresses is found at that one.
+fn told_address(bound: SocketAddr, came_to: SocketAddr) -> SocketAddr {
+    if bound.ip().is_unspecified() {
+        SocketAddr::new(came_to.ip().to_canonical(), bound.port())
+    } else {
+        bound
+    }
+}
+
+/// What an initiator is asked, if it is. `None` too where the system gives no random bytes.
+fn challenge_for<R: RandomSource>(rt: &R, authentication: &Authentication) -> Option<Challenge> {
+    match authentication {
+        Authentication::None => None,
+        Authentication::Chap(_) => new_challenge(rt),
+    }
+}
+
+/// An identifier and a challenge that nobody can foretell.
+fn new_challenge<R: RandomSource>(rt: &R) -> Option<Challenge> {
+    let mut identifier = [0u8; 1];
+    let mut bytes = [0u8; 32];
+    rt.fill_bytes(&mut identifier).ok()?;
+    rt.fill_bytes(&mut bytes).ok()?;
+    Some(Challenge {
+        identifier: identifier[0],
+        bytes,
+    })
+}

@@ -1,0 +1,439 @@
+//! Initiators of iSCSI at a portal of a served library, beside a host at its socket.
+ghost use Rattle.std.specs.Prelude.{◌≤◌, length};
+
+use super::{
+    Answer, Ending, Frame, Gate, LINES_OF_BOTH, PATIENT, POWER_ON_1, assert_bytes, assert_same,
+    assert_told, is_answered, target,
+};
+use iscsi_login::{Access, Authentication, Host, LoginTarget};
+use output_lines::Audit;
+use server::{
+    Door, LiveSessions, RecordOutput, ServeLimits, ServeTerm, ServerFault, Teller, Telling,
+    WaitTimes, serve_library,
+};
+use std::alloc::{AllocError, Global};
+use std::fs::Files;
+use std::io::{self, Read, Write};
+use std::net::{Net, SocketAddr, TcpListener, TcpStream};
+use std::os::unix::net::{self, SocketAddrExt, UnixListener, UnixStream};
+use std::process::{self, Abort};
+use std::random::RandomSource;
+use std::sync::Wait;
+use std::test::Fail;
+use std::thread::{self, Threads};
+use std::time::{Clock, Duration};
+
+/// The text of B's login.
+const LOGIN_TEXT: &[u8] = b"InitiatorName=iqn.2026-11.example:b\0\
+    TargetName=iqn.2026-11.localhost:vtl\0\
+    SessionType=Normal\0";
+
+/// A header: the first four bytes, the logical unit, the initiator task tag, and the fields behind it.
+fn header(start: [u8; 4], lun: u8, tag: u8, rest: [u8; 28]) -> [u8; 48] {
+    let mut header = [0u8; 48];
+    header[..4].copy_from_slice(&start);
+    header[9] = lun;
+    header[19] = tag;
+    header[20..].copy_from_slice(&rest);
+    header
+}
+
+/// What an initiator sends.
+#[derive(Clone, Copy)]
+enum Request {
+    /// A Login Request to full feature.
+    Login,
+    /// TEST UNIT READY to the drive.
+    Ready,
+    /// WRITE(6) of four bytes to the drive, with them as immediate data.
+    Write,
+    /// A Logout Request.
+    Logout,
+}
+
+/// The header of a request with this CmdSN, and its data.
+fn parts_of(request: Request, cmd_sn: u8) -> ([u8; 48], &'static [u8]) {
+    let mut rest = [0u8; 28];
+    rest[7] = cmd_sn;
+    match request {
+        Request::Login => (header([0x43, 0x87, 0, 0], 0, cmd_sn, rest), LOGIN_TEXT),
+        Request::Ready => (header([0x01, 0x80, 0, 0], 1, cmd_sn, rest), &[]),
+        Request::Write => {
+            rest[3] = 4;
+            rest[12] = 0x0a;
+            rest[16] = 4;
+            (header([0x01, 0xa0, 0, 0], 1, cmd_sn, rest), &[1, 2, 3, 4])
+        }
+        Request::Logout => (header([0x46, 0x80, 0, 0], 0, cmd_sn, rest), &[]),
+    }
+}
+
+/// The bytes of a request: its header with the length of its data, and these, padded to words of four bytes.
+fn bytes_of(alloc: Global, request: Request, cmd_sn: u8) -> Result<Vec<u8>, AllocError> {
+    let (mut header, data) = parts_of(request, cmd_sn);
+    header[7] = u8::try_from(data.len()).unwrap_or(0);
+    let mut bytes = Vec::from_slice(alloc, &header)?;
+    bytes.extend_from_slice(data)?;
+    for _pad in 0..3u8 {
+        if bytes.len() % 4 != 0 {
+            bytes.push(0)?;
+        }
+    }
+    Ok(bytes)
+}
+
+/// The header of what is answered, behind which its data were read too.
+fn read_answer(alloc: Global, mut stream: &TcpStream) -> io::Result<[u8; 48]> {
+    let mut header = [0u8; 48];
+    stream.read_exact(&mut header)?;
+    let length = usize::from(u16::from_be_bytes([header[6], header[7]]));
+    let mut data = vec![in alloc; 0u8; length.next_multiple_of(4)]?;
+    stream.read_exact(data.as_mut_slice())?;
+    Ok(header)
+}
+
+/// What the answer to a request begins with: its opcode, its flags, its response and its status.
+type Start = [u8; 4];
+
+const ACCEPTED: Start = [0x23, 0x87, 0, 0];
+
+/// CHECK CONDITION, as for a unit's power on.
+const CHECK: Start = [0x21, 0x80, 0, 2];
+
+/// RESERVATION CONFLICT.
+const CONFLICT: Start = [0x21, 0x80, 0, 0x18];
+
+/// A NOP-In.
+const PING: Start = [0x20, 0x80, 0, 0];
+
+const LOGGED_OUT: Start = [0x26, 0x80, 0, 0];
+
+/// Sends a request, and says whether its answer begins as it should.
+fn is_met(
+    alloc: Global,
+    mut stream: &TcpStream,
+    request: Request,
+    cmd_sn: u8,
+    start: Start,
+) -> io::Result<bool> {
+    stream.write_all(bytes_of(alloc, request, cmd_sn)?.as_slice())?;
+    let header = read_answer(alloc, stream)?;
+    Ok(header.starts_with(&start))
+}
+
+/// Whether a connection has ended.
+fn has_ended(mut stream: &TcpStream) -> io::Result<bool> {
+    let count = stream.read(&mut [0u8; 1])?;
+    Ok(count == 0)
+}
+
+/// What A does at the socket, and B at the portal.
+#[derive(Clone, Copy)]
+enum Step {
+    /// A sends a frame, and reads its answer.
+    Says(Frame, Answer),
+    /// B sends a request of a CmdSN, and reads its answer, which begins so.
+    Sends(Request, u8, Start),
+    /// B reads a NOP-In.
+    Pinged,
+    /// B reads the end.
+    IsLeft,
+    /// B connects once more and logs in, which ends its first connection.
+    ComesAgain,
+    /// There are to be no more sessions, and those that go on end.
+    Ends,
+}
+
+/// Whether another login of the same session ends its first connection.
+fn comes_again<R: Net<Listener = TcpListener, Stream = TcpStream>>(
+    rt: &R,
+    alloc: Global,
+    first: &TcpStream,
+) -> io::Result<bool> {
+    let second = TcpStream::connect(rt, first.peer_addr()?)?;
+    Ok(is_met(alloc, &second, Request::Login, 1, ACCEPTED)? && has_ended(first)?)
+}
+
+/// Takes a step. Whether all is as it should be.
+fn is_taken<R: Clock + Net<Listener = TcpListener, Stream = TcpStream> + Wait>(
+    rt: &R,
+    alloc: Global,
+    socket: &UnixStream,
+    portal: &TcpStream,
+    ending: &Ending<'_, '_>,
+    step: Step,
+) -> io::Result<bool> {
+    match step {
+        Step::Says(frame, answer) => is_answered(alloc, socket, frame, answer),
+        Step::Sends(request, cmd_sn, start) => is_met(alloc, portal, request, cmd_sn, start),
+        Step::Pinged => Ok(read_answer(alloc, portal)?.starts_with(&PING)),
+        Step::IsLeft => has_ended(portal),
+        Step::ComesAgain => comes_again(rt, alloc, portal),
+        Step::Ends => {
+            ending.end(rt);
+            Ok(true)
+        }
+    }
+}
+
+/// Connects as A and as B, takes the steps, and says whether all that was read is as it should be.
+fn talk<R: Clock + Net<Listener = TcpListener, Stream = TcpStream> + Wait>(
+    rt: &R,
+    alloc: Global,
+    address: &net::SocketAddr,
+    portal: SocketAddr,
+    ending: &Ending<'_, '_>,
+    steps: &[Step],
+) -> io::Result<bool> {
+    let socket = UnixStream::connect_addr(rt, address)?;
+    let portal = TcpStream::connect(rt, portal)?;
+    for step in steps {
+        if !is_taken(rt, alloc, &socket, &portal, ending, *step)? {
+            return Ok(false);
+        }
+    }
+    Ok(true)
+}
+
+/// A target that lets B in, by its name.
+fn target_of_b(alloc: Global) -> Result<LoginTarget, AllocError> {
+    let mut hosts = Vec::new(alloc);
+    hosts.push(Host {
+        name: Vec::from_slice(alloc, b"iqn.2026-11.example:b")?,
+        sas: 0x5000_0000_0000_000B,
+    })?;
+    Ok(LoginTarget {
+        name: Vec::from_slice(alloc, b"iqn.2026-11.localhost:vtl")?,
+        access: Access {
+            hosts,
+            any_host: false,
+        },
+        authentication: Authentication::None,
+    })
+}
+
+/// What came of a meeting: what the server answers, and whether A and B were told what they should be.
+type Served = (Result<(), ServerFault>, io::Result<bool>);
+
+/// Serves a library at two doors, until the steps are taken.
+fn serve_and_talk<
+    R: AllocGlobal
+        + Clock
+        + Files
+        + Net<Listener = TcpListener, Stream = TcpStream>
+        + RandomSource
+        + Sync
+        + Threads
+        + Wait,
+>(
+    rt: &R,
+    doors: &[Door<'_>; 2],
+    address: &net::SocketAddr,
+    portal: SocketAddr,
+    times: WaitTimes,
+    steps: &[Step],
+    output: &mut Vec<u8>,
+    gate: &Gate,
+    teller: &Teller<&mut Vec<u8>>,
+) -> Result<Served, Fail> {
+    let alloc = rt.alloc();
+    let core = target(alloc)?;
+    let sessions = LiveSessions::new(alloc);
+    let ending = Ending {
+        sessions: &sessions,
+        gate,
+        doors,
+    };
+    Ok(thread::join(
+        rt,
+        || {
+            let limits = ServeLimits {
+                workers: 2,
+                term: ServeTerm::UntilClosed,
+                times,
+                sessions: &sessions,
+            };
+            let records = RecordOutput::AtTheEnd(Audit::Lines);
+            serve_library(rt, alloc, core, doors, limits, records, output, teller)
+        },
+        || talk(rt, alloc, address, portal, &ending, steps),
+    ))
+}
+
+/// Which time is short.
+#[derive(Clone, Copy)]
+enum Short {
+    None,
+    Login,
+    Ping,
+}
+
+fn times_of(short: Short) -> WaitTimes {
+    let soon = Some(Duration::from_millis(50));
+    match short {
+        Short::None => PATIENT,
+        Short::Login => WaitTimes {
+            login: soon,
+            ..PATIENT
+        },
+        Short::Ping => WaitTimes {
+            ping: soon,
+            ..PATIENT
+        },
+    }
+}
+
+/// A part of the server's address, which time hosts have little of, what A and B do, and, where they are compared, the lines that the
+/// server writes and some words of what it tells.
+type Row = (
+    &'static str,
+    Short,
+    &'static [Step],
+    Option<&'static [u8]>,
+    &'static str,
+);
+
+/// Serves a library to A and B, and compares how the server ends, its lines and what it tells.
+fn assert_met<
+    R: Abort
+        + AllocGlobal
+        + Clock
+        + Files
+        + Net<Listener = TcpListener, Stream = TcpStream>
+        + RandomSource
+        + Sync
+        + Threads
+        + Wait,
+>(rt: &R, id: u32, row: Row) -> Result<(), Fail> {
+    let (name, short, steps, lines, words) = row;
+    let alloc = rt.alloc();
+    let socket_name = format!(in alloc; "vtl-{name}-{id}")?;
+    let address = net::SocketAddr::from_abstract_name(socket_name.as_bytes())?;
+    let target = target_of_b(alloc)?;
+    let listener = TcpListener::bind(rt, "127.0.0.1:0")?;
+    let portal = listener.local_addr()?;
+    let doors = [
+        Door::of_socket(UnixListener::bind_addr(rt, &address)?)?,
+        Door::of_portal(listener, &target, 1)?,
+    ];
+    let mut output = Vec::new(alloc);
+    let mut told = Vec::new(alloc);
+    let teller = Teller::new(Telling::Everything, &mut told);
+    let (served, talked) = serve_and_talk(
+        rt,
+        &doors,
+        &address,
+        portal,
+        times_of(short),
+        steps,
+        &mut output,
+        &Gate::new(),
+        &teller,
+    )?;
+    drop(teller);
+    assert_same(rt, talked?, true, name);
+    assert_same(rt, served, Ok(()), name);
+    if let Some(lines) = lines {
+        assert_bytes(rt, output.as_slice(), lines, name);
+    }
+    assert_told(rt, told.as_slice(), words);
+    Ok(())
+}
+
+/// A's reservation keeps B from the drive, whichever way each has come.
+const CONFLICT_AT_TWO_DOORS: [Step; 11] = [
+    Step::Says(Frame::LoginOfA, Answer::Accepted),
+    Step::Sends(Request::Login, 1, ACCEPTED),
+    Step::Says(Frame::DriveReady, POWER_ON_1),
+    Step::Sends(Request::Ready, 1, CHECK),
+    Step::Says(Frame::Register, Answer::Good(3)),
+    Step::Says(Frame::Reserve, Answer::Good(4)),
+    Step::Sends(Request::Write, 2, CONFLICT),
+    Step::Sends(Request::Logout, 3, LOGGED_OUT),
+    Step::IsLeft,
+    Step::Says(Frame::Logout, Answer::LoggedOut),
+    Step::Ends,
+];
+
+/// B says nothing at all.
+const NO_LOGIN: [Step; 2] = [Step::IsLeft, Step::Ends];
+
+/// B answers no ping.
+const NO_PONG: [Step; 4] = [
+    Step::Sends(Request::Login, 1, ACCEPTED),
+    Step::Pinged,
+    Step::IsLeft,
+    Step::Ends,
+];
+
+/// B is in a session, and silent. It doesn't delay the end, and its nexus is lost.
+const ENDED_AT_TWO_DOORS: [Step; 4] = [
+    Step::Sends(Request::Login, 1, ACCEPTED),
+    Step::Sends(Request::Ready, 1, CHECK),
+    Step::Ends,
+    Step::IsLeft,
+];
+
+/// B's one command, and its loss.
+const LINES_OF_B: &[u8] = b"1 500000000000000b.1 TEST-UNIT-READY 2 - - 02\n\
+    2 500000000000000b.1 LOSS 6 - - 00\n";
+
+/// B comes back before its first connection has ended. The nexus of the session whose place another one takes is lost before that one
+/// begins.
+const BACK_AGAIN: [Step; 4] = [
+    Step::Sends(Request::Login, 1, ACCEPTED),
+    Step::Sends(Request::Ready, 1, CHECK),
+    Step::ComesAgain,
+    Step::Ends,
+];
+
+const LINES_OF_BOTH_SESSIONS: &[u8] = b"1 500000000000000b.1 TEST-UNIT-READY 2 - - 02\n\
+    2 500000000000000b.1 LOSS 6 - - 00\n\
+    3 500000000000000b.1 LOSS 6 - - 00\n";
+
+const ROWS: [Row; 5] = [
+    (
+        "two-doors",
+        Short::None,
+        &CONFLICT_AT_TWO_DOORS,
+        Some(LINES_OF_BOTH),
+        "of 500000000000000b.1: ended by its LOGOUT after 2 commands",
+    ),
+    (
+        "no-iscsi-login",
+        Short::Login,
+        &NO_LOGIN,
+        Some(b""),
+        "before its LOGIN: nothing came in time\n",
+    ),
+    (
+        "no-pong",
+        Short::Ping,
+        &NO_PONG,
+        None,
+        "of 500000000000000b.1: nothing came in time\n",
+    ),
+    (
+        "live-iscsi",
+        Short::None,
+        &ENDED_AT_TWO_DOORS,
+        Some(LINES_OF_B),
+        "of 500000000000000b.1: ended by the end of input after 1 commands",
+    ),
+    (
+        "back-again",
+        Short::None,
+        &BACK_AGAIN,
+        Some(LINES_OF_BOTH_SESSIONS),
+        "of 500000000000000b.1: ended by the end of input after 1 commands",
+    ),
+];
+
+#[test]
+fn serve_library_serves_initiators_beside_a_socket(rt: HostRuntime) -> Result<(), Fail> {
+    let id = process::id(rt.process());
+    for row in &ROWS {
+        assert_met(&rt, id, *row)?;
+    }
+    Ok(())
+}

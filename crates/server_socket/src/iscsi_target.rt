@@ -1,0 +1,75 @@
+//! The target of a library's portals, and the secrets of those who come in there.
+ghost use Rattle.std.specs.Prelude.{◌≡◌, IfOk, vec_len};
+ghost use Rattle.server_socket.specs.Places.{portals_of};
+
+use crate::secrets_file::secrets_at;
+use crate::socket_fault::SocketFault;
+use command_line::IscsiOptions;
+use iscsi_login::{Access, Authentication, Host, LoginTarget};
+use program_options::NamedHost;
+use std::alloc::{AllocError, Global};
+use std::fs::Files;
+use std::net::SocketAddr;
+
+/// A target, and where its portals are.
+#[derive(Drop)]
+pub(crate) struct PortalTarget {
+    pub target: LoginTarget,
+    pub portals: Vec<SocketAddr>,
+}
+
+/// The target that is asked for. Where none is, it has no portals.
+pub(crate) fn target_of<R: AllocGlobal + Files>(
+    rt: &R,
+    iscsi: Option<IscsiOptions>,
+) -> Result<PortalTarget, SocketFault>
+    ensures { IfOk result (λ made. vec_len made.portals ≡ portals_of iscsi) }
+{
+    let alloc = rt.alloc();
+    let Some(options) = iscsi else {
+        return Ok(PortalTarget {
+            target: target_named(alloc, "", Vec::new(alloc), false, Authentication::None)?,
+            portals: Vec::new(alloc),
+        });
+    };
+    let IscsiOptions {
+        portals,
+        target_name,
+        hosts,
+        any_host,
+        chap,
+    } = options;
+    let hosts = hosts_of(alloc, hosts)?;
+    let authentication = match chap {
+        Some(path) => Authentication::Chap(secrets_at(rt, path)?),
+        None => Authentication::None,
+    };
+    Ok(PortalTarget {
+        target: target_named(alloc, target_name.as_str(), hosts, any_host, authentication)?,
+        portals,
+    })
+}
+
+fn target_named(
+    alloc: Global,
+    name: &str,
+    hosts: Vec<Host>,
+    any_host: bool,
+    authentication: Authentication,
+) -> Result<LoginTarget, AllocError> {
+    Ok(LoginTarget {
+        name: Vec::from_slice(alloc, name.as_bytes())?,
+        access: Access { hosts, any_host },
+        authentication,
+    })
+}
+
+/// The hosts of options, as a login looks them up.
+fn hosts_of(alloc: Global, named: Vec<NamedHost>) -> Result<Vec<Host>, AllocError> {
+    let mut hosts = Vec::new(alloc);
+    for host in named {
+        let NamedHost { name, sas } = host;
+        hosts.push(Host { name, sas })?;
+    }
+    Ok(hosts)
+}
