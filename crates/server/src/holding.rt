@@ -112,7 +112,7 @@ fn converse<'a, S: SeatService, R: Wait, E: Write, I: Read, O: Write>(
     writer: &mut O,
 ) -> Result<End, SessionFault>
     ensures session { IfOk result (λ end. Serves (DoesForWorker S.notes S.settles) S.count service.old (I.remaining reader.old) (I.remaining reader.new) (O.contents writer.old) (O.contents writer.new) end service.new) }
-    ensures broken { IfErr result (λ fault. IsKeptOut service.old (O.contents writer.old) (O.contents writer.new) fault service.new ⊎ BreaksOff (DoesForWorker S.notes S.settles) S.count service.old (I.remaining reader.old) fault service.new) }
+    ensures broken { IfErr result (λ fault. IsKeptOut service.old (I.remaining reader.old) (I.remaining reader.new) (O.contents writer.old) (O.contents writer.new) fault service.new ⊎ BreaksOff (DoesForWorker S.notes S.settles) S.count service.old (I.remaining reader.old) fault service.new) }
 {
     serve(alloc, service, reader, writer, u64::MAX)
 }

@@ -1,8 +1,18 @@
 -- What several reads take, one after another.
-use Rattle.std.proofs.Common.{◌≡◌, ◌≤◌, ◌<◌, ◌+◌, ◌-◌, ◌*◌, ℕ, Option, Some, None, List, [], ◌∷◌, ◌++◌, length, length-append, refl, sym, ap, subst, ◌∙◌, append_assoc, append-nil, arith}
+use Rattle.std.proofs.Common.{Bool, false, ◌⊎◌, inl, inr, ◌≡◌, ◌≤◌, ◌<◌, ◌+◌, ◌-◌, ◌*◌, ℕ, Option, Some, None, List, [], ◌∷◌, ◌++◌, length, length-append, refl, sym, ap, subst, ◌∙◌, append_assoc, append-nil, arith}
+use Rattle.std.specs.Prelude.{Result, Ok, Err, OnOk}
+use Rattle.std.specs.Result.{is_err}
 use Rattle.std.specs.Io.KnownBytes.{Consumes, Keeps}
+use Rattle.frames.specs.Frames.{Invalid, parsed_frame}
 use Rattle.frames.specs.Reading.{Filled}
-use Rattle.session.specs.Login.{ReadsAtMost}
+use Rattle.frames.specs.declared.fault.FrameFault.{FrameFault}
+use Rattle.frames.specs.declared.fault.FrameFault.TheVariants.{BadFrame, TooLong}
+use Rattle.session.specs.Faults.{of_frame}
+use Rattle.scsi_nexus.specs.declared.nexus.Nexus.{Nexus}
+use Rattle.session.specs.declared.fault.SessionFault.{SessionFault}
+use Rattle.session.specs.declared.fault.SessionFault.TheVariants as session
+use Rattle.session.specs.declared.login.LoginWait.TheVariants.{Login}
+use Rattle.session.specs.Login.{Awaits, IsKeptOutBy, KeepsOut, ReadsAtMost, fault_before_login}
 
 pub consumes_none : (left : Option (List ℕ)) → Consumes left left []
 consumes_none None = tt
@@ -54,3 +64,28 @@ pub reads_on : (turn turns count : ℕ) (pending pending' : List ℕ) (a b c : O
     → ReadsAtMost (turns * 262144) a c
 reads_on turn turns count pending pending' a b c lt so got most =
     reads_within (turn + 1) turns a c (omega arith) (reads_more turn count pending pending' a b c so got most)
+
+-- one read more of all that is pending
+pub consumes_filled : (count : ℕ) (pending pending' : List ℕ) (a b c : Option (List ℕ)) → Consumes a b pending → Filled count pending pending' b c → Consumes a c pending'
+consumes_filled count pending pending' a b c so got = subst (λ (xs : List ℕ). Consumes a c xs) (sym got.1) (consumes_more a b c pending got.0 so got.3)
+
+-- what is no frame keeps out
+pub keeps_out : (fault : FrameFault) (read : List ℕ) → parsed_frame false read ≡ Invalid fault → KeepsOut (of_frame fault) read
+keeps_out BadFrame read e = ap fault_before_login e
+keeps_out TooLong read e = ap fault_before_login e
+
+-- a LOGIN whose nexus isn't taken
+pub kept_out : (fault : SessionFault) (turns others : ℕ) (nexus : Nexus) (left left' : Option (List ℕ)) (pending : List ℕ) → (fault ≡ session.AlreadyConnected) ⊎ (fault ≡ session.NoMemory)
+    → Awaits turns left left' pending (Login nexus others) → IsKeptOutBy fault left left'
+kept_out fault turns others nexus left left' pending (inl e) came = rw e (record { read = came.0; consumed = came.2; shown = (nexus, came.1, came.3) })
+kept_out fault turns others nexus left left' pending (inr e) came = rw e (record { read = came.0; consumed = came.2; shown = tt })
+
+-- and one of which the host couldn't be told so
+pub kept_untold : (fault : SessionFault) (turns others : ℕ) (nexus : Nexus) (left left' : Option (List ℕ)) (pending : List ℕ) → fault ≡ session.Write
+    → Awaits turns left left' pending (Login nexus others) → IsKeptOutBy fault left left'
+kept_untold fault turns others nexus left left' pending e came = rw e (record { read = came.0; consumed = came.2; shown = (nexus, came.1, came.3) })
+
+-- what holds where there is no error
+pub at_ok : {T E P : Type 0} (r : Result T E) (b : Bool) → b ≡ is_err r → b ≡ false → OnOk r P → P
+at_ok (Ok u) b is none so = so
+at_ok (Err e) b is none so = let never = sym is ∙ none in absurd cc

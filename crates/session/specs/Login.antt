@@ -1,9 +1,13 @@
 -- How a session begins, and how the end of input ends it.
-use Rattle.std.specs.Prelude.{◌≡◌, ◌≤◌, ◌-◌, ◌*◌, ℕ, false, List, [], ◌∷◌, length, drop, Option}
+use Rattle.std.specs.Prelude.{◌≡◌, ◌≤◌, ◌-◌, ◌*◌, ℕ, false, List, [], ◌∷◌, length, drop, Option, Some, None}
 use Rattle.std.specs.Io.KnownBytes.{Consumes, IsAtEnd}
-use Rattle.frames.specs.Frames.{Login, Partial, Complete, parsed_frame}
+use Rattle.scsi_nexus.specs.declared.nexus.Nexus.{Nexus}
+use Rattle.frames.specs.Frames.{ParsedFrameValue, Login, Command, Reset, Logout, Partial, Complete, Invalid, parsed_frame}
 use Rattle.session.specs.declared.fault.End.{End}
 use Rattle.session.specs.declared.fault.End.TheVariants.{Closed, Cut}
+use Rattle.session.specs.declared.fault.SessionFault.{SessionFault}
+use Rattle.session.specs.declared.fault.SessionFault.TheVariants.{BadFrame, TooLong, AlreadyConnected, Read, Write, NoMemory}
+use Rattle.session.specs.Faults.{of_frame}
 use Rattle.session.specs.declared.login.LoginWait.{LoginWait}
 use Rattle.session.specs.declared.login.LoginWait.TheVariants as wait
 
@@ -27,3 +31,30 @@ Awaits turns left left' pending (wait.Login nexus others) =
     (read : List ℕ) × (count : ℕ) × Consumes left left' read × (parsed_frame false read ≡ Complete (Login nexus) count) × (pending ≡ drop count read) × (others ≤ turns)
 Awaits turns left left' pending (wait.Ended end) =
     Consumes left left' pending × IsAtEnd left' × (parsed_frame false pending ≡ Partial) × (end ≡ end_of pending)
+
+-- the fault of a stream before its LOGIN, by what it begins with, if that is one: another frame than a LOGIN, or none at all
+abbrev pub fault_before_login : ParsedFrameValue → Option SessionFault
+fault_before_login Partial = None
+fault_before_login (Complete (Login nexus) size) = None
+fault_before_login (Complete (Command lun cdb bytes) size) = Some BadFrame
+fault_before_login (Complete (Reset lun) size) = Some BadFrame
+fault_before_login (Complete Logout size) = Some BadFrame
+fault_before_login (Invalid fault) = Some (of_frame fault)
+
+abbrev pub BeginsWithLogin : (read : List ℕ) → Type 0
+BeginsWithLogin read = (nexus : Nexus) × (size : ℕ) × (parsed_frame false read ≡ Complete (Login nexus) size)
+
+-- what was read of a session that is kept out by a fault: what shows that fault; less than a LOGIN where a read failed, and a whole one where the
+-- nexus isn't free, or the host couldn't be told so
+abbrev pub KeepsOut : SessionFault → (read : List ℕ) → Type 0
+KeepsOut BadFrame read = fault_before_login (parsed_frame false read) ≡ Some BadFrame
+KeepsOut TooLong read = fault_before_login (parsed_frame false read) ≡ Some TooLong
+KeepsOut Read read = parsed_frame false read ≡ Partial
+KeepsOut AlreadyConnected read = BeginsWithLogin read
+KeepsOut Write read = BeginsWithLogin read
+KeepsOut NoMemory read = Unit {0}
+
+pub record IsKeptOutBy (fault : SessionFault) (left left' : Option (List ℕ)) : Type 0 where
+  pub read : List ℕ
+  pub consumed : Consumes left left' read
+  pub shown : KeepsOut fault read

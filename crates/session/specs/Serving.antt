@@ -16,7 +16,7 @@ use Rattle.session.specs.declared.fault.SessionFault.{SessionFault}
 use Rattle.session.specs.declared.fault.SessionFault.TheVariants as session
 use Rattle.session.specs.Answering.{Talks, Answers, AnswersAll, ComesByCalls}
 use Rattle.session.specs.Faults.{IsOfStream}
-use Rattle.session.specs.Login.{end_of}
+use Rattle.session.specs.Login.{IsKeptOutBy, end_of}
 
 -- what was pending is answered as far as it is whole, and all replies are written; and so with a LOGOUT at its end
 pub record Writes {S : Type 0} (notes : S → DoneValue → S → Type 0) (n : Nexus) (s : S) (pending out : List ℕ) (written written' : Option (List ℕ)) (rest : List ℕ) (t : S) : Type 0 where
@@ -80,9 +80,10 @@ refusal session.Read = []
 refusal session.Write = []
 refusal session.NoMemory = []
 
--- a session that ended before it was let in did nothing at the service, and wrote its refusal alone
-pub record IsKeptOut {S : Type 0} (s : S) (written written' : Option (List ℕ)) (fault : SessionFault) (t : S) : Type 0 where
+-- a session that ended before it was let in did nothing at the service, wrote its refusal alone, and read what keeps it out
+pub record IsKeptOut {S : Type 0} (s : S) (left left' written written' : Option (List ℕ)) (fault : SessionFault) (t : S) : Type 0 where
   pub service : t ≡ s
+  pub because : IsKeptOutBy fault left left'
   pub said : fault ≢ session.Write → Appends written written' (refusal fault)
 
 -- a session that ended early later on: what was read first is its LOGIN, what it did at the service are calls of its own, and the last that it

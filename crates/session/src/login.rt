@@ -1,6 +1,6 @@
 ghost use Rattle.std.specs.Prelude.{◌≡◌, ◌≤◌, ◌*◌, [], IfOk, IfErr};
 ghost use Rattle.session.specs.Faults.{IsOfStream};
-ghost use Rattle.session.specs.Login.{Awaits, LeavesReads, ReadsAtMost, end_of};
+ghost use Rattle.session.specs.Login.{Awaits, IsKeptOutBy, LeavesReads, ReadsAtMost, end_of};
 
 use crate::fault::{End, SessionFault};
 use frames::{FrameRef, ParsedFrame, ReadBuffer, parse_frame};
@@ -27,6 +27,7 @@ pub(crate) fn await_login<R: Read>(
     ensures reads { ReadsAtMost (turns * 262144) (R.remaining reader.old) (R.remaining reader.new) }
     ensures rest { IfOk result (λ wait. LeavesReads turns (R.remaining reader.old) (R.remaining reader.new) wait) }
     ensures fault { IfErr result IsOfStream }
+    ensures kept_out { IfErr result (λ fault. IsKeptOutBy fault (R.remaining reader.old) (R.remaining reader.new)) }
 {
     'reads: for turn in 0..turns {
         match read_buffer.fill(reader) {
@@ -43,7 +44,11 @@ pub(crate) fn await_login<R: Read>(
                 return Ok(LoginWait::Login { nexus, turns });
             }
             // Before a LOGIN there is no other frame.
-            ParsedFrame::Complete(_, _) => return Err(SessionFault::BadFrame),
+            ParsedFrame::Complete(FrameRef::Command { .. }, _) => {
+                return Err(SessionFault::BadFrame);
+            }
+            ParsedFrame::Complete(FrameRef::Reset { .. }, _) => return Err(SessionFault::BadFrame),
+            ParsedFrame::Complete(FrameRef::Logout, _) => return Err(SessionFault::BadFrame),
         }
     }
     Err(SessionFault::Read)

@@ -136,7 +136,7 @@ pub fn serve<S: Service, R: Read, W: Write>(
     turns: u64,
 ) -> Result<End, SessionFault>
     ensures session { IfOk result (λ end. Serves S.notes S.count service.old (R.remaining reader.old) (R.remaining reader.new) (W.contents writer.old) (W.contents writer.new) end service.new) }
-    ensures broken { IfErr result (λ fault. IsKeptOut service.old (W.contents writer.old) (W.contents writer.new) fault service.new ⊎ BreaksOff S.notes S.count service.old (R.remaining reader.old) fault service.new) }
+    ensures broken { IfErr result (λ fault. IsKeptOut service.old (R.remaining reader.old) (R.remaining reader.new) (W.contents writer.old) (W.contents writer.new) fault service.new ⊎ BreaksOff S.notes S.count service.old (R.remaining reader.old) fault service.new) }
     ensures reads { ReadsAtMost (turns * 262144) (R.remaining reader.old) (R.remaining reader.new) }
 {
     let mut read_buffer = ReadBuffer::new(alloc)?;
@@ -148,7 +148,9 @@ pub fn serve<S: Service, R: Read, W: Write>(
     let key = match service.login(nexus) {
         Ok(key) => key,
         Err(fault) => {
-            refuse(fault, &mut out, writer)?;
+            if refuse(fault, &mut out, writer).is_err() {
+                return Err(SessionFault::Write);
+            }
             return Err(fault);
         }
     };

@@ -1,8 +1,10 @@
 use Rattle.std.proofs.Common.{◌≡◌, ◌∙◌, ◌*◌, ℕ, List, false, ap, sym, subst, refl, length, arith}
 use Rattle.std.specs.Io.KnownBytes.{Consumes}
-use Rattle.frames.specs.Frames.{parsed_frame}
-use Rattle.session.specs.Login.{end_of}
-use Rattle.session.proofs.Read.{consumes_none, consumes_more, nothing_more, reads_none}
+use Rattle.frames.specs.Frames.{Complete, parsed_frame}
+use Rattle.frames.specs.Views.{frame_value}
+use Rattle.session.specs.declared.fault.SessionFault.{SessionFault}
+use Rattle.session.specs.Login.{KeepsOut, end_of, fault_before_login}
+use Rattle.session.proofs.Read.{consumes_none, consumes_more, consumes_filled, keeps_out, nothing_more, reads_none}
 use Rattle.session.proofs.login.await_login.Goals as goal
 
 pub reads-init : goal.reads-init
@@ -26,3 +28,31 @@ returns-in-Ok-eq0-clause-wait g c =
       ap (parsed_frame false) same ∙ so.1,
       c.end_of.ensures ∙ ap end_of c.pending.ensures,
     )
+
+pub returns-in-Invalid-clause-kept_out : goal.returns-in-Invalid-clause-kept_out
+returns-in-Invalid-clause-kept_out g c =
+    let read = c.fill.new.self in
+    let shown : parsed_frame false read ≡ _ = sym (c.in-Invalid.ensures.parsed ∙ ap (parsed_frame false) c.pending-in-reads.ensures) in
+    record {
+      read = read;
+      consumed = consumes_filled _ _ _ _ _ _ c.reads.invariant.0 c.in-Ok.ensures.ok;
+      shown = subst (λ (fault : SessionFault). KeepsOut fault read) (sym c.into.ensures) (keeps_out c.in-Invalid.fault read shown);
+    }
+
+pub returns-in-Complete-Command-default-clause-kept_out : goal.returns-in-Complete-Command-default-clause-kept_out
+returns-in-Complete-Command-default-clause-kept_out g c =
+    let read = c.fill.new.self in
+    let shown : parsed_frame false read ≡ _ = sym (c.in-Complete-Command-default.ensures.parsed ∙ ap (parsed_frame false) c.pending-in-reads.ensures) in
+    record { read = read; consumed = consumes_filled _ _ _ _ _ _ c.reads.invariant.0 c.in-Ok.ensures.ok; shown = ap fault_before_login (shown ∙ ap (λ f. Complete (frame_value f) c.in-Complete-Command-default.field-1) c.in-Complete-Command-default.field-0-is) }
+
+pub returns-in-Complete-Reset-default-clause-kept_out : goal.returns-in-Complete-Reset-default-clause-kept_out
+returns-in-Complete-Reset-default-clause-kept_out g c =
+    let read = c.fill.new.self in
+    let shown : parsed_frame false read ≡ _ = sym (c.in-Complete-Reset-default.ensures.parsed ∙ ap (parsed_frame false) c.pending-in-reads.ensures) in
+    record { read = read; consumed = consumes_filled _ _ _ _ _ _ c.reads.invariant.0 c.in-Ok.ensures.ok; shown = ap fault_before_login (shown ∙ ap (λ f. Complete (frame_value f) c.in-Complete-Reset-default.field-1) c.in-Complete-Reset-default.field-0-is) }
+
+pub returns-in-Complete-Logout-default-clause-kept_out : goal.returns-in-Complete-Logout-default-clause-kept_out
+returns-in-Complete-Logout-default-clause-kept_out g c =
+    let read = c.fill.new.self in
+    let shown : parsed_frame false read ≡ _ = sym (c.in-Complete-Logout-default.ensures.parsed ∙ ap (parsed_frame false) c.pending-in-reads.ensures) in
+    record { read = read; consumed = consumes_filled _ _ _ _ _ _ c.reads.invariant.0 c.in-Ok.ensures.ok; shown = ap fault_before_login (shown ∙ ap (λ f. Complete (frame_value f) c.in-Complete-Logout-default.field-1) c.in-Complete-Logout-default.field-0-is) }

@@ -1,4 +1,4 @@
-use Rattle.std.proofs.Common.{inr, refl, subst, sym, drop, true, false, Bool, List, ℕ}
+use Rattle.std.proofs.Common.{inl, inr, refl, subst, sym, drop, true, false, Bool, List, ℕ}
 use Rattle.frames.specs.Replies.{LoginReply, reply_bytes}
 use Rattle.frames.specs.declared.reply_frame.LoginAnswer.TheVariants.{Accepted}
 use Rattle.session.specs.declared.login.LoginWait.{LoginWait}
@@ -6,7 +6,7 @@ use Rattle.session.specs.Answering.{ComesByCalls}
 use Rattle.session.specs.Login.{Awaits, LeavesReads}
 use Rattle.session.specs.Serving.{Converses, IsLostBelow}
 use Rattle.session.proofs.Conversed.{held}
-use Rattle.session.proofs.Read.{reads_then}
+use Rattle.session.proofs.Read.{at_ok, kept_out, kept_untold, reads_then}
 use Rattle.session.proofs.serving.serve.Goals as goal
 
 pub returns-in-Ok-ended-clause-session : goal.returns-in-Ok-ended-clause-session
@@ -93,4 +93,18 @@ returns-clause-broken g c =
       calls = subst (λ s. ComesByCalls notes nexus s talk.service) c.login.ensures.library c.greet_and_converse-ended.ensures.calls;
       lost = all;
       ended = c.in-Err-ended.ensures.fault;
+    })
+
+pub returns-then-is_err-clause-broken : goal.returns-then-is_err-clause-broken
+returns-then-is_err-clause-broken g c =
+    let came = subst (λ (e : LoginWait). Awaits c.args.turns (g.R.Read.remaining c.args.reader.now) (g.R.Read.remaining c.await_login.new.reader) c.await_login.new.read_buffer e) c.in-Login.is c.in_ok-nexus.ensures.wait in
+    inl (record { service = c.login.ensures.library; because = kept_untold _ c.args.turns _ _ _ _ _ refl came; said = λ other. absurd (other refl) })
+
+pub returns-in-Err-clause-broken : goal.returns-in-Err-clause-broken
+returns-in-Err-clause-broken g c =
+    let came = subst (λ (e : LoginWait). Awaits c.args.turns (g.R.Read.remaining c.args.reader.now) (g.R.Read.remaining c.await_login.new.reader) c.await_login.new.read_buffer e) c.in-Login.is c.in_ok-nexus.ensures.wait in
+    inl (record {
+      service = c.login.ensures.library;
+      because = kept_out c.in-Err.fault c.args.turns _ _ _ _ _ c.in-Err.ensures.faults came;
+      said = λ other. at_ok c.refuse.result c.is_err.result c.is_err.ensures.value c.if-is_err.false c.refuse.ensures.said;
     })
