@@ -2,10 +2,11 @@
 """Hosts that misbehave at `vtl serve`, beside one that doesn't: status 0 where the server and that one host come through.
 
 One is killed in the middle of a frame, one never logs in, one sends 10 MB of noise, and one sends frames one byte at a time; then
-sixty-four hosts ask a hundred times each, at once.
+sixty-four hosts ask a hundred times each, at once; then more come than the server has descriptors for.
 """
 import os
 import random
+import resource
 import signal
 import socket
 import struct
@@ -93,6 +94,28 @@ def serve(sessions, hosts):
             return server.returncode, records.read().decode().splitlines(), told.decode().splitlines()
 
 
+def crowd(path):
+    """More connections than a server with few descriptors can accept, for a second; then one that behaves well."""
+    connections = [connect(path) for _ in range(16)]
+    time.sleep(1)
+    for connection in connections:
+        connection.close()
+    return well_behaved(path, 0xC, 100)
+
+
+def serve_with_few_descriptors():
+    """A server with 20 descriptors and a crowd: its status, the statuses of the last host's replies, and what it told once it was ready."""
+    with tempfile.TemporaryDirectory() as folder:
+        path = os.path.join(folder, "vtl")
+        pipes = {"stdin": subprocess.PIPE, "stdout": subprocess.DEVNULL, "stderr": subprocess.PIPE, "bufsize": 0}
+        few = lambda: resource.setrlimit(resource.RLIMIT_NOFILE, (20, 20))
+        server = subprocess.Popen([VTL, "serve", "--socket", path], preexec_fn=few, **pipes)
+        assert server.stderr.readline().decode().startswith("vtl: serving at ")
+        statuses = crowd(path)
+        _, told = server.communicate(timeout=60)
+        return server.returncode, statuses, told.decode().splitlines()
+
+
 def main():
     told = {}
     hosts = [
@@ -117,6 +140,10 @@ def main():
     numbers = [int(line.split()[0]) for line in records]
     # LUN 0 has the records of all: each host's commands, and its loss at the end. The drive has none.
     assert numbers == list(range(1, len(numbers) + 1)) and len(numbers) == 64 * 101
+    status, statuses, lines = serve_with_few_descriptors()
+    print(f"a crowd and 20 descriptors: status {status}, {len(lines)} lines, {sorted(set(lines))}")
+    assert status == 0 and statuses == [2] + 99 * [0]
+    assert any("accepted" in line for line in lines)
 
 
 main()
