@@ -2,48 +2,13 @@
  *
  * round_trips VTL_SOCKET PLAIN_SOCKET: four drives with a volume each are asked at VTL_SOCKET; the plain server is started here.
  */
-#include <pthread.h>
+#include "plain_server.h"
 #include <signal.h>
-#include <stdint.h>
-#include <stdio.h>
-#include <stdlib.h>
 #include <string.h>
-#include <sys/socket.h>
 #include <sys/un.h>
 #include <sys/wait.h>
-#include <time.h>
-#include <unistd.h>
 
-enum { BLOCK = 65536, HEAD = 15, CONNECTIONS = 4, ROUND = 200, SLICES = 10 };
-
-static void fail(const char *what)
-{
-    perror(what);
-    exit(1);
-}
-
-static void send_all(int socket, const uint8_t *bytes, size_t count)
-{
-    while (count > 0) {
-        ssize_t sent = write(socket, bytes, count);
-        if (sent <= 0) fail("write");
-        bytes += sent;
-        count -= (size_t)sent;
-    }
-}
-
-/* 0 at the end of the stream. */
-static int receive_all(int socket, uint8_t *bytes, size_t count)
-{
-    while (count > 0) {
-        ssize_t got = read(socket, bytes, count);
-        if (got < 0) fail("read");
-        if (got == 0) return 0;
-        bytes += got;
-        count -= (size_t)got;
-    }
-    return 1;
-}
+enum { HEAD = 15, CONNECTIONS = 4, SLICES = 10 };
 
 static struct sockaddr_un address_of(const char *path)
 {
@@ -58,37 +23,6 @@ static int connect_to(const char *path)
     int socket_of = socket(AF_UNIX, SOCK_STREAM, 0);
     if (connect(socket_of, (struct sockaddr *)&address, sizeof address) != 0) fail(path);
     return socket_of;
-}
-
-/* THE PLAIN SERVER: how many bytes a request and a reply have comes first, each in four bytes. */
-
-static void *answer_plainly(void *given)
-{
-    int socket_of = *(int *)given;
-    uint32_t sizes[2];
-    uint8_t *bytes = calloc(1, BLOCK + HEAD);
-    free(given);
-    while (receive_all(socket_of, (uint8_t *)sizes, sizeof sizes)) {
-        for (int turn = 0; turn < ROUND; turn++) {
-            if (!receive_all(socket_of, bytes, sizes[0])) break;
-            send_all(socket_of, bytes, sizes[1]);
-        }
-    }
-    close(socket_of);
-    free(bytes);
-    return NULL;
-}
-
-static void serve_plainly(int listener)
-{
-    for (;;) {
-        int *connection = malloc(sizeof *connection);
-        pthread_t thread;
-        *connection = accept(listener, NULL, NULL);
-        if (*connection < 0) fail("accept");
-        pthread_create(&thread, NULL, answer_plainly, connection);
-        pthread_detach(thread);
-    }
 }
 
 /* THE HOSTS */
@@ -115,7 +49,7 @@ static size_t frame(uint8_t *out, int lun, const uint8_t *cdb, int cdb_length, s
 /* One command, and its status. */
 static int ask(int socket_of, uint8_t *out, size_t length, uint8_t *in)
 {
-    send_all(socket_of, out, length);
+    send_bytes(socket_of, out, length);
     if (!receive_all(socket_of, in, 4)) fail("reply");
     uint32_t body = (uint32_t)in[0] << 24 | (uint32_t)in[1] << 16 | (uint32_t)in[2] << 8 | in[3];
     if (!receive_all(socket_of, in, body)) fail("reply");
@@ -134,12 +68,12 @@ static void *play(void *given)
     uint32_t sizes[2] = {(uint32_t)length, (uint32_t)(HEAD + (host->kind == READ ? BLOCK : 0))};
     for (int round = 0; round < host->rounds; round++) {
         if (host->is_plain)
-            send_all(host->socket, (uint8_t *)sizes, sizeof sizes);
+            send_bytes(host->socket, (uint8_t *)sizes, sizeof sizes);
         else if (ask(host->socket, rewind_to, rewinding, in) != 0)
             fail("REWIND");
         for (int turn = 0; turn < ROUND; turn++) {
             if (host->is_plain) {
-                send_all(host->socket, out, length);
+                send_bytes(host->socket, out, length);
                 if (!receive_all(host->socket, in, sizes[1])) fail("plain reply");
             } else if (ask(host->socket, out, length, in) != 0) {
                 fail("command");
@@ -157,7 +91,7 @@ static void prepare(int socket_of, int place)
     uint8_t out[64], in[256];
     uint8_t login[15] = {0, 0, 0, 11, 1, 0x50, 0, 0, 0, 0, 0, 0, (uint8_t)(10 + place), 0, 1};
     uint8_t move[12] = {0xa5, 0, 0, 0, 4, (uint8_t)place, 1, (uint8_t)place};
-    send_all(socket_of, login, sizeof login);
+    send_bytes(socket_of, login, sizeof login);
     if (!receive_all(socket_of, in, 6) || in[5] != 0) fail("LOGIN");
     for (int turn = 0; turn < 2; turn++) ask(socket_of, out, frame(out, 0, move, 12, 0), in);
     for (int turn = 0; turn < 3; turn++) ask(socket_of, out, frame(out, place + 1, CDBS[READY], 6, 0), in);
@@ -168,16 +102,8 @@ static void prepare(int socket_of, int place)
 static double measure(int *sockets, int count, enum kind kind, int rounds, int is_plain)
 {
     struct host hosts[CONNECTIONS];
-    pthread_t threads[CONNECTIONS];
-    struct timespec start, end;
-    clock_gettime(CLOCK_MONOTONIC, &start);
-    for (int place = 0; place < count; place++) {
-        hosts[place] = (struct host){sockets[place], place, kind, rounds, is_plain};
-        pthread_create(&threads[place], NULL, play, &hosts[place]);
-    }
-    for (int place = 0; place < count; place++) pthread_join(threads[place], NULL);
-    clock_gettime(CLOCK_MONOTONIC, &end);
-    return (double)(end.tv_sec - start.tv_sec) + 1e-9 * (double)(end.tv_nsec - start.tv_nsec);
+    for (int place = 0; place < count; place++) hosts[place] = (struct host){sockets[place], place, kind, rounds, is_plain};
+    return seconds_of(play, hosts, sizeof *hosts, count);
 }
 
 int main(int argc, char **argv)
@@ -210,7 +136,7 @@ int main(int argc, char **argv)
     }
     for (int place = 0; place < CONNECTIONS; place++) {
         uint8_t in[16];
-        send_all(ours[place], (const uint8_t[5]){0, 0, 0, 1, 4}, 5);
+        send_bytes(ours[place], (const uint8_t[5]){0, 0, 0, 1, 4}, 5);
         receive_all(ours[place], in, 5);
         close(ours[place]);
     }
