@@ -1,5 +1,6 @@
 #!/usr/bin/env python3
-"""Memory of `vtl serve --drain` over ten million TEST UNIT READYs: eight hosts, two at each of four drives, and then eight at one drive.
+"""Memory of `vtl serve --drain` over ten million TEST UNIT READYs: four hosts, each at a drive of its own, then eight hosts, two at each
+of four drives, and then eight at one drive.
 
 Prints the resident memory after the first 100,000 commands and after each further tenth, and the commands a second. The lines go to
 /dev/null. `--commands N` asks for another number.
@@ -15,7 +16,6 @@ import time
 
 TOP = os.path.dirname(os.path.dirname(os.path.abspath(__file__)))
 VTL = subprocess.run([os.path.join(TOP, "vtl"), "build"], stdout=subprocess.PIPE, text=True, check=True).stdout.strip()
-HOSTS = 8
 BATCH = 500
 # The drives are empty: each answer has sense data.
 REPLY = 33
@@ -37,9 +37,9 @@ def exactly(connection, count):
 class Host(threading.Thread):
     """Logs in, and asks a unit in batches."""
 
-    def __init__(self, path, number, lun, batches, gate):
+    def __init__(self, path, number, lun, batches, first, gate):
         super().__init__()
-        self.path, self.number, self.lun, self.batches, self.gate = path, number, lun, batches, gate
+        self.path, self.number, self.lun, self.batches, self.first, self.gate = path, number, lun, batches, first, gate
         self.asked = 0
 
     def run(self):
@@ -52,7 +52,7 @@ class Host(threading.Thread):
                 connection.sendall(ask * BATCH)
                 exactly(connection, REPLY * BATCH)
                 self.asked += BATCH
-                if self.asked == FIRST // HOSTS // BATCH * BATCH:
+                if self.asked == self.first:
                     self.gate.wait()
             connection.sendall(framed(b"\x04"))
             exactly(connection, 5)
@@ -63,20 +63,20 @@ def resident(process):
         return next(int(line.split()[1]) for line in file if line.startswith("VmRSS"))
 
 
-def measure(name, commands, lun_of):
+def measure(name, commands, count, lun_of):
     with tempfile.TemporaryDirectory() as folder:
         path = os.path.join(folder, "vtl")
-        options = ["serve", "--socket", path, "--drives", "4", "--workers", str(HOSTS), "--drain"]
+        options = ["serve", "--socket", path, "--drives", "4", "--workers", str(count), "--drain"]
         server = subprocess.Popen([VTL, *options], stdin=subprocess.PIPE, stdout=subprocess.DEVNULL, stderr=subprocess.PIPE, text=True)
         server.stderr.readline()
         at_start = resident(server.pid)
-        gate = threading.Barrier(HOSTS + 1)
-        hosts = [Host(path, n, lun_of(n), commands // HOSTS // BATCH, gate) for n in range(HOSTS)]
+        gate = threading.Barrier(count + 1)
+        hosts = [Host(path, n, lun_of(n), commands // count // BATCH, FIRST // count // BATCH * BATCH, gate) for n in range(count)]
         for host in hosts:
             host.start()
         while not all(host.asked for host in hosts):
             time.sleep(0.01)
-        while gate.n_waiting < HOSTS:
+        while gate.n_waiting < count:
             time.sleep(0.01)
         first = resident(server.pid)
         start = time.monotonic()
@@ -104,8 +104,9 @@ def main():
     parser = argparse.ArgumentParser()
     parser.add_argument("--commands", type=int, default=10_000_000)
     commands = parser.parse_args().commands
-    measure("eight hosts at four drives", commands, lambda number: 1 + number % 4)
-    measure("eight hosts at one drive", commands, lambda number: 1)
+    measure("four hosts at four drives", commands, 4, lambda number: 1 + number)
+    measure("eight hosts at four drives", commands, 8, lambda number: 1 + number % 4)
+    measure("eight hosts at one drive", commands, 8, lambda number: 1)
 
 
 main()
