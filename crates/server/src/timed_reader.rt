@@ -3,6 +3,9 @@ use std::os::unix::net::UnixStream;
 use std::sync::atomic::{AtomicBool, Ordering};
 use std::time::{Clock, Duration, Instant};
 
+/// How often one read may be cut short by a signal.
+const MOST_SIGNALS: u32 = 1000;
+
 /// How long a connection is waited for. `None`: for ever.
 #[derive(Clone, Copy, Debug, PartialEq, Eq)]
 pub(crate) struct Patience {
@@ -128,18 +131,23 @@ impl<'a, C: Clock> Read for TimedReader<'a, C> {
         }
         self.limit_wait(wait)?;
         let mut stream = self.stream;
-        match stream.read(buffer) {
-            Ok(count) => {
-                self.silence = Duration::ZERO;
-                Ok(count)
-            }
-            Err(error) => match error.kind() {
-                // Which of the two a read gives whose time is up depends on the system.
-                ErrorKind::WouldBlock | ErrorKind::TimedOut => {
-                    Err(io::Error::from(self.kind_behind(wait)))
+        'tries: for _cut_short in 0..MOST_SIGNALS {
+            match stream.read(buffer) {
+                Ok(count) => {
+                    self.silence = Duration::ZERO;
+                    return Ok(count);
                 }
-                _ => Err(error),
-            },
+                Err(error) => match error.kind() {
+                    // A read that waits for a time is cut short where the program was stopped and goes on.
+                    ErrorKind::Interrupted => {}
+                    // Which of the two a read gives whose time is up depends on the system.
+                    ErrorKind::WouldBlock | ErrorKind::TimedOut => {
+                        return Err(io::Error::from(self.kind_behind(wait)));
+                    }
+                    _ => return Err(error),
+                },
+            }
         }
+        Err(io::Error::from(ErrorKind::Interrupted))
     }
 }
