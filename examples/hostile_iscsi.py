@@ -299,6 +299,19 @@ def run_floods(server, count):
     return f"{count} sessions full of data took {(filled - before) / MEBIBYTE:.0f} MiB, 8 that read nothing {(drowned - before) / MEBIBYTE:.0f}"
 
 
+def run_pause(server):
+    """The program is stopped for a second and goes on, as from a terminal: a session that waits for its host goes on too."""
+    session = let_in(server.place, name_of(0), isid=bytes([0x80, 0, 0, 0, 3, 0]))
+    time.sleep(0.2)
+    os.kill(server.process, signal.SIGSTOP)
+    time.sleep(1)
+    os.kill(server.process, signal.SIGCONT)
+    time.sleep(0.2)
+    session.check(session.is_alive(), "no answer behind a pause")
+    session.check(session.log_out() == 0, "no logout")
+    return "a pause of the program, and a session that outlasts it"
+
+
 def run_crowd(place, good):
     """Connections that never log in, beside which the host that behaves goes on; and once they are gone others may come."""
     crowd, waiting = [], []
@@ -539,6 +552,7 @@ def run(server, options):
         lambda: run_crowd(server.place, good),
         lambda: run_comings(server.place, 2 if options.quick else 10, chance),
         lambda: run_floods(server, 16),
+        lambda: run_pause(server),
         # The last, since a name that chance has changed may take a slot for good.
         lambda: run_chance(server.place, 300 if options.quick else 6000, chance),
     ]
