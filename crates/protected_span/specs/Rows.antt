@@ -92,7 +92,7 @@ position_1 = replicate 7 0 ++ 1 ∷ 0 ∷ 0 ∷ 0 ∷ 1 ∷ replicate 8 0
 
 -- the tape with A's block alone, read to its end
 abbrev pub written_by_a : TapeView
-written_by_a = record { objects = Block (1 ∷ 2 ∷ 3 ∷ 4 ∷ []) ∷ []; position = 1; capacity = 1000 }
+written_by_a = record { objects = Block (1 ∷ 2 ∷ 3 ∷ 4 ∷ []) ∷ []; position = 1; capacity = 1000; unchanged = 0 }
 
 -- A holds Exclusive Access
 pub record WorkedSpan (tag : VolumeTag) : Type 0 where

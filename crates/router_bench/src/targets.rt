@@ -13,7 +13,7 @@ use target_core::TargetCore;
 pub(crate) const DRIVES: u8 = 4;
 
 /// How many bytes of blocks a volume takes: 64 MiB.
-const CAPACITY: u32 = 67_108_864;
+const CAPACITY: u64 = 67_108_864;
 
 pub(crate) fn four_drives(alloc: Global) -> io::Result<TargetCore<Device>> {
     let mut elements = Elements::new(alloc, u16::from(DRIVES), u16::from(DRIVES), 0)?;

@@ -1,11 +1,14 @@
 use std::alloc::{AllocError, Global};
 use std::io;
-use tape_medium::{Item, MAX_BLOCK, MAX_CAPACITY, SpaceCode, Tape, TapeFault};
+use tape_medium::{Item, MAX_BLOCK, SpaceCode, Tape, TapeFault};
 
 pub(crate) const MARKS: u32 = 1_000_000;
 
+/// How many bytes of blocks the tape takes.
+const CAPACITY: u64 = 67_108_864;
+
 pub(crate) fn blank(alloc: Global) -> Tape {
-    Tape::new(alloc, MAX_CAPACITY)
+    Tape::new(alloc, CAPACITY)
 }
 
 /// A block of the most bytes.

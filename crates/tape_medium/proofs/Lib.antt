@@ -1,7 +1,11 @@
+pub mod PieceLemmas
+pub mod PlaceLemmas
 pub mod StoreLemmas
 pub mod WriteLemmas
+pub mod PutLemmas
 pub mod BlockLemmas
-pub mod ShortLemmas
+pub mod LengthLemmas
+pub mod ChangeLemmas
 pub mod WayLemmas
 pub mod PlainLemmas
 pub mod ElementLemmas

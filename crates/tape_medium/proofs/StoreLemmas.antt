@@ -1,4 +1,4 @@
-use Rattle.std.proofs.Common.{◌≡◌, ◌≢◌, ℕ, ◌+◌, ◌-◌, ◌<◌, ◌≤◌, zero, suc, Bool, true, false, List, [], ◌∷◌, ◌++◌, length, take, drop, get_or, sym, refl, ap, ◌∙◌, arith, cond, Some, length-append, eqb, eq-eqb}
+use Rattle.std.proofs.Common.{◌≡◌, ◌≢◌, ℕ, ◌+◌, ◌<◌, ◌≤◌, zero, suc, Bool, true, false, List, [], ◌∷◌, ◌++◌, length, take, drop, get_or, sym, refl, ap, ◌∙◌, arith, cond, Some, length-append, eqb, eq-eqb}
 use Rattle.std.specs.Prelude.{slice_range, slice_get}
 use Rattle.std.proofs.lemmas.Bool.{eqb-true}
 use Rattle.std.proofs.lemmas.Bool.Decides.{nat_tests}
@@ -34,17 +34,6 @@ pub end_after-take-le : (s at : ℕ) (es : List ℕ) → IsIndex s es → end_af
 end_after-take-le s zero es i = IsIndex-le s es i
 end_after-take-le s (suc at) [] i = omega arith
 end_after-take-le s (suc at) (e ∷ es) i = end_after-take-le e at es i.1
-
--- where the objects up to one end is its end
-pub end_after-at : (s at : ℕ) (es : List ℕ) (d : ℕ) → at < length es → end_after s (take (suc at) es) ≡ get_or es at d
-end_after-at s zero [] d h = omega arith
-end_after-at s zero (e ∷ es) d h = refl
-end_after-at s (suc at) [] d h = omega arith
-end_after-at s (suc at) (e ∷ es) d h = end_after-at e at es d (omega arith)
-
-pub end_after-prior : (s at : ℕ) (es : List ℕ) (d : ℕ) → 0 < at → at ≤ length es → end_after s (take at es) ≡ get_or es (at - 1) d
-end_after-prior s zero es d p h = omega arith
-end_after-prior s (suc at) es d p h = let e : suc at - 1 ≡ at = omega arith in rw e (end_after-at s at es d (omega arith))
 
 pub end-order : (s at : ℕ) (es : List ℕ) (d : ℕ) → IsIndex s es → at < length es → end_after s (take at es) ≤ get_or es at d
 end-order s zero [] d i h = omega arith
@@ -126,9 +115,6 @@ bytes_in-objects_in xs s (e ∷ es) i le =
 pub cut-le : (bytes ends : List ℕ) (at : ℕ) → IsKept bytes ends → end_after 0 (take at ends) ≤ length bytes
 cut-le bytes ends at kept = omega (arith, end_after-take-le 0 at ends kept.ordered, kept.whole)
 
-pub end-within : (bytes ends : List ℕ) (at d : ℕ) → IsKept bytes ends → at < length ends → get_or ends at d ≤ length bytes
-end-within bytes ends at d kept h = omega (arith, cut-le bytes ends (suc at) kept, end_after-at 0 at ends d h)
-
 pub bytes_in-behind : (bytes ends : List ℕ) (at : ℕ) → IsKept bytes ends → bytes_in (take at (objects_in bytes 0 ends)) ≡ end_after 0 (take at ends)
 bytes_in-behind bytes ends at kept =
     let e : 0 + bytes_in (objects_in bytes 0 (take at ends)) ≡ end_after 0 (take at ends) = bytes_in-objects_in bytes 0 (take at ends) (IsIndex-take 0 at ends kept.ordered) (cut-le bytes ends at kept) in
@@ -146,16 +132,6 @@ bytes-behind bytes ends at os is kept = rw (← is) (bytes_in-behind bytes ends 
 
 pub cut-at : (bytes ends : List ℕ) (at k : ℕ) (os : List Object) → objects_in bytes 0 ends ≡ os → IsKept bytes ends → k ≡ bytes_in (take at os) → k ≡ end_after 0 (take at ends)
 cut-at bytes ends at k os is kept e = e ∙ bytes-behind bytes ends at os is kept
-
--- the bytes end with the first objects
-pub shown-cut : (bytes ends : List ℕ) (at k : ℕ) → IsKept bytes ends → k ≡ end_after 0 (take at ends) → objects_in (take k bytes) 0 (take at ends) ≡ take at (objects_in bytes 0 ends)
-shown-cut bytes ends at k kept is =
-    objects_in-agree (take k bytes) bytes 0 k (take at ends) (take-take k k bytes (omega arith)) (IsIndex-take 0 at ends kept.ordered) (omega arith) ∙ objects_in-take bytes 0 at ends
-
-pub kept-cut : (bytes ends : List ℕ) (at k : ℕ) → IsKept bytes ends → k ≡ end_after 0 (take at ends) → IsKept (take k bytes) (take at ends)
-kept-cut bytes ends at k kept is =
-    let le : k ≤ length bytes = omega (arith, cut-le bytes ends at kept) in
-    record { ordered = IsIndex-take 0 at ends kept.ordered; whole = sym is ∙ sym (length-take-le k bytes le) }
 
 -- READING one
 

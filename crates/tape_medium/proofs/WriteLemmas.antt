@@ -1,10 +1,10 @@
 use Rattle.std.proofs.Common.{◌≡◌, ◌≢◌, replicate, ◌*◌, ◌/◌, ◌%◌, ℕ, ◌+◌, ◌-◌, ◌<◌, ◌≤◌, zero, suc, List, [], ◌∷◌, ◌++◌, length, take, drop, refl, ap, ◌∙◌, arith}
 use Rattle.std.specs.Prelude.{slice_range}
-use Rattle.std.proofs.lemmas.List.{take-take, length-take-le, append-nil, take_at, drop_at, drop-drop, take_all}
+use Rattle.std.proofs.lemmas.List.{length-take-le, take_at, drop_at, drop-drop, take_all}
 use Rattle.tape_medium.specs.Object.{Object, Block, Mark}
 use Rattle.tape_medium.specs.Tape.{blocks, marks}
 use Rattle.tape_medium.specs.Store.{object, objects_in, end_after, IsIndex, IsKept, block_ends}
-use Rattle.tape_medium.proofs.StoreLemmas.{object-mark, object-block, cut-le, shown-put, kept-put}
+use Rattle.tape_medium.proofs.StoreLemmas.{object-mark, object-block, cut-le, shown-put, kept-put, IsIndex-take, IsIndex-append, end_after-append}
 
 -- A BLOCK
 
@@ -45,26 +45,21 @@ objects_in-marks xs k (suc count) =
     let rest : objects_in xs k (replicate count k) ≡ marks count = objects_in-marks xs k count in
     cc
 
-pub kept-marks : (bytes ends : List ℕ) (at k count : ℕ) → IsKept bytes ends → k ≡ end_after 0 (take at ends) → IsKept (take k bytes) (take at ends ++ replicate count k)
+pub kept-marks : (bytes ends : List ℕ) (at k count : ℕ) → IsKept bytes ends → k ≡ end_after 0 (take at ends) → IsKept bytes (take at ends ++ replicate count k)
 kept-marks bytes ends at k count kept is =
-    let put : IsKept (take k bytes ++ []) (take at ends ++ replicate count k) = kept-put bytes [] ends (replicate count k) at k kept is (IsIndex-marks k count) (omega (arith, end_after-marks k count)) in
-    rw append-nil at put
+    let follows : IsIndex (end_after 0 (take at ends)) (replicate count k) = rw (← is) (IsIndex-marks k count) in
+    let last : end_after 0 (take at ends ++ replicate count k) ≡ end_after (end_after 0 (take at ends)) (replicate count k) = end_after-append 0 (take at ends) (replicate count k) in
+    let rest : end_after (end_after 0 (take at ends)) (replicate count k) ≡ k = rw (← is) (end_after-marks k count) in
+    record {
+      ordered = IsIndex-append 0 (take at ends) (replicate count k) (IsIndex-take 0 at ends kept.ordered) follows;
+      whole = omega (arith, cut-le bytes ends at kept);
+    }
 
-pub shown-marks : (bytes ends : List ℕ) (at k count : ℕ) (os : List Object) → objects_in bytes 0 ends ≡ os → IsKept bytes ends → k ≡ end_after 0 (take at ends) → objects_in (take k bytes) 0 (take at ends ++ replicate count k) ≡ take at os ++ marks count
+pub shown-marks : (bytes ends : List ℕ) (at k count : ℕ) (os : List Object) → objects_in bytes 0 ends ≡ os → IsKept bytes ends → k ≡ end_after 0 (take at ends) → objects_in bytes 0 (take at ends ++ replicate count k) ≡ take at os ++ marks count
 shown-marks bytes ends at k count os as_is kept is =
-    rw (← as_is, ← objects_in-marks (take k bytes) k count) (shown-put bytes (take k bytes) ends (replicate count k) at k kept is (take-take k k bytes (omega arith)))
+    rw (← as_is, ← objects_in-marks bytes k count) (shown-put bytes bytes ends (replicate count k) at k kept is refl)
 
 -- BLOCKS OF ONE SIZE
-
-pub block_ends-push : (size count from : ℕ) → block_ends size (suc count) from ≡ block_ends size count from ++ (from + count * size + size) ∷ []
-block_ends-push size zero from = ap (λ (n : ℕ). n ∷ []) (omega arith)
-block_ends-push size (suc count) from =
-    let next : from + size + count * size + size ≡ from + suc count * size + size = grind arith in
-    let rest : block_ends size (suc count) (from + size) ≡ block_ends size count (from + size) ++ (from + size + count * size + size) ∷ [] = block_ends-push size count (from + size) in
-    ap (λ (es : List ℕ). (from + size) ∷ es) (rw (← next) rest)
-
-pub block_ends-more : (size count from : ℕ) → block_ends size (count + 1) from ≡ block_ends size count from ++ (from + count * size + size) ∷ []
-block_ends-more size count from = let e : count + 1 ≡ suc count = omega arith in rw e (block_ends-push size count from)
 
 pub IsIndex-blocks : (size count from : ℕ) → IsIndex from (block_ends size count from)
 IsIndex-blocks size zero from = tt

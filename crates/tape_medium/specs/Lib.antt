@@ -2,13 +2,16 @@ pub mod Limits
 pub mod Object
 pub mod TapeView
 pub mod Tape
+pub mod Changes
 pub mod Space
 pub mod Elements
 pub mod ElementStatus
 pub mod Volumes
+pub mod Settling
 pub mod Rows
+pub mod Pieces
 pub mod Store
-pub mod Found
+pub mod Lent
 pub mod Kept
 pub mod Along
 pub mod Plain

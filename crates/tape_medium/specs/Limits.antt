@@ -6,7 +6,7 @@ block_limit = 65536
 
 -- the most bytes of blocks that a tape is made for
 abbrev pub capacity_limit : ℕ
-capacity_limit = 67108864
+capacity_limit = 68719476736
 
 -- the most logical objects of a tape
 abbrev pub object_limit : ℕ

@@ -1,7 +1,7 @@
 use Rattle.std.specs.Prelude.{◌≡◌, ℕ, pos, negsuc, [], ◌∷◌, ◌++◌, replicate, Option, Some, None, Ok, Err, true, false}
 use Rattle.tape_medium.specs.Object.{Block, Mark}
 use Rattle.tape_medium.specs.TapeView.{TapeView}
-use Rattle.tape_medium.specs.Tape.{blank, moved_to, writes_block, object_at, item_of, bytes_of, passed}
+use Rattle.tape_medium.specs.Tape.{blank, moved_to, settled, erased, writes_block, writes_marks, object_at, item_of, bytes_of, passed}
 use Rattle.tape_medium.specs.Space.{spaced}
 use Rattle.tape_medium.specs.Elements.{Elements, takes, puts, notes, moves, move_refusal}
 use Rattle.tape_medium.specs.Volumes.{volumes}
@@ -18,7 +18,7 @@ use Rattle.tape_medium.specs.declared.volume.VolumeTag.{VolumeTag}
 
 -- a block of 400 bytes and a filemark
 abbrev pub block_and_mark : ℕ → TapeView
-block_and_mark position = record { objects = Block (replicate 400 7) ∷ Mark ∷ []; position = position; capacity = 1000 }
+block_and_mark position = record { objects = Block (replicate 400 7) ∷ Mark ∷ []; position = position; capacity = 1000; unchanged = 0 }
 
 -- reads of 1000 bytes give the block, the filemark, then the end; a read of 300 gives the first 300 bytes
 pub record ReadsOfOtherLength : Type 0 where
@@ -48,12 +48,29 @@ pub record SpacesBothWays : Type 0 where
 
 -- a tape for 10 bytes takes 6 and then no 5 more; from its beginning it takes 10
 abbrev pub six : TapeView
-six = record { objects = Block (replicate 6 1) ∷ []; position = 1; capacity = 10 }
+six = record { objects = Block (replicate 6 1) ∷ []; position = 1; capacity = 10; unchanged = 0 }
 
 pub record OverflowKeepsTape : Type 0 where
   pub first : writes_block (blank 10) (replicate 6 1) ≡ Ok six
   pub full : writes_block six (replicate 5 2) ≡ Err Overflow
-  pub again : writes_block (moved_to six 0) (replicate 10 3) ≡ Ok (record { objects = Block (replicate 10 3) ∷ []; position = 1; capacity = 10 })
+  pub again : writes_block (moved_to six 0) (replicate 10 3) ≡ Ok (record { objects = Block (replicate 10 3) ∷ []; position = 1; capacity = 10; unchanged = 0 })
+
+-- two blocks and a filemark, the first so many of them unchanged
+abbrev pub three : (position unchanged : ℕ) → TapeView
+three position unchanged =
+    record { objects = Block (1 ∷ []) ∷ Block (2 ∷ []) ∷ Mark ∷ []; position = position; capacity = 10; unchanged = unchanged }
+
+-- a write and an erasure leave those before the position unchanged, as far as they were; moving leaves them all
+pub record UnchangedBeforeThePosition : Type 0 where
+  pub fresh : (blank 10).unchanged ≡ 0
+  pub all : settled (three 3 1) 3 ≡ three 3 3
+  pub moved : moved_to (three 3 3) 0 ≡ three 0 3
+  pub cut : erased (three 1 3) ≡ record (three 1 1) { objects = Block (1 ∷ []) ∷ [] }
+  pub cut_behind : erased (three 2 1) ≡ record (three 2 1) { objects = Block (1 ∷ []) ∷ Block (2 ∷ []) ∷ [] }
+  pub written : writes_block (three 1 3) (2 ∷ []) ≡ Ok (record (three 2 1) { objects = Block (1 ∷ []) ∷ Block (2 ∷ []) ∷ [] })
+  pub written_behind : writes_marks (three 3 3) 1 ≡ Ok (record (three 4 3) { objects = Block (1 ∷ []) ∷ Block (2 ∷ []) ∷ Mark ∷ Mark ∷ [] })
+  pub nothing_written : writes_marks (three 1 3) 0 ≡ Ok (three 1 3)
+  pub not_written : writes_block (three 1 3) (replicate 11 5) ≡ Err Overflow
 
 -- one data transfer element, two storage elements, a volume in the first of these
 abbrev pub one_drive : VolumeTag → Elements

@@ -1,5 +1,7 @@
-use Rattle.std.specs.Prelude.{◌≡◌, ℕ, ◌+◌, ◌≤◌, zero, suc, ◌==◌, List, length, [], ◌∷◌, slice_range, if◌then◌else◌}
+use Rattle.std.specs.Prelude.{ℕ, ◌+◌, ◌≤◌, zero, suc, ◌==◌, List, length, [], ◌∷◌, slice_range, if◌then◌else◌}
 use Rattle.tape_medium.specs.Object.{Object, Block, Mark}
+use Rattle.tape_medium.specs.Pieces.{PieceView, IsHome}
+use Rattle.tape_medium.specs.declared.index.Place.{Place}
 
 -- the object between two ends in the store: a filemark takes no bytes, and each block takes some
 abbrev pub object : List ℕ → ℕ → ℕ → Object
@@ -25,7 +27,28 @@ abbrev pub IsIndex : ℕ → List ℕ → Type 0
 IsIndex start [] = Unit {0}
 IsIndex start (end ∷ ends) = (start ≤ end) × IsIndex end ends
 
--- what a store keeps between its calls
+-- what the bytes of a store and its ends keep between its calls
 pub record IsKept (bytes : List ℕ) (ends : List ℕ) : Type 0 where
   pub ordered : IsIndex 0 ends
-  pub whole : end_after 0 ends ≡ length bytes
+  pub whole : end_after 0 ends ≤ length bytes
+
+-- where the objects end
+abbrev pub ends_of : List Place → List ℕ
+ends_of [] = []
+ends_of (place ∷ places) = place.end ∷ ends_of places
+
+-- the piece of the last object
+abbrev pub home_after : ℕ → List Place → ℕ
+home_after home [] = home
+home_after home (place ∷ places) = home_after place.home places
+
+-- where so many blocks of one size end, all in one piece
+abbrev pub block_places : ℕ → ℕ → ℕ → ℕ → List Place
+block_places size zero start home = []
+block_places size (suc count) start home = record { end = start + size; home = home } ∷ block_places size count (start + size) home
+
+-- each object lies in its piece, or where it ends if it takes no bytes, and none in an earlier piece than the one before it
+abbrev pub AreHoused : List PieceView → ℕ → ℕ → List Place → Type 0
+AreHoused pieces start home [] = Unit {0}
+AreHoused pieces start home (place ∷ places) =
+    (home ≤ place.home) × IsHome pieces place.home start place.end × AreHoused pieces place.end place.home places

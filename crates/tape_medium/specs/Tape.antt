@@ -28,15 +28,24 @@ ahead t = drop t.position t.objects
 
 -- the same objects, at another position
 abbrev pub moved_to : TapeView → ℕ → TapeView
-moved_to t position = record { objects = t.objects; position = position; capacity = t.capacity }
+moved_to t position = record t { position = position }
 
 -- a tape with nothing on it
 abbrev pub blank : ℕ → TapeView
-blank capacity = record { objects = []; position = 0; capacity = capacity }
+blank capacity = record { objects = []; position = 0; capacity = capacity; unchanged = 0 }
+
+-- from now on the first so many objects count as unchanged
+abbrev pub settled : TapeView → ℕ → TapeView
+settled t count = record t { unchanged = count }
+
+-- what lies from the position on is changed
+abbrev pub unchanged_behind : TapeView → ℕ
+unchanged_behind t = min t.unchanged t.position
 
 -- WRITING. The objects are put at the position, all that lay after is dropped, and the position is behind them.
 abbrev pub written : TapeView → List Object → TapeView
-written t more = record { objects = behind t ++ more; position = t.position + length more; capacity = t.capacity }
+written t more =
+    record t { objects = behind t ++ more; position = t.position + length more; unchanged = unchanged_behind t }
 
 -- what lies after the position doesn't count
 abbrev pub fits : TapeView → List Object → Bool
@@ -80,7 +89,7 @@ IsFaultOf told fault = (told ≡ Err fault) ⊎ ((fault ≡ NoMemory) × IsOk to
 
 -- ERASE drops all from the position on
 abbrev pub erased : TapeView → TapeView
-erased t = record { objects = behind t; position = t.position; capacity = t.capacity }
+erased t = record t { objects = behind t; unchanged = unchanged_behind t }
 
 -- READING
 abbrev pub object_at : TapeView → Option Object

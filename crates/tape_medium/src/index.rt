@@ -1,16 +1,32 @@
-//! The two vectors of a store: the bytes of all blocks, and the end of each object in them.
+//! Where the objects of a store lie.
 
-ghost use Rattle.std.specs.Prelude.{◌≡◌, ◌+◌, ◌*◌, ◌<◌, ◌≤◌, ◌^◌, ◌++◌, ◌∷◌, [], vec_len, vec_capacity, take, length, replicate, slice_range, max, OnOk};
-ghost use Rattle.tape_medium.specs.Store.{block_ends, end_after};
+ghost use Rattle.std.specs.Prelude.{◌≡◌, ◌+◌, ◌*◌, ◌<◌, ◌≤◌, ◌^◌, ◌++◌, ◌∷◌, [], vec_len, vec_capacity, take, length, replicate, slice_range, OnOk};
+ghost use Rattle.tape_medium.specs.Store.{ends_of, end_after, home_after, block_places};
 
 use std::alloc::AllocError;
 
+/// Where an object ends, in bytes of all blocks, and in which piece of memory. A filemark ends where the object before it does; no
+/// block is empty.
+#[derive(Clone, Copy)]
+pub(crate) struct Place {
+    pub(crate) end: usize,
+    pub(crate) home: usize,
+}
+
 /// Where the objects before `at` end.
-pub(crate) fn end_before(ends: &[u32], at: usize) -> usize
-    requires { at ≤ length ends.now }
-    ensures { result ≡ end_after 0 (take at ends.now) }
+pub(crate) fn end_before(places: &[Place], at: usize) -> usize
+    requires { at ≤ length places.now }
+    ensures { result ≡ end_after 0 (ends_of (take at places.now)) }
 {
-    if at == 0 { 0 } else { ends[at - 1] as usize }
+    if at == 0 { 0 } else { places[at - 1].end }
+}
+
+/// In which piece they end.
+pub(crate) fn home_before(places: &[Place], at: usize) -> usize
+    requires { at ≤ length places.now }
+    ensures { result ≡ home_after 0 (take at places.now) }
+{
+    if at == 0 { 0 } else { places[at - 1].home }
 }
 
 pub(crate) fn part(bytes: &[u8], start: usize, end: usize) -> &[u8]
@@ -21,72 +37,62 @@ pub(crate) fn part(bytes: &[u8], start: usize, end: usize) -> &[u8]
     &bytes[start..end]
 }
 
-/// Makes room for `total` bytes in all, those that a write will drop included: for twice as many as there was room for, so that a
-/// tape is moved but seldom, yet for no more than it takes.
-pub(crate) fn reserve_bytes(
-    bytes: &mut Vec<u8>,
-    total: usize,
-    capacity: usize,
-) -> Result<(), AllocError>
-    requires { total ≤ capacity }
-    ensures items { bytes.new.items ≡ bytes.old.items }
-    ensures ok { OnOk result (total ≤ vec_capacity bytes.new) }
-    ensures within { vec_capacity bytes.new ≤ max (vec_capacity bytes.old) capacity }
+/// Makes room for `total` items in all.
+pub(crate) fn reserve_total<T>(items: &mut Vec<T>, total: usize) -> Result<(), AllocError>
+    ensures items { items.new.items ≡ items.old.items }
+    ensures len { vec_len items.new ≡ vec_len items.old }
+    ensures ok { OnOk result (total ≤ vec_capacity items.new) }
 {
-    if total <= bytes.capacity() {
-        return Ok(());
-    }
-    let room = bytes.capacity().saturating_mul(2).max(total).min(capacity);
-    bytes.reserve_exact(room.saturating_sub(bytes.len()))
-}
-
-/// Makes room for `total` ends in all.
-pub(crate) fn reserve_ends(ends: &mut Vec<u32>, total: usize) -> Result<(), AllocError>
-    ensures items { ends.new.items ≡ ends.old.items }
-    ensures ok { OnOk result (total ≤ vec_capacity ends.new) }
-{
-    ends.reserve(total.saturating_sub(ends.len()))
+    items.reserve(total.saturating_sub(items.len()))
 }
 
 /// Puts bytes behind the first `at`, within the room.
 pub(crate) fn put_bytes(bytes: &mut Vec<u8>, at: usize, more: &[u8])
     requires room { at + length more.now ≤ vec_capacity bytes.old }
-    ensures { bytes.new.items ≡ take at bytes.old.items ++ more.now }
+    ensures items { bytes.new.items ≡ take at bytes.old.items ++ more.now }
+    ensures capacity { vec_capacity bytes.old ≤ vec_capacity bytes.new }
 {
     bytes.truncate(at);
     let _ = bytes.extend_from_slice(more);
 }
 
-/// Puts an end behind the first `at`, within the room.
-pub(crate) fn put_end(ends: &mut Vec<u32>, at: usize, end: u32)
-    requires room { at < vec_capacity ends.old }
-    ensures { ends.new.items ≡ take at ends.old.items ++ end ∷ [] }
+/// Puts a place behind the first `at`, within the room.
+pub(crate) fn put_place(places: &mut Vec<Place>, at: usize, place: Place)
+    requires room { at < vec_capacity places.old }
+    ensures { places.new.items ≡ take at places.old.items ++ place ∷ [] }
 {
-    ends.truncate(at);
-    let _ = ends.push(end);
+    places.truncate(at);
+    let _ = places.push(place);
 }
 
-/// Puts the ends of `count` filemarks behind the first `at`, within the room: each ends where the object before it does.
-pub(crate) fn put_mark_ends(ends: &mut Vec<u32>, at: usize, end: u32, count: usize)
-    requires within { at ≤ vec_len ends.old }
-    requires room { at + count ≤ vec_capacity ends.old }
-    ensures { ends.new.items ≡ take at ends.old.items ++ replicate count end }
+/// Puts the places of `count` filemarks behind the first `at`, within the room: each lies where the object before it ends.
+pub(crate) fn put_mark_places(places: &mut Vec<Place>, at: usize, place: Place, count: usize)
+    requires within { at ≤ vec_len places.old }
+    requires room { at + count ≤ vec_capacity places.old }
+    ensures { places.new.items ≡ take at places.old.items ++ replicate count place }
 {
-    ends.truncate(at);
-    let _ = ends.resize(at + count, end);
+    places.truncate(at);
+    let _ = places.resize(at + count, place);
 }
 
-/// Puts the ends of `count` blocks of `size` bytes behind the first `at`, within the room. The first block begins at `from`.
-pub(crate) fn put_block_ends(ends: &mut Vec<u32>, at: usize, from: u32, size: u32, count: usize)
-    requires within { at ≤ vec_len ends.old }
-    requires room { at + count ≤ vec_capacity ends.old }
-    requires fits { from + count * size < 2 ^ 32 }
-    ensures { ends.new.items ≡ take at ends.old.items ++ block_ends size count from }
+/// Puts the places of `count` blocks of `size` bytes behind the first `at`, within the room. The first block begins at `from`.
+pub(crate) fn put_block_places(
+    places: &mut Vec<Place>,
+    at: usize,
+    from: usize,
+    size: usize,
+    count: usize,
+    home: usize,
+)
+    requires within { at ≤ vec_len places.old }
+    requires room { at + count ≤ vec_capacity places.old }
+    requires fits { from + count * size < 2 ^ 64 }
+    ensures { places.new.items ≡ take at places.old.items ++ block_places size count from home }
 {
-    ends.truncate(at);
+    places.truncate(at);
     let mut end = from;
     for _ in 0..count {
         end += size;
-        let _ = ends.push(end);
+        let _ = places.push(Place { end, home });
     }
 }

@@ -1,6 +1,7 @@
 //! Worked rows that the definitions compute to, and laws of every call. Each function has an empty body: its clause is the row or the law.
 
-ghost use Rattle.tape_medium.specs.Rows.{ReadsOfOtherLength, SpacesBothWays, OverflowKeepsTape, ElementStatusOfOneDrive, MovesOfOneDrive, VolumesOfAChanger, StatusOfAPort};
+ghost use Rattle.tape_medium.specs.Rows.{ReadsOfOtherLength, SpacesBothWays, OverflowKeepsTape, UnchangedBeforeThePosition, ElementStatusOfOneDrive, MovesOfOneDrive, VolumesOfAChanger, StatusOfAPort};
+ghost use Rattle.tape_medium.specs.Changes.{UnchangedStayInFront};
 ghost use Rattle.tape_medium.specs.Volumes.{TakesOne, AddsOne, KeepsAll, NotesMoveNothing};
 ghost use Rattle.tape_medium.specs.declared.volume.VolumeTag.{VolumeTag};
 
@@ -17,6 +18,13 @@ pub fn spaces_both_ways()
 /// A write past the capacity leaves the tape, and what lies after the position doesn't count.
 pub fn overflow_keeps_tape()
     ensures { OverflowKeepsTape }
+{}
+
+/// Law: whatever is done to a tape since it was settled, the objects that it tells to be unchanged are the first of those that it had
+/// then. A write, an erasure and a move of the position, and what they leave unchanged of three objects.
+pub fn unchanged_objects_stay_in_front()
+    ensures stay { UnchangedStayInFront }
+    ensures row { UnchangedBeforeThePosition }
 {}
 
 /// The parameter data of READ ELEMENT STATUS, and the moves, of a changer with one drive and two storage elements.

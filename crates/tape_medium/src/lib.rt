@@ -1,4 +1,4 @@
-//! A tape as its logical objects, over one store of bytes, and the volume that carries it.
+//! A tape as its logical objects, over pieces of memory, and the volume that carries it.
 #![tactic(auto)]
 
 mod elements;
@@ -7,7 +7,10 @@ mod index;
 mod item;
 pub mod laws;
 mod limits;
+mod object;
 mod passage;
+mod piece;
+mod pieces;
 pub mod plain;
 mod space;
 mod store;
@@ -18,6 +21,7 @@ pub use elements::{FIRST_DATA_TRANSFER, FIRST_IMPORT_EXPORT, FIRST_STORAGE, MapF
 pub use fault::TapeFault;
 pub use item::Item;
 pub use limits::{MAX_BLOCK, MAX_CAPACITY, MAX_OBJECTS};
+pub use object::TapeObject;
 pub use space::{SpaceCode, SpaceEnd, Stop};
 pub use tape::Tape;
 pub use volume::{Volume, VolumeTag};

@@ -6,17 +6,17 @@ ghost use Rattle.tape_medium.specs.Limits.{capacity_limit, object_limit};
 ghost use Rattle.tape_medium.specs.Object.{Mark};
 ghost use Rattle.tape_medium.specs.Along.{in_way, edge_of, code_of, way_of};
 ghost use Rattle.tape_medium.specs.Space.{way, spaced};
-ghost use Rattle.tape_medium.specs.Tape.{size_of, is_mark, bytes_in, blocks, marks, blank, behind, written, writes_block, writes_blocks, writes_marks, IsFaultOf, object_at, item_of, bytes_of, passed, moved_to, located, erased};
-ghost use Rattle.tape_medium.specs.Found.{shown};
+ghost use Rattle.tape_medium.specs.Tape.{size_of, is_mark, bytes_in, blocks, marks, blank, settled, behind, written, writes_block, writes_blocks, writes_marks, IsFaultOf, object_at, item_of, bytes_of, passed, moved_to, located, erased};
+ghost use Rattle.tape_medium.specs.Lent.{lent_object};
 ghost use Rattle.tape_medium.specs.Plain.{object_of, objects_of};
 
 use crate::fault::TapeFault;
 use crate::index::part;
 use crate::item::Item;
 use crate::limits::{MAX_BLOCK, MAX_OBJECTS};
+use crate::object::TapeObject;
 use crate::passage::Passage;
 use crate::space::{SpaceCode, SpaceEnd, Stop};
-use crate::store::Found;
 use std::alloc::{AllocError, Global};
 use std::marker::Model;
 
@@ -47,13 +47,13 @@ impl Stored {
     }
 }
 
-fn stored_at(objects: &[Stored], at: usize) -> Found<'_>
+fn stored_at(objects: &[Stored], at: usize) -> TapeObject<'_>
     requires { at < length objects.now }
-    ensures { slice_get (objects_of objects.now) at ≡ Some (shown result) }
+    ensures { slice_get (objects_of objects.now) at ≡ Some (lent_object result) }
 {
     match &objects[at] {
-        Stored::Block(bytes) => Found::Block(bytes),
-        Stored::Mark => Found::Mark,
+        Stored::Block(bytes) => TapeObject::Block(bytes),
+        Stored::Mark => TapeObject::Mark,
     }
 }
 
@@ -173,32 +173,34 @@ pub struct PlainTape {
     objects: Vec<Stored>,
     position: usize,
     capacity: usize,
+    unchanged: u32,
     alloc: Global,
 }
 
 impl Model for PlainTape {
+    ghost use Rattle.std.specs.Prelude.{◌<◌, ◌^◌};
     ghost use Rattle.tape_medium.specs.TapeView.{TapeView};
     ghost use Rattle.tape_medium.specs.Kept.{IsTape};
     ghost use Rattle.tape_medium.specs.Plain.{objects_of};
 
     ghost Value = { TapeView };
 
-    ghost view = { λ a. record { objects = objects_of a.objects.items; position = a.position; capacity = a.capacity } };
+    ghost view = { λ a. record { objects = objects_of a.objects.items; position = a.position; capacity = a.capacity; unchanged = a.unchanged } };
 
-    ghost invariant = { λ a. IsTape (objects_of a.objects.items) a.position a.capacity };
+    ghost invariant = { λ a. IsTape (objects_of a.objects.items) a.position a.capacity × (a.capacity < 2 ^ 32) };
 }
 
 impl PlainTape {
     /// A blank tape for `capacity` bytes of blocks, at its beginning.
     pub fn new(alloc: Global, capacity: u32) -> PlainTape
-        requires some { 0 < capacity }
-        requires within { capacity ≤ capacity_limit }
+        requires { 0 < capacity }
         ensures { result ≡ blank capacity }
     {
         PlainTape {
             objects: Vec::new(alloc),
             position: 0,
             capacity: capacity as usize,
+            unchanged: 0,
             alloc,
         }
     }
@@ -215,6 +217,20 @@ impl PlainTape {
         ensures { result ≡ length self.now.objects }
     {
         self.objects.len() as u32
+    }
+
+    /// As `Tape::unchanged`.
+    pub fn unchanged(&self) -> u32
+        ensures { result ≡ self.now.unchanged }
+    {
+        self.unchanged
+    }
+
+    /// As `Tape::settle`.
+    pub fn settle(&mut self, count: u32)
+        ensures { self.new ≡ settled self.old count }
+    {
+        self.unchanged = count;
     }
 
     /// Goes to the beginning.
@@ -240,6 +256,7 @@ impl PlainTape {
         ensures { self.new ≡ erased self.old }
     {
         self.objects.truncate(self.position);
+        self.unchanged = self.unchanged.min(self.position as u32);
     }
 
     /// How many bytes the objects before the position take.
@@ -261,6 +278,7 @@ impl PlainTape {
         self.objects.reserve(count.saturating_sub(after))?;
         self.objects.truncate(self.position);
         let _ = self.objects.append(&mut more);
+        self.unchanged = self.unchanged.min(self.position as u32);
         self.position += count;
         Ok(())
     }
@@ -355,11 +373,11 @@ impl PlainTape {
             return Ok(Item::End);
         }
         match stored_at(&self.objects, self.position) {
-            Found::Mark => {
+            TapeObject::Mark => {
                 self.position += 1;
                 Ok(Item::Mark)
             }
-            Found::Block(block) => {
+            TapeObject::Block(block) => {
                 let length = block.len();
                 let part = &block[..length.min(limit as usize)];
                 if into.extend_from_slice(part).is_err() {

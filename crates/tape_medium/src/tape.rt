@@ -1,42 +1,57 @@
 //! The tape.
 
-ghost use Rattle.std.specs.Prelude.{◌≡◌, ◌<◌, ◌≤◌, ◌+◌, ◌++◌, ◌↔◌, length, OnOk, OnErr, IfOk, IfErr, IsOk, IsErrOf, IsTrue, Ok, vec_len, vec_capacity, IsOkUnless};
+ghost use Rattle.std.specs.Prelude.{◌≡◌, ◌<◌, ◌≤◌, ◌+◌, ◌++◌, ◌↔◌, length, OnOk, OnErr, IfOk, IfErr, IsOk, IsErrOf, IsTrue, Ok, vec_len, vec_capacity, IsOkUnless, IfSome, slice_get, option_map};
 ghost use Rattle.tape_medium.specs.Limits.{block_limit, capacity_limit, object_limit};
+ghost use Rattle.tape_medium.specs.Kept.{HasLength, HaveLengths};
+ghost use Rattle.tape_medium.specs.Lent.{lent_object};
 ghost use Rattle.tape_medium.specs.Along.{code_of};
 ghost use Rattle.tape_medium.specs.Space.{spaced};
-ghost use Rattle.tape_medium.specs.Tape.{blank, writes_block, writes_blocks, writes_marks, IsFaultOf, object_at, item_of, bytes_of, passed, moved_to, located, erased};
+ghost use Rattle.tape_medium.specs.Tape.{blank, settled, writes_block, writes_blocks, writes_marks, IsFaultOf, object_at, item_of, bytes_of, passed, moved_to, located, erased};
 
 use crate::fault::TapeFault;
 use crate::item::Item;
 use crate::limits::{MAX_BLOCK, MAX_OBJECTS};
+use crate::object::TapeObject;
 use crate::passage::pass_objects;
 use crate::space::{SpaceCode, SpaceEnd, Stop};
-use crate::store::{Found, Store};
+use crate::store::Store;
 use std::alloc::Global;
 use std::marker::Model;
 
-/// A tape: logical objects, each a block of bytes or a filemark, a position, and a capacity in bytes of blocks.
+/// A tape: logical objects, each a block of bytes or a filemark, a position, and a capacity in bytes of blocks. For whoever keeps a
+/// copy of it, it tells how many of its first objects are as they were, and lends them.
+///
+/// ```text
+/// for at in tape.unchanged()..tape.object_count() {
+///     if let Some(object) = tape.object(at) {
+///         copy(object);
+///     }
+/// }
+/// tape.settle(tape.object_count());
+/// ```
 #[derive(Drop)]
 pub struct Tape {
     store: Store,
     position: usize,
     capacity: usize,
+    unchanged: usize,
 }
 
 impl Model for Tape {
+    ghost use Rattle.std.specs.Prelude.{◌≤◌, length};
     ghost use Rattle.tape_medium.specs.TapeView.{TapeView};
-    ghost use Rattle.tape_medium.specs.Kept.{IsTape, AreShort};
+    ghost use Rattle.tape_medium.specs.Kept.{IsTape, HaveLengths};
 
     ghost Value = { TapeView };
 
-    ghost view = { λ a. record { objects = a.store; position = a.position; capacity = a.capacity } };
+    ghost view = { λ a. record { objects = a.store; position = a.position; capacity = a.capacity; unchanged = a.unchanged } };
 
-    ghost invariant = { λ a. IsTape a.store a.position a.capacity × AreShort a.store };
+    ghost invariant = { λ a. IsTape a.store a.position a.capacity × HaveLengths a.store × (a.unchanged ≤ length a.store) };
 }
 
 impl Tape {
     /// A blank tape for `capacity` bytes of blocks, at its beginning.
-    pub fn new(alloc: Global, capacity: u32) -> Tape
+    pub fn new(alloc: Global, capacity: u64) -> Tape
         requires some { 0 < capacity }
         requires within { capacity ≤ capacity_limit }
         ensures { result ≡ blank capacity }
@@ -45,6 +60,7 @@ impl Tape {
             store: Store::new(alloc),
             position: 0,
             capacity: capacity as usize,
+            unchanged: 0,
         }
     }
 
@@ -60,16 +76,46 @@ impl Tape {
     pub fn object_count(&self) -> u32
         ensures value { result ≡ length self.now.objects }
         ensures few { result ≤ object_limit }
+        ensures lengths { HaveLengths self.now.objects }
     {
         self.store.len() as u32
     }
 
     /// How many bytes of blocks the tape takes.
-    pub fn capacity(&self) -> u32
+    pub fn capacity(&self) -> u64
         ensures value { result ≡ self.now.capacity }
         ensures within { result ≤ capacity_limit }
     {
-        self.capacity as u32
+        self.capacity as u64
+    }
+
+    /// The object behind the first `at`, where it lies.
+    pub fn object(&self, at: u32) -> Option<TapeObject<'_>>
+        ensures value { option_map lent_object result ≡ slice_get self.now.objects at }
+        ensures length { IfSome result (λ object. HasLength (lent_object object)) }
+    {
+        let at = at as usize;
+        if at >= self.store.len() {
+            return None;
+        }
+        Some(self.store.object(at))
+    }
+
+    /// How many of the first objects are those that there were when the tape was settled, none where it wasn't: a write and an
+    /// erasure change what lies from the position on, whatever it was.
+    pub fn unchanged(&self) -> u32
+        ensures value { result ≡ self.now.unchanged }
+        ensures within { result ≤ length self.now.objects }
+    {
+        self.unchanged as u32
+    }
+
+    /// From now on the first `count` objects count as unchanged.
+    pub fn settle(&mut self, count: u32)
+        requires { count ≤ length self.old.objects }
+        ensures { self.new ≡ settled self.old count }
+    {
+        self.unchanged = count as usize;
     }
 
     /// Goes to the beginning.
@@ -96,6 +142,7 @@ impl Tape {
         ensures { self.new ≡ erased self.old }
     {
         self.store.truncate(self.position);
+        self.unchanged = self.unchanged.min(self.position);
     }
 
     /// Writes one block at the position and drops all that lay after (SSC-4, "WRITE(6) command").
@@ -120,6 +167,7 @@ impl Tape {
         {
             return Err(TapeFault::NoMemory);
         }
+        self.unchanged = self.unchanged.min(self.position);
         self.position += 1;
         Ok(())
     }
@@ -151,11 +199,12 @@ impl Tape {
         }
         match self
             .store
-            .put_blocks(self.position, bytes, size, self.capacity)
+            .put_blocks(self.position, bytes, size as usize, self.capacity)
         {
             Ok(()) => {}
             Err(_) => return Err(TapeFault::NoMemory),
         }
+        self.unchanged = self.unchanged.min(self.position);
         self.position += count;
         Ok(())
     }
@@ -178,6 +227,7 @@ impl Tape {
         if self.store.put_marks(self.position, count).is_err() {
             return Err(TapeFault::NoMemory);
         }
+        self.unchanged = self.unchanged.min(self.position);
         self.position += count;
         Ok(())
     }
@@ -201,11 +251,11 @@ impl Tape {
             return Ok(Item::End);
         }
         match self.store.object(self.position) {
-            Found::Mark => {
+            TapeObject::Mark => {
                 self.position += 1;
                 Ok(Item::Mark)
             }
-            Found::Block(block) => {
+            TapeObject::Block(block) => {
                 let length = block.len();
                 let part = &block[..length.min(limit as usize)];
                 if into.extend_from_slice(part).is_err() {

@@ -39,7 +39,7 @@ block = 7 ∷ 8 ∷ []
 -- the drive with these objects on its tape, at their end, and these records
 abbrev pub device_with : VolumeTag → List Object → DeviceView
 device_with tag objects = Drive (record {
-  bay = Some (record { tag = tag; protected = false; tape = record { objects = objects; position = length objects; capacity = 1000 } });
+  bay = Some (record { tag = tag; protected = false; tape = record { objects = objects; position = length objects; capacity = 1000; unchanged = 0 } });
   loaded = true;
   block_length = 0;
 })

@@ -69,7 +69,7 @@ places us = volume_in us 0x100 ∷ volume_in us 0x400 ∷ volume_in us 0x401 ∷
 
 -- the volume once a block was written on it
 abbrev pub written_at : (position : ℕ) → Volume
-written_at position = record (volume first_tag) { tape = record { objects = Block (7 ∷ 8 ∷ []) ∷ []; position = position; capacity = 1000 } }
+written_at position = record (volume first_tag) { tape = record { objects = Block (7 ∷ 8 ∷ []) ∷ []; position = position; capacity = 1000; unchanged = 0 } }
 
 abbrev pub cartridge : VolumeTag → Cartridge
 cartridge tag = record { tag = tag; protected = false; capacity = 1000 }

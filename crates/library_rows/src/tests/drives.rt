@@ -89,7 +89,7 @@ const NO_FILEMARK: Request = Request::WriteFilemarks {
     filemark_count: 0,
 };
 
-fn volume(alloc: Global, capacity: u32, protected: bool) -> Volume
+fn volume(alloc: Global, capacity: u64, protected: bool) -> Volume
     requires some { 0 < capacity }
     requires within { capacity ≤ 67108864 }
 {
@@ -109,7 +109,7 @@ struct Host {
 
 impl Host {
     /// With such a volume in the bay.
-    fn with_volume(rt: &impl Abort, alloc: Global, capacity: u32, protected: bool) -> Host
+    fn with_volume(rt: &impl Abort, alloc: Global, capacity: u64, protected: bool) -> Host
         requires some { 0 < capacity }
         requires within { capacity ≤ 67108864 }
     {
@@ -228,7 +228,7 @@ fn refused(
 }
 
 /// A volume with so many filemarks.
-fn marked(alloc: Global, capacity: u32, protected: bool, marks: u32) -> Result<Volume, Fail>
+fn marked(alloc: Global, capacity: u64, protected: bool, marks: u32) -> Result<Volume, Fail>
     requires some { 0 < capacity }
     requires within { capacity ≤ 67108864 }
 {

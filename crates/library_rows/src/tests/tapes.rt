@@ -290,9 +290,17 @@ impl Both {
         self.plain.rewind();
     }
 
+    fn settle(&mut self) {
+        let count = self.tape.object_count();
+        self.tape.settle(count);
+        self.plain.settle(count);
+    }
+
     fn assert_same_place(&self, rt: &impl Abort) {
         let plain = (self.plain.object_count(), self.plain.position());
         assert_same(rt, counts(&self.tape), plain, "the place");
+        let (unchanged, plain) = (self.tape.unchanged(), self.plain.unchanged());
+        assert_same(rt, unchanged, plain, "what is unchanged");
     }
 
     fn step(&mut self, rt: &impl Abort, numbers: &mut Numbers, bytes: &[u8], longest: u32) {
@@ -314,7 +322,8 @@ impl Both {
                 let code = numbers.code();
                 self.space(rt, code, numbers.count());
             }
-            35..=37 => self.locate(rt, numbers.below(40)),
+            35 | 36 => self.locate(rt, numbers.below(40)),
+            37 => self.settle(),
             38 => self.erase(),
             _ => self.rewind(),
         }
@@ -345,7 +354,7 @@ fn assert_agreed(
 {
     let mut numbers = Numbers { state: seed };
     let mut both = Both {
-        tape: Tape::new(alloc, capacity),
+        tape: Tape::new(alloc, u64::from(capacity)),
         plain: PlainTape::new(alloc, capacity),
         read: Vec::new(alloc),
         read_plain: Vec::new(alloc),

@@ -13,7 +13,7 @@ use tape_server::TapeDrive;
 use target_core::{CoreFault, TargetCore};
 
 /// How many bytes of blocks a volume takes.
-const CAPACITY: u32 = 16_777_216;
+const CAPACITY: u64 = 16_777_216;
 
 /// A volume without data.
 pub(super) fn volume(alloc: Global, tag: VolumeTag) -> Volume {

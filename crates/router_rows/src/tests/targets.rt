@@ -13,7 +13,7 @@ use target_core::TargetCore;
 const UNITS: u8 = 3;
 
 /// How many bytes of blocks a volume takes.
-const CAPACITY: u32 = 1024;
+const CAPACITY: u64 = 1024;
 
 /// A volume without data, whose tag is one letter over and over.
 fn volume(alloc: Global, letter: u8) -> Volume {

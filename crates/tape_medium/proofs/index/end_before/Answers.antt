@@ -1,5 +1,5 @@
 use Rattle.std.proofs.Common.{arith, sym}
-use Rattle.tape_medium.proofs.StoreLemmas.{end_after-prior}
+use Rattle.tape_medium.proofs.PlaceLemmas.{end_after-prior}
 use Rattle.tape_medium.proofs.index.end_before.Goals as goal
 
 pub returns-else-at-eq0 : goal.returns-else-at-eq0

@@ -1,20 +1,28 @@
-use Rattle.std.proofs.Common.{arith, ◌≤◌, length}
+use Rattle.std.proofs.Common.{◌≡◌, ◌≤◌, length, take, arith}
 use Rattle.std.proofs.lemmas.Grind.{common_steps}
-use Rattle.tape_medium.proofs.StoreLemmas.{cut-at, within-ends}
-use Rattle.tape_medium.proofs.WriteLemmas.{kept-blocks, shown-blocks, whole-blocks}
+use Rattle.tape_medium.specs.Store.{home_after}
+use Rattle.tape_medium.proofs.PutLemmas.{within-places, lies-before, blocks-put}
 use Rattle.tape_medium.proofs.store.Store.put_blocks.Goals as goal
+
+pub home_before-home-requires : goal.home_before-home-requires
+home_before-home-requires c = rw c.deref.ensures.value (within-places c.self.inside.pieces _ _ _ c.self.view_is c.requires.within)
+
+pub put-requires : goal.put-requires
+put-requires c =
+    let home : c.home_before-home.result ≡ home_after 0 (take c.args.at c.self.inside.places.items) = rw (← c.deref.ensures.value) c.home_before-home.ensures in
+    record { home = lies-before c.self.inside.pieces _ _ _ _ _ c.self.view_is c.self.invariant c.bytes_before-start.ensures home }
+
+pub put_block_places-requires-clause-within : goal.put_block_places-requires-clause-within
+put_block_places-requires-clause-within c =
+    let within : c.args.at ≤ length c.self.inside.places.items = within-places c.self.inside.pieces _ _ _ c.self.view_is c.requires.within in
+    grind (arith, common_steps)
 
 pub invariant_of-self-2 : goal.invariant_of-self-2
 invariant_of-self-2 c =
-    let start = cut-at _ _ _ _ _ c.self.view_is c.self.invariant c.bytes_before-start.ensures in
-    rw (c.put_bytes.ensures, c.put_block_ends.ensures, c.reserve_bytes.ensures.items, c.reserve_ends.ensures.items) (kept-blocks _ _ _ _ _ _ _ c.self.invariant start (whole-blocks _ _ c.requires.some c.requires.whole))
+    let home : c.home_before-home.result ≡ home_after 0 (take c.args.at c.self.inside.places.items) = rw (← c.deref.ensures.value) c.home_before-home.ensures in
+    rw (c.put_block_places.ensures, c.reserve_total.ensures.items) (blocks-put c.self.inside.pieces _ _ _ _ _ _ _ _ _ c.self.view_is c.self.invariant c.bytes_before-start.ensures home c.in_ok-home.ensures.ok c.requires.some c.requires.whole).0
 
 pub returns-clause-ok : goal.returns-clause-ok
 returns-clause-ok c =
-    let start = cut-at _ _ _ _ _ c.self.view_is c.self.invariant c.bytes_before-start.ensures in
-    rw (c.put_bytes.ensures, c.put_block_ends.ensures, c.reserve_bytes.ensures.items, c.reserve_ends.ensures.items) (shown-blocks _ _ _ _ _ _ _ _ c.self.view_is c.self.invariant start c.requires.some)
-
-pub put_block_ends-requires-clause-within : goal.put_block_ends-requires-clause-within
-put_block_ends-requires-clause-within c =
-    let within : c.args.at ≤ length c.self.inside.ends.items = within-ends _ _ _ _ c.self.view_is c.requires.within in
-    grind (arith, common_steps)
+    let home : c.home_before-home.result ≡ home_after 0 (take c.args.at c.self.inside.places.items) = rw (← c.deref.ensures.value) c.home_before-home.ensures in
+    rw (c.put_block_places.ensures, c.reserve_total.ensures.items) (blocks-put c.self.inside.pieces _ _ _ _ _ _ _ _ _ c.self.view_is c.self.invariant c.bytes_before-start.ensures home c.in_ok-home.ensures.ok c.requires.some c.requires.whole).1

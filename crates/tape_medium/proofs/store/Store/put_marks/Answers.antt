@@ -1,20 +1,23 @@
-use Rattle.std.proofs.Common.{arith, ◌≤◌, length}
+use Rattle.std.proofs.Common.{◌≡◌, ◌≤◌, length, take, arith}
 use Rattle.std.proofs.lemmas.Grind.{common_steps}
-use Rattle.tape_medium.proofs.StoreLemmas.{cut-at, within-ends}
-use Rattle.tape_medium.proofs.WriteLemmas.{kept-marks, shown-marks}
+use Rattle.tape_medium.specs.Store.{home_after}
+use Rattle.tape_medium.proofs.PutLemmas.{within-places, marks-put}
 use Rattle.tape_medium.proofs.store.Store.put_marks.Goals as goal
 
-pub put_mark_ends-requires-clause-within : goal.put_mark_ends-requires-clause-within
-put_mark_ends-requires-clause-within c =
-    let within : c.args.at ≤ length c.self.inside.ends.items = within-ends _ _ _ _ c.self.view_is c.requires.within in
+pub home_before-home-requires : goal.home_before-home-requires
+home_before-home-requires c = rw c.deref.ensures.value (within-places c.self.inside.pieces _ _ _ c.self.view_is c.requires.within)
+
+pub put_mark_places-requires-clause-within : goal.put_mark_places-requires-clause-within
+put_mark_places-requires-clause-within c =
+    let within : c.args.at ≤ length c.self.inside.places.items = within-places c.self.inside.pieces _ _ _ c.self.view_is c.requires.within in
     grind (arith, common_steps)
 
 pub invariant_of-self-2 : goal.invariant_of-self-2
 invariant_of-self-2 c =
-    let start = cut-at _ _ _ _ _ c.self.view_is c.self.invariant c.bytes_before-end.ensures in
-    rw (c.truncate.ensures.items, c.put_mark_ends.ensures, c.reserve_ends.ensures.items) (kept-marks _ _ _ _ _ c.self.invariant start)
+    let home : c.home_before-home.result ≡ home_after 0 (take c.args.at c.self.inside.places.items) = rw (← c.deref.ensures.value) c.home_before-home.ensures in
+    rw (c.put_mark_places.ensures, c.reserve_total.ensures.items) (marks-put c.self.inside.pieces _ _ _ _ _ c.self.view_is c.self.invariant c.bytes_before-end.ensures home).0
 
 pub returns-clause-ok : goal.returns-clause-ok
 returns-clause-ok c =
-    let start = cut-at _ _ _ _ _ c.self.view_is c.self.invariant c.bytes_before-end.ensures in
-    rw (c.truncate.ensures.items, c.put_mark_ends.ensures, c.reserve_ends.ensures.items) (shown-marks _ _ _ _ _ _ c.self.view_is c.self.invariant start)
+    let home : c.home_before-home.result ≡ home_after 0 (take c.args.at c.self.inside.places.items) = rw (← c.deref.ensures.value) c.home_before-home.ensures in
+    rw (c.put_mark_places.ensures, c.reserve_total.ensures.items) (marks-put c.self.inside.pieces _ _ _ _ _ c.self.view_is c.self.invariant c.bytes_before-end.ensures home).1

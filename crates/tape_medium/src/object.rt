@@ -1,0 +1,8 @@
+/// A logical object of a tape, where it lies.
+#[derive(Clone, Copy, Debug)]
+pub enum TapeObject<'a> {
+    /// A logical block of 1 to 65,536 bytes.
+    Block(&'a [u8]),
+    /// A filemark.
+    Mark,
+}
