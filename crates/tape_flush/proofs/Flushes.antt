@@ -1,6 +1,6 @@
 -- What a flush leaves of an image, and how that is read.
 use Rattle.std.proofs.Common.{◌≡◌, inl, inr, ℕ, ◌+◌, ◌-◌, ◌≤◌, List, [], ◌++◌, length, take, drop, map, Option, Some, None, Result, Ok, Err, OnOk, OnErr, sym, ap, subst, ◌∙◌, append_assoc, length-append, arith}
-use Rattle.std.proofs.lemmas.List.{append-nil, take_at, take_all, drop_all}
+use Rattle.std.proofs.lemmas.List.{append-nil, take_at, take_all, drop_all, take-append-drop}
 use Rattle.std.proofs.Math.Seq.{take-append-add}
 use Rattle.std.specs.Option.{IsSomeAnd}
 use Rattle.tape_medium.specs.Object.{Object}
@@ -145,9 +145,11 @@ pub flush_err : (r : Result (Unit {0}) FlushFault) (stay : ℕ) (old old' new : 
 flush_err r stay old old' new objects same h = subst (λ (v : ImageValue). OnErr r (Fails stay objects v new)) same h
 
 told_whole : (r : Result (Unit {0}) FlushFault) (stay : ℕ) (old new : ImageValue) (objects : List Object) → stay ≤ length old.ends → AreKeepable objects
-    → OnOk r (IsFlushed stay objects old new) → (known others : List Object) → IsHeld old known others → OnOk r (IsWhole new (take stay known ++ objects))
-told_whole (Ok done) stay old new objects within can h known others held = whole_after stay old new known others objects within can held h
-told_whole (Err fault) stay old new objects within can h known others held = tt
+    → OnOk r (IsFlushed stay (drop stay objects) old new) → (known others : List Object) → IsHeld old known others → take stay known ≡ take stay objects → OnOk r (IsWhole new objects)
+told_whole (Ok done) stay old new objects within can h known others held same =
+    let all : take stay known ++ drop stay objects ≡ objects = ap (λ (xs : List Object). xs ++ drop stay objects) same ∙ take-append-drop stay objects in
+    subst (IsWhole new) all (whole_after stay old new known others (drop stay objects) within (keepable-drop stay objects can) held h)
+told_whole (Err fault) stay old new objects within can h known others held same = tt
 
 told_held : (r : Result (Unit {0}) FlushFault) (stay : ℕ) (old new : ImageValue) (objects : List Object) → stay ≤ length old.ends → AreKeepable objects
     → OnErr r (Fails stay objects old new) → (known others : List Object) → IsHeld old known others → OnErr r (Leaves stay known others objects new)
@@ -155,8 +157,8 @@ told_held (Ok done) stay old new objects within can h known others held = tt
 told_held (Err fault) stay old new objects within can h known others held = held_after stay old new known others objects within can held h
 
 pub flush_whole : (r : Result (Unit {0}) FlushFault) (stay : ℕ) (old old' new : ImageValue) (objects : List Object) → old' ≡ old → stay ≤ length old.ends → AreKeepable objects
-    → OnOk r (IsFlushed stay objects old' new) → (known others : List Object) → IsHeld old known others → OnOk r (IsWhole new (take stay known ++ objects))
-flush_whole r stay old old' new objects same within can h = told_whole r stay old new objects within can (flush_ok r stay old old' new objects same h)
+    → OnOk r (IsFlushed stay (drop stay objects) old' new) → (known others : List Object) → IsHeld old known others → take stay known ≡ take stay objects → OnOk r (IsWhole new objects)
+flush_whole r stay old old' new objects same within can h = told_whole r stay old new objects within can (flush_ok r stay old old' new (drop stay objects) same h)
 
 pub flush_held : (r : Result (Unit {0}) FlushFault) (stay : ℕ) (old old' new : ImageValue) (objects : List Object) → old' ≡ old → stay ≤ length old.ends → AreKeepable objects
     → OnErr r (Fails stay objects old' new) → (known others : List Object) → IsHeld old known others → OnErr r (Leaves stay known others objects new)

@@ -3,3 +3,4 @@ pub mod Holding
 pub mod Replaced
 pub mod Flushes
 pub mod Opened
+pub mod Readings

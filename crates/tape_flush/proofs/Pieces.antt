@@ -1,12 +1,13 @@
 -- Images of several objects, and where these end.
-use Rattle.std.proofs.Common.{◌≡◌, ℕ, ◌+◌, ◌-◌, ◌≤◌, ◌<◌, min, zero, suc, List, [], ◌∷◌, ◌++◌, length, take, drop, get_or, Option, refl, sym, ap, subst, ◌∙◌, append_assoc, length-append, length-drop, arith}
-use Rattle.std.proofs.lemmas.List.{append-nil, map-append, take-take, drop-take, take_more, take_rest, take-map, drop-map, take-append-drop, take-append-le, take_min}
+use Rattle.std.proofs.Common.{◌≡◌, ℕ, ◌+◌, ◌-◌, ◌≤◌, min, zero, suc, List, [], ◌∷◌, ◌++◌, length, take, drop, Option, Some, refl, sym, ap, subst, ◌∙◌, append_assoc, length-append, length-drop, arith}
+use Rattle.std.proofs.lemmas.List.{append-nil, take-take, drop-take, drop-drop, take_all, take-append-drop, take-append-le, take_min}
 use Rattle.std.proofs.KnownBytes.{Appends-nil, Appends-trans}
 use Rattle.std.specs.Io.KnownBytes.{Appends}
-use Rattle.tape_medium.specs.Object.{Object}
+use Rattle.std.specs.Prelude.{slice_get}
+use Rattle.std.proofs.lemmas.List.Elements.{All-head, All-tail}
+use Rattle.tape_medium.specs.Object.{Object, Block, Mark}
+use Rattle.tape_medium.specs.Kept.{HasLength, HaveLengths}
 use Rattle.tape_image.specs.Images.{object_bytes, image_bytes, IsKeepable, AreKeepable}
-use Rattle.tape_flush.specs.declared.object.TapeObject.{TapeObject}
-use Rattle.tape_flush.specs.Objects.{object_of, objects_of}
 use Rattle.tape_flush.specs.Images.{ends_from}
 use Rattle.tape_flush.specs.Stores.{AppendsInPart, AppendsSome}
 
@@ -34,18 +35,14 @@ keepable-take zero xs can = tt
 keepable-take (suc n) [] can = can
 keepable-take (suc n) (x ∷ xs) can = (can.0, keepable-take n xs can.1)
 
-pub keepable_at : (xs : List TapeObject) (n : ℕ) (d : TapeObject) → AreKeepable (objects_of xs) → n < length xs → IsKeepable (object_of (get_or xs n d))
-keepable_at [] n d can within = absurd (omega arith)
-keepable_at (x ∷ xs) zero d can within = can.0
-keepable_at (x ∷ xs) (suc n) d can within = keepable_at xs n d can.1 (omega arith)
+-- a tape's objects can be kept
+pub has_length : (x : Object) → HasLength x → IsKeepable x
+has_length (Block bytes) h = h
+has_length Mark h = tt
 
--- one object more of those that are lent
-pub lent_more : (xs : List TapeObject) (n : ℕ) (d : TapeObject) → n < length xs
-    → take (n + 1) (objects_of xs) ≡ take n (objects_of xs) ++ object_of (get_or xs n d) ∷ []
-lent_more xs n d within =
-    take-map object_of (n + 1) xs
-    ∙ ap objects_of (take_more xs n d within) ∙ map-append object_of (take n xs) (get_or xs n d ∷ [])
-    ∙ ap (λ (ys : List Object). ys ++ object_of (get_or xs n d) ∷ []) (sym (take-map object_of n xs))
+pub keepable_all : (xs : List Object) → HaveLengths xs → AreKeepable xs
+keepable_all [] all = tt
+keepable_all (x ∷ xs) all = (has_length x (All-head HasLength x xs all), keepable_all xs (All-tail HasLength x xs all))
 
 -- one object more
 pub image_push : (xs : List Object) (x : Object) → image_bytes (xs ++ x ∷ []) ≡ image_bytes xs ++ object_bytes x
@@ -103,42 +100,70 @@ pub more_behind : (a b c : Option (List ℕ)) (n m : ℕ) (xs : List Object) →
 more_behind a b c n m xs first h =
     subst (Appends a c) (sym (image_more n m xs)) (Appends-trans a b c (image_bytes (take n xs)) (image_bytes (take m (drop n xs))) first h)
 
--- A LOOP OVER OBJECTS: one more of them
+-- A LOOP OVER OBJECTS, from one on: one more of them
 
-pub gathered : (xs : List TapeObject) (i : ℕ) (d : TapeObject) (front piece piece' : List ℕ) → i < length xs → piece ≡ front ++ image_bytes (take i (objects_of xs))
-    → piece' ≡ piece ++ object_bytes (object_of (get_or xs i d)) → piece' ≡ front ++ image_bytes (take (i + 1) (objects_of xs))
-gathered xs i d front piece piece' within before more =
-    let y : Object = object_of (get_or xs i d) in
-    more ∙ ap (λ (b : List ℕ). b ++ object_bytes y) before
-    ∙ append_assoc front (image_bytes (take i (objects_of xs))) (object_bytes y)
-    ∙ ap (λ (b : List ℕ). front ++ b) (sym (image_push (take i (objects_of xs)) y) ∙ ap image_bytes (sym (lent_more xs i d within)))
+-- the object behind the first ones
+next_is : (os : List Object) (from at : ℕ) (x : Object) → from ≤ at → slice_get os at ≡ Some x → slice_get (drop from os) (at - from) ≡ Some x
+next_is os zero at x le is = let same : at - 0 ≡ at = omega arith in rw same is
+next_is [] (suc from) at x le is = absurd cc
+next_is (o ∷ os) (suc from) zero x le is = absurd (omega arith)
+next_is (o ∷ os) (suc from) (suc at) x le is = let same : suc at - suc from ≡ at - from = omega arith in rw same (next_is os from at x (omega arith) is)
 
-pub next_end : (xs : List TapeObject) (i : ℕ) (d : TapeObject) (o end size next : ℕ) → i < length xs → end ≡ last_from o (take i (objects_of xs))
-    → size ≡ length (object_bytes (object_of (get_or xs i d))) → next ≡ end + size → next ≡ last_from o (take (i + 1) (objects_of xs))
-next_end xs i d o end size next within before is sum =
-    let y : Object = object_of (get_or xs i d) in
-    let here : last_from o (take i (objects_of xs) ++ y ∷ []) ≡ last_from o (take i (objects_of xs)) + length (object_bytes y) = last_from-push o (take i (objects_of xs)) y in
-    let more : last_from o (take (i + 1) (objects_of xs)) ≡ last_from o (take i (objects_of xs) ++ y ∷ []) = ap (last_from o) (lent_more xs i d within) in
+taken_more : (xs : List Object) (i : ℕ) (x : Object) → slice_get xs i ≡ Some x → take (i + 1) xs ≡ take i xs ++ x ∷ []
+taken_more [] i x is = absurd cc
+taken_more (y ∷ xs) zero x is = let same : y ≡ x = cc in ap (λ (z : Object). z ∷ []) same
+taken_more (y ∷ xs) (suc i) x is = let next : suc i + 1 ≡ suc (i + 1) = omega arith in rw next (ap (λ (ys : List Object). y ∷ ys) (taken_more xs i x is))
+
+lent_more : (os : List Object) (from at : ℕ) (x : Object) → from ≤ at → slice_get os at ≡ Some x → take (at + 1 - from) (drop from os) ≡ take (at - from) (drop from os) ++ x ∷ []
+lent_more os from at x le is =
+    let next : at + 1 - from ≡ at - from + 1 = omega arith in
+    rw next (taken_more (drop from os) (at - from) x (next_is os from at x le is))
+
+pub gathered : (os : List Object) (from at : ℕ) (x : Object) (front piece piece' : List ℕ) → from ≤ at → slice_get os at ≡ Some x → piece ≡ front ++ image_bytes (take (at - from) (drop from os))
+    → piece' ≡ piece ++ object_bytes x → piece' ≡ front ++ image_bytes (take (at + 1 - from) (drop from os))
+gathered os from at x front piece piece' le is before more =
+    let A : List Object = take (at - from) (drop from os) in
+    more ∙ ap (λ (b : List ℕ). b ++ object_bytes x) before
+    ∙ append_assoc front (image_bytes A) (object_bytes x)
+    ∙ ap (λ (b : List ℕ). front ++ b) (sym (image_push A x) ∙ ap image_bytes (sym (lent_more os from at x le is)))
+
+pub next_end : (os : List Object) (from at : ℕ) (x : Object) (o end size next : ℕ) → from ≤ at → slice_get os at ≡ Some x → end ≡ last_from o (take (at - from) (drop from os))
+    → size ≡ length (object_bytes x) → next ≡ end + size → next ≡ last_from o (take (at + 1 - from) (drop from os))
+next_end os from at x o end size next le is before same sum =
+    let here : last_from o (take (at - from) (drop from os) ++ x ∷ []) ≡ last_from o (take (at - from) (drop from os)) + length (object_bytes x) = last_from-push o (take (at - from) (drop from os)) x in
+    let more : last_from o (take (at + 1 - from) (drop from os)) ≡ last_from o (take (at - from) (drop from os) ++ x ∷ []) = ap (last_from o) (lent_more os from at x le is) in
     omega (arith, here, more)
 
-pub next_ends : (xs : List TapeObject) (i : ℕ) (d : TapeObject) (o next : ℕ) (front ends ends' : List ℕ) → i < length xs → ends ≡ front ++ ends_from o (take i (objects_of xs))
-    → ends' ≡ ends ++ next ∷ [] → next ≡ last_from o (take (i + 1) (objects_of xs)) → ends' ≡ front ++ ends_from o (take (i + 1) (objects_of xs))
-next_ends xs i d o next front ends ends' within before more is =
-    let y : Object = object_of (get_or xs i d) in
-    let A : List Object = take i (objects_of xs) in
+pub next_ends : (os : List Object) (from at : ℕ) (x : Object) (o next : ℕ) (front ends ends' : List ℕ) → from ≤ at → slice_get os at ≡ Some x
+    → ends ≡ front ++ ends_from o (take (at - from) (drop from os)) → ends' ≡ ends ++ next ∷ [] → next ≡ last_from o (take (at + 1 - from) (drop from os))
+    → ends' ≡ front ++ ends_from o (take (at + 1 - from) (drop from os))
+next_ends os from at x o next front ends ends' le is before more same =
+    let A : List Object = take (at - from) (drop from os) in
     more ∙ ap (λ (es : List ℕ). es ++ next ∷ []) before ∙ append_assoc front (ends_from o A) (next ∷ [])
-    ∙ ap (λ (k : ℕ). front ++ (ends_from o A ++ k ∷ [])) (is ∙ ap (last_from o) (lent_more xs i d within))
-    ∙ ap (λ (es : List ℕ). front ++ es) (sym (ends_push o A y) ∙ ap (ends_from o) (sym (lent_more xs i d within)))
+    ∙ ap (λ (k : ℕ). front ++ (ends_from o A ++ k ∷ [])) (same ∙ ap (last_from o) (lent_more os from at x le is))
+    ∙ ap (λ (es : List ℕ). front ++ es) (sym (ends_push o A x) ∙ ap (ends_from o) (sym (lent_more os from at x le is)))
 
 pub part_of_piece : (old new : Option (List ℕ)) (n : ℕ) (xs : List Object) (piece : List ℕ) → piece ≡ image_bytes (take n xs) → AppendsInPart old new piece → AppendsInPart old new (image_bytes xs)
 part_of_piece old new n xs piece is h = in_part old new n xs (subst (AppendsInPart old new) is h)
 
--- what lies behind the first of those that are lent
-pub slice_is : (xs : List TapeObject) (n : ℕ) → objects_of (take (length xs - n) (drop n xs)) ≡ drop n (objects_of xs)
-slice_is xs n = ap objects_of (take_rest xs n) ∙ sym (drop-map object_of n xs)
+-- objects behind the first of those from one on
+drop_on : (os : List Object) (from at : ℕ) → from ≤ at → drop at os ≡ drop (at - from) (drop from os)
+drop_on os from at le = let same : from + (at - from) ≡ at = omega arith in sym (drop-drop (at - from) from os ∙ ap (λ (n : ℕ). drop n os) same)
 
-pub keepable_slice : (xs : List TapeObject) (n : ℕ) → AreKeepable (objects_of xs) → AreKeepable (objects_of (take (length xs - n) (drop n xs)))
-keepable_slice xs n can = subst AreKeepable (sym (slice_is xs n)) (keepable-drop n (objects_of xs) can)
+pub more_written : (a b c : Option (List ℕ)) (os : List Object) (from at count : ℕ) → from ≤ at → Appends a b (image_bytes (take (at - from) (drop from os)))
+    → Appends b c (image_bytes (take count (drop at os))) → Appends a c (image_bytes (take (at + count - from) (drop from os)))
+more_written a b c os from at count le first h =
+    let n : at + count - from ≡ at - from + count = omega arith in
+    rw n (more_behind a b c (at - from) count (drop from os) first (subst (λ (xs : List Object). Appends b c (image_bytes (take count xs))) (drop_on os from at le) h))
 
-pub slice_count : (xs : List TapeObject) (n m : ℕ) → n ≤ length xs → m ≤ length (take (length xs - n) (drop n xs)) → n + m ≤ length xs
-slice_count xs n m within most = omega (arith, ap length (take_rest xs n), length-drop n xs)
+pub some_written_of : (a b c : Option (List ℕ)) (os : List Object) (from at : ℕ) → from ≤ at → Appends a b (image_bytes (take (at - from) (drop from os)))
+    → AppendsInPart b c (image_bytes (drop at os)) → AppendsSome (at - from) (drop from os) a c
+some_written_of a b c os from at le first h =
+    some_behind a b c (at - from) (drop from os) first (subst (λ (xs : List Object). AppendsInPart b c (image_bytes xs)) (drop_on os from at le) h)
+
+-- all of them
+pub all_written : (a b : Option (List ℕ)) (os : List Object) (from at : ℕ) → length os ≤ at → Appends a b (image_bytes (take (at - from) (drop from os))) → Appends a b (image_bytes (drop from os))
+all_written a b os from at past h = rw (take_all (at - from) (drop from os) (omega (arith, length-drop from os))) at h
+
+pub none_taken : (from : ℕ) (xs : List Object) → take (from - from) xs ≡ []
+none_taken from xs = let zero_left : from - from ≡ 0 = omega arith in rw zero_left refl

@@ -1,4 +1,4 @@
 pub mod Stores
-pub mod Objects
 pub mod Images
 pub mod Openings
+pub mod Readings

@@ -1,10 +1,9 @@
-ghost use Rattle.std.specs.Prelude.{◌≡◌, ◌≤◌, ◌++◌, length, take, vec_len, OnOk, OnErr};
-ghost use Rattle.tape_image.specs.Images.{AreKeepable};
-ghost use Rattle.tape_flush.specs.Objects.{objects_of};
+ghost use Rattle.std.specs.Prelude.{◌≡◌, ◌≤◌, ◌++◌, length, take, drop, vec_len, OnOk, OnErr};
 ghost use Rattle.tape_flush.specs.Images.{end_at, ends_from};
 
 use crate::fault::FlushFault;
-use crate::object::TapeObject;
+use crate::object::{object_at, part_length};
+use tape_medium::Tape;
 
 /// Where the first `count` objects end, in bytes.
 pub(crate) fn end_at(ends: &[u64], count: usize) -> u64
@@ -17,15 +16,15 @@ pub(crate) fn end_at(ends: &[u64], count: usize) -> u64
     }
 }
 
-/// Adds where objects will end; some of them where it fails.
-fn push_ends(ends: &mut Vec<u64>, objects: &[TapeObject<'_>]) -> Result<(), FlushFault>
-    requires { AreKeepable (objects_of objects.now) }
-    ensures ok { OnOk result (ends.new.items ≡ ends.old.items ++ ends_from (end_at ends.old.items (vec_len ends.old)) (objects_of objects.now)) }
+/// Adds where a tape's objects will end, from one on; some of them where it fails.
+fn push_ends(ends: &mut Vec<u64>, tape: &Tape, from: u32) -> Result<(), FlushFault>
+    requires { from ≤ length tape.now.objects }
+    ensures ok { OnOk result (ends.new.items ≡ ends.old.items ++ ends_from (end_at ends.old.items (vec_len ends.old)) (drop from tape.now.objects)) }
     ensures err { OnErr result (take (vec_len ends.old) ends.new.items ≡ ends.old.items) }
 {
     let mut end = end_at(ends, ends.len());
-    'objects: for object in objects {
-        match end.checked_add(object.part_length() as u64) {
+    'objects: for at in from..tape.object_count() {
+        match end.checked_add(part_length(object_at(tape, at)) as u64) {
             Some(next) => end = next,
             None => return Err(FlushFault::PastLastOffset),
         }
@@ -34,14 +33,14 @@ fn push_ends(ends: &mut Vec<u64>, objects: &[TapeObject<'_>]) -> Result<(), Flus
     Ok(())
 }
 
-/// Adds where objects will end, all or none.
-pub(crate) fn note_ends(ends: &mut Vec<u64>, objects: &[TapeObject<'_>]) -> Result<(), FlushFault>
-    requires { AreKeepable (objects_of objects.now) }
-    ensures ok { OnOk result (ends.new.items ≡ ends.old.items ++ ends_from (end_at ends.old.items (vec_len ends.old)) (objects_of objects.now)) }
+/// Adds where a tape's objects will end, from one on, all or none.
+pub(crate) fn note_ends(ends: &mut Vec<u64>, tape: &Tape, from: u32) -> Result<(), FlushFault>
+    requires { from ≤ length tape.now.objects }
+    ensures ok { OnOk result (ends.new.items ≡ ends.old.items ++ ends_from (end_at ends.old.items (vec_len ends.old)) (drop from tape.now.objects)) }
     ensures err { OnErr result (ends.new.items ≡ ends.old.items) }
 {
     let count = ends.len();
-    match push_ends(ends, objects) {
+    match push_ends(ends, tape, from) {
         Ok(()) => Ok(()),
         Err(fault) => {
             ends.truncate(count);

@@ -1,24 +1,23 @@
-ghost use Rattle.std.specs.Prelude.{◌≡◌, ◌≤◌, ◌+◌, ◌++◌, List, length, take, OnOk, OnErr};
+ghost use Rattle.std.specs.Prelude.{◌≡◌, ◌≤◌, ◌+◌, ◌++◌, List, length, take, drop, OnOk, OnErr};
 ghost use Rattle.std.specs.Io.KnownBytes.{Keeps};
 ghost use Rattle.tape_medium.specs.Object.{Object};
-ghost use Rattle.tape_image.specs.Images.{AreKeepable};
-ghost use Rattle.tape_flush.specs.Objects.{objects_of};
 ghost use Rattle.tape_flush.specs.Images.{IsFlushed, Fails, IsHeld, IsWhole, Leaves};
 
 use crate::fault::FlushFault;
-use crate::object::TapeObject;
 use crate::replacing::replace;
 use crate::store::{ImageStore, StoreFault};
 use std::alloc::Global;
 use std::marker::Model;
+use tape_medium::Tape;
 
 /// The image of a tape in a file: which of the tape's objects are in it, and where each ends, which takes 8 bytes an object.
 /// Contracts see these ends, and the bytes of the file.
 ///
 /// ```text
-/// let objects = &[TapeObject::Block(b"hi"), TapeObject::Mark];
-/// image.flush(alloc, image.count(), objects)?;
+/// let stay = (tape.unchanged() as usize).min(image.count()) as u32;
+/// image.flush(alloc, &tape, stay)?;
 /// image.sync()?;
+/// tape.settle(tape.object_count());
 /// ```
 #[derive(Drop)]
 pub struct ImageFile<S: ImageStore> {
@@ -49,23 +48,20 @@ impl<S: ImageStore> ImageFile<S> {
         self.ends.len()
     }
 
-    /// Makes the image that of a tape of which the first `stay` objects are in the file already, and then come `objects`: what
-    /// lies behind those that stay is cut off, and then the objects are written, in pieces of at most 1 MiB; each block is copied
-    /// once. Where it fails, some of the old image or of the new one is left, and the next call mends it.
-    pub fn flush(
-        &mut self,
-        alloc: Global,
-        stay: usize,
-        objects: &[TapeObject<'_>],
-    ) -> Result<(), FlushFault>
+    /// Makes the image that of a tape whose first `stay` objects are in the file already: what lies behind those that stay is cut
+    /// off, and then the tape's others are written, in pieces of at most 1 MiB; each block is copied once. Where it fails, some of the
+    /// old image or of the new one is left, and the next call mends it.
+    pub fn flush(&mut self, alloc: Global, tape: &Tape, stay: u32) -> Result<(), FlushFault>
         requires stay { stay ≤ length self.old.ends }
-        requires keepable { AreKeepable (objects_of objects.now) }
-        ensures ok { OnOk result (IsFlushed stay (objects_of objects.now) self.old self.new) }
-        ensures err { OnErr result (Fails stay (objects_of objects.now) self.old self.new) }
-        ensures whole { (known others : List Object) → IsHeld self.old known others → OnOk result (IsWhole self.new (take stay known ++ objects_of objects.now)) }
-        ensures held { (known others : List Object) → IsHeld self.old known others → OnErr result (Leaves stay known others (objects_of objects.now) self.new) }
+        requires within { stay ≤ length tape.now.objects }
+        ensures ok { OnOk result (IsFlushed stay (drop stay tape.now.objects) self.old self.new) }
+        ensures err { OnErr result (Fails stay (drop stay tape.now.objects) self.old self.new) }
+        ensures whole { (known others : List Object) → IsHeld self.old known others → take stay known ≡ take stay tape.now.objects → OnOk result (IsWhole self.new tape.now.objects) }
+        ensures held { (known others : List Object) → IsHeld self.old known others → OnErr result (Leaves stay known others (drop stay tape.now.objects) self.new) }
     {
-        replace(alloc, &mut self.store, &mut self.ends, stay, objects)
+        // Says to the prover alone that each block of a tape has a length that an image takes.
+        let _count = tape.object_count();
+        replace(alloc, &mut self.store, &mut self.ends, tape, stay)
     }
 
     /// Brings all of the file to the disk. Where it fails, also again, it may be tried again.

@@ -32,7 +32,7 @@ begun left r entries is none =
     (record { bytes = []; objects = []; consumed = Consumes-nil left; so_far = λ more others stop reads. reads; entries_are = none; count = refl })
 
 -- more of the bytes were read
-awaited : (bytes piece : List ℕ) (r : ReaderValue) (objects : List Placed) → SoFar bytes r objects → SoFar (bytes ++ piece) (record r { pending = r.pending ++ piece }) objects
+pub awaited : (bytes piece : List ℕ) (r : ReaderValue) (objects : List Placed) → SoFar bytes r objects → SoFar (bytes ++ piece) (record r { pending = r.pending ++ piece }) objects
 awaited bytes piece r objects h more others stop reads =
     subst (λ (zs : List ℕ). Reads 0 zs (objects ++ others) stop) (sym (append_assoc bytes piece more))
     (h (piece ++ more) others stop (subst (λ (zs : List ℕ). Reads r.offset zs others stop) (append_assoc r.pending piece more) reads))
@@ -48,7 +48,7 @@ awaits all r r' left left' entries w aw = record {
   count = ap (λ (v : ReaderValue). v.objects) aw.1 ∙ w.count;
 }
 
-passes : (bytes : List ℕ) (r : ReaderValue) (objects : List Placed) → SoFar bytes r objects → SoFar bytes (behind_part r) (objects ++ part_objects r.offset (image_part r.pending))
+pub passes : (bytes : List ℕ) (r : ReaderValue) (objects : List Placed) → SoFar bytes r objects → SoFar bytes (behind_part r) (objects ++ part_objects r.offset (image_part r.pending))
 passes bytes r objects h more others stop reads =
     subst (λ (zs : List Placed). Reads 0 (bytes ++ more) zs stop) (sym (append_assoc objects (part_objects r.offset (image_part r.pending)) others))
     (h more (part_objects r.offset (image_part r.pending) ++ others) stop (passed_is_read r.offset r.pending more others stop reads))
@@ -73,7 +73,7 @@ same_end : (x y : ImageEnd) → Some x ≡ Some y → x ≡ y
 same_end x y e = cc
 
 -- where no part can be passed reading stops
-ends_by : (o n : ℕ) (b rest : List ℕ) (p : PartValue) (end : ImageEnd) → image_part b ≡ p → (IsPartial p → rest ≡ [])
+pub ends_by : (o n : ℕ) (b rest : List ℕ) (p : PartValue) (end : ImageEnd) → image_part b ≡ p → (IsPartial p → rest ≡ [])
     → Some end ≡ option_map (image_end n) (stop_at o b p) → (stop : Stop) × Reads o (b ++ rest) [] stop × (end ≡ image_end n stop)
 ends_by o n b rest (Partial w) end e over is =
     let all : b ≡ b ++ rest = sym (ap (λ (zs : List ℕ). b ++ zs) (over tt) ∙ append-nil b) in

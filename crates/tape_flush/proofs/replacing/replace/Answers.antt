@@ -1,6 +1,5 @@
-use Rattle.std.proofs.Common.{◌≡◌, ◌≤◌, ℕ, List, length, take, vec_len, ap, subst, ◌∙◌, arith}
+use Rattle.std.proofs.Common.{◌≡◌, ◌≤◌, ℕ, List, length, take, drop, vec_len, ap, subst, ◌∙◌, arith}
 use Rattle.tape_flush.specs.Images.{end_at}
-use Rattle.tape_flush.specs.Objects.{objects_of}
 use Rattle.tape_flush.specs.Stores.{Truncates}
 use Rattle.tape_flush.proofs.Replaced.{flushed_by, unfinished_by}
 use Rattle.tape_flush.proofs.replacing.replace.Goals as goal
@@ -13,7 +12,7 @@ returns-in-Ok-clause-ok g c =
     let new = g.S.ImageStore.contents c.cut_back.new.store in
     let within : c.args.stay ≤ length ends.items = omega (arith, ends.ok.0, c.requires.stay) in
     let count : vec_len cut ≡ length cut.items = omega (arith, cut.ok.0) in
-    flushed_by c.args.stay (vec_len cut) (objects_of c.args.objects.now) _ _ cut.items new within
+    flushed_by c.args.stay (vec_len cut) (drop c.args.stay c.args.tape.now.objects) _ _ cut.items new within
     (c.in_ok-cut_back.ensures.ends ∙ ap (take c.args.stay) c.in_ok-reserve.ensures.items) count
     (subst (λ (es : List ℕ). Truncates (end_at es c.args.stay) old new) c.in_ok-reserve.ensures.items c.in_ok-cut_back.ensures.ok)
     c.in-Ok.ensures.ends c.in-Ok.ensures.ok
@@ -26,7 +25,7 @@ returns-clause-err g c =
     let new = g.S.ImageStore.contents c.cut_back.new.store in
     let within : c.args.stay ≤ length ends.items = omega (arith, ends.ok.0, c.requires.stay) in
     let count : vec_len cut ≡ length cut.items = omega (arith, cut.ok.0) in
-    unfinished_by c.args.stay (vec_len cut) (objects_of c.args.objects.now) _ _ cut.items new within
+    unfinished_by c.args.stay (vec_len cut) (drop c.args.stay c.args.tape.now.objects) _ _ cut.items new within
     (c.in_ok-cut_back.ensures.ends ∙ ap (take c.args.stay) c.in_ok-reserve.ensures.items) count
     (subst (λ (es : List ℕ). Truncates (end_at es c.args.stay) old new) c.in_ok-reserve.ensures.items c.in_ok-cut_back.ensures.ok)
     c.in-Err.ensures.err
