@@ -2,6 +2,7 @@
 
 ghost use Rattle.std.specs.Prelude.{◌≡◌, false, IfOk, OnErr, take};
 ghost use Rattle.tape_medium.specs.Elements.{move_refusal};
+ghost use Rattle.tape_medium.specs.Settling.{settles};
 ghost use Rattle.device_server.specs.Changer.{carried, changer_step};
 ghost use Rattle.device_server.specs.Volumes.{is_move};
 
@@ -35,6 +36,21 @@ impl Changer {
         ensures { result ≡ elements }
     {
         Changer { elements }
+    }
+
+    /// The elements, and what they hold.
+    pub fn elements(&self) -> &Elements
+        ensures { result.now ≡ self.now }
+    {
+        &self.elements
+    }
+
+    /// From now on the first `objects` objects of the volume in a storage or import/export element count as unchanged, or all
+    /// where it has fewer. Without one nothing changes.
+    pub fn settle(&mut self, address: u16, objects: u32)
+        ensures { self.new ≡ settles self.old address objects }
+    {
+        self.elements.settle(address, objects);
     }
 
     /// Carries out a command whose fields aren't refused.

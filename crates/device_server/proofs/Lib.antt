@@ -6,3 +6,4 @@ pub mod TapeLemmas
 pub mod PlaceLemmas
 pub mod MoveLemmas
 pub mod FailureLemmas
+pub mod SettledLemmas

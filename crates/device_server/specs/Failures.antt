@@ -1,6 +1,6 @@
 -- Which devices end which commands by INTERNAL TARGET FAILURE, 44h/00h (SPC-4, "Sense key and additional sense code definitions"): no drive
 -- any, and a changer just a MOVE MEDIUM that its map and marks don't refuse and that takes a volume out of a drive or into one.
-use Rattle.std.specs.Prelude.{◌≡◌, ℕ, ◌==◌, ◌&&◌, ◌||◌, not, Bool, true, false, List, Option, Some, None, is_none}
+use Rattle.std.specs.Prelude.{◌≡◌, ℕ, ◌&&◌, ◌||◌, not, Bool, true, false, List, Option, Some, None, is_none}
 use Rattle.scsi_cdb.specs.declared.request.Request.{Request}
 use Rattle.scsi_cdb.specs.declared.request.Request.TheVariants.{MoveMedium}
 use Rattle.scsi_sense.specs.Conditions.{has_codes_of}

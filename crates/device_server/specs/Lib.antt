@@ -9,9 +9,11 @@ pub mod View
 pub mod Rows
 pub mod ChangerRows
 pub mod Ends
+pub mod Settled
 pub mod Marks
 pub mod MarkRows
 pub mod Volumes
 pub mod VolumeRows
+pub mod SettledRows
 pub mod Failures
 pub mod FailureRows

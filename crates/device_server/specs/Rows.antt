@@ -6,6 +6,7 @@ use Rattle.scsi_cdb.specs.declared.request.Request.TheVariants.{TestUnitReady, R
 use Rattle.scsi_sense.specs.declared.condition.Condition.TheVariants.{InvalidFieldInCdb, InvalidFieldInParameterList, ParameterListLengthError, SavingParametersNotSupported}
 use Rattle.scsi_sense.specs.FixedSense.{fixed_sense}
 use Rattle.tape_medium.specs.Object.{Block, Mark}
+use Rattle.tape_medium.specs.Tape.{blank, moved_to}
 use Rattle.tape_medium.specs.TapeView.{TapeView}
 use Rattle.tape_medium.specs.declared.volume.VolumeTag.{VolumeTag}
 use Rattle.tape_medium.specs.declared.volume.Volume.{Volume}
@@ -66,7 +67,7 @@ protected tag tape =
 
 -- a block of 400 bytes and a filemark
 abbrev pub block_and_mark : (position : ℕ) → TapeView
-block_and_mark position = record { objects = Block (replicate 400 7) ∷ Mark ∷ []; position = position; capacity = 1000 }
+block_and_mark position = record (blank 1000) { objects = Block (replicate 400 7) ∷ Mark ∷ []; position = position }
 
 abbrev pub one_block_read : (suppress_incorrect_length : Bool) → (length : ℕ) → Request
 one_block_read suppress_incorrect_length length = Read suppress_incorrect_length false length
@@ -191,7 +192,7 @@ pub record RefusedLists : Type 0 where
       ≡ None
 
 abbrev pub tape_of : (blocks position : ℕ) → TapeView
-tape_of blocks position = record { objects = replicate blocks (Block (replicate 512 9)); position = position; capacity = 1024 }
+tape_of blocks position = record (blank 1024) { objects = replicate blocks (Block (replicate 512 9)); position = position }
 
 -- the sense of a transfer in blocks that the drive doesn't do
 abbrev pub refused_transfer : List ℕ
@@ -218,7 +219,7 @@ pub record FixedTransfers (tag : VolumeTag) : Type 0 where
 
 -- a tape at the last position that there is: what lies before it isn't looked at
 abbrev pub full_of_marks : TapeView
-full_of_marks = record { objects = []; position = 1000000; capacity = 1000 }
+full_of_marks = moved_to (blank 1000) 1000000
 
 -- what doesn't fit, and what a protected volume refuses: the tape stays
 pub record RefusedWrites (tag : VolumeTag) : Type 0 where
@@ -229,7 +230,7 @@ pub record RefusedWrites (tag : VolumeTag) : Type 0 where
   pub marks_overflow : asked (loaded tag 0 full_of_marks) (WriteFilemarks false 1)
       ≡ checks (loaded tag 0 full_of_marks) [] (sense 0xf0 0x4d 0x00 0x00 0x00 0x01 0x00 0x02)
   pub last_mark : asked (loaded tag 0 (record full_of_marks { position = 999999 })) (WriteFilemarks false 1)
-      ≡ gives (loaded tag 0 (record { objects = Mark ∷ []; position = 1000000; capacity = 1000 })) []
+      ≡ gives (loaded tag 0 (record (blank 1000) { objects = Mark ∷ []; position = 1000000 })) []
   pub protected_medium : sent (protected tag (block_and_mark 1)) (Write false 1) (5 ∷ [])
       ≡ checks (protected tag (block_and_mark 1)) [] (sense 0x70 0x07 0x00 0x00 0x00 0x00 0x27 0x00)
   pub protected_marks : asked (protected tag (block_and_mark 1)) (WriteFilemarks false 1)
@@ -237,7 +238,7 @@ pub record RefusedWrites (tag : VolumeTag) : Type 0 where
   pub protected_erase : asked (protected tag (block_and_mark 1)) Erase
       ≡ checks (protected tag (block_and_mark 1)) [] (sense 0x70 0x07 0x00 0x00 0x00 0x00 0x27 0x00)
   pub erase : asked (loaded tag 0 (block_and_mark 1)) Erase
-      ≡ gives (loaded tag 0 (record { objects = Block (replicate 400 7) ∷ []; position = 1; capacity = 1000 })) []
+      ≡ gives (loaded tag 0 (record (blank 1000) { objects = Block (replicate 400 7) ∷ []; position = 1 })) []
   pub protected_nothing : asked (protected tag (block_and_mark 1)) (WriteFilemarks false 0)
       ≡ gives (protected tag (block_and_mark 1)) []
 

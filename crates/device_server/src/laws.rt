@@ -141,3 +141,14 @@ pub fn fails_only_for_drives()
     ensures drives { DrivesNeverFail }
     ensures changers { ChangersFailForDrives }
 {}
+
+ghost use Rattle.device_server.specs.Settled.{SettlingChangesNothingElse, StaysTheSameWhenSettled};
+ghost use Rattle.device_server.specs.SettledRows.{SettledDevices};
+
+/// Law: settling a volume changes nothing else of a device, and a device of which nothing else changed is of its kind still, with as
+/// many data transfer elements. What it does to a drive's volume and to a changer's.
+pub fn settling_changes_nothing_else()
+    ensures changes { SettlingChangesNothingElse }
+    ensures same { StaysTheSameWhenSettled }
+    ensures rows { (tag : VolumeTag) → SettledDevices tag }
+{}

@@ -1,6 +1,7 @@
 //! What a logical unit asks of the device behind it, and what contracts see of a device.
 #![tactic(auto)]
 
+mod attendant;
 mod fault;
 mod fields;
 pub mod laws;
@@ -9,6 +10,7 @@ mod outcome;
 mod payload;
 mod server;
 
+pub use attendant::Attendant;
 pub use fault::{BadPlace, PutFault, TakeFault};
 pub use fields::field_fault;
 pub use outcome::Outcome;

@@ -1,13 +1,15 @@
 //! The map.
 
-ghost use Rattle.std.specs.Prelude.{◌≡◌, ◌≤◌, length, Ok, Err, OnOk, OnErr, IfOk, IfErr};
-ghost use Rattle.tape_medium.specs.Elements.{empty_elements, reads, takes, puts, notes};
+ghost use Rattle.std.specs.Prelude.{◌≡◌, ◌≤◌, length, None, unwrap_or, Ok, Err, OnOk, OnErr, IfOk, IfErr};
+ghost use Rattle.std.specs.Option.{option_map};
+ghost use Rattle.tape_medium.specs.Elements.{empty_elements, element_at, held_in, reads, takes, puts, notes};
+ghost use Rattle.tape_medium.specs.Settling.{settles};
 ghost use Rattle.element_map.specs.Limits.{drive_limit, portal_limit, slot_limit, limit_of};
 ghost use Rattle.element_map.specs.Runs.{count_of};
 
 use crate::address::Element;
 use crate::element_type::ElementType;
-use crate::place::{empty_places, put_in, tag_of, take_out};
+use crate::place::{empty_places, put_in, settle_in, tag_of, take_out};
 use std::alloc::{AllocError, Global};
 use std::marker::Model;
 use tape_medium::{MapFault, Volume, VolumeTag};
@@ -120,6 +122,29 @@ impl Elements {
             Element::Transport | Element::DataTransfer(_) | Element::Nowhere => {
                 Err((volume, MapFault::BadAddress))
             }
+        }
+    }
+
+    /// The volume in a storage or import/export element; no other element holds one.
+    pub fn volume(&self, address: u16) -> Option<&Volume>
+        ensures { option_map (λ volume. volume.now) result ≡ unwrap_or (held_in self.now (element_at self.now address)) None }
+    {
+        match self.element(address) {
+            Element::ImportExport(i) => self.import_export[i].as_ref(),
+            Element::Storage(i) => self.storage[i].as_ref(),
+            Element::Transport | Element::DataTransfer(_) | Element::Nowhere => None,
+        }
+    }
+
+    /// From now on the first `objects` objects of the volume in a storage or import/export element count as unchanged, or all
+    /// where it has fewer. Without one nothing changes.
+    pub fn settle(&mut self, address: u16, objects: u32)
+        ensures { self.new ≡ settles self.old address objects }
+    {
+        match self.element(address) {
+            Element::ImportExport(i) => settle_in(&mut self.import_export[i], objects),
+            Element::Storage(i) => settle_in(&mut self.storage[i], objects),
+            Element::Transport | Element::DataTransfer(_) | Element::Nowhere => {}
         }
     }
 

@@ -1,7 +1,9 @@
 //! A place for one volume: a storage element or an import/export element.
 
 ghost use Rattle.std.specs.Prelude.{◌≡◌, Some, None, Ok, OnOk, OnErr, IfOk, IfErr, replicate, IsTrue, is_some};
+ghost use Rattle.std.specs.Option.{option_map};
 ghost use Rattle.tape_medium.specs.Elements.{tag_of};
+ghost use Rattle.tape_medium.specs.Settling.{settled_to};
 
 use std::alloc::{AllocError, Global};
 use tape_medium::{MapFault, Volume, VolumeTag};
@@ -39,6 +41,15 @@ pub(crate) fn take_out(place: &mut Option<Volume>) -> Result<Volume, MapFault>
     match place.take() {
         Some(volume) => Ok(volume),
         None => Err(MapFault::SourceEmpty),
+    }
+}
+
+/// From now on the first `objects` objects of the volume in a place count as unchanged, or all where it has fewer.
+pub(crate) fn settle_in(place: &mut Option<Volume>, objects: u32)
+    ensures { place.new ≡ option_map (settled_to objects) place.old }
+{
+    if let Some(volume) = place {
+        volume.settle(objects);
     }
 }
 

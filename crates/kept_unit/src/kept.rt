@@ -1,5 +1,6 @@
 ghost use Rattle.std.specs.Prelude.{◌≡◌, ◌+◌, ◌<◌, ◌^◌, [], ℕ, Some, None, IfOk, IsTrue, ◌↔◌};
 ghost use Rattle.device_server.specs.View.{kind_of, drives_of};
+ghost use Rattle.device_server.specs.Settled.{SameButSettled};
 ghost use Rattle.judgement.specs.Replies.{busy};
 ghost use Rattle.judgement.specs.Commands.{act_of};
 ghost use Rattle.judgement.specs.UnitState.{has_room};
@@ -19,7 +20,7 @@ use crate::done::{Done, EventKind, done_with};
 use crate::numbers::{count_at, own_number};
 use crate::seat_notes::SeatNotes;
 use audit_log::Record;
-use device_server::DeviceServer;
+use device_server::{Attendant, DeviceServer};
 use logical_unit::{LogicalUnit, Receipt, Reply};
 use scsi_nexus::Nexus;
 use std::alloc::{AllocError, Global};
@@ -152,6 +153,16 @@ impl<const LUN: u8, L: UnitLedger, D: DeviceServer> Kept<LUN, L, D> {
         ensures book { self.new.total ≡ self.old.total }
     {
         self.unit.drain_into(records);
+    }
+
+    /// Lets an attendant look after the volumes of the unit's device: nothing changes but how many objects of a tape count as
+    /// unchanged.
+    #[tactic(auto, using(device_server::proofs::SettledLemmas::same_settled))]
+    pub fn attend<A: Attendant<D>>(&mut self, attendant: &mut A)
+        ensures same { SameButSettled self.old.unit.device self.new.unit.device }
+        ensures rest { self.new ≡ record self.old { unit = record self.old.unit { device = self.new.unit.device } } }
+    {
+        self.unit.attend(attendant);
     }
 
     /// One command at the unit, its record counted in the book and in the part. Without a number it is BUSY, and nothing

@@ -14,6 +14,41 @@ pub enum Device {
     Tape(TapeDrive),
 }
 
+impl Device {
+    ghost use Rattle.std.specs.Option.{option_map};
+    ghost use Rattle.device_server.specs.Volumes.{volume_at};
+    ghost use Rattle.device_server.specs.Settled.{settled_at, SameButSettled};
+    ghost use Rattle.library_device.specs.Devices.{shown_as};
+
+    /// The volume at a place: 0 is a drive's bay, a changer's are its storage and import/export elements, by address.
+    pub fn volume(&self, place: u16) -> Option<&Volume>
+        ensures { option_map (λ volume. volume.now) result ≡ volume_at (shown_as self.now) place }
+    {
+        match self {
+            Device::Changer(changer) => changer.elements().volume(place),
+            Device::Tape(drive) if place == 0 => drive.volume(),
+            Device::Tape(_) => None,
+        }
+    }
+
+    /// From now on the first `objects` objects of the volume at a place count as unchanged, or all where it has fewer. Nothing else
+    /// changes.
+    #[tactic(auto, using(device_server::proofs::SettledLemmas::settling_changes))]
+    pub fn settle(&mut self, place: u16, objects: u32)
+        ensures settled { shown_as self.new ≡ settled_at (shown_as self.old) place objects }
+        ensures same { SameButSettled (shown_as self.old) (shown_as self.new) }
+    {
+        match self {
+            Device::Changer(changer) => changer.settle(place, objects),
+            Device::Tape(drive) => {
+                if place == 0 {
+                    drive.settle(objects);
+                }
+            }
+        }
+    }
+}
+
 impl DeviceServer for Device {
     ghost use Rattle.library_device.specs.Devices.{shown_as};
 

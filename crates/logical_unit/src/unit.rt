@@ -3,7 +3,7 @@ use crate::move_judgement::MoveJudgement;
 use crate::route::Route;
 use crate::state::RecordedUnit;
 use audit_log::{Act, Record};
-use device_server::{DeviceServer, Payload};
+use device_server::{Attendant, DeviceServer, Payload};
 use judgement::{Decision, Reply};
 use scsi_cdb::Kind;
 use scsi_nexus::Nexus;
@@ -158,7 +158,8 @@ impl<D: DeviceServer> LogicalUnit<D> {
 impl<D: DeviceServer> LogicalUnit<D> {
     ghost use Rattle.std.specs.Prelude.{◌≡◌, ◌+◌, [], true, length, vec_capacity, Ok, IfOk, IfErr, OnOk, OnErr};
     ghost use Rattle.unit_attention.specs.Queues.{has_slot};
-    ghost use Rattle.logical_unit.specs.UnitView.{UnitView, UnitWithRoom, last_number};
+    ghost use Rattle.device_server.specs.Settled.{SameButSettled};
+    ghost use Rattle.logical_unit.specs.UnitView.{UnitView, UnitWithRoom, last_number, with_device};
     ghost use Rattle.logical_unit.specs.Step.{HasNumber, LacksRecord, IsBusyOnlyFor, IsBusyOnlyForRecord, Executes, Loses, Resets, IsLost, IsReset, drained};
     ghost use Rattle.logical_unit.specs.Medium.{taken_out, put_in, IsRefusal};
     ghost use Rattle.logical_unit.specs.Contents.{SameContents, MayNotChange};
@@ -290,6 +291,15 @@ impl<D: DeviceServer> LogicalUnit<D> {
         }
         put_into_bay(&mut self.server, volume);
         Ok(self.state.take_in_medium())
+    }
+
+    /// Lets an attendant look after the volumes of the device: nothing changes but how many objects of a tape count as unchanged, and
+    /// no record is left.
+    pub fn attend<A: Attendant<D>>(&mut self, attendant: &mut A)
+        ensures same { SameButSettled self.old.unit.device self.new.unit.device }
+        ensures rest { self.new ≡ with_device self.old self.new.unit.device }
+    {
+        attendant.attend(&mut self.server);
     }
 
     /// Hands out the records, a legal trail that gives what is kept now, and keeps none: what is kept

@@ -19,7 +19,7 @@ use crate::gate::Gate;
 use crate::locked::Locked;
 use crate::raw_command::RawCommand;
 use audit_log::Record;
-use device_server::DeviceServer;
+use device_server::{Attendant, DeviceServer};
 use kept_unit::{Done, Kept, UnitLedger, move_kept_one, move_kept_two};
 use scsi_nexus::Nexus;
 use std::alloc::Global;
@@ -184,6 +184,36 @@ pub(crate) fn drain_if_there<const LUN: u8, L: UnitLedger, D: DeviceServer, R: W
 {
     match lock {
         Some(lock) => drain_at(rt, lock, records),
+        None => false,
+    }
+}
+
+/// Lets an attendant look after the volumes of the unit under this lock. True, since the unit is there.
+pub(crate) fn attend_at<const LUN: u8, L: UnitLedger, D: DeviceServer, A: Attendant<D>, R: Wait>(
+    rt: &R,
+    lock: &Locked<LUN, L, D>,
+    attendant: &mut A,
+) -> bool
+    ensures { result ≡ true }
+{
+    let mut kept = lock.mutex().lock(rt);
+    kept.attend(attendant);
+    true
+}
+
+/// The same where the unit may be absent.
+pub(crate) fn attend_if_there<
+    const LUN: u8,
+    L: UnitLedger,
+    D: DeviceServer,
+    A: Attendant<D>,
+    R: Wait,
+>(rt: &R, lock: &Option<Locked<LUN, L, D>>, attendant: &mut A) -> bool
+    ensures there { IsTrue result ↔ IsSome lock.now }
+    ensures absent { result ≡ false → attendant.new ≡ attendant.old }
+{
+    match lock {
+        Some(lock) => attend_at(rt, lock, attendant),
         None => false,
     }
 }

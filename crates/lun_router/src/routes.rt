@@ -11,13 +11,13 @@ ghost use Rattle.lun_router.specs.Seats.{Rise, Notes};
 use crate::gate::Gate;
 use crate::library::Library;
 use crate::locks::{
-    drain_at, drain_if_there, has_room_at, has_room_if_there, lose_at, lose_if_there, reset_at,
-    reset_if_there, step_at, step_if_there,
+    attend_at, attend_if_there, drain_at, drain_if_there, has_room_at, has_room_if_there, lose_at,
+    lose_if_there, reset_at, reset_if_there, step_at, step_if_there,
 };
 use crate::raw_command::RawCommand;
 use crate::seat::{Seat, SeatShares};
 use audit_log::Record;
-use device_server::DeviceServer;
+use device_server::{Attendant, DeviceServer};
 use kept_unit::{Done, EventKind, UnitLedger};
 use scsi_nexus::Nexus;
 use std::alloc::Global;
@@ -194,6 +194,23 @@ impl<
             3 => has_room_if_there(rt, &self.third, nexus),
             4 => has_room_if_there(rt, &self.fourth, nexus),
             _ => true,
+        }
+    }
+
+    /// Lets an attendant look after the volumes of a unit's device, under its lock: nothing of the unit changes but how many objects of
+    /// a tape count as unchanged, and no record and no entry is made. Whether there is such a unit; without one the attendant isn't
+    /// asked.
+    pub fn attend<R: Wait, A: Attendant<D>>(&self, rt: &R, lun: u8, attendant: &mut A) -> bool
+        ensures there { IsTrue result ↔ (lun < self.now.units) }
+        ensures absent { result ≡ false → attendant.new ≡ attendant.old }
+    {
+        match lun {
+            0 => attend_at(rt, &self.changer, attendant),
+            1 => attend_at(rt, &self.first, attendant),
+            2 => attend_if_there(rt, &self.second, attendant),
+            3 => attend_if_there(rt, &self.third, attendant),
+            4 => attend_if_there(rt, &self.fourth, attendant),
+            _ => false,
         }
     }
 

@@ -38,6 +38,8 @@ impl Model for TapeDrive {
 }
 
 impl TapeDrive {
+    ghost use Rattle.std.specs.Option.{option_map};
+    ghost use Rattle.tape_medium.specs.Settling.{settled_to};
     ghost use Rattle.device_server.specs.Drive.{empty_drive, drive_step, in_bay, loads, selects, is_protected};
 
     /// A drive with an empty bay.
@@ -118,6 +120,23 @@ impl TapeDrive {
         let before = self.block_length;
         self.block_length = block_length_after(before, parameter_list_length, list);
         Outcome::set(alloc, self.block_length != before)
+    }
+
+    /// The volume in the bay, loaded or not.
+    pub fn volume(&self) -> Option<&Volume>
+        ensures { option_map (λ volume. volume.now) result ≡ self.now.bay }
+    {
+        self.bay.as_ref()
+    }
+
+    /// From now on the first `objects` objects of the volume in the bay count as unchanged, or all where it has fewer. Without one
+    /// nothing changes.
+    pub fn settle(&mut self, objects: u32)
+        ensures { self.new ≡ record self.old { bay = option_map (settled_to objects) self.old.bay } }
+    {
+        if let Some(volume) = &mut self.bay {
+            volume.settle(objects);
+        }
     }
 
     /// Whether a protected volume is in the bay, loaded or not.
