@@ -50,10 +50,10 @@ enum Presence {
 const SECONDS: &str = "SECONDS";
 
 /// What a library is made of.
-pub(crate) const LIBRARY: [OptionRow; 4] = [
+pub(crate) const LIBRARY: [OptionRow; 5] = [
     OptionRow {
         name: "drives",
-        value: OptionValue::Number8("D", 1, LibraryOptions::MAX.drives),
+        value: OptionValue::Number8("D", LibraryOptions::MIN.drives, LibraryOptions::MAX.drives),
         presence: Presence::Default("1"),
         excludes: None,
         needs: None,
@@ -61,7 +61,7 @@ pub(crate) const LIBRARY: [OptionRow; 4] = [
     },
     OptionRow {
         name: "slots",
-        value: OptionValue::Number16("S", 1, LibraryOptions::MAX.slots),
+        value: OptionValue::Number16("S", LibraryOptions::MIN.slots, LibraryOptions::MAX.slots),
         presence: Presence::Default("8"),
         excludes: None,
         needs: None,
@@ -69,7 +69,11 @@ pub(crate) const LIBRARY: [OptionRow; 4] = [
     },
     OptionRow {
         name: "portals",
-        value: OptionValue::Number8("P", 0, LibraryOptions::MAX.portals),
+        value: OptionValue::Number8(
+            "P",
+            LibraryOptions::MIN.portals,
+            LibraryOptions::MAX.portals,
+        ),
         presence: Presence::Default("0"),
         excludes: None,
         needs: None,
@@ -77,11 +81,23 @@ pub(crate) const LIBRARY: [OptionRow; 4] = [
     },
     OptionRow {
         name: "volumes",
-        value: OptionValue::Number16("V", 0, LibraryOptions::MAX.volumes),
+        value: OptionValue::Number16(
+            "V",
+            LibraryOptions::MIN.volumes,
+            LibraryOptions::MAX.volumes,
+        ),
         presence: Presence::Default("1"),
         excludes: None,
         needs: None,
         help: "How many volumes lie in the first storage elements",
+    },
+    OptionRow {
+        name: "volume-size",
+        value: OptionValue::Text("SIZE"),
+        presence: Presence::Default("16M"),
+        excludes: None,
+        needs: None,
+        help: "How many bytes of blocks a volume takes, from 1M to 64G: a number of bytes, or of KiB, MiB or GiB with K, M or G behind it",
     },
 ];
 

@@ -1,16 +1,18 @@
-ghost use Rattle.std.specs.Prelude.{IfOk, IfSome};
+ghost use Rattle.std.specs.Prelude.{◌≤◌, IfOk, IfSome};
+ghost use Rattle.program_options.specs.Options.{AreGivenInRange, AreInRange, IsWithin};
 ghost use Rattle.command_line.specs.Tasks.{IsClientOptions, IsDoable, IsIscsiOptions, IsServeOptions, MakesLibrary};
 
 use crate::commands::program;
 use crate::fault::CommandLineFault;
 use crate::task::{ClientOptions, IscsiOptions, ServeOptions, Task};
 use clap::ArgMatches;
+use clap::parser::ValueSource;
 use output_lines::{Audit, Explanations};
 use permission_chart::class_named;
 use permit_tables::Class;
 use program_options::{
-    LibraryOptions, NamedHost, OptionFault, ServeTimes, ServeUntil, host_beside, is_iscsi_name,
-    nexus_of, portal_of,
+    GivenLibrary, LibraryOptions, NamedHost, OptionFault, ServeTimes, ServeUntil, host_beside,
+    is_iscsi_name, nexus_of, portal_of, volume_size_of,
 };
 use scsi_nexus::TARGET_PORTS;
 use std::alloc::{AllocError, Global};
@@ -44,7 +46,7 @@ fn task_in(alloc: Global, matches: &ArgMatches) -> Result<Task, CommandLineFault
         return Ok(Task::Cells(class_of(alloc, cells)?));
     }
     match matches.subcommand_matches("replay") {
-        Some(replay) => replay_task(replay),
+        Some(replay) => replay_task(alloc, replay),
         // `clap` asks for a subcommand, and there is no other.
         None => Ok(Task::Replay(LibraryOptions::DEFAULT, Explanations::Off, Audit::Off)),
     }
@@ -53,45 +55,92 @@ fn task_in(alloc: Global, matches: &ArgMatches) -> Result<Task, CommandLineFault
 fn serve_task(alloc: Global, serve: &ArgMatches) -> Result<Task, CommandLineFault>
     ensures { IfOk result IsDoable }
 {
-    let library = library_of(serve)?;
+    let library = library_of(alloc, serve)?;
     Ok(Task::Serve(library, serve_options_of(alloc, serve)?, records_of(serve)))
 }
 
-fn replay_task(replay: &ArgMatches) -> Result<Task, CommandLineFault>
+fn replay_task(alloc: Global, replay: &ArgMatches) -> Result<Task, CommandLineFault>
     ensures { IfOk result IsDoable }
 {
-    let library = library_of(replay)?;
+    let library = library_of(alloc, replay)?;
     Ok(Task::Replay(library, explanations_of(replay), audit_of(replay)))
 }
 
 /// What the library of a command is made of.
-fn library_of(command: &ArgMatches) -> Result<LibraryOptions, OptionFault>
+fn library_of(alloc: Global, command: &ArgMatches) -> Result<LibraryOptions, CommandLineFault>
     ensures { IfOk result MakesLibrary }
 {
-    let usual = LibraryOptions::DEFAULT;
-    let most = LibraryOptions::MAX;
-    // `clap` sees to it that no value is absent or out of its range: what stands behind each `get_one`
-    // says that to the prover alone.
-    let options = LibraryOptions {
-        drives: command
-            .get_one::<u8>("drives")
-            .unwrap_or(usual.drives)
-            .clamp(1, most.drives),
-        slots: command
-            .get_one::<u16>("slots")
-            .unwrap_or(usual.slots)
-            .clamp(1, most.slots),
-        portals: command
-            .get_one::<u8>("portals")
-            .unwrap_or(usual.portals)
-            .min(most.portals),
-        volumes: command
-            .get_one::<u16>("volumes")
-            .unwrap_or(usual.volumes)
-            .min(most.volumes),
-    };
+    let options = library_options_of(alloc, command)?;
     options.fits()?;
     Ok(options)
+}
+
+/// What a command says of a library and what else is usual, though it may be of more volumes than storage elements.
+fn library_options_of(
+    alloc: Global,
+    command: &ArgMatches,
+) -> Result<LibraryOptions, CommandLineFault>
+    ensures { IfOk result AreInRange }
+{
+    let size = size_of_volumes(alloc, command)?;
+    Ok(given_library_of(command).options(size))
+}
+
+/// How many bytes of blocks a volume takes.
+fn size_of_volumes(alloc: Global, command: &ArgMatches) -> Result<u64, CommandLineFault>
+    ensures { IfOk result (λ size. (1048576 ≤ size) × (size ≤ 68719476736)) }
+{
+    // `clap` sees to it that it isn't absent.
+    let Some(text) = command.get_str("volume-size") else {
+        return Ok(LibraryOptions::DEFAULT.volume_size);
+    };
+    match volume_size_of(text) {
+        Ok(size) => Ok(size),
+        Err(fault) => Err(refused_word(alloc, fault, text)),
+    }
+}
+
+/// What a command says of a library.
+fn given_library_of(command: &ArgMatches) -> GivenLibrary
+    ensures { AreGivenInRange result }
+{
+    let least = LibraryOptions::MIN;
+    let most = LibraryOptions::MAX;
+    GivenLibrary {
+        drives: said_number8(command, "drives", least.drives, most.drives),
+        slots: said_number16(command, "slots", least.slots, most.slots),
+        portals: said_number8(command, "portals", least.portals, most.portals),
+        volumes: said_number16(command, "volumes", least.volumes, most.volumes),
+    }
+}
+
+/// A number that was said. `clap` sees to it that it is in its range: the clamp says that to the prover alone.
+fn said_number8(command: &ArgMatches, name: &str, least: u8, most: u8) -> Option<u8>
+    requires { least ≤ most }
+    ensures { IsWithin least most result }
+{
+    if !is_said(command, name) {
+        return None;
+    }
+    let number = command.get_one::<u8>(name)?;
+    Some(number.clamp(least, most))
+}
+
+/// The same of 16 bits.
+fn said_number16(command: &ArgMatches, name: &str, least: u16, most: u16) -> Option<u16>
+    requires { least ≤ most }
+    ensures { IsWithin least most result }
+{
+    if !is_said(command, name) {
+        return None;
+    }
+    let number = command.get_one::<u16>(name)?;
+    Some(number.clamp(least, most))
+}
+
+/// Whether an option was said. Where it wasn't, `clap` may have a value in its place.
+fn is_said(command: &ArgMatches, name: &str) -> bool {
+    matches!(command.value_source(name), Some(ValueSource::CommandLine))
 }
 
 /// Whether a command wants replies in words, too.

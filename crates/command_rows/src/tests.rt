@@ -55,7 +55,7 @@ fn refused(alloc: Global, line: &str) -> Result<(u8, String), Fail> {
 /// A line that names no task, the exit status, and some words of what is told.
 type Refused = (&'static str, u8, &'static str);
 
-const REFUSED: [Refused; 93] = [
+const REFUSED: [Refused; 106] = [
     ("vtl", 2, "requires a subcommand"),
     ("vtl server", 2, "unrecognized subcommand 'server'"),
     ("vtl serve --sessions 1", 2, "--socket <PATH>"),
@@ -365,6 +365,35 @@ const REFUSED: [Refused; 93] = [
     ),
     ("vtl cells READ(6) WRITE(6)", 2, "unexpected argument"),
     ("vtl --version", 0, "vtl 0.1.0"),
+    (
+        "vtl replay --volume-size 1023K",
+        2,
+        "vtl: no size of a volume: say a number of bytes from 1M to 64G, as 16M: 1023K",
+    ),
+    ("vtl replay --volume-size 1048575", 2, "as 16M: 1048575"),
+    ("vtl replay --volume-size 65G", 2, "as 16M: 65G"),
+    (
+        "vtl replay --volume-size 68719476737",
+        2,
+        "as 16M: 68719476737",
+    ),
+    ("vtl replay --volume-size 0", 2, "as 16M: 0"),
+    ("vtl replay --volume-size M", 2, "as 16M: M"),
+    ("vtl replay --volume-size 016M", 2, "as 16M: 016M"),
+    ("vtl replay --volume-size=-16M", 2, "as 16M: -16M"),
+    (
+        "vtl replay --volume-size=",
+        2,
+        "vtl: no size of a volume: say a number of bytes from 1M to 64G, as 16M: ",
+    ),
+    ("vtl serve --socket s --volume-size 1T", 2, "as 16M: 1T"),
+    ("vtl client --volume-size 1M", 2, "unexpected argument"),
+    (
+        "vtl replay --help",
+        0,
+        "with K, M or G behind it [default: 16M]",
+    ),
+    ("vtl serve --help", 0, "--volume-size <SIZE>"),
 ];
 
 fn assert_refused(rt: &impl Abort, alloc: Global, row: &Refused) -> Result<(), Fail> {
@@ -383,8 +412,11 @@ fn task_of_refuses_wrong_lines_and_shows_help(rt: HostRuntime) -> Result<(), Fai
     Ok(())
 }
 
-/// How many drives, slots, portals and volumes a library has, and what is printed of its replies and of its records.
-type Replayed = ((u8, u16, u8, u16), Explanations, Audit);
+/// How many drives, slots, portals and volumes a library has, and how many bytes of blocks a volume takes.
+type Made = (u8, u16, u8, u16, u64);
+
+/// What a library is made of, and what is printed of its replies and of its records.
+type Replayed = (Made, Explanations, Audit);
 
 /// The replay that a line asks for.
 fn replayed(alloc: Global, line: &str) -> Result<Replayed, Fail> {
@@ -395,6 +427,7 @@ fn replayed(alloc: Global, line: &str) -> Result<Replayed, Fail> {
                 library.slots,
                 library.portals,
                 library.volumes,
+                library.volume_size,
             );
             Ok((parts, explanations, audit))
         }
@@ -402,27 +435,49 @@ fn replayed(alloc: Global, line: &str) -> Result<Replayed, Fail> {
     }
 }
 
-const REPLAYED: [(&'static str, Replayed); 6] = [
-    ("vtl replay", ((1, 8, 0, 1), Explanations::Off, Audit::Off)),
+/// How many bytes of blocks a volume takes where nothing is said.
+const SIZE: u64 = 16_777_216;
+
+const REPLAYED: [(&'static str, Replayed); 10] = [
+    (
+        "vtl replay",
+        ((1, 8, 0, 1, SIZE), Explanations::Off, Audit::Off),
+    ),
     (
         "vtl replay --explain",
-        ((1, 8, 0, 1), Explanations::On, Audit::Off),
+        ((1, 8, 0, 1, SIZE), Explanations::On, Audit::Off),
     ),
     (
         "vtl replay --audit",
-        ((1, 8, 0, 1), Explanations::Off, Audit::Lines),
+        ((1, 8, 0, 1, SIZE), Explanations::Off, Audit::Lines),
     ),
     (
         "vtl replay --spans --explain",
-        ((1, 8, 0, 1), Explanations::On, Audit::Spans),
+        ((1, 8, 0, 1, SIZE), Explanations::On, Audit::Spans),
     ),
     (
         "vtl replay --drives 4 --slots 1024 --portals 16 --volumes 1024",
-        ((4, 1024, 16, 1024), Explanations::Off, Audit::Off),
+        ((4, 1024, 16, 1024, SIZE), Explanations::Off, Audit::Off),
     ),
     (
         "vtl replay --volumes=0 --audit --slots=1 --drives=2",
-        ((2, 1, 0, 0), Explanations::Off, Audit::Lines),
+        ((2, 1, 0, 0, SIZE), Explanations::Off, Audit::Lines),
+    ),
+    (
+        "vtl replay --volume-size 1M",
+        ((1, 8, 0, 1, 1_048_576), Explanations::Off, Audit::Off),
+    ),
+    (
+        "vtl replay --volume-size=64g --volumes 8",
+        ((1, 8, 0, 8, 68_719_476_736), Explanations::Off, Audit::Off),
+    ),
+    (
+        "vtl replay --volume-size 1024K",
+        ((1, 8, 0, 1, 1_048_576), Explanations::Off, Audit::Off),
+    ),
+    (
+        "vtl replay --volume-size 1048577",
+        ((1, 8, 0, 1, 1_048_577), Explanations::Off, Audit::Off),
     ),
 ];
 

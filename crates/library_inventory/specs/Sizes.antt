@@ -5,7 +5,7 @@ use Rattle.library_inventory.specs.declared.fault.SizeOption.{SizeOption}
 use Rattle.library_inventory.specs.declared.fault.SizeOption.TheVariants.{Drives, Slots, Portals}
 use Rattle.library_inventory.specs.declared.fault.StartFault.{StartFault}
 use Rattle.library_inventory.specs.declared.fault.StartFault.TheVariants.{Disagrees}
-use Rattle.library_inventory.specs.declared.given.GivenOptions.{GivenOptions}
+use Rattle.program_options.specs.declared.given_library.GivenLibrary.{GivenLibrary}
 
 -- an option that is given is what the inventory has; else both are told
 abbrev pub agreed : SizeOption → (given : Option ℕ) → (kept : ℕ) → Result (Unit {0}) StartFault
@@ -18,11 +18,11 @@ and_then (Ok done) next = next
 and_then (Err fault) next = Err fault
 
 -- one drive, eight storage elements and no import/export element are usual
-abbrev pub usual_size : GivenOptions → LibrarySize
+abbrev pub usual_size : GivenLibrary → LibrarySize
 usual_size given = record { drives = unwrap_or given.drives 1; slots = unwrap_or given.slots 8; portals = unwrap_or given.portals 0 }
 
 -- that of the inventory, with which the options agree, or without one what they say
-abbrev pub size_of : GivenOptions → (kept : Option LibrarySize) → Result LibrarySize StartFault
+abbrev pub size_of : GivenLibrary → (kept : Option LibrarySize) → Result LibrarySize StartFault
 size_of given None = Ok (usual_size given)
 size_of given (Some kept) =
     and_then (agreed Drives given.drives kept.drives) (and_then (agreed Slots given.slots kept.slots) (and_then (agreed Portals given.portals kept.portals) (Ok kept)))

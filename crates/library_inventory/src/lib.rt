@@ -19,7 +19,7 @@ pub use element::{Element, LibrarySize};
 pub use fault::{
     AddFault, InventoryKey, ReadFault, SizeOption, StartFault, VolumeFault, WriteFault,
 };
-pub use given::GivenOptions;
+pub use given::size_at_start;
 pub use inventory::Inventory;
 pub use laws::starts_hold_all_images;
 pub use name::{name_of_tag, tag_of_name};

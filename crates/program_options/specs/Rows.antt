@@ -1,12 +1,15 @@
--- Worked rows: addresses and names of hosts, who is let in, what is said of each fault, who serves, and how long hosts are waited for.
+-- Worked rows: addresses and names of hosts, who is let in, what is said of each fault, who serves, how long hosts are waited for, and
+-- what libraries and volumes are made of.
 use Rattle.std.specs.Prelude.{◌≡◌, ◌++◌, true, false, [], replicate, Some, None, Ok, Err, codes}
-use Rattle.program_options.specs.declared.option_fault.OptionFault.TheVariants.{MoreVolumes, BadNexus, BadHost, BadName, BadSas}
+use Rattle.program_options.specs.declared.option_fault.OptionFault.TheVariants.{MoreVolumes, BadVolumeSize, BadNexus, BadHost, BadName, BadSas}
 use Rattle.program_options.specs.Faults.{option_fault_text, option_status}
 use Rattle.program_options.specs.Hosts.{nexus_by, sas_in}
 use Rattle.program_options.specs.HostsLetIn.{host_in, judged}
 use Rattle.program_options.specs.IscsiNames.{is_iscsi_name}
+use Rattle.program_options.specs.Options.{options_of}
 use Rattle.program_options.specs.ServeTimes.{nanos_of, timeout_nanos}
 use Rattle.program_options.specs.ServeUntil.{sessions_of, workers_of}
+use Rattle.program_options.specs.VolumeSizes.{volume_size_in}
 use Rattle.program_options.specs.declared.serve_until.ServeUntil.TheVariants.{Sessions, InputEnds}
 
 pub record AddressesRead : Type 0 where
@@ -61,3 +64,33 @@ pub record HostsLetIn : Type 0 where
   pub short_address : judged [] (host_in (codes "iqn.2026-11.a:b=500000000000000")) ≡ Err BadSas
   pub two_signs : judged [] (host_in (codes "iqn.2026-11.a:b=5=500000000000000a")) ≡ Err BadSas
   pub no_name : judged [] (host_in (codes "=500000000000000a")) ≡ Err BadName
+
+pub record LibrariesMade : Type 0 where
+  pub usual : options_of (record { drives = None; slots = None; portals = None; volumes = None }) 16777216
+      ≡ record { drives = 1; slots = 8; portals = 0; volumes = 1; volume_size = 16777216 }
+  pub partly_said : options_of (record { drives = Some 2; slots = None; portals = None; volumes = Some 0 }) 1048576
+      ≡ record { drives = 2; slots = 8; portals = 0; volumes = 0; volume_size = 1048576 }
+
+pub record SizesRead : Type 0 where
+  pub least : volume_size_in (codes "1M") ≡ Ok 1048576
+  pub usual : volume_size_in (codes "16M") ≡ Ok 16777216
+  pub most : volume_size_in (codes "64G") ≡ Ok 68719476736
+  pub bytes : volume_size_in (codes "1048576") ≡ Ok 1048576
+  pub no_whole_unit : volume_size_in (codes "1048577") ≡ Ok 1048577
+  pub kibibytes : volume_size_in (codes "1024K") ≡ Ok 1048576
+  pub small_letter : volume_size_in (codes "2g") ≡ Ok 2147483648
+  pub zero : volume_size_in (codes "0") ≡ Err BadVolumeSize
+  pub too_small : volume_size_in (codes "1023K") ≡ Err BadVolumeSize
+  pub a_byte_too_small : volume_size_in (codes "1048575") ≡ Err BadVolumeSize
+  pub too_large : volume_size_in (codes "65G") ≡ Err BadVolumeSize
+  pub a_byte_too_large : volume_size_in (codes "68719476737") ≡ Err BadVolumeSize
+  pub product_of_65_bits : volume_size_in (codes "18014398509498368K") ≡ Err BadVolumeSize
+  pub number_of_65_bits : volume_size_in (codes "18446744073726328832") ≡ Err BadVolumeSize
+  pub nothing : volume_size_in [] ≡ Err BadVolumeSize
+  pub unit_alone : volume_size_in (codes "M") ≡ Err BadVolumeSize
+  pub two_units : volume_size_in (codes "1MM") ≡ Err BadVolumeSize
+  pub other_unit : volume_size_in (codes "1T") ≡ Err BadVolumeSize
+  pub leading_zero : volume_size_in (codes "016M") ≡ Err BadVolumeSize
+  pub sign : volume_size_in (codes "+16M") ≡ Err BadVolumeSize
+  pub fraction : volume_size_in (codes "1.5M") ≡ Err BadVolumeSize
+  pub blank : volume_size_in (codes "16 M") ≡ Err BadVolumeSize

@@ -1,8 +1,9 @@
 //! Worked rows that the definitions compute to.
 
-ghost use Rattle.program_options.specs.Rows.{AddressesRead, FaultsTold, HostsLetIn, NamesTaken, SessionsServed, TimesWaited};
+ghost use Rattle.program_options.specs.Rows.{AddressesRead, FaultsTold, HostsLetIn, LibrariesMade, NamesTaken, SessionsServed, SizesRead, TimesWaited};
 
-/// Addresses and names of hosts, who is let in, what is said of each fault, who serves, and how long hosts are waited for.
+/// Addresses and names of hosts, who is let in, what is said of each fault, who serves, how long hosts are waited for, and what libraries
+/// and volumes are made of.
 pub fn worked_rows()
     ensures addresses { AddressesRead }
     ensures names { NamesTaken }
@@ -10,4 +11,6 @@ pub fn worked_rows()
     ensures faults { FaultsTold }
     ensures terms { SessionsServed }
     ensures times { TimesWaited }
+    ensures libraries { LibrariesMade }
+    ensures sizes { SizesRead }
 {}

@@ -2,6 +2,7 @@
 //! whom it lets in, and which host a client is.
 #![tactic(auto)]
 
+mod given_library;
 mod host;
 mod iscsi_name;
 mod laws;
@@ -11,7 +12,9 @@ mod option_fault;
 mod portal;
 mod serve_times;
 mod serve_until;
+mod volume_size;
 
+pub use given_library::GivenLibrary;
 pub use host::nexus_of;
 pub use iscsi_name::is_iscsi_name;
 pub use laws::worked_rows;
@@ -21,3 +24,4 @@ pub use option_fault::OptionFault;
 pub use portal::portal_of;
 pub use serve_times::ServeTimes;
 pub use serve_until::ServeUntil;
+pub use volume_size::volume_size_of;

@@ -13,6 +13,8 @@ pub struct LibraryOptions {
     pub portals: u8,
     /// Volumes, in the first storage elements.
     pub volumes: u16,
+    /// How many bytes of blocks a volume takes.
+    pub volume_size: u64,
 }
 
 impl LibraryOptions {
@@ -22,6 +24,16 @@ impl LibraryOptions {
         slots: 8,
         portals: 0,
         volumes: 1,
+        volume_size: 16_777_216,
+    };
+
+    /// The least of each that a library has (profile).
+    pub const MIN: LibraryOptions = LibraryOptions {
+        drives: 1,
+        slots: 1,
+        portals: 0,
+        volumes: 0,
+        volume_size: 1_048_576,
     };
 
     /// The most of each that a library has (profile).
@@ -30,6 +42,7 @@ impl LibraryOptions {
         slots: 1024,
         portals: 16,
         volumes: 1024,
+        volume_size: 68_719_476_736,
     };
 
     ghost use Rattle.std.specs.Prelude.{◌↔◌, ◌≤◌, IsOk, IsOkUnless};

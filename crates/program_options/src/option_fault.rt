@@ -6,6 +6,8 @@ use thiserror::Error;
 pub enum OptionFault {
     /// There are more volumes than storage elements.
     MoreVolumes,
+    /// What is no size of a volume, or out of its range.
+    BadVolumeSize,
     /// A SAS address that isn't 16 hexadecimal digits.
     BadNexus,
     /// A library is served nowhere.
@@ -42,6 +44,9 @@ impl OptionFault {
     {
         match self {
             OptionFault::MoreVolumes => "vtl: more volumes than slots",
+            OptionFault::BadVolumeSize => {
+                "vtl: no size of a volume: say a number of bytes from 1M to 64G, as 16M"
+            }
             OptionFault::BadNexus => "vtl: bad nexus",
             OptionFault::NoPlace => {
                 "vtl: nowhere to serve: say --socket <PATH> or --iscsi <ADDRESS:PORT>"

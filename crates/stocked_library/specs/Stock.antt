@@ -14,25 +14,25 @@ five_digits n = (48 + n / 10000) ∷ (48 + n / 1000 % 10) ∷ (48 + n / 100 % 10
 abbrev pub tag_of : ℕ → VolumeTag
 tag_of number = record { 0 = codes "VOL" ++ five_digits number ++ replicate 24 0x20 }
 
--- an empty volume of 16 MiB that isn't write protected
-abbrev pub volume_of : ℕ → Volume
-volume_of number = record { tag = tag_of number; protected = false; tape = blank 16777216 }
+-- an empty volume for so many bytes of blocks, that isn't write protected
+abbrev pub volume_of : (size number : ℕ) → Volume
+volume_of size number = record { tag = tag_of number; protected = false; tape = blank size }
 
--- so many volumes, numbered from 1 on, each in an element
-abbrev pub volumes_to : ℕ → List (Option Volume)
-volumes_to zero = []
-volumes_to (suc k) = volumes_to k ++ Some (volume_of (k + 1)) ∷ []
+-- so many volumes of a size, numbered from 1 on, each in an element
+abbrev pub volumes_to : (size volumes : ℕ) → List (Option Volume)
+volumes_to size zero = []
+volumes_to size (suc k) = volumes_to size k ++ Some (volume_of size (k + 1)) ∷ []
 
 -- so many storage elements, the first of them with volumes
-abbrev pub shelved : (volumes slots : ℕ) → List (Option Volume)
-shelved volumes slots = volumes_to volumes ++ replicate (slots - volumes) None
+abbrev pub shelved : (size volumes slots : ℕ) → List (Option Volume)
+shelved size volumes slots = volumes_to size volumes ++ replicate (slots - volumes) None
 
 -- with so many volumes on the shelves
 abbrev pub stocked_to : LibraryOptions → ℕ → Elements
 stocked_to options volumes = record {
   data_transfer = replicate options.drives None;
   import_export = replicate options.portals None;
-  storage = shelved volumes options.slots;
+  storage = shelved options.volume_size volumes options.slots;
 }
 
 abbrev pub stocked : LibraryOptions → Elements

@@ -3,15 +3,13 @@
 ghost use Rattle.std.specs.Prelude.{◌≡◌, ◌<◌, ◌≤◌, ◌^◌, IfOk};
 ghost use Rattle.program_options.specs.Options.{AreInRange};
 ghost use Rattle.stocked_library.specs.Stock.{five_digits, stocked, tag_of, volume_of};
+ghost use Rattle.tape_medium.specs.Limits.{capacity_limit};
 
 use changer_server::Changer;
 use element_map::Elements;
 use program_options::LibraryOptions;
 use std::alloc::{AllocError, Global};
 use tape_medium::{FIRST_STORAGE, Tape, Volume, VolumeTag};
-
-/// How many bytes of blocks a volume holds: 16 MiB.
-const CAPACITY: u32 = 16_777_216;
 
 /// A number as five decimal digits.
 fn five_digits(number: u16) -> [u8; 5]
@@ -67,14 +65,16 @@ fn tag_of(number: u16) -> VolumeTag
     ])
 }
 
-/// An empty volume that isn't write protected.
-fn volume_of(alloc: Global, number: u16) -> Volume
-    ensures { result ≡ volume_of number }
+/// An empty volume that isn't write protected, for so many bytes of blocks.
+fn volume_of(alloc: Global, size: u64, number: u16) -> Volume
+    requires some { 0 < size }
+    requires within { size ≤ capacity_limit }
+    ensures { result ≡ volume_of size number }
 {
     Volume {
         tag: tag_of(number),
         protected: false,
-        tape: Tape::new(alloc, CAPACITY),
+        tape: Tape::new(alloc, size),
     }
 }
 
@@ -92,7 +92,10 @@ pub fn stocked(alloc: Global, options: &LibraryOptions) -> Result<Changer, Alloc
         u16::from(options.portals),
     )?;
     'volumes: for place in 0..options.volumes {
-        match elements.put(FIRST_STORAGE + place, volume_of(alloc, place + 1)) {
+        match elements.put(
+            FIRST_STORAGE + place,
+            volume_of(alloc, options.volume_size, place + 1),
+        ) {
             Ok(()) => {}
             // Each storage element from this one on is there, and empty.
             Err(_) => unreachable!(),

@@ -18,6 +18,7 @@ const OPTIONS: LibraryOptions = LibraryOptions {
     slots: 3,
     portals: 0,
     volumes: 2,
+    volume_size: LibraryOptions::DEFAULT.volume_size,
 };
 
 /// Numbers that follow from a seed, by Knuth's linear congruence.

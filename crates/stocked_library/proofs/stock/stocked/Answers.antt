@@ -9,7 +9,7 @@ use Rattle.stocked_library.proofs.StockLemmas.{put_next}
 use Rattle.stocked_library.proofs.stock.stocked.Goals as goal
 
 -- a volume that is put behind those that are there goes in
-goes_in : (options : LibraryOptions) (e : Elements) (v : Volume) (k : ℕ) → e ≡ stocked_to options k → v ≡ volume_of (k + 1) → AreInRange options → k < options.slots
+goes_in : (options : LibraryOptions) (e : Elements) (v : Volume) (k : ℕ) → e ≡ stocked_to options k → v ≡ volume_of options.volume_size (k + 1) → AreInRange options → k < options.slots
     → ◌≡◌ {A = Result Elements MapFault} (puts e (1024 + k) v) (Ok (stocked_to options (k + 1)))
 goes_in options e v k is next range there =
     ap (λ (x : Elements). puts x (1024 + k) v) is ∙ ap (λ (x : Volume). puts (stocked_to options k) (1024 + k) x) next ∙ put_next options k range there
