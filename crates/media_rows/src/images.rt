@@ -3,9 +3,10 @@ use std::alloc::Global;
 use std::process::Abort;
 use std::test::Fail;
 use tape_flush::{
-    FlushFault, ImageFile, ImageStore, MemoryStore, OpenFault, StoreFault, TapeObject, open_image,
+    FlushFault, ImageFile, ImageStore, MemoryStore, OpenFault, StoreFault, open_image,
 };
 use tape_image::{ImageEnd, ImageFault, IndexedObject, index_image};
+use tape_medium::Tape;
 
 /// "hi", a filemark and "odd", as SIMH keeps them.
 const OLD: &[u8] = &[
@@ -45,19 +46,49 @@ fn read(alloc: Global, mut bytes: &[u8]) -> Result<(Vec<usize>, ImageEnd), Fail>
     Ok((sizes, index.end))
 }
 
+/// A tape of "hi", "new" and a filemark.
+fn new_tape(alloc: Global) -> Result<Tape, Fail> {
+    let mut tape = Tape::new(alloc, 1_000);
+    tape.write_block(b"hi")?;
+    tape.write_block(b"new")?;
+    tape.write_marks(1)?;
+    Ok(tape)
+}
+
+/// Writes "hi", a filemark and "odd" on a tape.
+fn write_old(tape: &mut Tape) -> Result<(), Fail> {
+    tape.write_block(b"hi")?;
+    tape.write_marks(1)?;
+    tape.write_block(b"odd")?;
+    Ok(())
+}
+
+/// Writes "new" and a filemark behind its first object.
+fn write_over(tape: &mut Tape) -> Result<(), Fail> {
+    let _ = tape.locate(1);
+    tape.write_block(b"new")?;
+    tape.write_marks(1)?;
+    Ok(())
+}
+
 #[test]
 fn a_tape_is_written_over_from_an_object_on(rt: HostRuntime) -> Result<(), Fail> {
     let store = MemoryStore {
-        bytes: copy(rt.alloc(), OLD)?,
+        bytes: Vec::new(rt.alloc()),
     };
-    let (mut image, lost) = opened(rt.alloc(), store, OLD)?;
-    assert_eq!(rt; image.count(), 3);
+    let (mut image, lost) = opened(rt.alloc(), store, &[])?;
     assert_eq!(rt; lost, 0);
-    image.flush(
-        rt.alloc(),
-        1,
-        &[TapeObject::Block(b"new"), TapeObject::Mark],
-    )?;
+    let mut tape = Tape::new(rt.alloc(), 1_000);
+    write_old(&mut tape)?;
+    image.flush(rt.alloc(), &tape, 0)?;
+    assert_eq!(rt; image.store().bytes.as_slice(), OLD);
+    tape.settle(tape.object_count());
+    assert_eq!(rt; tape.unchanged(), 3);
+
+    write_over(&mut tape)?;
+    assert_eq!(rt; tape.unchanged(), 1);
+    let stay = (tape.unchanged() as usize).min(image.count()) as u32;
+    image.flush(rt.alloc(), &tape, stay)?;
     image.sync()?;
     assert_eq!(rt; image.count(), 3);
     assert_eq!(rt; image.store().bytes.as_slice(), NEW);
@@ -67,15 +98,15 @@ fn a_tape_is_written_over_from_an_object_on(rt: HostRuntime) -> Result<(), Fail>
 #[test]
 fn more_than_a_piece_is_written_in_pieces(rt: HostRuntime) -> Result<(), Fail> {
     let block = vec![in rt.alloc(); 7u8; 65_536]?;
-    let bytes = block.as_slice();
-    assert_eq!(rt; bytes.len(), 65_536);
-    let b = TapeObject::Block(bytes);
-    let objects = [b, b, b, b, b, b, b, b, b, b, b, b, b, b, b, b];
+    let mut tape = Tape::new(rt.alloc(), 2_000_000);
+    for _ in 0..16 {
+        tape.write_block(&block)?;
+    }
     let store = MemoryStore {
         bytes: Vec::new(rt.alloc()),
     };
     let (mut image, _) = opened(rt.alloc(), store, &[])?;
-    image.flush(rt.alloc(), 0, &objects)?;
+    image.flush(rt.alloc(), &tape, 0)?;
     let (sizes, end) = read(rt.alloc(), &image.store().bytes)?;
     assert_eq!(rt; sizes.as_slice(), [65_536; 16].as_slice());
     assert_eq!(rt; end, ImageEnd::WholeEnd { whole: 1_048_704 });
@@ -135,13 +166,15 @@ fn mended(
     };
     let (mut image, _) = opened(alloc, store, OLD)?;
     assert_eq!(rt; image.count(), 3);
-    let told = image.flush(alloc, 1, &[TapeObject::Block(b"new"), TapeObject::Mark]);
+    let tape = new_tape(alloc)?;
+    assert_eq!(rt; tape.object_count(), 3);
+    let told = image.flush(alloc, &tape, 1);
     assert_eq!(rt; told, Err(FlushFault::Store(fault)));
     let (sizes, stop) = read(alloc, &image.store().bytes)?;
     assert_eq!(rt; sizes.as_slice(), left);
     assert_eq!(rt; stop, end);
     assert_eq!(rt; image.count(), 1);
-    image.flush(alloc, 1, &[TapeObject::Block(b"new"), TapeObject::Mark])?;
+    image.flush(alloc, &tape, 1)?;
     assert_eq!(rt; image.store().bytes.as_slice(), NEW);
     Ok(())
 }

@@ -1,8 +1,9 @@
 use library_inventory::{
-    AddFault, Element, GivenOptions, Inventory, InventoryKey, LibrarySize, PlacedVolume, ReadFault,
-    SizeOption, StartFault, VolumeFault, name_of_tag, place, read_inventory, tag_of_name,
+    AddFault, Element, Inventory, InventoryKey, LibrarySize, PlacedVolume, ReadFault, SizeOption,
+    StartFault, VolumeFault, name_of_tag, place, read_inventory, size_at_start, tag_of_name,
     write_inventory,
 };
+use program_options::GivenLibrary;
 use std::test::Fail;
 use tape_medium::VolumeTag;
 
@@ -136,26 +137,26 @@ fn a_text_that_is_wrong_is_refused_with_what_is_wrong(rt: HostRuntime) -> Result
 
 #[test]
 fn options_that_disagree_are_refused_with_both_values(rt: HostRuntime) -> Result<(), Fail> {
-    let mut given = GivenOptions {
+    let mut given = GivenLibrary {
         drives: None,
         slots: Some(4),
         portals: None,
         volumes: None,
     };
-    assert_eq!(rt; given.size(Some(SIZE)), Ok(SIZE));
+    assert_eq!(rt; size_at_start(&given, Some(SIZE)), Ok(SIZE));
     given.slots = Some(5);
     let fault = StartFault::Disagrees {
         option: SizeOption::Slots,
         given: 5,
         kept: 4,
     };
-    assert_eq!(rt; given.size(Some(SIZE)), Err(fault));
+    assert_eq!(rt; size_at_start(&given, Some(SIZE)), Err(fault));
     let size = LibrarySize {
         drives: 1,
         slots: 5,
         portals: 0,
     };
-    assert_eq!(rt; given.size(None), Ok(size));
+    assert_eq!(rt; size_at_start(&given, None), Ok(size));
     Ok(())
 }
 

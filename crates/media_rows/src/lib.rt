@@ -1,4 +1,5 @@
-//! Worked rows of lasting media that run: images that are flushed to files of which each call fails in turn, and inventories.
+//! Worked rows of lasting media that run: tapes that are lent and written over, images that are flushed to files of which each call
+//! fails in turn and read back, and inventories.
 #![tactic(auto)]
 
 #[cfg(test)]
@@ -7,3 +8,9 @@ mod failing_store;
 mod images;
 #[cfg(test)]
 mod inventories;
+#[cfg(test)]
+mod keeping;
+#[cfg(test)]
+mod readings;
+#[cfg(test)]
+mod tapes;

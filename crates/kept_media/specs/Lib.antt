@@ -1,0 +1,5 @@
+pub mod Kept
+pub mod Wishes
+pub mod Sizes
+pub mod Starting
+pub mod StartRows

@@ -1,0 +1,19 @@
+//! The tapes of a library that is served, each kept in an image, and where they lie: what is written is copied behind it, and what a
+//! reply says to be kept is on the disk before it goes out.
+#![tactic(auto)]
+
+mod copying;
+mod keeper;
+mod kept_image;
+mod listing;
+mod rows;
+mod start;
+mod store;
+mod unwritten;
+mod wish;
+
+pub use keeper::{MediaKeeper, VolumeImage};
+pub use kept_image::KeptImage;
+pub use rows::worked_rows;
+pub use start::{LibraryFault, StartedVolume, library_of_volumes};
+pub use store::InventoryStore;

@@ -1,0 +1,3 @@
+pub mod Names
+pub mod Sizes
+pub mod Faults

@@ -1,0 +1,245 @@
+ghost use Rattle.std.specs.Prelude.{◌≡◌};
+ghost use Rattle.media_folder.specs.Faults.{folder_status};
+
+use library_inventory::{
+    AddFault, InventoryKey, LibrarySize, ReadFault, SizeOption, StartFault, VolumeFault, WriteFault,
+};
+use std::alloc::AllocError;
+use std::fmt;
+use std::io::ErrorKind;
+use tape_flush::{OpenFault, ReadTapeFault};
+use tape_image::ImageFault;
+use thiserror::Error;
+
+/// Why a folder isn't opened, or its inventory isn't written. Paths are those that were given, and of files in the folder.
+#[derive(Debug, Drop, Error)]
+pub enum FolderFault {
+    NoMemory,
+    /// The folder isn't there, and can't be made.
+    CannotMake(String),
+    CannotRead(String),
+    CannotWrite(String),
+    /// Another program has the folder.
+    InUse(String),
+    /// The text of the inventory is none.
+    BadInventory(String, ReadFault),
+    /// No library is made of this.
+    NoSize(LibrarySize),
+    /// Options disagree with the inventory, or there are too few elements or tags.
+    Start(StartFault),
+    /// A volume's file has a fault at the offset `whole`, in bytes, behind so many objects.
+    FaultyImage {
+        path: String,
+        fault: ImageFault,
+        objects: u64,
+        whole: u64,
+    },
+    /// A volume's file has more than a tape takes, behind so many objects.
+    TooLarge {
+        path: String,
+        objects: u32,
+    },
+    /// A tag has no name that a file can have.
+    NoName,
+}
+
+impl FolderFault {
+    /// Why something at a path wasn't read.
+    pub(crate) fn of_reading(path: String, kind: ErrorKind) -> FolderFault {
+        match kind {
+            ErrorKind::OutOfMemory => FolderFault::NoMemory,
+            _ => FolderFault::CannotRead(path),
+        }
+    }
+
+    /// Why an inventory at a path has none that can be read.
+    pub(crate) fn of_inventory(path: String, fault: ReadFault) -> FolderFault {
+        match fault {
+            ReadFault::NoMemory => FolderFault::NoMemory,
+            _ => FolderFault::BadInventory(path, fault),
+        }
+    }
+
+    /// Why a library isn't started.
+    pub(crate) fn of_start(fault: StartFault) -> FolderFault {
+        match fault {
+            StartFault::NoMemory => FolderFault::NoMemory,
+            _ => FolderFault::Start(fault),
+        }
+    }
+
+    /// Why the image at a path isn't read.
+    pub(crate) fn of_image(path: String, fault: ReadTapeFault) -> FolderFault {
+        match fault {
+            ReadTapeFault::NoMemory => FolderFault::NoMemory,
+            ReadTapeFault::Read | ReadTapeFault::PastLastOffset => FolderFault::CannotRead(path),
+            ReadTapeFault::TooLarge { objects } => FolderFault::TooLarge { path, objects },
+        }
+    }
+
+    /// Why the image at a path isn't written on.
+    pub(crate) fn of_opening(path: String, fault: OpenFault) -> FolderFault {
+        match fault {
+            OpenFault::NoMemory => FolderFault::NoMemory,
+            OpenFault::Faulty {
+                fault,
+                objects,
+                whole,
+            } => FolderFault::FaultyImage {
+                path,
+                fault,
+                objects,
+                whole,
+            },
+            OpenFault::PastLastOffset => FolderFault::CannotRead(path),
+            OpenFault::Store(_) => FolderFault::CannotWrite(path),
+        }
+    }
+
+    /// The exit status of a program that ends by it: 2 where something is to be put right before, 3 for want of memory, else 4
+    /// (profile).
+    pub fn status(&self) -> u8
+        ensures { result ≡ folder_status self.now }
+    {
+        match self {
+            FolderFault::NoMemory => 3,
+            FolderFault::CannotMake(_) | FolderFault::CannotRead(_) | FolderFault::CannotWrite(_) =>
+                4,
+            FolderFault::InUse(_)
+            | FolderFault::BadInventory(_, _)
+            | FolderFault::NoSize(_)
+            | FolderFault::Start(_)
+            | FolderFault::FaultyImage { .. }
+            | FolderFault::TooLarge { .. }
+            | FolderFault::NoName => 2,
+        }
+    }
+}
+
+impl From<AllocError> for FolderFault {
+    fn from(_error: AllocError) -> FolderFault {
+        FolderFault::NoMemory
+    }
+}
+
+impl From<WriteFault> for FolderFault {
+    fn from(fault: WriteFault) -> FolderFault {
+        match fault {
+            WriteFault::NoMemory => FolderFault::NoMemory,
+            WriteFault::NoName => FolderFault::NoName,
+        }
+    }
+}
+
+impl fmt::Display for FolderFault {
+    fn fmt<W: fmt::Write>(&self, f: &mut fmt::Formatter<W>) -> fmt::Result {
+        match self {
+            FolderFault::NoMemory => write!(f, "vtl: want of memory"),
+            FolderFault::CannotMake(path) => {
+                write!(f, "vtl: device fault\nvtl: cannot make {path}")
+            }
+            FolderFault::CannotRead(path) => {
+                write!(f, "vtl: device fault\nvtl: cannot read {path}")
+            }
+            FolderFault::CannotWrite(path) => {
+                write!(f, "vtl: device fault\nvtl: cannot write {path}")
+            }
+            FolderFault::InUse(path) => write!(f, "vtl: {path}: another program has this folder"),
+            FolderFault::BadInventory(path, fault) => {
+                write!(f, "vtl: {path}: ")?;
+                write_read_fault(f, fault)
+            }
+            FolderFault::NoSize(size) => write_size(f, size),
+            FolderFault::Start(fault) => write_start_fault(f, fault),
+            FolderFault::FaultyImage {
+                path,
+                fault,
+                objects,
+                whole,
+            } => write!(
+                f,
+                "vtl: {path}: {fault}, at offset {whole}, behind {objects} objects"
+            ),
+            FolderFault::TooLarge { path, objects } => write!(
+                f,
+                "vtl: {path}: more than a volume holds, behind {objects} objects"
+            ),
+            FolderFault::NoName => write!(f, "vtl: a volume has a tag that no file can have"),
+        }
+    }
+}
+
+fn write_size<W: fmt::Write>(f: &mut fmt::Formatter<W>, size: &LibrarySize) -> fmt::Result {
+    let LibrarySize {
+        drives,
+        slots,
+        portals,
+    } = *size;
+    write!(
+        f,
+        "vtl: no library has {drives} drives, {slots} slots and {portals} portals"
+    )
+}
+
+fn write_start_fault<W: fmt::Write>(f: &mut fmt::Formatter<W>, fault: &StartFault) -> fmt::Result {
+    match fault {
+        StartFault::Disagrees {
+            option,
+            given,
+            kept,
+        } => {
+            let name = option_name(*option);
+            write!(
+                f,
+                "vtl: {name} {given} disagrees with the inventory, which has {kept}"
+            )
+        }
+        _ => write!(f, "vtl: {fault}"),
+    }
+}
+
+fn option_name(option: SizeOption) -> &'static str {
+    match option {
+        SizeOption::Drives => "--drives",
+        SizeOption::Slots => "--slots",
+        SizeOption::Portals => "--portals",
+    }
+}
+
+fn write_read_fault<W: fmt::Write>(f: &mut fmt::Formatter<W>, fault: &ReadFault) -> fmt::Result {
+    match fault {
+        ReadFault::UnknownVersion(version) => write!(f, "unknown version {version}"),
+        ReadFault::BadKey(key) => {
+            let name = key_name(*key);
+            write!(f, "{name} is missing, or has a bad value")
+        }
+        ReadFault::Volume { nth, fault } => {
+            let words = volume_words(*fault);
+            write!(f, "of the volumes, counted from 0, number {nth}: {words}")
+        }
+        _ => write!(f, "{fault}"),
+    }
+}
+
+fn key_name(key: InventoryKey) -> &'static str {
+    match key {
+        InventoryKey::Version => "version",
+        InventoryKey::Drives => "drives",
+        InventoryKey::Slots => "slots",
+        InventoryKey::Portals => "portals",
+        InventoryKey::Volume => "volume",
+    }
+}
+
+/// What is wrong with a volume of an inventory.
+fn volume_words(fault: VolumeFault) -> &'static str {
+    match fault {
+        VolumeFault::NoTable => "no table",
+        VolumeFault::NoTag => "no tag of 1 to 32 letters, digits, _ and -",
+        VolumeFault::NoElement => "say one of data_transfer, storage and import_export",
+        VolumeFault::Refused(AddFault::NoElement) => "no such element",
+        VolumeFault::Refused(AddFault::ElementTwice) => "another volume lies in its element",
+        VolumeFault::Refused(AddFault::TagTwice) => "another volume has its tag",
+        VolumeFault::Refused(AddFault::NoMemory) => "want of memory",
+    }
+}

@@ -1,0 +1,20 @@
+//! The folder in which a library is kept: one program has it at a time; each volume is a file there, `TAG.tap`, and `library.toml`
+//! says what the library is made of and where its volumes lie.
+#![tactic(auto)]
+
+mod fault;
+mod folder;
+mod images;
+mod inventory_file;
+mod lock;
+mod names;
+mod notice;
+mod size;
+mod store;
+
+pub use fault::FolderFault;
+pub use folder::{OpenedFolder, open_folder};
+pub use images::KeptVolume;
+pub use inventory_file::write_inventory_file;
+pub use lock::FolderLock;
+pub use store::{FileAccess, FileStore};

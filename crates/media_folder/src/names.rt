@@ -1,0 +1,49 @@
+//! The names of files in the folder.
+ghost use Rattle.std.specs.Prelude.{◌≡◌, ◌++◌, codes, string_bytes, IfOk};
+ghost use Rattle.media_folder.specs.Names.{IsKindOf};
+
+use crate::fault::FolderFault;
+use library_inventory::{name_of_tag, tag_of_name};
+use std::alloc::{AllocError, Global};
+use tape_medium::VolumeTag;
+
+/// What a file of the folder is, by its name.
+#[derive(Clone, Copy, Debug, PartialEq, Eq)]
+pub(crate) enum FileKind {
+    /// `TAG.tap`: the volume with that tag.
+    Volume(VolumeTag),
+    /// It ends in `.tap`, and what stands before is no tag.
+    NoTag,
+    Other,
+}
+
+pub(crate) fn kind_of(name: &str) -> FileKind
+    ensures { IsKindOf name.now result }
+{
+    let Some(stem) = name.strip_suffix(".tap") else {
+        return FileKind::Other;
+    };
+    match tag_of_name(stem) {
+        Some(tag) => FileKind::Volume(tag),
+        None => FileKind::NoTag,
+    }
+}
+
+/// The path of a file in the folder.
+pub(crate) fn path_in(alloc: Global, folder: &str, name: &str) -> Result<String, AllocError>
+    ensures { IfOk result (λ path. string_bytes path ≡ folder.now ++ (codes "/" ++ name.now)) }
+{
+    format!(in alloc; "{folder}/{name}")
+}
+
+/// The path of a volume's file. A tag that is no name has none.
+pub(crate) fn volume_path(
+    alloc: Global,
+    folder: &str,
+    tag: &VolumeTag,
+) -> Result<String, FolderFault> {
+    let Some(name) = name_of_tag(tag) else {
+        return Err(FolderFault::NoName);
+    };
+    Ok(format!(in alloc; "{folder}/{name}.tap")?)
+}

@@ -1,0 +1,89 @@
+use std::{fmt, str};
+use tape_medium::VolumeTag;
+
+/// What is kept of a library.
+#[derive(Clone, Copy, Debug, PartialEq, Eq)]
+pub enum KeptThing {
+    /// The tape of a volume, in its image.
+    Volume(VolumeTag),
+    /// Where the volumes lie.
+    Inventory,
+}
+
+/// Why something isn't kept.
+#[derive(Clone, Copy, Debug, PartialEq, Eq)]
+pub enum KeepFault {
+    /// There is no room on the disk.
+    Full,
+    /// The disk failed.
+    Failed,
+    NoMemory,
+    /// There is no image of the volume.
+    NoImage,
+}
+
+/// What happens to what is kept.
+#[derive(Clone, Copy, Debug, PartialEq, Eq)]
+pub enum KeepChange {
+    /// It can't be kept from now on, and is tried again.
+    Fails(KeepFault),
+    /// It can again.
+    GoesOn,
+    /// It isn't whole at the end.
+    Lost,
+}
+
+/// What is told of keeping tapes.
+#[derive(Clone, Copy, Debug, PartialEq, Eq)]
+pub struct KeepEvent {
+    pub thing: KeptThing,
+    pub change: KeepChange,
+}
+
+impl fmt::Display for KeptThing {
+    fn fmt<W: fmt::Write>(&self, f: &mut fmt::Formatter<W>) -> fmt::Result {
+        match self {
+            KeptThing::Volume(tag) => write!(f, "volume {}", name_in(tag)),
+            KeptThing::Inventory => f.write_str("the inventory"),
+        }
+    }
+}
+
+impl fmt::Display for KeepEvent {
+    fn fmt<W: fmt::Write>(&self, f: &mut fmt::Formatter<W>) -> fmt::Result {
+        let thing = self.thing;
+        match self.change {
+            KeepChange::Fails(fault) => {
+                write!(
+                    f,
+                    "vtl: {thing} could not be written: {}",
+                    fault_words(fault)
+                )
+            }
+            KeepChange::GoesOn => write!(f, "vtl: {thing} is written again"),
+            KeepChange::Lost => write!(f, "vtl: {thing} is not whole on the disk"),
+        }
+    }
+}
+
+/// The name in a tag, up to the spaces that it is padded with.
+fn name_in(tag: &VolumeTag) -> &str {
+    let size = tag
+        .0
+        .iter()
+        .position(|byte| *byte == b' ')
+        .unwrap_or(tag.0.len());
+    let Some(bytes) = tag.0.get(..size) else {
+        return "?";
+    };
+    str::from_utf8(bytes).unwrap_or("?")
+}
+
+fn fault_words(fault: KeepFault) -> &'static str {
+    match fault {
+        KeepFault::Full => "disk full",
+        KeepFault::Failed => "disk error",
+        KeepFault::NoMemory => "want of memory",
+        KeepFault::NoImage => "it has no image",
+    }
+}

@@ -1,0 +1,10 @@
+//! Who keeps copies of the tapes of a library that is served, if somebody does, and what is told of it.
+#![tactic(auto)]
+
+mod event;
+mod keeper;
+mod source;
+
+pub use event::{KeepChange, KeepEvent, KeepFault, KeptThing};
+pub use keeper::{GoodCommand, KeepListener, NoKeeper, TapeKeeper};
+pub use source::TapeSource;
