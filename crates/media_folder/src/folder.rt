@@ -14,6 +14,7 @@ use library_inventory::{LibrarySize, PlacedVolume, Start, place};
 use program_options::GivenLibrary;
 use std::fs::{self, File, Files};
 use std::io::Write;
+use tape_medium::MemoryLimit;
 
 /// A folder that is opened: what its library is made of, and its volumes. Nobody else has it as long as the lock lives.
 #[derive(Drop)]
@@ -25,13 +26,14 @@ pub struct OpenedFolder {
 }
 
 /// Opens the folder of a library, which is made where it isn't there, and so are blank volumes, until there are as many as were asked
-/// for. Each volume takes `volume_size` bytes of blocks, or as many as it has where these are more. What is lost or left is told on
-/// `errors`. The inventory is read and not written.
+/// for. Each volume takes `volume_size` bytes of blocks, or as many as it has where these are more, and all take no more memory together
+/// than the limit says. What is lost or left is told on `errors`. The inventory is read and not written.
 pub fn open_folder<R: AllocGlobal + Files<File = File>, E: Write>(
     rt: &R,
     path: String,
     given: GivenLibrary,
     volume_size: u64,
+    memory: &MemoryLimit,
     errors: &mut E,
 ) -> Result<OpenedFolder, FolderFault>
     requires some { 0 < volume_size }
@@ -45,7 +47,14 @@ pub fn open_folder<R: AllocGlobal + Files<File = File>, E: Write>(
     let (size, start) = decide(rt, path.as_str(), &given, errors)?;
     tell_missing(rt, path.as_str(), &start.missing, errors)?;
     make_volumes(rt, path.as_str(), &start.made)?;
-    let volumes = open_volumes(rt, path.as_str(), &start.volumes, volume_size, errors)?;
+    let volumes = open_volumes(
+        rt,
+        path.as_str(),
+        &start.volumes,
+        volume_size,
+        memory,
+        errors,
+    )?;
     Ok(OpenedFolder {
         path,
         size,

@@ -14,7 +14,7 @@ use std::fs::{self, File, Files, OpenFile, OpenOptions};
 use std::io::{self, BufReader, ErrorKind, Seek, SeekFrom, Write};
 use tape_flush::{ImageFile, OpenedImage, ReadTape, ReadTapeFault, open_image, read_tape};
 use tape_image::{IndexFault, index_image};
-use tape_medium::{Volume, VolumeTag};
+use tape_medium::{MemoryLimit, Volume, VolumeTag};
 
 /// How many bytes of a file are read at once, 128 KiB: more than the longest block takes.
 const AT_ONCE: usize = 131_072;
@@ -96,12 +96,14 @@ pub(crate) fn make_volumes<R: AllocGlobal + Files<File = File>>(
     sync_folder(rt, folder)
 }
 
-/// Opens the files of volumes, each for `volume_size` bytes of blocks, or for those that it has where these are more.
+/// Opens the files of volumes, each for `volume_size` bytes of blocks, or for those that it has where these are more, which take no more
+/// memory together than the limit says.
 pub(crate) fn open_volumes<R: AllocGlobal + Files<File = File>, E: Write>(
     rt: &R,
     folder: &str,
     placed: &[PlacedVolume],
     volume_size: u64,
+    memory: &MemoryLimit,
     errors: &mut E,
 ) -> Result<Vec<KeptVolume>, FolderFault>
     requires some { 0 < volume_size }
@@ -110,7 +112,7 @@ pub(crate) fn open_volumes<R: AllocGlobal + Files<File = File>, E: Write>(
     let mut volumes = Vec::with_capacity(rt.alloc(), placed.len())?;
     for volume in placed {
         let path = volume_path(rt.alloc(), folder, &volume.tag)?;
-        let kept = open_volume(rt, path, volume, volume_size, errors)?;
+        let kept = open_volume(rt, path, volume, volume_size, memory.share()?, errors)?;
         volumes.push(kept).map_err(AllocError::from)?;
     }
     Ok(volumes)
@@ -121,6 +123,7 @@ fn open_volume<R: AllocGlobal + Files<File = File>, E: Write>(
     path: String,
     placed: &PlacedVolume,
     volume_size: u64,
+    memory: MemoryLimit,
     errors: &mut E,
 ) -> Result<KeptVolume, FolderFault>
     requires some { 0 < volume_size }
@@ -131,7 +134,7 @@ fn open_volume<R: AllocGlobal + Files<File = File>, E: Write>(
         Err(error) => return Err(FolderFault::of_reading(path, error.kind())),
     };
     let access = store.access();
-    let ReadTape { tape, index } = match read_file(rt.alloc(), store.file(), volume_size) {
+    let ReadTape { tape, index } = match read_file(rt.alloc(), store.file(), volume_size, memory) {
         Ok(read) => read,
         Err(fault) => return Err(FolderFault::of_image(path, fault)),
     };
@@ -180,13 +183,18 @@ fn is_closed(kind: ErrorKind) -> bool {
 }
 
 /// Reads a file as a tape.
-fn read_file(alloc: Global, file: &File, volume_size: u64) -> Result<ReadTape, ReadTapeFault>
+fn read_file(
+    alloc: Global,
+    file: &File,
+    volume_size: u64,
+    memory: MemoryLimit,
+) -> Result<ReadTape, ReadTapeFault>
     requires some { 0 < volume_size }
     requires within { volume_size ≤ capacity_limit }
 {
     let held = held_in(alloc, file, volume_size)?;
     let mut reader = from_front(alloc, file)?;
-    read_tape(alloc, &mut reader, capacity_for(volume_size, held))
+    read_tape(alloc, &mut reader, capacity_for(volume_size, held), memory)
 }
 
 /// How many bytes of blocks a file has, if it can have more than `volume_size`, and else as many as that at most.

@@ -11,6 +11,8 @@ mod inventories;
 #[cfg(test)]
 mod keeping;
 #[cfg(test)]
+mod memory;
+#[cfg(test)]
 mod readings;
 #[cfg(test)]
 mod tapes;

@@ -4,7 +4,7 @@ use std::process::Abort;
 use std::test::Fail;
 use tape_flush::{ReadTape, ReadTapeFault, read_tape};
 use tape_image::{ImageEnd, ImageFault};
-use tape_medium::{Tape, TapeObject};
+use tape_medium::{MemoryLimit, Tape, TapeObject};
 
 /// "hi", a filemark and "odd", as SIMH keeps them.
 const IMAGE: &[u8] = &[
@@ -60,7 +60,12 @@ fn assert_three(rt: &impl Abort, read: &ReadTape) {
 }
 
 fn read(alloc: Global, mut bytes: &[u8], capacity: u64) -> Result<ReadTape, ReadTapeFault> {
-    read_tape(alloc, &mut bytes, capacity.max(1).min(1_000))
+    read_tape(
+        alloc,
+        &mut bytes,
+        capacity.max(1).min(1_000),
+        MemoryLimit::none(),
+    )
 }
 
 #[test]
@@ -115,13 +120,16 @@ fn what_is_more_than_the_tape_takes_is_refused(rt: HostRuntime) -> Result<(), Fa
 fn a_read_that_fails_is_told(rt: HostRuntime) -> Result<(), Fail> {
     for left in 0..27 {
         let mut reader = FailingReader { bytes: IMAGE, left };
-        let told = fault_of(read_tape(rt.alloc(), &mut reader, 1_000));
+        let told = fault_of(read_tape(rt.alloc(), &mut reader, 1_000, MemoryLimit::none()));
         assert_eq!(rt; told, Some(ReadTapeFault::Read));
     }
     let mut reader = FailingReader {
         bytes: IMAGE,
         left: 27,
     };
-    assert_three(&rt, &read_tape(rt.alloc(), &mut reader, 1_000)?);
+    assert_three(
+        &rt,
+        &read_tape(rt.alloc(), &mut reader, 1_000, MemoryLimit::none())?,
+    );
     Ok(())
 }

@@ -1,11 +1,12 @@
 -- What is said of each fault, and the exit status of a program that ends by it (profile).
 use Rattle.std.specs.Prelude.{ℕ, List, codes}
 use Rattle.program_options.specs.declared.option_fault.OptionFault.{OptionFault}
-use Rattle.program_options.specs.declared.option_fault.OptionFault.TheVariants.{MoreVolumes, BadVolumeSize, BadNexus, NoPlace, ManyPortals, BadAddress, OpenAddress, NobodyLetIn, BadHost, BadSas, BadName, ManyHosts, NameTwice, SasTwice}
+use Rattle.program_options.specs.declared.option_fault.OptionFault.TheVariants.{MoreVolumes, BadVolumeSize, BadMemorySize, BadNexus, NoPlace, ManyPortals, BadAddress, OpenAddress, NobodyLetIn, BadHost, BadSas, BadName, ManyHosts, NameTwice, SasTwice}
 
 abbrev pub option_fault_text : OptionFault → List ℕ
 option_fault_text MoreVolumes = codes "vtl: more volumes than slots"
 option_fault_text BadVolumeSize = codes "vtl: no size of a volume: say a number of bytes from 1M to 64G, as 16M"
+option_fault_text BadMemorySize = codes "vtl: no size of memory: say a number of bytes from 1M to 65536G, as 4G"
 option_fault_text BadNexus = codes "vtl: bad nexus"
 option_fault_text NoPlace = codes "vtl: nowhere to serve: say --socket <PATH> or --iscsi <ADDRESS:PORT>"
 option_fault_text ManyPortals = codes "vtl: more than 4 times --iscsi: there are 4 target ports"

@@ -7,4 +7,4 @@ pub mod Portals
 pub mod Rows
 pub mod ServeTimes
 pub mod ServeUntil
-pub mod VolumeSizes
+pub mod Sizes

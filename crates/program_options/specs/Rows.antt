@@ -1,7 +1,7 @@
 -- Worked rows: addresses and names of hosts, who is let in, what is said of each fault, who serves, how long hosts are waited for, and
 -- what libraries and volumes are made of.
 use Rattle.std.specs.Prelude.{◌≡◌, ◌++◌, true, false, [], replicate, Some, None, Ok, Err, codes}
-use Rattle.program_options.specs.declared.option_fault.OptionFault.TheVariants.{MoreVolumes, BadVolumeSize, BadNexus, BadHost, BadName, BadSas}
+use Rattle.program_options.specs.declared.option_fault.OptionFault.TheVariants.{MoreVolumes, BadMemorySize, BadVolumeSize, BadNexus, BadHost, BadName, BadSas}
 use Rattle.program_options.specs.Faults.{option_fault_text, option_status}
 use Rattle.program_options.specs.Hosts.{nexus_by, sas_in}
 use Rattle.program_options.specs.HostsLetIn.{host_in, judged}
@@ -9,7 +9,7 @@ use Rattle.program_options.specs.IscsiNames.{is_iscsi_name}
 use Rattle.program_options.specs.Options.{options_of}
 use Rattle.program_options.specs.ServeTimes.{nanos_of, timeout_nanos}
 use Rattle.program_options.specs.ServeUntil.{sessions_of, workers_of}
-use Rattle.program_options.specs.VolumeSizes.{volume_size_in}
+use Rattle.program_options.specs.Sizes.{memory_size_in, volume_size_in}
 use Rattle.program_options.specs.declared.serve_until.ServeUntil.TheVariants.{Sessions, InputEnds}
 
 pub record AddressesRead : Type 0 where
@@ -94,3 +94,8 @@ pub record SizesRead : Type 0 where
   pub sign : volume_size_in (codes "+16M") ≡ Err BadVolumeSize
   pub fraction : volume_size_in (codes "1.5M") ≡ Err BadVolumeSize
   pub blank : volume_size_in (codes "16 M") ≡ Err BadVolumeSize
+  pub least_memory : memory_size_in (codes "1024K") ≡ Ok 1048576
+  pub most_memory : memory_size_in (codes "65536g") ≡ Ok 70368744177664
+  pub little_memory : memory_size_in (codes "1048575") ≡ Err BadMemorySize
+  pub much_memory : memory_size_in (codes "65537G") ≡ Err BadMemorySize
+  pub no_memory : memory_size_in (codes "4GB") ≡ Err BadMemorySize

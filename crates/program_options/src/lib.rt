@@ -12,7 +12,7 @@ mod option_fault;
 mod portal;
 mod serve_times;
 mod serve_until;
-mod volume_size;
+mod sizes;
 
 pub use given_library::GivenLibrary;
 pub use host::nexus_of;
@@ -24,4 +24,4 @@ pub use option_fault::OptionFault;
 pub use portal::portal_of;
 pub use serve_times::ServeTimes;
 pub use serve_until::ServeUntil;
-pub use volume_size::volume_size_of;
+pub use sizes::{memory_size_of, volume_size_of};

@@ -8,6 +8,8 @@ pub enum OptionFault {
     MoreVolumes,
     /// What is no size of a volume, or out of its range.
     BadVolumeSize,
+    /// What is no size of memory, or out of its range.
+    BadMemorySize,
     /// A SAS address that isn't 16 hexadecimal digits.
     BadNexus,
     /// A library is served nowhere.
@@ -46,6 +48,9 @@ impl OptionFault {
             OptionFault::MoreVolumes => "vtl: more volumes than slots",
             OptionFault::BadVolumeSize => {
                 "vtl: no size of a volume: say a number of bytes from 1M to 64G, as 16M"
+            }
+            OptionFault::BadMemorySize => {
+                "vtl: no size of memory: say a number of bytes from 1M to 65536G, as 4G"
             }
             OptionFault::BadNexus => "vtl: bad nexus",
             OptionFault::NoPlace => {

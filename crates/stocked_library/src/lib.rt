@@ -6,4 +6,4 @@ mod power_on;
 mod stock;
 
 pub use laws::worked_rows;
-pub use power_on::library;
+pub use power_on::{library, library_within};

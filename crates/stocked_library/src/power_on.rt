@@ -8,6 +8,7 @@ use crate::stock::stocked;
 use library_device::{Device, unit_at};
 use program_options::LibraryOptions;
 use std::alloc::{AllocError, Global};
+use tape_medium::MemoryLimit;
 use tape_server::TapeDrive;
 use target_core::TargetCore;
 
@@ -18,8 +19,21 @@ pub fn library(alloc: Global, options: &LibraryOptions) -> Result<TargetCore<Dev
     requires fits { options.now.volumes ≤ options.now.slots }
     ensures { IfOk result (λ core. units_of core ≡ library_of options.now) }
 {
+    library_within(alloc, options, &MemoryLimit::none())
+}
+
+/// The same library, whose volumes take no more memory together than the limit says.
+pub fn library_within(
+    alloc: Global,
+    options: &LibraryOptions,
+    memory: &MemoryLimit,
+) -> Result<TargetCore<Device>, AllocError>
+    requires range { AreInRange options.now }
+    requires fits { options.now.volumes ≤ options.now.slots }
+    ensures { IfOk result (λ core. units_of core ≡ library_of options.now) }
+{
     let count = options.drives + 1;
-    let changer = Device::Changer(stocked(alloc, options)?);
+    let changer = Device::Changer(stocked(alloc, options, memory)?);
     let mut units = Vec::new(alloc);
     units.push(unit_at(alloc, 0, count, changer)?)?;
     'drives: for place in 0..options.drives {

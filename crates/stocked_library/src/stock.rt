@@ -9,7 +9,7 @@ use changer_server::Changer;
 use element_map::Elements;
 use program_options::LibraryOptions;
 use std::alloc::{AllocError, Global};
-use tape_medium::{FIRST_STORAGE, Tape, Volume, VolumeTag};
+use tape_medium::{FIRST_STORAGE, MemoryLimit, Tape, Volume, VolumeTag};
 
 /// A number as five decimal digits.
 fn five_digits(number: u16) -> [u8; 5]
@@ -66,7 +66,7 @@ fn tag_of(number: u16) -> VolumeTag
 }
 
 /// An empty volume that isn't write protected, for so many bytes of blocks.
-fn volume_of(alloc: Global, size: u64, number: u16) -> Volume
+fn volume_of(alloc: Global, memory: MemoryLimit, size: u64, number: u16) -> Volume
     requires some { 0 < size }
     requires within { size ≤ capacity_limit }
     ensures { result ≡ volume_of size number }
@@ -74,13 +74,17 @@ fn volume_of(alloc: Global, size: u64, number: u16) -> Volume
     Volume {
         tag: tag_of(number),
         protected: false,
-        tape: Tape::new(alloc, size),
+        tape: Tape::within(alloc, size, memory),
     }
 }
 
 /// A changer with the elements of the options, and with the volumes in its first storage elements,
-/// numbered from 1 on.
-pub fn stocked(alloc: Global, options: &LibraryOptions) -> Result<Changer, AllocError>
+/// numbered from 1 on, which take no more memory together than the limit says.
+pub fn stocked(
+    alloc: Global,
+    options: &LibraryOptions,
+    memory: &MemoryLimit,
+) -> Result<Changer, AllocError>
     requires range { AreInRange options.now }
     requires fits { options.now.volumes ≤ options.now.slots }
     ensures { IfOk result (λ changer. changer ≡ stocked options.now) }
@@ -92,10 +96,8 @@ pub fn stocked(alloc: Global, options: &LibraryOptions) -> Result<Changer, Alloc
         u16::from(options.portals),
     )?;
     'volumes: for place in 0..options.volumes {
-        match elements.put(
-            FIRST_STORAGE + place,
-            volume_of(alloc, options.volume_size, place + 1),
-        ) {
+        let volume = volume_of(alloc, memory.share()?, options.volume_size, place + 1);
+        match elements.put(FIRST_STORAGE + place, volume) {
             Ok(()) => {}
             // Each storage element from this one on is there, and empty.
             Err(_) => unreachable!(),

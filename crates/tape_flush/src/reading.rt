@@ -9,7 +9,7 @@ use crate::read_fault::ReadTapeFault;
 use std::alloc::Global;
 use std::io::Read;
 use tape_image::{ImageIndex, ImagePart, ImageReader, IndexedObject};
-use tape_medium::{Tape, TapeFault};
+use tape_medium::{MemoryLimit, Tape, TapeFault};
 
 /// A tape that was read from an image, and the index of the image, by which that is written on.
 #[derive(Drop)]
@@ -64,11 +64,12 @@ fn note_part(
 
 /// The tape that an image holds, for `capacity` bytes of blocks, and the index of the image, which a reader gives from its first byte
 /// on. The tape is at its beginning, and all of its objects count as unchanged. Of a faulty image it has the objects before the fault.
-/// A block is two reads, so a file should come behind a buffer.
+/// A block is two reads, so a file should come behind a buffer. The tape takes no more memory than the limit leaves.
 pub fn read_tape<R: Read>(
     alloc: Global,
     reader: &mut R,
     capacity: u64,
+    memory: MemoryLimit,
 ) -> Result<ReadTape, ReadTapeFault>
     requires some { 0 < capacity }
     requires within { capacity ≤ capacity_limit }
@@ -76,7 +77,7 @@ pub fn read_tape<R: Read>(
     ensures whole { IfOk result (λ read. IfSome (R.remaining reader.old) (λ bytes. IsReadAs bytes capacity read.tape read.index.objects.items read.index.end)) }
 {
     let mut image = ImageReader::new(alloc)?;
-    let mut tape = Tape::new(alloc, capacity);
+    let mut tape = Tape::within(alloc, capacity, memory);
     let mut objects = Vec::new(alloc);
     'parts: loop {
         image.await_part(reader)?;

@@ -3,6 +3,7 @@
 ghost use Rattle.std.specs.Prelude.{◌≡◌, ◌+◌, ◌*◌, ◌<◌, ◌≤◌, ◌^◌, ◌++◌, ◌∷◌, [], vec_len, vec_capacity, take, length, replicate, slice_range, OnOk};
 ghost use Rattle.tape_medium.specs.Store.{ends_of, end_after, home_after, block_places};
 
+use crate::memory::{MemoryLease, MemoryLimit};
 use std::alloc::AllocError;
 
 /// Where an object ends, in bytes of all blocks, and in which piece of memory. A filemark ends where the object before it does; no
@@ -44,6 +45,28 @@ pub(crate) fn reserve_total<T>(items: &mut Vec<T>, total: usize) -> Result<(), A
     ensures ok { OnOk result (total ≤ vec_capacity items.new) }
 {
     items.reserve(total.saturating_sub(items.len()))
+}
+
+/// Makes room for `total` places in all, if the limit leaves memory for it. While they move to where there is room, they take memory twice.
+pub(crate) fn reserve_places(
+    places: &mut Vec<Place>,
+    memory: &MemoryLimit,
+    held: &mut MemoryLease,
+    total: usize,
+) -> Result<(), AllocError>
+    ensures items { places.new.items ≡ places.old.items }
+    ensures len { vec_len places.new ≡ vec_len places.old }
+    ensures ok { OnOk result (total ≤ vec_capacity places.new) }
+{
+    let room = places.capacity();
+    if total <= room {
+        return Ok(());
+    }
+    let room = total.max(room.saturating_mul(2));
+    let lease = memory.lease(room.saturating_mul(size_of::<Place>()))?;
+    reserve_total(places, room)?;
+    *held = lease;
+    Ok(())
 }
 
 /// Puts bytes behind the first `at`, within the room.

@@ -7,6 +7,7 @@ mod index;
 mod item;
 pub mod laws;
 mod limits;
+mod memory;
 mod object;
 mod passage;
 mod piece;
@@ -21,6 +22,7 @@ pub use elements::{FIRST_DATA_TRANSFER, FIRST_IMPORT_EXPORT, FIRST_STORAGE, MapF
 pub use fault::TapeFault;
 pub use item::Item;
 pub use limits::{MAX_BLOCK, MAX_CAPACITY, MAX_OBJECTS};
+pub use memory::MemoryLimit;
 pub use object::TapeObject;
 pub use space::{SpaceCode, SpaceEnd, Stop};
 pub use tape::Tape;

@@ -2,6 +2,7 @@ ghost use Rattle.std.specs.Prelude.{◌≡◌, ◌+◌, ◌-◌, ◌≤◌, [], 
 ghost use Rattle.tape_medium.specs.Pieces.{behind};
 
 use crate::index::{part, put_bytes};
+use crate::memory::{MemoryLease, MemoryLimit};
 use std::alloc::{AllocError, Global};
 use std::marker::Model;
 
@@ -16,6 +17,7 @@ pub(crate) struct Piece {
     bytes: Vec<u8>,
     /// How many bytes it takes.
     room: usize,
+    _lease: MemoryLease,
 }
 
 impl Model for Piece {
@@ -33,6 +35,7 @@ impl Piece {
     /// An empty piece for `least` bytes and more, behind so many bytes, on a tape for `capacity` bytes.
     pub(crate) fn new(
         alloc: Global,
+        memory: &MemoryLimit,
         before: usize,
         least: usize,
         capacity: usize,
@@ -42,11 +45,13 @@ impl Piece {
         ensures room { IfOk result (λ piece. least ≤ piece.room) }
     {
         let room = PIECE.min(capacity).max(least);
+        let lease = memory.lease(room)?;
         let bytes = Vec::with_capacity(alloc, room)?;
         Ok(Piece {
             before,
             bytes,
             room,
+            _lease: lease,
         })
     }
 

@@ -5,6 +5,7 @@ ghost use Rattle.std.specs.Prelude.{◌≡◌, ◌+◌, ◌-◌, ◌<◌, ◌≤
 ghost use Rattle.tape_medium.specs.Pieces.{PieceView, contents, behind, IsHome, IsBegun, IsPut};
 
 use crate::index::reserve_total;
+use crate::memory::MemoryLimit;
 use crate::piece::Piece;
 use std::alloc::{AllocError, Global};
 use std::marker::Model;
@@ -53,6 +54,7 @@ fn cut_at(pieces: &mut Vec<Piece>, at: usize, end: usize)
 /// new one.
 fn begin_at(
     alloc: Global,
+    memory: &MemoryLimit,
     pieces: &mut Vec<Piece>,
     at: usize,
     before: usize,
@@ -71,7 +73,7 @@ fn begin_at(
         piece.put(before, more);
         return Ok(());
     }
-    let mut piece = Piece::new(alloc, before, more.len(), capacity)?;
+    let mut piece = Piece::new(alloc, memory, before, more.len(), capacity)?;
     piece.put(before, more);
     reserve_total(pieces, at + 1)?;
     pieces.truncate(at);
@@ -115,6 +117,7 @@ impl Pieces {
         end: usize,
         more: &[u8],
         capacity: usize,
+        memory: &MemoryLimit,
     ) -> Result<usize, AllocError>
         requires home { IsHome self.old home end end }
         ensures ok { IfOk result (λ at. IsPut self.old self.new home end at more.now) }
@@ -126,11 +129,27 @@ impl Pieces {
             return Ok(home);
         }
         if home >= self.used {
-            begin_at(self.alloc, &mut self.pieces, home, end, more, capacity)?;
+            begin_at(
+                self.alloc,
+                memory,
+                &mut self.pieces,
+                home,
+                end,
+                more,
+                capacity,
+            )?;
             self.used = home + 1;
             return Ok(home);
         }
-        begin_at(self.alloc, &mut self.pieces, home + 1, end, more, capacity)?;
+        begin_at(
+            self.alloc,
+            memory,
+            &mut self.pieces,
+            home + 1,
+            end,
+            more,
+            capacity,
+        )?;
         cut_at(&mut self.pieces, home, end);
         self.used = home + 2;
         Ok(home + 1)

@@ -6,8 +6,9 @@ ghost use Rattle.tape_medium.specs.Tape.{bytes_in, blocks, marks, is_mark};
 ghost use Rattle.tape_medium.specs.Lent.{lent_object};
 
 use crate::index::{
-    Place, end_before, home_before, put_block_places, put_mark_places, put_place, reserve_total,
+    Place, end_before, home_before, put_block_places, put_mark_places, put_place, reserve_places,
 };
+use crate::memory::{MemoryLease, MemoryLimit};
 use crate::object::TapeObject;
 use crate::pieces::Pieces;
 use std::alloc::{AllocError, Global};
@@ -18,6 +19,9 @@ use std::marker::Model;
 pub(crate) struct Store {
     pieces: Pieces,
     places: Vec<Place>,
+    /// The memory of the places.
+    lease: MemoryLease,
+    memory: MemoryLimit,
 }
 
 impl Model for Store {
@@ -34,12 +38,14 @@ impl Model for Store {
 }
 
 impl Store {
-    pub(crate) fn new(alloc: Global) -> Store
+    pub(crate) fn new(alloc: Global, memory: MemoryLimit) -> Store
         ensures { result ≡ [] }
     {
         Store {
             pieces: Pieces::new(alloc),
             places: Vec::new(alloc),
+            lease: MemoryLease::none(),
+            memory,
         }
     }
 
@@ -103,8 +109,8 @@ impl Store {
     {
         let start = self.bytes_before(at);
         let home = home_before(&self.places, at);
-        reserve_total(&mut self.places, at + 1)?;
-        let home = self.pieces.put(home, start, block, capacity)?;
+        reserve_places(&mut self.places, &self.memory, &mut self.lease, at + 1)?;
+        let home = self.pieces.put(home, start, block, capacity, &self.memory)?;
         let end = start + block.len();
         put_place(&mut self.places, at, Place { end, home });
         Ok(())
@@ -119,7 +125,7 @@ impl Store {
     {
         let end = self.bytes_before(at);
         let home = home_before(&self.places, at);
-        reserve_total(&mut self.places, at + count)?;
+        reserve_places(&mut self.places, &self.memory, &mut self.lease, at + count)?;
         put_mark_places(&mut self.places, at, Place { end, home }, count);
         Ok(())
     }
@@ -143,8 +149,8 @@ impl Store {
         let count = bytes.len() / size;
         let start = self.bytes_before(at);
         let home = home_before(&self.places, at);
-        reserve_total(&mut self.places, at + count)?;
-        let home = self.pieces.put(home, start, bytes, capacity)?;
+        reserve_places(&mut self.places, &self.memory, &mut self.lease, at + count)?;
+        let home = self.pieces.put(home, start, bytes, capacity, &self.memory)?;
         put_block_places(&mut self.places, at, start, size, count, home);
         Ok(())
     }

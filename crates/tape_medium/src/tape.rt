@@ -11,6 +11,7 @@ ghost use Rattle.tape_medium.specs.Tape.{blank, settled, writes_block, writes_bl
 use crate::fault::TapeFault;
 use crate::item::Item;
 use crate::limits::{MAX_BLOCK, MAX_OBJECTS};
+use crate::memory::MemoryLimit;
 use crate::object::TapeObject;
 use crate::passage::pass_objects;
 use crate::space::{SpaceCode, SpaceEnd, Stop};
@@ -56,8 +57,17 @@ impl Tape {
         requires within { capacity ≤ capacity_limit }
         ensures { result ≡ blank capacity }
     {
+        Tape::within(alloc, capacity, MemoryLimit::none())
+    }
+
+    /// A blank tape for `capacity` bytes of blocks, at its beginning, that takes no more memory than the limit leaves.
+    pub fn within(alloc: Global, capacity: u64, memory: MemoryLimit) -> Tape
+        requires some { 0 < capacity }
+        requires within { capacity ≤ capacity_limit }
+        ensures { result ≡ blank capacity }
+    {
         Tape {
-            store: Store::new(alloc),
+            store: Store::new(alloc, memory),
             position: 0,
             capacity: capacity as usize,
             unchanged: 0,

@@ -16,12 +16,12 @@ goes_in options e v k is next range there =
 
 pub unreachable-requires : goal.unreachable-requires
 unreachable-requires c =
-    let next = goes_in c.args.options.now c.volumes.elements c.volume_of.result c.volumes.place c.volumes.invariant c.volume_of.ensures c.requires.range (omega (arith, c.volumes-test.true, c.requires.fits)) in
+    let next = goes_in c.args.options.now c.volumes.elements c.volume_of-volume.result c.volumes.place c.volumes.invariant c.volume_of-volume.ensures c.requires.range (omega (arith, c.volumes-test.true, c.requires.fits)) in
     let fault = c.in-Err.ensures.fault in
     absurd cc
 
 pub volumes-preserved : goal.volumes-preserved
 volumes-preserved c =
-    let next = goes_in c.args.options.now c.volumes.elements c.volume_of.result c.volumes.place c.volumes.invariant c.volume_of.ensures c.requires.range (omega (arith, c.volumes-test.true, c.requires.fits)) in
+    let next = goes_in c.args.options.now c.volumes.elements c.volume_of-volume.result c.volumes.place c.volumes.invariant c.volume_of-volume.ensures c.requires.range (omega (arith, c.volumes-test.true, c.requires.fits)) in
     let ok = c.in-Ok.ensures.ok in
     cc

@@ -11,7 +11,7 @@ use Rattle.tape_flush.proofs.Readings.{begun, stepped, finished, read_from}
 use Rattle.tape_flush.proofs.reading.read_tape.Goals as goal
 
 pub parts-init : goal.parts-init
-parts-init g c = begun _ c.in_ok-image.image _ _ _ c.in_ok-image.ensures c.new-tape.ensures c.new-objects.ensures.items
+parts-init g c = begun _ c.in_ok-image.image _ _ _ c.in_ok-image.ensures c.within-tape.ensures c.new-objects.ensures.items
 
 pub returns-in-Some-clause-read : goal.returns-in-Some-clause-read
 returns-in-Some-clause-read g c =

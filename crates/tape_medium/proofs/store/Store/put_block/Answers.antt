@@ -14,9 +14,9 @@ put-requires c =
 pub invariant_of-self-2 : goal.invariant_of-self-2
 invariant_of-self-2 c =
     let home : c.home_before-home.result ≡ home_after 0 (take c.args.at c.self.inside.places.items) = rw (← c.deref.ensures.value) c.home_before-home.ensures in
-    rw (c.put_place.ensures, c.reserve_total.ensures.items) (block-put c.self.inside.pieces _ _ _ _ _ _ _ _ _ c.self.view_is c.self.invariant c.bytes_before-start.ensures home c.in_ok-home.ensures.ok c.requires.some refl).0
+    rw (c.put_place.ensures, c.reserve_places.ensures.items) (block-put c.self.inside.pieces _ _ _ _ _ _ _ _ _ c.self.view_is c.self.invariant c.bytes_before-start.ensures home c.in_ok-home.ensures.ok c.requires.some refl).0
 
 pub returns-clause-ok : goal.returns-clause-ok
 returns-clause-ok c =
     let home : c.home_before-home.result ≡ home_after 0 (take c.args.at c.self.inside.places.items) = rw (← c.deref.ensures.value) c.home_before-home.ensures in
-    rw (c.put_place.ensures, c.reserve_total.ensures.items) (block-put c.self.inside.pieces _ _ _ _ _ _ _ _ _ c.self.view_is c.self.invariant c.bytes_before-start.ensures home c.in_ok-home.ensures.ok c.requires.some refl).1
+    rw (c.put_place.ensures, c.reserve_places.ensures.items) (block-put c.self.inside.pieces _ _ _ _ _ _ _ _ _ c.self.view_is c.self.invariant c.bytes_before-start.ensures home c.in_ok-home.ensures.ok c.requires.some refl).1

@@ -20,9 +20,9 @@ put_block_places-requires-clause-within c =
 pub invariant_of-self-2 : goal.invariant_of-self-2
 invariant_of-self-2 c =
     let home : c.home_before-home.result ≡ home_after 0 (take c.args.at c.self.inside.places.items) = rw (← c.deref.ensures.value) c.home_before-home.ensures in
-    rw (c.put_block_places.ensures, c.reserve_total.ensures.items) (blocks-put c.self.inside.pieces _ _ _ _ _ _ _ _ _ c.self.view_is c.self.invariant c.bytes_before-start.ensures home c.in_ok-home.ensures.ok c.requires.some c.requires.whole).0
+    rw (c.put_block_places.ensures, c.reserve_places.ensures.items) (blocks-put c.self.inside.pieces _ _ _ _ _ _ _ _ _ c.self.view_is c.self.invariant c.bytes_before-start.ensures home c.in_ok-home.ensures.ok c.requires.some c.requires.whole).0
 
 pub returns-clause-ok : goal.returns-clause-ok
 returns-clause-ok c =
     let home : c.home_before-home.result ≡ home_after 0 (take c.args.at c.self.inside.places.items) = rw (← c.deref.ensures.value) c.home_before-home.ensures in
-    rw (c.put_block_places.ensures, c.reserve_total.ensures.items) (blocks-put c.self.inside.pieces _ _ _ _ _ _ _ _ _ c.self.view_is c.self.invariant c.bytes_before-start.ensures home c.in_ok-home.ensures.ok c.requires.some c.requires.whole).1
+    rw (c.put_block_places.ensures, c.reserve_places.ensures.items) (blocks-put c.self.inside.pieces _ _ _ _ _ _ _ _ _ c.self.view_is c.self.invariant c.bytes_before-start.ensures home c.in_ok-home.ensures.ok c.requires.some c.requires.whole).1

@@ -15,9 +15,9 @@ put_mark_places-requires-clause-within c =
 pub invariant_of-self-2 : goal.invariant_of-self-2
 invariant_of-self-2 c =
     let home : c.home_before-home.result ≡ home_after 0 (take c.args.at c.self.inside.places.items) = rw (← c.deref.ensures.value) c.home_before-home.ensures in
-    rw (c.put_mark_places.ensures, c.reserve_total.ensures.items) (marks-put c.self.inside.pieces _ _ _ _ _ c.self.view_is c.self.invariant c.bytes_before-end.ensures home).0
+    rw (c.put_mark_places.ensures, c.reserve_places.ensures.items) (marks-put c.self.inside.pieces _ _ _ _ _ c.self.view_is c.self.invariant c.bytes_before-end.ensures home).0
 
 pub returns-clause-ok : goal.returns-clause-ok
 returns-clause-ok c =
     let home : c.home_before-home.result ≡ home_after 0 (take c.args.at c.self.inside.places.items) = rw (← c.deref.ensures.value) c.home_before-home.ensures in
-    rw (c.put_mark_places.ensures, c.reserve_total.ensures.items) (marks-put c.self.inside.pieces _ _ _ _ _ c.self.view_is c.self.invariant c.bytes_before-end.ensures home).1
+    rw (c.put_mark_places.ensures, c.reserve_places.ensures.items) (marks-put c.self.inside.pieces _ _ _ _ _ c.self.view_is c.self.invariant c.bytes_before-end.ensures home).1

@@ -1,8 +1,14 @@
 ghost use Rattle.std.specs.Prelude.{◌≡◌, ◌<◌, ◌≤◌, fold, Some, IfOk, IfSome};
-ghost use Rattle.program_options.specs.VolumeSizes.{digit_in, number_in, size_in, unit_of, volume_size_in, with_digit};
+ghost use Rattle.program_options.specs.Sizes.{digit_in, memory_size_in, number_in, size_in, unit_of, volume_size_in, with_digit};
 
 use crate::library_options::LibraryOptions;
 use crate::option_fault::OptionFault;
+
+/// The least memory that all volumes may take together.
+const LEAST_MEMORY: u64 = 1_048_576;
+
+/// The most: what as many volumes as a library has take, each as large as can be.
+const MOST_MEMORY: u64 = 70_368_744_177_664;
 
 /// How many bytes of blocks a volume takes, by its text: a decimal number of bytes, or of KiB, MiB or GiB where it ends with `K`, `M` or
 /// `G` of either case; from 1 MiB to 64 GiB (profile).
@@ -15,6 +21,16 @@ pub fn volume_size_of(text: &str) -> Result<u64, OptionFault>
     match size_in(text.as_bytes()) {
         Some(size) if least <= size && size <= most => Ok(size),
         _ => Err(OptionFault::BadVolumeSize),
+    }
+}
+
+/// How many bytes of memory all volumes may take together, by its text, as of a volume; from 1 MiB to 64 TiB (profile).
+pub fn memory_size_of(text: &str) -> Result<u64, OptionFault>
+    ensures { result ≡ memory_size_in text.now }
+{
+    match size_in(text.as_bytes()) {
+        Some(size) if LEAST_MEMORY <= size && size <= MOST_MEMORY => Ok(size),
+        _ => Err(OptionFault::BadMemorySize),
     }
 }
 

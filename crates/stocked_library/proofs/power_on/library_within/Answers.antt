@@ -2,7 +2,7 @@ use Rattle.std.proofs.Common.{◌≡◌, None, arith}
 use Rattle.logical_unit.specs.UnitView.{units_of}
 use Rattle.target_core.specs.Faults.{fault_of}
 use Rattle.stocked_library.proofs.LibraryLemmas.{in_order}
-use Rattle.stocked_library.proofs.power_on.library.Goals as goal
+use Rattle.stocked_library.proofs.power_on.library_within.Goals as goal
 
 -- the loop made the units of a library, which are in order
 pub unreachable-requires : goal.unreachable-requires

@@ -4,7 +4,7 @@ use Rattle.logical_unit.specs.Step.{made}
 use Rattle.logical_unit.specs.UnitView.{units_of}
 use Rattle.stocked_library.specs.Devices.{drives_to}
 use Rattle.stocked_library.specs.Stock.{stocked}
-use Rattle.stocked_library.proofs.power_on.library.Given as goal
+use Rattle.stocked_library.proofs.power_on.library_within.Given as goal
 
 abbrev pub invariant-drives : goal.invariant-drives
 invariant-drives l = units_of l.units.items ≡ made (Changer (stocked l.options)) 0 (l.options.drives + 1) 0 ∷ drives_to l.place (l.options.drives + 1)

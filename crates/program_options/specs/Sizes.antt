@@ -1,7 +1,7 @@
--- How many bytes of blocks a volume takes, as text (profile).
+-- Numbers of bytes as text: of blocks that a volume takes, and of memory that all volumes take together (profile).
 use Rattle.std.specs.Prelude.{ℕ, ◌+◌, ◌-◌, ◌*◌, ◌^◌, ◌==◌, ◌&&◌, ◌||◌, nat_lt, nat_le, List, length, take, slice_index, fold, Option, Some, None, Result, Ok, Err, if◌then◌else◌}
 use Rattle.program_options.specs.declared.option_fault.OptionFault.{OptionFault}
-use Rattle.program_options.specs.declared.option_fault.OptionFault.TheVariants.{BadVolumeSize}
+use Rattle.program_options.specs.declared.option_fault.OptionFault.TheVariants.{BadMemorySize, BadVolumeSize}
 
 -- the value of a decimal digit by its code
 abbrev pub digit_in : ℕ → Option ℕ
@@ -40,10 +40,15 @@ by_unit text (Some unit) = times (number_in (take (length text - 1) text)) unit
 abbrev pub size_in : List ℕ → Option ℕ
 size_in text = if length text == 0 then None else by_unit text (unit_of (slice_index text (length text - 1)))
 
--- from 1 MiB to 64 GiB
-abbrev pub within : Option ℕ → Result ℕ OptionFault
-within None = Err BadVolumeSize
-within (Some size) = if nat_le 1048576 size && nat_le size 68719476736 then Ok size else Err BadVolumeSize
+-- so many bytes, where they are in a range
+abbrev pub within : (least most : ℕ) → OptionFault → Option ℕ → Result ℕ OptionFault
+within least most fault None = Err fault
+within least most fault (Some size) = if nat_le least size && nat_le size most then Ok size else Err fault
 
+-- from 1 MiB to 64 GiB
 abbrev pub volume_size_in : List ℕ → Result ℕ OptionFault
-volume_size_in text = within (size_in text)
+volume_size_in text = within 1048576 68719476736 BadVolumeSize (size_in text)
+
+-- from 1 MiB to 64 TiB, as much as 1,024 of the largest volumes take
+abbrev pub memory_size_in : List ℕ → Result ℕ OptionFault
+memory_size_in text = within 1048576 70368744177664 BadMemorySize (size_in text)
