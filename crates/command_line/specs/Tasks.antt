@@ -1,19 +1,29 @@
 -- Tasks that can be done as they stand (profile).
-use Rattle.std.specs.Prelude.{◌≤◌, Option, Some, None, IfSome, String, vec_len}
+use Rattle.std.specs.Prelude.{◌≡◌, ◌≤◌, Option, Some, None, IfSome, String, vec_len}
 use Rattle.std.specs.Global.{Global}
-use Rattle.program_options.specs.Options.{AreInRange}
+use Rattle.program_options.specs.Options.{AreGivenInRange, AreInRange}
 use Rattle.program_options.specs.ServeUntil.{workers_of}
 use Rattle.program_options.specs.declared.library_options.LibraryOptions.{LibraryOptions}
 use Rattle.command_line.specs.declared.task.Task.{Task}
 use Rattle.command_line.specs.declared.task.Task.TheVariants.{Replay, Serve, Client, Cells}
 use Rattle.command_line.specs.declared.task.ServeOptions.{ServeOptions}
 use Rattle.command_line.specs.declared.task.IscsiOptions.{IscsiOptions}
+use Rattle.command_line.specs.declared.task.MediaOptions.{MediaOptions}
 use Rattle.command_line.specs.declared.task.ClientOptions.{ClientOptions}
 
 -- in range, with a storage element for each volume
 pub record MakesLibrary (options : LibraryOptions) : Type 0 where
   pub range : AreInRange options
   pub fits : options.volumes ≤ options.slots
+
+-- the same of a library that is served: of one that is kept the volumes are counted where its folder is opened
+pub record MakesServed (options : LibraryOptions) (media : Option MediaOptions) : Type 0 where
+  pub range : AreInRange options
+  pub fits : media ≡ None → options.volumes ≤ options.slots
+
+-- what was said of it is in range
+abbrev pub IsMediaOptions : MediaOptions → Type 0
+IsMediaOptions media = AreGivenInRange media.given
 
 -- at 1 to 4 portals
 pub record IsIscsiOptions (iscsi : IscsiOptions) : Type 0 where
@@ -26,9 +36,10 @@ IsPlace None None = ⊥
 IsPlace None (Some iscsi) = IsIscsiOptions iscsi
 IsPlace (Some socket) iscsi = IfSome iscsi IsIscsiOptions
 
--- somewhere, by 1 to 64 workers at each place
+-- somewhere, by 1 to 64 workers at each place, and kept in a folder or not
 pub record IsServeOptions (serving : ServeOptions) : Type 0 where
   pub place : IsPlace serving.socket serving.iscsi
+  pub media : IfSome serving.media IsMediaOptions
   pub some_workers : 1 ≤ workers_of serving.until
   pub few_workers : workers_of serving.until ≤ 64
 
@@ -39,6 +50,6 @@ pub record IsClientOptions (host : ClientOptions) : Type 0 where
 
 abbrev pub IsDoable : Task → Type 0
 IsDoable (Replay library explanations audit) = MakesLibrary library
-IsDoable (Serve library serving audit) = MakesLibrary library × IsServeOptions serving
+IsDoable (Serve library serving audit) = MakesServed library serving.media × IsServeOptions serving
 IsDoable (Client host explanations) = IsClientOptions host
 IsDoable (Cells class) = Unit {0}

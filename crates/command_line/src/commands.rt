@@ -1,7 +1,7 @@
 //! What the program's commands are and say of themselves.
 
 use crate::options::{
-    AUDIT, CELLS, CLIENT, EXPLAIN, ISCSI, LIBRARY, LOG, OptionRow, PLACE, RECORDS, TIMES,
+    AUDIT, CELLS, CLIENT, EXPLAIN, ISCSI, LIBRARY, LOG, MEDIA, OptionRow, PLACE, RECORDS, TIMES,
     with_options,
 };
 use clap::Command;
@@ -54,7 +54,7 @@ const COMMANDS: [CommandRow; 4] = [
         name: "serve",
         about: "Serves the library behind a Unix socket or by iSCSI, and prints a line for each record",
         examples: SERVE_EXAMPLE,
-        tables: &[&LIBRARY, &PLACE, &ISCSI, &RECORDS, &TIMES, &LOG],
+        tables: &[&LIBRARY, &MEDIA, &PLACE, &ISCSI, &RECORDS, &TIMES, &LOG],
     },
     CommandRow {
         name: "client",

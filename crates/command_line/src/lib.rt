@@ -11,4 +11,4 @@ mod task;
 pub use fault::CommandLineFault;
 pub use laws::worked_rows;
 pub use reading::task_of;
-pub use task::{ClientOptions, IscsiOptions, ServeOptions, Task};
+pub use task::{ClientOptions, IscsiOptions, MediaOptions, ServeOptions, Task};

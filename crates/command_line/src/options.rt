@@ -101,6 +101,28 @@ pub(crate) const LIBRARY: [OptionRow; 5] = [
     },
 ];
 
+/// Where a library is kept, and in how much memory.
+pub(crate) const MEDIA: [OptionRow; 2] = [
+    OptionRow {
+        name: "media",
+        value: OptionValue::Text("DIR"),
+        presence: Presence::Optional,
+        excludes: None,
+        needs: None,
+        help: "The folder in which the library is kept, with what its volumes hold and where they lie; \
+            without it nothing outlives the server",
+    },
+    OptionRow {
+        name: "memory",
+        value: OptionValue::Text("SIZE"),
+        presence: Presence::Optional,
+        excludes: None,
+        needs: None,
+        help: "How many bytes of memory all volumes may take together, from 1M to 65536G, as 4G; \
+            a write for which none is left is answered as busy",
+    },
+];
+
 /// Replies in words.
 pub(crate) const EXPLAIN: [OptionRow; 1] = [OptionRow {
     name: "explain",

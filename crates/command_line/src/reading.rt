@@ -1,10 +1,10 @@
-ghost use Rattle.std.specs.Prelude.{◌≤◌, IfOk, IfSome};
+ghost use Rattle.std.specs.Prelude.{◌≡◌, ◌≤◌, IfOk, IfSome};
 ghost use Rattle.program_options.specs.Options.{AreGivenInRange, AreInRange, IsWithin};
-ghost use Rattle.command_line.specs.Tasks.{IsClientOptions, IsDoable, IsIscsiOptions, IsServeOptions, MakesLibrary};
+ghost use Rattle.command_line.specs.Tasks.{IsClientOptions, IsDoable, IsIscsiOptions, IsMediaOptions, IsServeOptions, MakesLibrary, MakesServed};
 
 use crate::commands::program;
 use crate::fault::CommandLineFault;
-use crate::task::{ClientOptions, IscsiOptions, ServeOptions, Task};
+use crate::task::{ClientOptions, IscsiOptions, MediaOptions, ServeOptions, Task};
 use clap::ArgMatches;
 use clap::parser::ValueSource;
 use output_lines::{Audit, Explanations};
@@ -12,7 +12,7 @@ use permission_chart::class_named;
 use permit_tables::Class;
 use program_options::{
     GivenLibrary, LibraryOptions, NamedHost, OptionFault, ServeTimes, ServeUntil, host_beside,
-    is_iscsi_name, nexus_of, portal_of, volume_size_of,
+    is_iscsi_name, memory_size_of, nexus_of, portal_of, volume_size_of,
 };
 use scsi_nexus::TARGET_PORTS;
 use std::alloc::{AllocError, Global};
@@ -55,8 +55,13 @@ fn task_in(alloc: Global, matches: &ArgMatches) -> Result<Task, CommandLineFault
 fn serve_task(alloc: Global, serve: &ArgMatches) -> Result<Task, CommandLineFault>
     ensures { IfOk result IsDoable }
 {
-    let library = library_of(alloc, serve)?;
-    Ok(Task::Serve(library, serve_options_of(alloc, serve)?, records_of(serve)))
+    let media = media_options_of(alloc, serve)?;
+    let library = served_library_of(alloc, serve, &media)?;
+    Ok(Task::Serve(
+        library,
+        serve_options_of(alloc, serve, media)?,
+        records_of(serve),
+    ))
 }
 
 fn replay_task(alloc: Global, replay: &ArgMatches) -> Result<Task, CommandLineFault>
@@ -75,7 +80,21 @@ fn library_of(alloc: Global, command: &ArgMatches) -> Result<LibraryOptions, Com
     Ok(options)
 }
 
-/// What a command says of a library and what else is usual, though it may be of more volumes than storage elements.
+/// The same of a library that may be kept: then its volumes are counted where its folder is opened.
+fn served_library_of(
+    alloc: Global,
+    command: &ArgMatches,
+    media: &Option<MediaOptions>,
+) -> Result<LibraryOptions, CommandLineFault>
+    ensures { IfOk result (λ options. MakesServed options media.now) }
+{
+    match media {
+        Some(_) => library_options_of(alloc, command),
+        None => library_of(alloc, command),
+    }
+}
+
+/// What a command says of a library and what else is usual, though it may have more volumes than storage elements.
 fn library_options_of(
     alloc: Global,
     command: &ArgMatches,
@@ -143,6 +162,30 @@ fn is_said(command: &ArgMatches, name: &str) -> bool {
     matches!(command.value_source(name), Some(ValueSource::CommandLine))
 }
 
+/// Where the library of a command is kept, if it is to be, and what it has to agree with.
+fn media_options_of(alloc: Global, command: &ArgMatches) -> Result<Option<MediaOptions>, AllocError>
+    ensures { IfOk result (λ media. IfSome media IsMediaOptions) }
+{
+    match command.get_str("media") {
+        Some(folder) => Ok(Some(MediaOptions {
+            folder: String::from_str(alloc, folder)?,
+            given: given_library_of(command),
+        })),
+        None => Ok(None),
+    }
+}
+
+/// How many bytes of memory volumes may take together, if a command says it.
+fn memory_of(alloc: Global, command: &ArgMatches) -> Result<Option<u64>, CommandLineFault> {
+    let Some(text) = command.get_str("memory") else {
+        return Ok(None);
+    };
+    match memory_size_of(text) {
+        Ok(size) => Ok(Some(size)),
+        Err(fault) => Err(refused_word(alloc, fault, text)),
+    }
+}
+
 /// Whether a command wants replies in words, too.
 fn explanations_of(command: &ArgMatches) -> Explanations {
     if command.get_flag("explain") {
@@ -202,9 +245,15 @@ fn text_of(alloc: Global, value: Option<&str>) -> Result<Option<String>, AllocEr
     }
 }
 
-/// Where the library of a command is served, for how long, and what is printed meanwhile.
-fn serve_options_of(alloc: Global, command: &ArgMatches) -> Result<ServeOptions, CommandLineFault>
-    ensures { IfOk result IsServeOptions }
+/// Where the library of a command, which may be kept, is served, for how long, and what is printed meanwhile.
+fn serve_options_of(
+    alloc: Global,
+    command: &ArgMatches,
+    media: Option<MediaOptions>,
+) -> Result<ServeOptions, CommandLineFault>
+    requires { IfSome media IsMediaOptions }
+    ensures some { IfOk result IsServeOptions }
+    ensures kept { IfOk result (λ serving. serving.media ≡ media) }
 {
     let socket = text_of(alloc, command.get_str("socket"))?;
     let iscsi = iscsi_options_of(alloc, command)?;
@@ -223,6 +272,8 @@ fn serve_options_of(alloc: Global, command: &ArgMatches) -> Result<ServeOptions,
     Ok(ServeOptions {
         socket,
         iscsi,
+        media,
+        memory: memory_of(alloc, command)?,
         until,
         drain: command.get_flag("drain"),
         times: times_of(command),

@@ -1,6 +1,6 @@
 use output_lines::{Audit, Explanations};
 use permit_tables::Class;
-use program_options::{LibraryOptions, NamedHost, ServeTimes, ServeUntil};
+use program_options::{GivenLibrary, LibraryOptions, NamedHost, ServeTimes, ServeUntil};
 use scsi_nexus::Nexus;
 use std::net::SocketAddr;
 
@@ -10,7 +10,8 @@ pub enum Task {
     /// Run the script of standard input at a library, and print its replies, in words too where that is wanted, and
     /// what is wanted of the records.
     Replay(LibraryOptions, Explanations, Audit),
-    /// Serve a library at a socket or by iSCSI, and print what is wanted of the records.
+    /// Serve a library at a socket or by iSCSI, and print what is wanted of the records. Where it is kept in a folder, the options of the
+    /// library are what one is made of that isn't there yet, and may ask for more volumes than there are storage elements.
     Serve(LibraryOptions, ServeOptions, Audit),
     /// Send the script of standard input to a served library, and print its replies, in words too where that is wanted.
     Client(ClientOptions, Explanations),
@@ -18,13 +19,17 @@ pub enum Task {
     Cells(Option<Class>),
 }
 
-/// Where a library is served, for how long, when its records are printed, and what is told of its sessions.
+/// Where a library is served and kept, for how long, when its records are printed, and what is told of its sessions.
 #[derive(Debug, Drop, PartialEq, Eq)]
 pub struct ServeOptions {
     /// The path of the socket's file, if there is to be one.
     pub socket: Option<String>,
     /// What initiators of iSCSI come to, if they are to.
     pub iscsi: Option<IscsiOptions>,
+    /// Where the library is kept, if it is to be.
+    pub media: Option<MediaOptions>,
+    /// How many bytes of memory its volumes may take together, if there is a limit.
+    pub memory: Option<u64>,
     pub until: ServeUntil,
     /// Whether records are printed after each session, and within one whenever a unit has many of them, and are kept no longer.
     pub drain: bool,
@@ -32,6 +37,15 @@ pub struct ServeOptions {
     pub times: ServeTimes,
     /// Whether a line tells of each session that begins or ends, and of what a host was refused for want of memory or of a slot.
     pub log: bool,
+}
+
+/// Where a library is kept, and what it has to agree with.
+#[derive(Debug, Drop, PartialEq, Eq)]
+pub struct MediaOptions {
+    /// The path of its folder.
+    pub folder: String,
+    /// What was said of the library.
+    pub given: GivenLibrary,
 }
 
 /// Where initiators of iSCSI come in, and who they may be.

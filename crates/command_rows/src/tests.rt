@@ -3,7 +3,7 @@
 use command_line::{CommandLineFault, Task, task_of};
 use output_lines::{Audit, Explanations};
 use permit_tables::Class;
-use program_options::{ServeTimes, ServeUntil};
+use program_options::{GivenLibrary, ServeTimes, ServeUntil};
 use std::alloc::Global;
 use std::fmt::Debug;
 use std::process::Abort;
@@ -55,7 +55,7 @@ fn refused(alloc: Global, line: &str) -> Result<(u8, String), Fail> {
 /// A line that names no task, the exit status, and some words of what is told.
 type Refused = (&'static str, u8, &'static str);
 
-const REFUSED: [Refused; 106] = [
+const REFUSED: [Refused; 119] = [
     ("vtl", 2, "requires a subcommand"),
     ("vtl server", 2, "unrecognized subcommand 'server'"),
     ("vtl serve --sessions 1", 2, "--socket <PATH>"),
@@ -394,6 +394,43 @@ const REFUSED: [Refused; 106] = [
         "with K, M or G behind it [default: 16M]",
     ),
     ("vtl serve --help", 0, "--volume-size <SIZE>"),
+    ("vtl serve --help", 0, "--media <DIR>"),
+    (
+        "vtl serve --help",
+        0,
+        "without it nothing outlives the server",
+    ),
+    ("vtl replay --media d", 2, "unexpected argument '--media'"),
+    ("vtl client --media d", 2, "unexpected argument '--media'"),
+    ("vtl serve --media d", 2, "vtl: nowhere to serve"),
+    (
+        "vtl serve --socket s --media d --media e",
+        2,
+        "cannot be used multiple times",
+    ),
+    (
+        "vtl serve --socket s --media d --drives 5",
+        2,
+        "5 is not in 1..=4",
+    ),
+    (
+        "vtl serve --socket s --memory 1023K",
+        2,
+        "from 1M to 65536G, as 4G: 1023K",
+    ),
+    ("vtl serve --socket s --memory 65537G", 2, "as 4G: 65537G"),
+    ("vtl serve --socket s --memory 4GB", 2, "as 4G: 4GB"),
+    (
+        "vtl serve --socket s --memory=",
+        2,
+        "vtl: no size of memory",
+    ),
+    (
+        "vtl replay --memory 1G",
+        2,
+        "unexpected argument '--memory'",
+    ),
+    ("vtl serve --help", 0, "--memory <SIZE>"),
 ];
 
 fn assert_refused(rt: &impl Abort, alloc: Global, row: &Refused) -> Result<(), Fail> {
@@ -506,6 +543,9 @@ fn served(
         Some(path) if path.as_str() == socket => {}
         _ => return Err("another socket".into()),
     }
+    if serving.media.is_some() {
+        return Err("kept".into());
+    }
     let size = (library.drives, library.slots);
     let served = (serving.until, (serving.drain, serving.log), audit);
     Ok((size, served, serving.times))
@@ -597,6 +637,87 @@ fn task_of_reads_how_long_hosts_are_waited_for(rt: HostRuntime) -> Result<(), Fa
         let (line, waits) = *row;
         let (_, _, times) = served(rt.alloc(), line, "s")?;
         assert_same(&rt, times, times_of(waits), line);
+    }
+    Ok(())
+}
+
+/// What is said of a library.
+type Said = (Option<u8>, Option<u16>, Option<u8>, Option<u16>);
+
+/// What is said of a library that is kept in a folder, and how many slots and volumes one has that isn't there yet.
+fn kept(alloc: Global, line: &str, folder: &str) -> Result<(GivenLibrary, (u16, u16, u64)), Fail> {
+    let Task::Serve(library, serving, _) = task(alloc, line)? else {
+        return Err("another task".into());
+    };
+    let Some(media) = &serving.media else {
+        return Err("not kept".into());
+    };
+    if media.folder.as_str() != folder {
+        return Err("another folder".into());
+    }
+    let size = (library.slots, library.volumes, library.volume_size);
+    Ok((media.given, size))
+}
+
+const KEPT: [(&'static str, Said, (u16, u16, u64)); 4] = [
+    (
+        "vtl serve --socket s --media /var/lib/vtl",
+        (None, None, None, None),
+        (8, 1, SIZE),
+    ),
+    (
+        "vtl serve --drives 1 --slots 8 --portals 0 --volumes 1 --media /var/lib/vtl --socket s",
+        (Some(1), Some(8), Some(0), Some(1)),
+        (8, 1, SIZE),
+    ),
+    (
+        "vtl serve --media /var/lib/vtl --socket s --volumes 9",
+        (None, None, None, Some(9)),
+        (8, 9, SIZE),
+    ),
+    (
+        "vtl serve --media=/var/lib/vtl --socket s --slots=1024 --volume-size 1G --drives 4",
+        (Some(4), Some(1024), None, None),
+        (1024, 1, 1_073_741_824),
+    ),
+];
+
+#[test]
+fn task_of_reads_where_a_library_is_kept(rt: HostRuntime) -> Result<(), Fail> {
+    for row in &KEPT {
+        let (line, said, size) = *row;
+        let (drives, slots, portals, volumes) = said;
+        let expected = GivenLibrary {
+            drives,
+            slots,
+            portals,
+            volumes,
+        };
+        let (given, made) = kept(rt.alloc(), line, "/var/lib/vtl")?;
+        assert_same(&rt, given, expected, line);
+        assert_same(&rt, made, size, line);
+    }
+    Ok(())
+}
+
+const MEMORY: [(&'static str, Option<u64>); 4] = [
+    ("vtl serve --socket s", None),
+    ("vtl serve --socket s --memory 1M", Some(1_048_576)),
+    ("vtl serve --memory=3g --socket s", Some(3_221_225_472)),
+    (
+        "vtl serve --socket s --media d --memory 70368744177664",
+        Some(70_368_744_177_664),
+    ),
+];
+
+#[test]
+fn task_of_reads_how_much_memory_volumes_take(rt: HostRuntime) -> Result<(), Fail> {
+    for row in &MEMORY {
+        let (line, expected) = *row;
+        let Task::Serve(_, serving, _) = task(rt.alloc(), line)? else {
+            return Err("another task".into());
+        };
+        assert_same(&rt, serving.memory, expected, line);
     }
     Ok(())
 }

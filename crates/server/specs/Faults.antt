@@ -26,7 +26,8 @@ abbrev pub rank : ServerFault → ℕ
 rank (fault.Session s) = 1
 rank (fault.Close fault) = 2
 rank fault.Write = 3
-rank fault.NoMemory = 4
+rank fault.Media = 4
+rank fault.NoMemory = 5
 
 -- one comes before another by its rank, and of two sessions the one that was accepted first
 abbrev pub is_before : ServerFault → ServerFault → Bool
@@ -43,6 +44,7 @@ abbrev pub exit_status : ServerFault → ℕ
 exit_status (fault.Session s) = 4
 exit_status (fault.Close fault) = 4
 exit_status fault.Write = 4
+exit_status fault.Media = 4
 exit_status fault.NoMemory = 3
 
 abbrev pub session_words : SessionFault → List ℕ
@@ -75,4 +77,5 @@ abbrev pub fault_text : ServerFault → List ℕ
 fault_text (fault.Session s) = codes "vtl: device fault\nvtl: session " ++ faulty_session_text s
 fault_text (fault.Close fault) = codes "vtl: device fault\nvtl: the library could not be closed: " ++ close_words fault
 fault_text fault.Write = codes "vtl: device fault\nvtl: the lines of the records could not be written"
+fault_text fault.Media = codes "vtl: device fault\nvtl: not all of the media could be written"
 fault_text fault.NoMemory = codes "vtl: want of memory"

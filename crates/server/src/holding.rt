@@ -6,6 +6,7 @@ ghost use Rattle.server.specs.LibraryService.{DoesForWorker};
 
 use crate::acceptor::{Acceptor, WaitTimes};
 use crate::door::{Door, PortalDoor};
+use crate::kept_writer::KeptWriter;
 use crate::library_service::SeatService;
 use crate::live_sessions::SessionsBeside;
 use crate::server_fault::{Cause, FaultySession};
@@ -33,10 +34,10 @@ pub(crate) fn hold<'a, S: SeatService, R: Clock + RandomSource + Wait, E: Write>
 ) -> Result<End, FaultySession> {
     let stream = &visit.visitor.stream;
     let times = acceptor.limits.times;
-    let is_in = service.is_in;
+    let flags = service.flags;
     let limited = stream.set_write_timeout(times.write);
     let (Ok(mut reader), Ok(())) = (
-        TimedReader::new(rt, stream, is_in, patience_at(visit.door, times)),
+        TimedReader::new(rt, stream, flags, patience_at(visit.door, times)),
         limited,
     ) else {
         return Err(FaultySession {
@@ -45,7 +46,7 @@ pub(crate) fn hold<'a, S: SeatService, R: Clock + RandomSource + Wait, E: Write>
             cause: Cause::Fault(SessionFault::Read),
         });
     };
-    let mut writer = stream;
+    let mut writer = KeptWriter { stream, flags };
     match meet(
         alloc,
         rt,

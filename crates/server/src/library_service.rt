@@ -1,3 +1,4 @@
+use crate::library_tapes::LibraryTapes;
 use kept_unit::{Done, UnitLedger};
 use library_device::Device;
 use lun_router::{Library, Pass, Seat};
@@ -6,6 +7,7 @@ use session::{Directory, Service, SessionFault};
 use std::alloc::{AllocError, Global};
 use std::marker::Model;
 use std::sync::{Mutex, Wait};
+use tape_keeper::{GoodCommand, KeepListener, TapeKeeper};
 
 /// What a worker has of a library, whichever ledgers that has: a seat, with the directory of its sessions beside it.
 pub(crate) trait SeatService: Service + Drop {
@@ -18,6 +20,9 @@ pub(crate) trait SeatService: Service + Drop {
 
     /// Whether a nexus has a slot at a unit, or finds one.
     fn has_room(&self, nexus: Nexus, lun: u8) -> bool;
+
+    /// Keeps what a command left that was GOOD, as `TapeKeeper::keep` does.
+    fn keep<H: KeepListener>(&self, alloc: Global, listener: &H, command: GoodCommand<'_>) -> bool;
 
     /// How many calls the seat has noted since they were settled.
     fn noted(&self) -> usize;
@@ -42,11 +47,13 @@ pub struct LibraryService<
     L3: UnitLedger,
     L4: UnitLedger,
     R: Wait,
+    K: TapeKeeper<Device>,
 > {
     rt: &'a R,
     library: &'a Library<L0, L1, L2, L3, L4, Device, Pass>,
     directory: &'a Mutex<Directory>,
     seat: Seat<L0, L1, L2, L3, L4>,
+    keeper: &'a K,
 }
 
 impl<
@@ -57,7 +64,8 @@ impl<
     L3: UnitLedger,
     L4: UnitLedger,
     R: Wait,
-> Model for LibraryService<'a, L0, L1, L2, L3, L4, R> {
+    K: TapeKeeper<Device>,
+> Model for LibraryService<'a, L0, L1, L2, L3, L4, R, K> {
     ghost use Rattle.server.specs.LibraryService.{LibraryServiceValue};
 
     ghost Value = { LibraryServiceValue };
@@ -73,7 +81,8 @@ impl<
     L3: UnitLedger,
     L4: UnitLedger,
     R: Wait,
-> LibraryService<'a, L0, L1, L2, L3, L4, R> {
+    K: TapeKeeper<Device>,
+> LibraryService<'a, L0, L1, L2, L3, L4, R, K> {
     ghost use Rattle.std.specs.Prelude.{◌≡◌, OnOk, OnErr};
     ghost use Rattle.server.specs.LibraryService.{SettlesService};
 
@@ -83,7 +92,8 @@ impl<
         library: &'a Library<L0, L1, L2, L3, L4, Device, Pass>,
         directory: &'a Mutex<Directory>,
         seat: Seat<L0, L1, L2, L3, L4>,
-    ) -> LibraryService<'a, L0, L1, L2, L3, L4, R>
+        keeper: &'a K,
+    ) -> LibraryService<'a, L0, L1, L2, L3, L4, R, K>
         ensures { result ≡ record { seat = seat; units = library.now.units } }
     {
         LibraryService {
@@ -91,6 +101,7 @@ impl<
             library,
             directory,
             seat,
+            keeper,
         }
     }
 
@@ -112,6 +123,7 @@ impl<
             library: _,
             directory: _,
             seat,
+            keeper: _,
         } = self;
         seat
     }
@@ -125,7 +137,8 @@ impl<
     L3: UnitLedger,
     L4: UnitLedger,
     R: Wait,
-> Service for LibraryService<'a, L0, L1, L2, L3, L4, R> {
+    K: TapeKeeper<Device>,
+> Service for LibraryService<'a, L0, L1, L2, L3, L4, R, K> {
     ghost use Rattle.server.specs.LibraryService.{DoesToService};
 
     ghost notes = { DoesToService };
@@ -174,7 +187,8 @@ impl<
     L3: UnitLedger,
     L4: UnitLedger,
     R: Wait,
-> SeatService for LibraryService<'a, L0, L1, L2, L3, L4, R> {
+    K: TapeKeeper<Device>,
+> SeatService for LibraryService<'a, L0, L1, L2, L3, L4, R, K> {
     ghost use Rattle.server.specs.LibraryService.{SettlesService};
 
     type Seat = Seat<L0, L1, L2, L3, L4>;
@@ -183,6 +197,13 @@ impl<
 
     fn has_room(&self, nexus: Nexus, lun: u8) -> bool {
         self.library.has_room(self.rt, nexus, lun)
+    }
+
+    fn keep<H: KeepListener>(&self, alloc: Global, listener: &H, command: GoodCommand<'_>) -> bool {
+        let tapes = LibraryTapes {
+            library: self.library,
+        };
+        self.keeper.keep(self.rt, alloc, &tapes, listener, command)
     }
 
     fn noted(&self) -> usize {

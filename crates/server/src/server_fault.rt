@@ -51,6 +51,8 @@ pub enum ServerFault {
     Close(CloseFault),
     /// The lines of the records couldn't be written, or not all of them.
     Write,
+    /// Not all of the volumes are kept, or not where they lie.
+    Media,
     NoMemory,
 }
 
@@ -63,7 +65,10 @@ impl ServerFault {
     {
         match self {
             ServerFault::NoMemory => 3,
-            ServerFault::Session(_) | ServerFault::Close(_) | ServerFault::Write => 4,
+            ServerFault::Session(_)
+            | ServerFault::Close(_)
+            | ServerFault::Write
+            | ServerFault::Media => 4,
         }
     }
 
@@ -85,7 +90,8 @@ impl ServerFault {
             ServerFault::Session(_) => 1,
             ServerFault::Close(_) => 2,
             ServerFault::Write => 3,
-            ServerFault::NoMemory => 4,
+            ServerFault::Media => 4,
+            ServerFault::NoMemory => 5,
         }
     }
 }
@@ -118,6 +124,9 @@ impl fmt::Display for ServerFault {
             }
             ServerFault::Write => {
                 f.write_str("vtl: device fault\nvtl: the lines of the records could not be written")
+            }
+            ServerFault::Media => {
+                f.write_str("vtl: device fault\nvtl: not all of the media could be written")
             }
             ServerFault::NoMemory => f.write_str("vtl: want of memory"),
         }

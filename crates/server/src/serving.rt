@@ -9,6 +9,8 @@ use crate::batch::Batch;
 use crate::closing::close_and_write;
 use crate::door::Door;
 use crate::event::Event;
+use crate::keeping::keep_at_the_end;
+use crate::library_tapes::LibraryTapes;
 use crate::record_drain::RecordDrain;
 use crate::server_fault::{ServerFault, earlier};
 use crate::staffing::{serve_all, serve_and_end};
@@ -25,6 +27,7 @@ use std::sync::Wait;
 use std::sync::ledger::Blank;
 use std::thread::{self, Threads};
 use std::time::Clock;
+use tape_keeper::TapeKeeper;
 use target_core::TargetCore;
 
 /// What is written of the records of a library that is served.
@@ -38,7 +41,7 @@ pub enum RecordOutput {
 }
 
 /// Serves a target to connections of doors, each by a worker and as the nexus that its LOGIN names or its initiator is let in as, and
-/// tells what happens. After the last has ended the library is closed, and what is wanted of the records is written, LUN 0 first, also
+/// tells what happens. A keeper keeps its tapes meanwhile, and all of them once the last has ended. Then the library is closed, and what is wanted of the records is written, LUN 0 first, also
 /// where a session had a fault. Lines that can't be written are kept and tried again; those that never can be are told.
 ///
 /// Of the faults that happened the first in the order of `ServerFault` is told; no clause says which of them happened.
@@ -46,6 +49,7 @@ pub fn serve_library<
     R: Clock + RandomSource + Threads + Wait + Sync,
     W: Write + Send,
     E: Write + Send,
+    K: TapeKeeper<Device> + Sync,
 >(
     rt: &R,
     alloc: Global,
@@ -53,6 +57,7 @@ pub fn serve_library<
     doors: &[Door<'_>],
     limits: ServeLimits<'_>,
     records: RecordOutput,
+    keeper: &K,
     writer: &mut W,
     teller: &Teller<E>,
 ) -> Result<(), ServerFault>
@@ -70,8 +75,8 @@ pub fn serve_library<
         four: Blank::new(parts),
     };
     let acceptor = Acceptor::new(doors, limits);
-    serve_with_ledgers::<Brand, Brand, Brand, Brand, Brand, R, W, E>(
-        rt, alloc, core, seats, blanks, &acceptor, records, writer, teller,
+    serve_with_ledgers::<Brand, Brand, Brand, Brand, Brand, R, W, E, K>(
+        rt, alloc, core, seats, blanks, &acceptor, records, keeper, writer, teller,
     )
 }
 
@@ -95,6 +100,7 @@ fn serve_with_ledgers<
     R: Clock + RandomSource + Threads + Wait + Sync,
     W: Write + Send,
     E: Write + Send,
+    K: TapeKeeper<Device> + Sync,
 >(
     rt: &R,
     alloc: Global,
@@ -103,6 +109,7 @@ fn serve_with_ledgers<
     blanks: Blanks,
     acceptor: &Acceptor<'_>,
     records: RecordOutput,
+    keeper: &K,
     writer: &mut W,
     teller: &Teller<E>,
 ) -> Result<(), ServerFault>
@@ -124,7 +131,10 @@ fn serve_with_ledgers<
     };
     match records {
         RecordOutput::AtTheEnd(audit) => {
-            let served = serve_all(rt, alloc, &library, &mut seats, acceptor, None, teller)?;
+            let served = serve_all(
+                rt, alloc, &library, &mut seats, acceptor, None, keeper, teller,
+            )?;
+            let served = earlier(served, keep_library(rt, alloc, keeper, &library, teller));
             let closed = close_and_write(rt, alloc, library, seats, audit, writer, teller);
             first_of(served, closed)
         }
@@ -132,12 +142,35 @@ fn serve_with_ledgers<
             let drain = RecordDrain::new();
             let mut batch = Batch::new(alloc);
             let served = serve_and_write(
-                rt, alloc, &library, &mut seats, acceptor, &drain, &mut batch, writer, teller,
+                rt, alloc, &library, &mut seats, acceptor, &drain, keeper, &mut batch, writer,
+                teller,
             )?;
+            let served = earlier(served, keep_library(rt, alloc, keeper, &library, teller));
             let closed = write_and_close(rt, alloc, library, seats, batch, writer, teller);
             first_of(served, closed)
         }
     }
+}
+
+/// Keeps all of a library's tapes at its end, and where they lie: the fault where not all of it is kept.
+fn keep_library<
+    L0: UnitLedger,
+    L1: UnitLedger,
+    L2: UnitLedger,
+    L3: UnitLedger,
+    L4: UnitLedger,
+    R: Wait,
+    E: Write,
+    K: TapeKeeper<Device>,
+>(
+    rt: &R,
+    alloc: Global,
+    keeper: &K,
+    library: &Library<L0, L1, L2, L3, L4, Device, Pass>,
+    teller: &Teller<E>,
+) -> Option<ServerFault> {
+    let tapes = LibraryTapes { library };
+    keep_at_the_end(rt, alloc, keeper, &tapes, teller)
 }
 
 /// The fault of serving, or of closing, whichever is told.
@@ -193,6 +226,7 @@ fn serve_and_write<
     R: Clock + RandomSource + Threads + Wait + Sync,
     W: Write + Send,
     E: Write + Send,
+    K: TapeKeeper<Device> + Sync,
 >(
     rt: &'x R,
     alloc: Global,
@@ -200,6 +234,7 @@ fn serve_and_write<
     seats: &mut Vec<Seat<L0, L1, L2, L3, L4>>,
     acceptor: &Acceptor<'_>,
     drain: &'x RecordDrain,
+    keeper: &'x K,
     batch: &mut Batch,
     writer: &mut W,
     teller: &'x Teller<E>,
@@ -217,6 +252,7 @@ fn serve_and_write<
             seats,
             acceptor,
             drain,
+            keeper,
             teller,
         ),
     );

@@ -1,6 +1,7 @@
 use crate::library_service::SeatService;
 use crate::record_drain::RecordDrain;
 use crate::server_fault::{ServerFault, earlier};
+use crate::session_flags::SessionFlags;
 use crate::teller::Teller;
 use crate::worker::Worker;
 use crate::worker_service::WorkerService;
@@ -8,7 +9,6 @@ use iscsi_login::Host;
 use std::alloc::{AllocError, Global};
 use std::io::Write;
 use std::sync::Wait;
-use std::sync::atomic::AtomicBool;
 
 /// The workers of a library, and room for the seats that they give back.
 #[derive(Drop)]
@@ -33,7 +33,7 @@ impl<'a, S: SeatService, R: Wait, E: Write> Staff<'a, S, R, E> {
         &mut self,
         rt: &'a R,
         seat_service: S,
-        is_in: &'a AtomicBool,
+        flags: &'a SessionFlags,
         hosts: &'a [Host],
         drain: Option<&'a RecordDrain>,
         teller: &'a Teller<E>,
@@ -43,7 +43,7 @@ impl<'a, S: SeatService, R: Wait, E: Write> Staff<'a, S, R, E> {
             rt,
             drain,
             teller,
-            is_in,
+            flags,
             hosts,
             number: 0,
             is_initiator: false,

@@ -1,9 +1,12 @@
 //! Sessions of a library, by a worker at each of its seats.
 
 use crate::acceptor::Acceptor;
+use crate::keeping::write_behind;
 use crate::library_service::LibraryService;
+use crate::library_tapes::LibraryTapes;
 use crate::record_drain::RecordDrain;
 use crate::server_fault::ServerFault;
+use crate::session_flags::SessionFlags;
 use crate::staff::Staff;
 use crate::teller::Teller;
 use iscsi_login::Host;
@@ -15,10 +18,10 @@ use std::alloc::{AllocError, Global};
 use std::io::Write;
 use std::mem;
 use std::random::RandomSource;
-use std::sync::atomic::AtomicBool;
 use std::sync::{Mutex, Wait};
 use std::thread::{self, Threads};
 use std::time::Clock;
+use tape_keeper::TapeKeeper;
 
 /// Serves sessions with a worker at each seat. Then none asks any more that records be handed out.
 pub(crate) fn serve_and_end<
@@ -30,6 +33,7 @@ pub(crate) fn serve_and_end<
     L4: UnitLedger + Send + Sync,
     R: Clock + RandomSource + Threads + Wait + Sync,
     E: Write + Send,
+    K: TapeKeeper<Device> + Sync,
 >(
     rt: &'x R,
     alloc: Global,
@@ -37,14 +41,24 @@ pub(crate) fn serve_and_end<
     seats: &mut Vec<Seat<L0, L1, L2, L3, L4>>,
     acceptor: &Acceptor<'_>,
     drain: &'x RecordDrain,
+    keeper: &'x K,
     teller: &'x Teller<E>,
 ) -> Result<Option<ServerFault>, ServerFault> {
-    let served = serve_all(rt, alloc, library, seats, acceptor, Some(drain), teller);
+    let served = serve_all(
+        rt,
+        alloc,
+        library,
+        seats,
+        acceptor,
+        Some(drain),
+        keeper,
+        teller,
+    );
     drain.end(rt);
     served
 }
 
-/// Serves sessions with a worker at each seat, to which the seats go and come back: the fault that is told of the sessions, if there was one.
+/// Serves sessions with a worker at each seat, as `serve_sessions` does, while a thread of its own copies what is written to tapes.
 pub(crate) fn serve_all<
     'x,
     L0: UnitLedger + Send + Sync,
@@ -54,6 +68,7 @@ pub(crate) fn serve_all<
     L4: UnitLedger + Send + Sync,
     R: Clock + RandomSource + Threads + Wait + Sync,
     E: Write + Send,
+    K: TapeKeeper<Device> + Sync,
 >(
     rt: &'x R,
     alloc: Global,
@@ -61,14 +76,101 @@ pub(crate) fn serve_all<
     seats: &mut Vec<Seat<L0, L1, L2, L3, L4>>,
     acceptor: &Acceptor<'_>,
     drain: Option<&'x RecordDrain>,
+    keeper: &'x K,
+    teller: &'x Teller<E>,
+) -> Result<Option<ServerFault>, ServerFault> {
+    let alloc_of_workers = alloc;
+    let ((), served) = thread::join_mut(
+        rt,
+        &mut || write_library_behind(rt, alloc, keeper, library, teller),
+        &mut || serve_and_stop(
+            rt,
+            alloc_of_workers,
+            library,
+            seats,
+            acceptor,
+            drain,
+            keeper,
+            teller,
+        ),
+    );
+    served
+}
+
+/// Copies what was written to the volumes in a library's drives, whenever that is to be done, until the library ends.
+fn write_library_behind<
+    L0: UnitLedger,
+    L1: UnitLedger,
+    L2: UnitLedger,
+    L3: UnitLedger,
+    L4: UnitLedger,
+    R: Clock + Wait,
+    E: Write,
+    K: TapeKeeper<Device>,
+>(
+    rt: &R,
+    alloc: Global,
+    keeper: &K,
+    library: &Library<L0, L1, L2, L3, L4, Device, Pass>,
+    teller: &Teller<E>,
+) {
+    let tapes = LibraryTapes { library };
+    write_behind(rt, alloc, keeper, &tapes, teller);
+}
+
+/// Serves sessions with a worker at each seat. Then nothing is copied behind any more.
+fn serve_and_stop<
+    'x,
+    L0: UnitLedger + Send + Sync,
+    L1: UnitLedger + Send + Sync,
+    L2: UnitLedger + Send + Sync,
+    L3: UnitLedger + Send + Sync,
+    L4: UnitLedger + Send + Sync,
+    R: Clock + RandomSource + Threads + Wait + Sync,
+    E: Write + Send,
+    K: TapeKeeper<Device> + Sync,
+>(
+    rt: &'x R,
+    alloc: Global,
+    library: &'x Library<L0, L1, L2, L3, L4, Device, Pass>,
+    seats: &mut Vec<Seat<L0, L1, L2, L3, L4>>,
+    acceptor: &Acceptor<'_>,
+    drain: Option<&'x RecordDrain>,
+    keeper: &'x K,
+    teller: &'x Teller<E>,
+) -> Result<Option<ServerFault>, ServerFault> {
+    let served = serve_sessions(rt, alloc, library, seats, acceptor, drain, keeper, teller);
+    keeper.end(rt);
+    served
+}
+
+/// Serves sessions with a worker at each seat, to which the seats go and come back: the fault that is told of the sessions, if there was one.
+fn serve_sessions<
+    'x,
+    L0: UnitLedger + Send + Sync,
+    L1: UnitLedger + Send + Sync,
+    L2: UnitLedger + Send + Sync,
+    L3: UnitLedger + Send + Sync,
+    L4: UnitLedger + Send + Sync,
+    R: Clock + RandomSource + Threads + Wait + Sync,
+    E: Write + Send,
+    K: TapeKeeper<Device> + Sync,
+>(
+    rt: &'x R,
+    alloc: Global,
+    library: &'x Library<L0, L1, L2, L3, L4, Device, Pass>,
+    seats: &mut Vec<Seat<L0, L1, L2, L3, L4>>,
+    acceptor: &Acceptor<'_>,
+    drain: Option<&'x RecordDrain>,
+    keeper: &'x K,
     teller: &'x Teller<E>,
 ) -> Result<Option<ServerFault>, ServerFault> {
     let directory = Mutex::new(Directory::new(alloc));
-    let logins = no_logins(alloc, seats.len())?;
+    let flags = flags_of(alloc, seats.len())?;
     let hosts = acceptor.hosts();
     let taken = mem::replace(seats, Vec::new(alloc));
     let mut staff = staff_of(
-        rt, alloc, library, &directory, taken, &logins, hosts, drain, teller,
+        rt, alloc, library, &directory, taken, &flags, hosts, drain, keeper, teller,
     )?;
     work_all(rt, alloc, &mut staff, acceptor);
     let (back, served) = staff.into_seats();
@@ -86,21 +188,23 @@ fn staff_of<
     L4: UnitLedger,
     R: Wait,
     E: Write,
+    K: TapeKeeper<Device>,
 >(
     rt: &'a R,
     alloc: Global,
     library: &'a Library<L0, L1, L2, L3, L4, Device, Pass>,
     directory: &'a Mutex<Directory>,
     seats: Vec<Seat<L0, L1, L2, L3, L4>>,
-    logins: &'a [AtomicBool],
+    flags: &'a [SessionFlags],
     hosts: &'a [Host],
     drain: Option<&'a RecordDrain>,
+    keeper: &'a K,
     teller: &'a Teller<E>,
-) -> Result<Staff<'a, LibraryService<'a, L0, L1, L2, L3, L4, R>, R, E>, AllocError> {
+) -> Result<Staff<'a, LibraryService<'a, L0, L1, L2, L3, L4, R, K>, R, E>, AllocError> {
     let mut staff = Staff::new(alloc, seats.len())?;
-    for (seat, is_in) in seats.into_iter().zip(logins) {
-        let seat_service = LibraryService::new(rt, library, directory, seat);
-        staff.hire(rt, seat_service, is_in, hosts, drain, teller)?;
+    for (seat, flags) in seats.into_iter().zip(flags) {
+        let seat_service = LibraryService::new(rt, library, directory, seat, keeper);
+        staff.hire(rt, seat_service, flags, hosts, drain, teller)?;
     }
     Ok(staff)
 }
@@ -115,10 +219,11 @@ fn work_all<
     L4: UnitLedger + Send + Sync,
     R: Clock + RandomSource + Threads + Wait + Sync,
     E: Write + Send,
+    K: TapeKeeper<Device> + Sync,
 >(
     rt: &R,
     alloc: Global,
-    staff: &mut Staff<'a, LibraryService<'a, L0, L1, L2, L3, L4, R>, R, E>,
+    staff: &mut Staff<'a, LibraryService<'a, L0, L1, L2, L3, L4, R, K>, R, E>,
     acceptor: &Acceptor<'_>,
 ) {
     let count = staff.workers.len();
@@ -130,11 +235,11 @@ fn work_all<
     );
 }
 
-/// For each of so many workers whether his host is logged in: none is.
-fn no_logins(alloc: Global, count: usize) -> Result<Vec<AtomicBool>, AllocError> {
-    let mut logins = Vec::new(alloc);
+/// The flags of so many workers' sessions.
+fn flags_of(alloc: Global, count: usize) -> Result<Vec<SessionFlags>, AllocError> {
+    let mut flags = Vec::new(alloc);
     for _worker in 0..count {
-        logins.push(AtomicBool::new(false))?;
+        flags.push(SessionFlags::new())?;
     }
-    Ok(logins)
+    Ok(flags)
 }

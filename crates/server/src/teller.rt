@@ -7,6 +7,7 @@ use crate::event::Event;
 use crate::logged_in::LoggedIn;
 use std::io::{self, Write};
 use std::sync::{Mutex, Wait};
+use tape_keeper::KeepEvent;
 
 /// How much is told of what happens while a library is served.
 #[derive(Clone, Copy, Debug, PartialEq, Eq)]
@@ -42,6 +43,12 @@ impl<E: Write> Teller<E> {
                 let _ = write_login(&mut *errors, login);
             }
         }
+    }
+
+    /// Tells how keeping tapes goes. Where its line can't be written there is nobody to tell.
+    pub(crate) fn tell_keeping<R: Wait>(&self, rt: &R, event: &KeepEvent) {
+        let mut errors = self.errors.lock(rt);
+        let _ = writeln!(&mut *errors, "{event}");
     }
 
     /// Tells an event, if it is to be told. Where its line can't be written there is nobody to tell.

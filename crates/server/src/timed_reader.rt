@@ -1,6 +1,6 @@
+use crate::session_flags::SessionFlags;
 use std::io::{self, ErrorKind, Read};
 use std::os::unix::net::UnixStream;
-use std::sync::atomic::{AtomicBool, Ordering};
 use std::time::{Clock, Duration, Instant};
 
 /// How often one read may be cut short by a signal.
@@ -23,8 +23,8 @@ pub(crate) struct Patience {
 pub(crate) struct TimedReader<'a, C: Clock> {
     clock: &'a C,
     stream: &'a UnixStream,
-    /// Whether the host is logged in.
-    is_in: &'a AtomicBool,
+    /// Say whether the host is logged in.
+    flags: &'a SessionFlags,
     patience: Patience,
     /// `None`: its login may take for ever.
     login_by: Option<Instant>,
@@ -40,7 +40,7 @@ impl<'a, C: Clock> TimedReader<'a, C> {
     pub fn new(
         clock: &'a C,
         stream: &'a UnixStream,
-        is_in: &'a AtomicBool,
+        flags: &'a SessionFlags,
         patience: Patience,
     ) -> io::Result<TimedReader<'a, C>> {
         let login_by = match patience.login {
@@ -50,7 +50,7 @@ impl<'a, C: Clock> TimedReader<'a, C> {
         Ok(TimedReader {
             clock,
             stream,
-            is_in,
+            flags,
             patience,
             login_by,
             silence: Duration::ZERO,
@@ -64,13 +64,9 @@ impl<'a, C: Clock> TimedReader<'a, C> {
         self.is_late
     }
 
-    fn is_in(&self) -> bool {
-        self.is_in.load(Ordering::SeqCst)
-    }
-
     /// How long the next read may wait. `None`: for ever.
     fn next_wait(&self) -> io::Result<Option<Duration>> {
-        if self.is_in() {
+        if self.flags.is_in() {
             let left = match self.patience.idle {
                 Some(idle) => Some(idle.saturating_sub(self.silence)),
                 None => None,
@@ -102,7 +98,7 @@ impl<'a, C: Clock> TimedReader<'a, C> {
 
     /// Why a read failed for which nothing came in so long.
     fn kind_behind(&mut self, wait: Option<Duration>) -> ErrorKind {
-        if self.is_in() {
+        if self.flags.is_in() {
             self.silence = self.silence.saturating_add(wait.unwrap_or(Duration::ZERO));
             if !self.is_too_long(self.silence) {
                 return ErrorKind::TimedOut;

@@ -1,9 +1,11 @@
 ghost use Rattle.server.specs.LibraryService.{MaySettle};
 
 use crate::event::Event;
+use crate::keeping::KeepTeller;
 use crate::library_service::SeatService;
 use crate::logged_in::{LoggedIn, name_of};
 use crate::record_drain::RecordDrain;
+use crate::session_flags::SessionFlags;
 use crate::teller::Teller;
 use iscsi_login::Host;
 use kept_unit::Done;
@@ -14,7 +16,7 @@ use std::alloc::Global;
 use std::io::Write;
 use std::marker::Model;
 use std::sync::Wait;
-use std::sync::atomic::{AtomicBool, Ordering};
+use tape_keeper::GoodCommand;
 
 /// A seat that has noted so many calls since they were settled is settled again.
 const MANY: usize = 4096;
@@ -61,8 +63,7 @@ pub(crate) struct WorkerService<'a, S: SeatService, R: Wait, E: Write> {
     /// Where records are handed out, if they are.
     pub drain: Option<&'a RecordDrain>,
     pub teller: &'a Teller<E>,
-    /// Whether the session's host is logged in.
-    pub is_in: &'a AtomicBool,
+    pub flags: &'a SessionFlags,
     /// Who is let in by name at portals.
     pub hosts: &'a [Host],
     /// The session's place in the order of accepting, from 1 on.
@@ -90,7 +91,7 @@ impl<'a, S: SeatService, R: Wait, E: Write> WorkerService<'a, S, R, E> {
     {
         self.number = number;
         self.is_initiator = is_initiator;
-        self.is_in.store(false, Ordering::SeqCst);
+        self.flags.begin();
         self.nexus = None;
         self.commands = 0;
     }
@@ -115,6 +116,17 @@ impl<'a, S: SeatService, R: Wait, E: Write> WorkerService<'a, S, R, E> {
             Event::NoSlot(nexus, lun)
         };
         self.teller.tell(self.rt, &event);
+    }
+
+    /// Keeps what a command left that was GOOD. Where that fails the session's replies are sent no more.
+    fn keep(&self, alloc: Global, command: GoodCommand<'_>) {
+        let listener = KeepTeller {
+            rt: self.rt,
+            teller: self.teller,
+        };
+        if !self.seat_service.keep(alloc, &listener, command) {
+            self.flags.lose();
+        }
     }
 
     /// Asks that records be handed out where the unit has many, up to the one of this number, and settles the seat where it has
@@ -163,8 +175,13 @@ impl<'a, S: SeatService, R: Wait, E: Write> Service for WorkerService<'a, S, R, 
         let done = self.seat_service.submit(alloc, nexus, lun, cdb, bytes);
         self.commands = self.commands.saturating_add(1);
         let reply = &done.receipt().reply;
-        if reply.status == Status::Busy {
-            self.tell_busy(nexus, lun);
+        match reply.status {
+            Status::Busy => self.tell_busy(nexus, lun),
+            Status::Good => {
+                let length = bytes.len();
+                self.keep(alloc, GoodCommand { lun, cdb, length });
+            }
+            _ => {}
         }
         self.tend(lun, reply.number);
         done
@@ -190,7 +207,7 @@ impl<'a, S: SeatService, R: Wait, E: Write> Service for WorkerService<'a, S, R, 
         self.nexus = Some(nexus);
         let entered = self.seat_service.login(nexus);
         if entered.is_ok() {
-            self.is_in.store(true, Ordering::SeqCst);
+            self.flags.come_in();
             self.tell_login(nexus);
         }
         entered

@@ -30,6 +30,7 @@ use std::sync::{Condvar, Mutex, Wait};
 use std::test::Fail;
 use std::thread::{self, Threads};
 use std::time::{Clock, Duration};
+use tape_keeper::NoKeeper;
 use tape_medium::{Tape, Volume, VolumeTag};
 use tape_server::TapeDrive;
 use target_core::TargetCore;
@@ -574,6 +575,7 @@ fn serve_and_talk<
                 doors,
                 limits,
                 meeting.records,
+                &NoKeeper,
                 output,
                 &teller,
             )
@@ -844,7 +846,7 @@ fn serve_library_goes_on_until_it_is_closed(rt: HostRuntime) -> Result<(), Fail>
 /// A fault, what is shown of it, and the exit status.
 type Shown = (ServerFault, &'static str, u8);
 
-const SHOWN: [Shown; 6] = [
+const SHOWN: [Shown; 7] = [
     (
         ServerFault::Session(FaultySession {
             number: 3,
@@ -880,6 +882,11 @@ const SHOWN: [Shown; 6] = [
     (
         ServerFault::Write,
         "vtl: device fault\nvtl: the lines of the records could not be written",
+        4,
+    ),
+    (
+        ServerFault::Media,
+        "vtl: device fault\nvtl: not all of the media could be written",
         4,
     ),
     (ServerFault::NoMemory, "vtl: want of memory", 3),

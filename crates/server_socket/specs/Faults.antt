@@ -1,8 +1,9 @@
 -- The exit status of each fault of serving, and what is told of it (profile).
-use Rattle.std.specs.Prelude.{ℕ, List, ◌++◌, codes, string_bytes}
+use Rattle.std.specs.Prelude.{ℕ, List, ◌++◌, codes, string_bytes, Option, Some, None}
 use Rattle.std.specs.Fmt.{decimal}
 use Rattle.iscsi_chap.specs.declared.secrets_fault.LineFault.{LineFault}
 use Rattle.iscsi_chap.specs.declared.secrets_fault.LineFault.TheVariants.{FieldCount, SecretLength}
+use Rattle.media_folder.specs.Faults.{folder_status}
 use Rattle.server.specs.Faults as host
 use Rattle.server_socket.specs.declared.socket_fault.SocketFault.{SocketFault}
 use Rattle.server_socket.specs.declared.socket_fault.SocketFault.TheVariants as serve
@@ -14,6 +15,7 @@ socket_status (serve.IsTaken address) = 4
 socket_status (serve.CannotRead path) = 4
 socket_status (serve.OpenSecrets path) = 2
 socket_status (serve.BadSecrets path number what) = 2
+socket_status (serve.Folder fault) = folder_status fault
 socket_status (serve.Server fault) = host.exit_status fault
 
 -- no secret is told
@@ -21,12 +23,13 @@ abbrev pub line_words : LineFault → List ℕ
 line_words FieldCount = codes "say NAME USER SECRET, or NAME USER SECRET TARGET-USER TARGET-SECRET"
 line_words SecretLength = codes "a secret has 12 to 128 bytes"
 
--- the second line names the path or the address
-abbrev pub socket_text : SocketFault → List ℕ
-socket_text (serve.IsThere path) = codes "vtl: device fault\nvtl: cannot listen on " ++ string_bytes path ++ codes ": it is there already"
-socket_text (serve.CannotListen path) = codes "vtl: device fault\nvtl: cannot listen on " ++ string_bytes path
-socket_text (serve.IsTaken address) = codes "vtl: device fault\nvtl: cannot listen on " ++ string_bytes address ++ codes ": somebody listens there already"
-socket_text (serve.CannotRead path) = codes "vtl: device fault\nvtl: cannot read " ++ string_bytes path
-socket_text (serve.OpenSecrets path) = codes "vtl: others than its owner may read or change " ++ (string_bytes path ++ (codes ": say chmod 600 " ++ string_bytes path))
-socket_text (serve.BadSecrets path number what) = codes "vtl: " ++ (string_bytes path ++ (codes ", line " ++ (decimal number ++ (codes ": " ++ line_words what))))
-socket_text (serve.Server fault) = host.fault_text fault
+-- the second line names the path or the address; no clause says what is told of a folder
+abbrev pub socket_text : SocketFault → Option (List ℕ)
+socket_text (serve.IsThere path) = Some (codes "vtl: device fault\nvtl: cannot listen on " ++ string_bytes path ++ codes ": it is there already")
+socket_text (serve.CannotListen path) = Some (codes "vtl: device fault\nvtl: cannot listen on " ++ string_bytes path)
+socket_text (serve.IsTaken address) = Some (codes "vtl: device fault\nvtl: cannot listen on " ++ string_bytes address ++ codes ": somebody listens there already")
+socket_text (serve.CannotRead path) = Some (codes "vtl: device fault\nvtl: cannot read " ++ string_bytes path)
+socket_text (serve.OpenSecrets path) = Some (codes "vtl: others than its owner may read or change " ++ (string_bytes path ++ (codes ": say chmod 600 " ++ string_bytes path)))
+socket_text (serve.BadSecrets path number what) = Some (codes "vtl: " ++ (string_bytes path ++ (codes ", line " ++ (decimal number ++ (codes ": " ++ line_words what)))))
+socket_text (serve.Folder fault) = None
+socket_text (serve.Server fault) = Some (host.fault_text fault)

@@ -1,5 +1,5 @@
 -- Worked rows: how serving ends by a fault.
-use Rattle.std.specs.Prelude.{◌≡◌, codes}
+use Rattle.std.specs.Prelude.{◌≡◌, codes, Some}
 use Rattle.lun_router.specs.declared.closing.CloseFault.TheVariants.{Mismatch}
 use Rattle.server.specs.declared.server_fault.ServerFault.TheVariants.{Close, NoMemory, Write}
 use Rattle.server_socket.specs.declared.socket_fault.SocketFault.TheVariants.{Server}
@@ -11,5 +11,5 @@ pub record StatusesOfServing : Type 0 where
   pub no_memory : socket_status (Server NoMemory) ≡ 3
 
 pub record LinesOfServing : Type 0 where
-  pub write : socket_text (Server Write) ≡ codes "vtl: device fault\nvtl: the lines of the records could not be written"
-  pub no_memory : socket_text (Server NoMemory) ≡ codes "vtl: want of memory"
+  pub write : socket_text (Server Write) ≡ Some (codes "vtl: device fault\nvtl: the lines of the records could not be written")
+  pub no_memory : socket_text (Server NoMemory) ≡ Some (codes "vtl: want of memory")

@@ -3,6 +3,7 @@
 #![tactic(auto)]
 
 mod iscsi_target;
+mod kept_library;
 mod laws;
 mod notice;
 mod places;

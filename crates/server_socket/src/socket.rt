@@ -1,11 +1,13 @@
 //! The library behind a Unix socket and portals of iSCSI.
 
-ghost use Rattle.std.specs.Prelude.{◌≡◌, ◌<◌, ◌≤◌, vec_len};
-ghost use Rattle.command_line.specs.Tasks.{IsServeOptions, MakesLibrary};
+ghost use Rattle.std.specs.Prelude.{◌≡◌, ◌+◌, ◌<◌, ◌≤◌, vec_len};
+ghost use Rattle.command_line.specs.Tasks.{IsServeOptions, MakesServed};
 ghost use Rattle.program_options.specs.ServeUntil.{workers_of};
+ghost use Rattle.server_socket.specs.Places.{count_of};
 ghost use Rattle.server_socket.specs.Serving.{records_of, telling_of, term_of};
 
-use crate::iscsi_target::target_of;
+use crate::iscsi_target::{PortalTarget, target_of};
+use crate::kept_library::{KeptLibrary, kept_library};
 use crate::notice::{Notice, tell};
 use crate::places::{Places, open_places};
 use crate::socket_fault::SocketFault;
@@ -25,13 +27,15 @@ use std::random::RandomSource;
 use std::sync::Wait;
 use std::thread::{self, Threads};
 use std::time::Clock;
-use stocked_library::library;
+use stocked_library::library_within;
+use tape_keeper::{NoKeeper, TapeKeeper};
+use tape_medium::MemoryLimit;
 use target_core::TargetCore;
 
 /// Serves a library at a socket whose file it makes, at portals of iSCSI, or at both, writes the lines that are wanted of the
 /// records to standard output, and tells on `errors` what happens. The file is removed at the end, if it is still its own. Where
 /// somebody listens at one of the places already, or another file is there, nothing is served and that stays; a socket's file where nobody
-/// listens is taken away.
+/// listens is taken away. A library that is kept is read from its folder by `files`, and written there, which threads share: a bound can't be.
 #[tactic(auto, using(crate::proofs::PlaceLemmas::some_places, crate::proofs::PlaceLemmas::few_places))]
 pub fn serve<
     R: AllocGlobal
@@ -47,34 +51,58 @@ pub fn serve<
     E: Write + Send,
 >(
     rt: &R,
+    files: &HostRuntime,
     options: LibraryOptions,
     serving: ServeOptions,
     audit: Audit,
     errors: &mut E,
 ) -> Result<(), SocketFault>
-    requires library { MakesLibrary options }
+    requires library { MakesServed options serving.media }
     requires some { IsServeOptions serving }
 {
     let ServeOptions {
         socket,
         iscsi,
+        media,
+        memory,
         until,
         drain,
         times,
         log,
     } = serving;
     let made = target_of(rt, iscsi)?;
-    let places = open_places(rt, &made.portals, &made.target, socket, errors)?;
     let service = ServiceOptions {
         until,
         times,
         records: records_of(drain, audit),
         telling: telling_of(log),
     };
-    let served = serve_at(rt, options, &places, service, errors);
-    // What the sessions came to is told in any case.
-    places.leave(rt);
-    served
+    let memory = memory_limit(rt.alloc(), memory)?;
+    match media {
+        Some(media) => {
+            let KeptLibrary { core, keeper } = kept_library(
+                rt.alloc(),
+                files,
+                media,
+                options.volume_size,
+                &memory,
+                errors,
+            )?;
+            serve_at(rt, core, &keeper, socket, &made, service, errors)
+        }
+        None => {
+            let core = library_within(rt.alloc(), &options, &memory)?;
+            serve_at(rt, core, &NoKeeper, socket, &made, service, errors)
+        }
+    }
+}
+
+/// The limit on the memory of all volumes, where there is one.
+fn memory_limit(alloc: Global, memory: Option<u64>) -> Result<MemoryLimit, AllocError> {
+    match memory {
+        Some(most) => MemoryLimit::new(alloc, most),
+        None => Ok(MemoryLimit::none()),
+    }
 }
 
 /// How a library is served wherever that is.
@@ -86,26 +114,45 @@ struct ServiceOptions {
     telling: Telling,
 }
 
-/// Serves a library at places, and tells before where they are.
+/// Serves a library at a socket, at portals or at both, and tells before where they are.
 fn serve_at<
-    R: AllocGlobal + Clock + Files + Input + Print + RandomSource + Sync + Threads + Wait,
+    R: AllocGlobal
+        + Clock
+        + Files
+        + Input
+        + Net<Listener = TcpListener, Stream = TcpStream>
+        + Print
+        + RandomSource
+        + Sync
+        + Threads
+        + Wait,
     E: Write + Send,
+    K: TapeKeeper<Device> + Sync,
 >(
     rt: &R,
-    options: LibraryOptions,
-    places: &Places<'_>,
+    core: TargetCore<Device>,
+    keeper: &K,
+    socket: Option<String>,
+    made: &PortalTarget,
     service: ServiceOptions,
     errors: &mut E,
 ) -> Result<(), SocketFault>
-    requires library { MakesLibrary options }
     requires some { 1 ≤ workers_of service.until }
-    requires doors { (0 < vec_len places.now.doors) × (vec_len places.now.doors ≤ 5) }
+    requires some_places { 0 < vec_len made.now.portals + count_of socket }
+    requires few_places { vec_len made.now.portals + count_of socket ≤ 5 }
 {
-    let core = library(rt.alloc(), &options)?;
-    tell_places(rt.alloc(), places, core.all().len(), service.until, errors)?;
-    let teller = Teller::new(service.telling, errors);
-    serve_until(rt, core, places, service, &teller)?;
-    Ok(())
+    let places = open_places(rt, &made.portals, &made.target, socket, errors)?;
+    let units = core.all().len();
+    let served = match tell_places(rt.alloc(), &places, units, service.until, errors) {
+        Ok(()) => {
+            let teller = Teller::new(service.telling, errors);
+            serve_until(rt, core, keeper, &places, service, &teller).map_err(SocketFault::from)
+        }
+        Err(error) => Err(SocketFault::from(error)),
+    };
+    // What the sessions came to is told in any case.
+    places.leave(rt);
+    served
 }
 
 /// When records are written.
@@ -153,9 +200,11 @@ fn tell_places<E: Write>(
 fn serve_until<
     R: AllocGlobal + Clock + Files + Input + Print + RandomSource + Sync + Threads + Wait,
     E: Write + Send,
+    K: TapeKeeper<Device> + Sync,
 >(
     rt: &R,
     core: TargetCore<Device>,
+    keeper: &K,
     places: &Places<'_>,
     service: ServiceOptions,
     teller: &Teller<E>,
@@ -185,6 +234,7 @@ fn serve_until<
                 &places.doors,
                 limits,
                 records,
+                keeper,
                 &mut writer,
                 teller,
             )

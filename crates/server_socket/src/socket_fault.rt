@@ -2,6 +2,7 @@ ghost use Rattle.std.specs.Prelude.{◌≡◌};
 ghost use Rattle.server_socket.specs.Faults.{line_words};
 
 use iscsi_chap::LineFault;
+use media_folder::FolderFault;
 use server::ServerFault;
 use std::alloc::AllocError;
 use std::fmt;
@@ -23,6 +24,8 @@ pub enum SocketFault {
     OpenSecrets(String),
     /// A line of the file of secrets, all lines counted from 1, is none.
     BadSecrets(String, usize, LineFault),
+    /// The library's folder isn't one that can be served.
+    Folder(#[from] FolderFault),
     Server(#[from] ServerFault),
 }
 
@@ -61,16 +64,16 @@ impl SocketFault {
             SocketFault::IsThere(_) | SocketFault::CannotListen(_) | SocketFault::IsTaken(_) => 4,
             SocketFault::CannotRead(_) => 4,
             SocketFault::OpenSecrets(_) | SocketFault::BadSecrets(_, _, _) => 2,
+            SocketFault::Folder(fault) => fault.status(),
             SocketFault::Server(fault) => fault.status(),
         }
     }
 }
 
 impl fmt::Display for SocketFault {
-    ghost use Rattle.std.specs.Prelude.{Some};
     ghost use Rattle.server_socket.specs.Faults.{socket_text};
 
-    ghost output = { λ fault. Some (socket_text fault) };
+    ghost output = { socket_text };
 
     fn fmt<W: fmt::Write>(&self, f: &mut fmt::Formatter<W>) -> fmt::Result {
         match self {
@@ -96,6 +99,7 @@ impl fmt::Display for SocketFault {
                 let words = line_words(*what);
                 write!(f, "vtl: {path}, line {number}: {words}")
             }
+            SocketFault::Folder(fault) => write!(f, "{fault}"),
             SocketFault::Server(fault) => write!(f, "{fault}"),
         }
     }

@@ -32,7 +32,7 @@ client_text (client.Session fault) = session.fault_text fault
 abbrev pub program_text : ProgramFault → Option (List ℕ)
 program_text (CommandLine fault) = command_line_text fault
 program_text (Replay fault) = Some (replay.fault_text fault)
-program_text (Serve fault) = Some (socket_text fault)
+program_text (Serve fault) = socket_text fault
 program_text (Client fault) = Some (client_text fault)
 program_text Cells = Some (codes "vtl: device fault\nvtl: the permission table could not be written")
 

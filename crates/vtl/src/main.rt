@@ -11,5 +11,5 @@ mod program_fault;
 use std::process::ExitCode;
 
 fn main(rt: HostRuntime) -> ExitCode {
-    ExitCode::from(program::run(&rt, &mut rt.stderr()))
+    ExitCode::from(program::run(&rt, &rt, &mut rt.stderr()))
 }

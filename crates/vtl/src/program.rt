@@ -36,8 +36,8 @@ pub fn run<
         + Threads
         + Wait,
     W: Write + Send,
->(rt: &R, errors: &mut W) -> u8 {
-    let outcome = perform(rt, errors);
+>(rt: &R, files: &HostRuntime, errors: &mut W) -> u8 {
+    let outcome = perform(rt, files, errors);
     // Where the line can't be written, the status alone tells.
     let _ = print_outcome(rt, errors, &outcome);
     status_of(&outcome)
@@ -88,12 +88,14 @@ fn perform<
         + Threads
         + Wait,
     W: Write + Send,
->(rt: &R, errors: &mut W) -> Result<(), ProgramFault> {
+>(rt: &R, files: &HostRuntime, errors: &mut W) -> Result<(), ProgramFault> {
     match task_of_arguments(rt)? {
         Task::Replay(options, explanations, audit) => {
             Ok(replay_standard_input(rt, options, explanations, audit)?)
         }
-        Task::Serve(options, serving, audit) => { Ok(serve(rt, options, serving, audit, errors)?) }
+        Task::Serve(options, serving, audit) => {
+            Ok(serve(rt, files, options, serving, audit, errors)?)
+        }
         Task::Client(host, explanations) => Ok(client(rt, host, explanations)?),
         Task::Cells(class) => {
             write_cells(&mut io::writer(rt), class).map_err(|_| ProgramFault::Cells)

@@ -19,6 +19,7 @@ use std::thread::{self, Threads};
 use std::time::Clock;
 use std::{io, process};
 use stocked_library::library;
+use tape_keeper::NoKeeper;
 
 const A: Nexus = Nexus {
     sas: 0x5000_0000_0000_000A,
@@ -87,6 +88,7 @@ fn meet<R: AllocGlobal + Clock + Files + Net + RandomSource + Sync + Threads + W
                 &doors,
                 limits,
                 RecordOutput::AtTheEnd(Audit::Lines),
+                &NoKeeper,
                 &mut records,
                 &teller,
             )

@@ -22,6 +22,7 @@ use std::sync::Wait;
 use std::test::Fail;
 use std::thread::{self, Threads};
 use std::time::{Clock, Duration};
+use tape_keeper::NoKeeper;
 
 /// The text of B's login.
 const LOGIN_TEXT: &[u8] = b"InitiatorName=iqn.2026-11.example:b\0\
@@ -254,7 +255,9 @@ fn serve_and_talk<
                 sessions: &sessions,
             };
             let records = RecordOutput::AtTheEnd(Audit::Lines);
-            serve_library(rt, alloc, core, doors, limits, records, output, teller)
+            serve_library(
+                rt, alloc, core, doors, limits, records, &NoKeeper, output, teller,
+            )
         },
         || talk(rt, alloc, address, portal, &ending, steps),
     ))

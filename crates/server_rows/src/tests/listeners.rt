@@ -22,6 +22,8 @@ fn options_at(alloc: Global, socket: &str) -> Result<ServeOptions, AllocError>
     Ok(ServeOptions {
         socket: Some(String::from_str(alloc, socket)?),
         iscsi: None,
+        media: None,
+        memory: None,
         until: ServeUntil::Sessions(1),
         drain: false,
         times: ServeTimes::default(),
@@ -36,7 +38,7 @@ fn serve_leaves_a_file_that_is_there(rt: HostRuntime) -> Result<(), Fail> {
     let path = env::temp_dir(&rt)?.join(rt.alloc(), name.as_str())?;
     let socket = path.to_str().ok_or("a path that is no text")?;
     let _there = UnixListener::bind(&rt, socket)?;
-    let told = refused(&rt, options_at(rt.alloc(), socket)?);
+    let told = refused(&rt, &rt, options_at(rt.alloc(), socket)?);
     let removed = fs::remove_file(&rt, socket);
     let (status, shown) = told?;
     removed?;
@@ -52,7 +54,7 @@ const NOWHERE: &[u8] = b"vtl: device fault\nvtl: cannot listen on /nowhere/at/al
 
 #[test]
 fn serve_refuses_a_path_without_a_folder(rt: HostRuntime) -> Result<(), Fail> {
-    let (status, shown) = refused(&rt, options_at(rt.alloc(), "/nowhere/at/all")?)?;
+    let (status, shown) = refused(&rt, &rt, options_at(rt.alloc(), "/nowhere/at/all")?)?;
     assert_bytes(&rt, shown.as_bytes(), NOWHERE, "nowhere");
     assert_same(&rt, status, 4, "nowhere");
     Ok(())
@@ -70,6 +72,7 @@ fn serve_takes_a_file_away_that_nobody_listens_at(rt: HostRuntime) -> Result<(),
     let (served, connected) = thread::join(
         &rt,
         || serve(
+            &rt,
             &rt,
             LibraryOptions::DEFAULT,
             serving,

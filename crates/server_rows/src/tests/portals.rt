@@ -38,6 +38,8 @@ fn options_at(
     Ok(ServeOptions {
         socket: None,
         iscsi: Some(iscsi),
+        media: None,
+        memory: None,
         until: ServeUntil::InputEnds(1),
         drain: false,
         times: ServeTimes::default(),
@@ -57,12 +59,12 @@ pub(super) fn refused<
         + Sync
         + Threads
         + Wait,
->(rt: &R, serving: ServeOptions) -> Result<(u8, String), Fail>
+>(rt: &R, files: &HostRuntime, serving: ServeOptions) -> Result<(u8, String), Fail>
     requires { IsServeOptions serving }
 {
     let mut told = Vec::new(rt.alloc());
     let options = LibraryOptions::DEFAULT;
-    let served = serve(rt, options, serving, Audit::Lines, &mut told);
+    let served = serve(rt, files, options, serving, Audit::Lines, &mut told);
     if !told.is_empty() {
         return Err("told".into());
     }
@@ -76,7 +78,7 @@ pub(super) fn refused<
 fn serve_leaves_an_address_that_is_taken(rt: HostRuntime) -> Result<(), Fail> {
     let there = TcpListener::bind(&rt, "127.0.0.1:0")?;
     let address = there.local_addr()?;
-    let (status, shown) = refused(&rt, options_at(rt.alloc(), address, None)?)?;
+    let (status, shown) = refused(&rt, &rt, options_at(rt.alloc(), address, None)?)?;
     let expected = format!(in rt.alloc();
         "vtl: device fault\nvtl: cannot listen on {address}: somebody listens there already"
     )?;
@@ -97,13 +99,13 @@ fn refused_secrets<
         + Sync
         + Threads
         + Wait,
->(rt: &R, path: &str, mode: u32, text: &str) -> Result<(u8, String), Fail> {
+>(rt: &R, files: &HostRuntime, path: &str, mode: u32, text: &str) -> Result<(u8, String), Fail> {
     fs::write(rt, path, text)?;
     fs::set_permissions(rt, path, Permissions::from_mode(mode))?;
     let chap = Some(String::from_str(rt.alloc(), path)?);
     let address = SocketAddr::from(([127, 0, 0, 1], 0));
     let serving = options_at(rt.alloc(), address, chap)?;
-    let told = refused(rt, serving);
+    let told = refused(rt, files, serving);
     let removed = fs::remove_file(rt, path);
     let told = told?;
     removed?;
@@ -138,7 +140,7 @@ fn serve_refuses_secrets_that_others_may_read_or_that_are_none(
     let path = path.to_str().ok_or("a path that is no text")?;
     for row in &ROWS {
         let (mode, text, expected, words) = *row;
-        let (status, shown) = refused_secrets(&rt, path, mode, text)?;
+        let (status, shown) = refused_secrets(&rt, &rt, path, mode, text)?;
         assert_same(&rt, status, expected, words);
         assert_told(&rt, shown.as_bytes(), words);
         assert_same(&rt, shown.contains("short"), false, words);

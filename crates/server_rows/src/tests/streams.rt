@@ -17,6 +17,7 @@ use std::process::Abort;
 use std::sync::ledger::Blank;
 use std::sync::{Mutex, Wait};
 use std::test::Fail;
+use tape_keeper::NoKeeper;
 use target_core::TargetCore;
 
 /// A LOGIN of A, 15 bytes; a TEST UNIT READY to the changer, 13; and a LOGOUT, 5.
@@ -126,7 +127,7 @@ fn serve_at<
     reader: &mut Reader,
     writer: &mut Writer,
 ) -> (Seat<L0, L1, L2, L3, L4>, Result<End, SessionFault>) {
-    let mut service = LibraryService::new(rt, library, directory, seat);
+    let mut service = LibraryService::new(rt, library, directory, seat, &NoKeeper);
     let ended = serve(alloc, &mut service, reader, writer, 99);
     (service.into_seat(), ended)
 }

@@ -1,0 +1,31 @@
+use device_server::Attendant;
+use kept_unit::UnitLedger;
+use library_device::Device;
+use lun_router::{Library, Pass};
+use std::sync::Wait;
+use tape_keeper::TapeSource;
+
+/// The tapes of a library, whichever ledgers it has.
+#[derive(Drop)]
+pub(crate) struct LibraryTapes<
+    'a,
+    L0: UnitLedger,
+    L1: UnitLedger,
+    L2: UnitLedger,
+    L3: UnitLedger,
+    L4: UnitLedger,
+> {
+    pub library: &'a Library<L0, L1, L2, L3, L4, Device, Pass>,
+}
+
+impl<'a, L0: UnitLedger, L1: UnitLedger, L2: UnitLedger, L3: UnitLedger, L4: UnitLedger> TapeSource<
+    Device,
+> for LibraryTapes<'a, L0, L1, L2, L3, L4> {
+    fn units(&self) -> u8 {
+        self.library.units()
+    }
+
+    fn attend<R: Wait, A: Attendant<Device>>(&self, rt: &R, lun: u8, attendant: &mut A) {
+        self.library.attend(rt, lun, attendant);
+    }
+}

@@ -1,0 +1,124 @@
+//! A library that is kept in a folder.
+
+ghost use Rattle.std.specs.Prelude.{◌<◌, ◌≤◌};
+ghost use Rattle.tape_medium.specs.Limits.{capacity_limit};
+
+use crate::socket_fault::SocketFault;
+use command_line::MediaOptions;
+use kept_media::{
+    InventoryStore, KeptImage, LibraryFault, MediaKeeper, StartedVolume, VolumeImage,
+    library_of_volumes,
+};
+use library_device::Device;
+use library_inventory::{Inventory, LibrarySize, PlacedVolume};
+use media_folder::{
+    FileStore, FolderFault, FolderLock, KeptVolume, OpenedFolder, open_folder, write_inventory_file,
+};
+use std::alloc::{AllocError, Global};
+use std::io::Write;
+use tape_flush::StoreFault;
+use tape_medium::MemoryLimit;
+use target_core::TargetCore;
+
+/// The inventory's file in a folder, which nobody else has as long as this lives.
+#[derive(Drop)]
+pub(crate) struct FolderInventory<'a> {
+    files: &'a HostRuntime,
+    folder: String,
+    _lock: FolderLock,
+}
+
+impl<'a> InventoryStore for FolderInventory<'a> {
+    fn write(&mut self, inventory: &Inventory) -> Result<(), StoreFault> {
+        match write_inventory_file(self.files, self.folder.as_str(), inventory) {
+            Ok(()) => Ok(()),
+            Err(_) => Err(StoreFault::Failed),
+        }
+    }
+}
+
+/// A library whose volumes were read from a folder, and who keeps them there.
+#[derive(Drop)]
+pub(crate) struct KeptLibrary<'a> {
+    pub core: TargetCore<Device>,
+    pub keeper: MediaKeeper<FileStore, FolderInventory<'a>>,
+}
+
+/// Reads a library from its folder, whose volumes take no more memory together than the limit says, and writes where they lie from now on. What is lost or left there is told on `errors`.
+pub(crate) fn kept_library<'a, E: Write>(
+    alloc: Global,
+    files: &'a HostRuntime,
+    media: MediaOptions,
+    volume_size: u64,
+    memory: &MemoryLimit,
+    errors: &mut E,
+) -> Result<KeptLibrary<'a>, SocketFault>
+    requires some { 0 < volume_size }
+    requires within { volume_size ≤ capacity_limit }
+{
+    let MediaOptions { folder, given } = media;
+    let OpenedFolder {
+        path,
+        size,
+        volumes,
+        lock,
+    } = open_folder(files, folder, given, volume_size, memory, errors)?;
+    let inventory = inventory_of(alloc, size, &volumes)?;
+    write_inventory_file(files, path.as_str(), &inventory)?;
+    let (started, images) = parted(alloc, volumes)?;
+    let core = library_of_volumes(alloc, size, started).map_err(fault_of)?;
+    let store = FolderInventory {
+        files,
+        folder: path,
+        _lock: lock,
+    };
+    Ok(KeptLibrary {
+        core,
+        keeper: MediaKeeper::new(size, images, store),
+    })
+}
+
+/// Where volumes lie.
+fn inventory_of(
+    alloc: Global,
+    size: LibrarySize,
+    volumes: &[KeptVolume],
+) -> Result<Inventory, SocketFault> {
+    let mut inventory = Inventory::new(alloc, size);
+    for kept in volumes {
+        let placed = PlacedVolume {
+            tag: kept.volume.tag,
+            element: kept.element,
+        };
+        if inventory.add(placed).is_err() {
+            return Err(SocketFault::from(AllocError));
+        }
+    }
+    Ok(inventory)
+}
+
+/// The volumes, and their images.
+fn parted(
+    alloc: Global,
+    volumes: Vec<KeptVolume>,
+) -> Result<(Vec<StartedVolume>, Vec<VolumeImage<FileStore>>), AllocError> {
+    let mut started = Vec::new(alloc);
+    let mut images = Vec::new(alloc);
+    for kept in volumes {
+        let KeptVolume {
+            element,
+            volume,
+            image,
+        } = kept;
+        images.push(VolumeImage::new(volume.tag, KeptImage::new(image)))?;
+        started.push(StartedVolume { element, volume })?;
+    }
+    Ok((started, images))
+}
+
+/// Why no library was made of volumes: what was read lies in elements that are there, each in one.
+fn fault_of(fault: LibraryFault) -> SocketFault {
+    match fault {
+        LibraryFault::NoMemory | LibraryFault::BadElement => SocketFault::from(AllocError),
+    }
+}
