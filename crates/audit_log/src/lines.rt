@@ -11,6 +11,9 @@ use scsi_sense::Status;
 use std::alloc::{AllocError, Global};
 use std::fmt::Write;
 
+/// Room for most lines at once: a text that grows piece by piece costs as much as all else of a line.
+const ROOM: usize = 128;
+
 /// A record as `NUMBER NEXUS WHAT STAGE CELL RULE STATUS`, without an end of line: the number in
 /// decimal; the nexus as its SAS address in 16 hexadecimal digits, a dot and its port; what was
 /// asked; the stage's number; the cell as `CLASS/TYPE/ROLE`; the rule on keys; the status in two
@@ -18,7 +21,7 @@ use std::fmt::Write;
 pub fn line(alloc: Global, entry: &Record) -> Result<String, AllocError>
     ensures { IfOk result (λ text. string_bytes text ≡ line_of entry.now) }
 {
-    let mut text = String::new(alloc);
+    let mut text = String::with_capacity(alloc, ROOM)?;
     write_parts(&mut text, entry)?;
     Ok(text)
 }
