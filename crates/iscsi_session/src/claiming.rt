@@ -27,8 +27,8 @@ pub trait SessionRegister {
     /// Has a session end: its connection is closed. Whether it has ended in time, its nexus lost at every unit.
     fn end(&self, nexus: Nexus, session: SessionIdentity) -> bool;
 
-    /// Notes that the session of the caller lives.
-    fn note(&self, nexus: Nexus, session: SessionIdentity);
+    /// Notes that the session of the caller lives, whose initiator has given a name.
+    fn note(&self, nexus: Nexus, session: SessionIdentity, name: &[u8]);
 }
 
 /// What a login asks for.

@@ -214,7 +214,7 @@ fn hold<S: Service, G: SessionRegister, R: Read, W: Write>(
         tsih,
         cid: begun.cid,
     };
-    register.note(nexus, session);
+    register.note(nexus, session, exchange.initiator_name());
     let ended = greet_and_converse(
         alloc,
         service,

@@ -3,7 +3,6 @@ use crate::event::Event;
 use crate::live_sessions::LiveSessions;
 use crate::server_fault::{FaultySession, ServerFault};
 use crate::teller::Teller;
-use iscsi_login::Host;
 use std::io::Write;
 use std::sync::Wait;
 use std::sync::atomic::{AtomicU64, Ordering};
@@ -79,16 +78,6 @@ impl<'a> Acceptor<'a> {
 
     pub fn doors(&self) -> &'a [Door<'a>] {
         self.doors
-    }
-
-    /// Who is let in by name at the first portal, if there is one: all are of one target.
-    pub fn hosts(&self) -> &'a [Host] {
-        for door in self.doors {
-            if let Some(portal) = door.portal() {
-                return &portal.target.access.hosts;
-            }
-        }
-        &[]
     }
 
     /// The door of the worker with this place among all: each door has as many.

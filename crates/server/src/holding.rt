@@ -10,6 +10,7 @@ use crate::kept_writer::KeptWriter;
 use crate::library_service::SeatService;
 use crate::live_sessions::SessionsBeside;
 use crate::server_fault::{Cause, FaultySession};
+use crate::teller::Teller;
 use crate::timed_reader::{Patience, TimedReader};
 use crate::worker::Visit;
 use crate::worker_service::WorkerService;
@@ -97,7 +98,10 @@ fn meet<'a, S: SeatService, R: Clock + RandomSource + Wait, E: Write, I: Read, O
             Err(fault) => Err(Cause::Fault(fault)),
         },
         Some(portal) => {
-            match converse_by_iscsi(alloc, rt, service, acceptor, portal, visit, reader, writer) {
+            let teller = service.teller;
+            match converse_by_iscsi(
+                alloc, rt, service, acceptor, portal, visit, teller, reader, writer,
+            ) {
                 Ok(end) => Ok(end),
                 Err(fault) => Err(Cause::Iscsi(fault)),
             }
@@ -119,13 +123,14 @@ fn converse<'a, S: SeatService, R: Wait, E: Write, I: Read, O: Write>(
 }
 
 /// Serves one session of iSCSI, at a portal where it has come in.
-fn converse_by_iscsi<S: Service, R: Clock + RandomSource + Wait, I: Read, O: Write>(
+fn converse_by_iscsi<S: Service, R: Clock + RandomSource + Wait, E: Write, I: Read, O: Write>(
     alloc: Global,
     rt: &R,
     service: &mut S,
     acceptor: &Acceptor<'_>,
     door: PortalDoor<'_>,
     visit: Visit<'_, '_>,
+    teller: &Teller<E>,
     reader: &mut I,
     writer: &mut O,
 ) -> Result<End, IscsiFault>
@@ -146,6 +151,8 @@ fn converse_by_iscsi<S: Service, R: Clock + RandomSource + Wait, I: Read, O: Wri
         rt,
         sessions: acceptor.limits.sessions,
         key: visit.key,
+        number: visit.number,
+        teller,
     };
     let ended = iscsi_session::serve(
         alloc,

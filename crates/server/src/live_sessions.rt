@@ -1,8 +1,10 @@
+use crate::logged_in::{LoggedIn, shown_name};
+use crate::teller::Teller;
 use iscsi_session::{SessionIdentity, SessionRegister};
 use scsi_nexus::Nexus;
 use slab::Slab;
 use std::alloc::Global;
-use std::io;
+use std::io::{self, Write};
 use std::net::Shutdown;
 use std::os::unix::net::UnixStream;
 use std::sync::{Condvar, Mutex, Wait};
@@ -145,15 +147,18 @@ impl LiveSessions {
     }
 }
 
-/// The sessions that go on, as one of them sees them, by its key.
-#[derive(Clone, Copy)]
-pub(crate) struct SessionsBeside<'a, R: Clock + Wait> {
+/// The sessions that go on, as one of them sees them, by its key, and who is told when it has logged in.
+#[derive(Drop)]
+pub(crate) struct SessionsBeside<'a, R: Clock + Wait, E: Write> {
     pub rt: &'a R,
     pub sessions: &'a LiveSessions,
     pub key: usize,
+    /// Its place in the order of accepting, from 1 on.
+    pub number: u64,
+    pub teller: &'a Teller<E>,
 }
 
-impl<'a, R: Clock + Wait> SessionRegister for SessionsBeside<'a, R> {
+impl<'a, R: Clock + Wait, E: Write> SessionRegister for SessionsBeside<'a, R, E> {
     fn living(&self, nexus: Nexus) -> Option<SessionIdentity> {
         self.sessions.live.lock(self.rt).living(nexus)
     }
@@ -162,8 +167,14 @@ impl<'a, R: Clock + Wait> SessionRegister for SessionsBeside<'a, R> {
         self.sessions.end(self.rt, Initiator { nexus, session })
     }
 
-    fn note(&self, nexus: Nexus, session: SessionIdentity) {
+    fn note(&self, nexus: Nexus, session: SessionIdentity, name: &[u8]) {
         self.sessions
-            .note(self.rt, self.key, Initiator { nexus, session })
+            .note(self.rt, self.key, Initiator { nexus, session });
+        let login = LoggedIn {
+            number: self.number,
+            nexus,
+            name: shown_name(name),
+        };
+        self.teller.tell_login(self.rt, &login);
     }
 }

@@ -1,6 +1,8 @@
-use iscsi_login::Host;
 use scsi_nexus::Nexus;
 use std::{fmt, str};
+
+/// What is told in the place of a name that has other than graphic characters: those could make lines of their own.
+const NO_TEXT: &str = "a name that can't be shown";
 
 /// An initiator of iSCSI that has logged in.
 #[derive(Clone, Copy, Debug)]
@@ -9,8 +11,8 @@ pub(crate) struct LoggedIn<'a> {
     pub number: u64,
     /// The nexus that it has become.
     pub nexus: Nexus,
-    /// Its name, if it is let in by that.
-    pub name: Option<&'a str>,
+    /// Its name, as that is told.
+    pub name: &'a str,
 }
 
 impl<'a> fmt::Display for LoggedIn<'a> {
@@ -22,22 +24,15 @@ impl<'a> fmt::Display for LoggedIn<'a> {
     fn fmt<W: fmt::Write>(&self, f: &mut fmt::Formatter<W>) -> fmt::Result {
         let number = self.number;
         let nexus = self.nexus;
-        match self.name {
-            Some(name) => write!(f, "vtl: session {number} of {nexus}: {name} logged in"),
-            None => write!(
-                f,
-                "vtl: session {number} of {nexus}: a name that no --host gives logged in"
-            ),
-        }
+        let name = self.name;
+        write!(f, "vtl: session {number} of {nexus}: {name} logged in")
     }
 }
 
-/// The name of the host that has a SAS address, where one has.
-pub(crate) fn name_of(hosts: &[Host], sas: u64) -> Option<&str> {
-    for host in hosts {
-        if host.sas == sas {
-            return str::from_utf8(host.name.as_slice()).ok();
-        }
+/// A name that an initiator has given, as it is told.
+pub(crate) fn shown_name(name: &[u8]) -> &str {
+    if !name.iter().all(|byte| byte.is_ascii_graphic()) {
+        return NO_TEXT;
     }
-    None
+    str::from_utf8(name).unwrap_or(NO_TEXT)
 }

@@ -5,7 +5,6 @@ use crate::session_flags::SessionFlags;
 use crate::teller::Teller;
 use crate::worker::Worker;
 use crate::worker_service::WorkerService;
-use iscsi_login::Host;
 use std::alloc::{AllocError, Global};
 use std::io::Write;
 use std::sync::Wait;
@@ -34,7 +33,6 @@ impl<'a, S: SeatService, R: Wait, E: Write> Staff<'a, S, R, E> {
         rt: &'a R,
         seat_service: S,
         flags: &'a SessionFlags,
-        hosts: &'a [Host],
         drain: Option<&'a RecordDrain>,
         teller: &'a Teller<E>,
     ) -> Result<(), AllocError> {
@@ -44,9 +42,7 @@ impl<'a, S: SeatService, R: Wait, E: Write> Staff<'a, S, R, E> {
             drain,
             teller,
             flags,
-            hosts,
             number: 0,
-            is_initiator: false,
             nexus: None,
             commands: 0,
         };

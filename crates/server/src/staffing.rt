@@ -9,7 +9,6 @@ use crate::server_fault::ServerFault;
 use crate::session_flags::SessionFlags;
 use crate::staff::Staff;
 use crate::teller::Teller;
-use iscsi_login::Host;
 use kept_unit::UnitLedger;
 use library_device::Device;
 use lun_router::{Library, Pass, Seat};
@@ -167,10 +166,9 @@ fn serve_sessions<
 ) -> Result<Option<ServerFault>, ServerFault> {
     let directory = Mutex::new(Directory::new(alloc));
     let flags = flags_of(alloc, seats.len())?;
-    let hosts = acceptor.hosts();
     let taken = mem::replace(seats, Vec::new(alloc));
     let mut staff = staff_of(
-        rt, alloc, library, &directory, taken, &flags, hosts, drain, keeper, teller,
+        rt, alloc, library, &directory, taken, &flags, drain, keeper, teller,
     )?;
     work_all(rt, alloc, &mut staff, acceptor);
     let (back, served) = staff.into_seats();
@@ -196,7 +194,6 @@ fn staff_of<
     directory: &'a Mutex<Directory>,
     seats: Vec<Seat<L0, L1, L2, L3, L4>>,
     flags: &'a [SessionFlags],
-    hosts: &'a [Host],
     drain: Option<&'a RecordDrain>,
     keeper: &'a K,
     teller: &'a Teller<E>,
@@ -204,7 +201,7 @@ fn staff_of<
     let mut staff = Staff::new(alloc, seats.len())?;
     for (seat, flags) in seats.into_iter().zip(flags) {
         let seat_service = LibraryService::new(rt, library, directory, seat, keeper);
-        staff.hire(rt, seat_service, flags, hosts, drain, teller)?;
+        staff.hire(rt, seat_service, flags, drain, teller)?;
     }
     Ok(staff)
 }

@@ -91,7 +91,7 @@ impl<'a, S: SeatService, R: Clock + RandomSource + Wait, E: Write> Worker<'a, S,
         let rt = self.service.rt;
         let teller = self.service.teller;
         let number = visit.number;
-        self.service.begin(number, visit.door.portal().is_some());
+        self.service.begin(number);
         teller.tell(rt, &Event::Begins(number));
         let begun = Instant::now(rt);
         let ended = hold(alloc, rt, &mut self.service, acceptor, visit);

@@ -3,11 +3,9 @@ ghost use Rattle.server.specs.LibraryService.{MaySettle};
 use crate::event::Event;
 use crate::keeping::KeepTeller;
 use crate::library_service::SeatService;
-use crate::logged_in::{LoggedIn, name_of};
 use crate::record_drain::RecordDrain;
 use crate::session_flags::SessionFlags;
 use crate::teller::Teller;
-use iscsi_login::Host;
 use kept_unit::Done;
 use scsi_nexus::Nexus;
 use scsi_sense::Status;
@@ -64,12 +62,8 @@ pub(crate) struct WorkerService<'a, S: SeatService, R: Wait, E: Write> {
     pub drain: Option<&'a RecordDrain>,
     pub teller: &'a Teller<E>,
     pub flags: &'a SessionFlags,
-    /// Who is let in by name at portals.
-    pub hosts: &'a [Host],
     /// The session's place in the order of accepting, from 1 on.
     pub number: u64,
-    /// Whether it has come in at a portal.
-    pub is_initiator: bool,
     /// Who asked last for a session.
     pub nexus: Option<Nexus>,
     /// How many commands the session has sent.
@@ -86,26 +80,13 @@ impl<'a, S: SeatService, R: Wait, E: Write> WorkerService<'a, S, R, E> {
     ghost use Rattle.std.specs.Prelude.{◌≡◌};
 
     /// Another session begins, whose host isn't logged in yet.
-    pub fn begin(&mut self, number: u64, is_initiator: bool)
+    pub fn begin(&mut self, number: u64)
         ensures { self.new ≡ self.old }
     {
         self.number = number;
-        self.is_initiator = is_initiator;
         self.flags.begin();
         self.nexus = None;
         self.commands = 0;
-    }
-
-    /// Tells that the session's host has logged in, where it is an initiator of iSCSI.
-    fn tell_login(&self, nexus: Nexus) {
-        if self.is_initiator {
-            let login = LoggedIn {
-                number: self.number,
-                nexus,
-                name: name_of(self.hosts, nexus.sas),
-            };
-            self.teller.tell_login(self.rt, &login);
-        }
     }
 
     /// Tells of a command that was BUSY, and whether for want of a slot.
@@ -208,7 +189,6 @@ impl<'a, S: SeatService, R: Wait, E: Write> Service for WorkerService<'a, S, R, 
         let entered = self.seat_service.login(nexus);
         if entered.is_ok() {
             self.flags.come_in();
-            self.tell_login(nexus);
         }
         entered
     }

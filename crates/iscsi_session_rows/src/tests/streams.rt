@@ -85,7 +85,7 @@ impl SessionRegister for Beside {
         self.ends && self.living == Some(session)
     }
 
-    fn note(&self, _nexus: Nexus, _session: SessionIdentity) {}
+    fn note(&self, _nexus: Nexus, _session: SessionIdentity, _name: &[u8]) {}
 }
 
 /// Gives its bytes in pieces of a size, and then fails so many times by what says that nothing came.
