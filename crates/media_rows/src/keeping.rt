@@ -2,6 +2,7 @@
 
 ghost use Rattle.device_server.specs.Settled.{SameButSettled};
 
+use crate::comparing::{assert_list, assert_same};
 use device_server::{Attendant, DeviceServer};
 use kept_media::{InventoryStore, KeptImage, MediaKeeper, VolumeImage};
 use library_device::Device;
@@ -28,11 +29,11 @@ const SIZE: LibrarySize = LibrarySize {
     portals: 0,
 };
 
-const WRITE: [u8; 6] = [0x0a, 0, 0, 0, 2, 0];
+const WRITE: &[u8] = &[0x0a, 0, 0, 0, 2, 0];
 
-const WRITE_FILEMARKS: [u8; 6] = [0x10, 0, 0, 0, 1, 0];
+const WRITE_FILEMARKS: &[u8] = &[0x10, 0, 0, 0, 1, 0];
 
-const REWIND: [u8; 6] = [0x01, 0, 0, 0, 0, 0];
+const REWIND: &[u8] = &[0x01, 0, 0, 0, 0, 0];
 
 /// The image of "hi", and of "hi" and a filemark.
 const BLOCK: &[u8] = &[2, 0, 0, 0, b'h', b'i', 2, 0, 0, 0];
@@ -134,35 +135,6 @@ fn drive_with_volume(alloc: Global) -> Bay {
     }
 }
 
-fn perform<R: Wait>(
-    rt: &R,
-    alloc: Global,
-    bay: &Bay,
-    request: &Request,
-    bytes: &[u8],
-) -> Result<(), Fail> {
-    let _outcome = bay.device.lock(rt).perform(alloc, request, bytes)?;
-    Ok(())
-}
-
-/// Writes "hi".
-fn write<R: Wait>(rt: &R, alloc: Global, bay: &Bay) -> Result<(), Fail> {
-    let request = Request::Write {
-        fixed: false,
-        transfer_length: 2,
-    };
-    perform(rt, alloc, bay, &request, b"hi")
-}
-
-/// Writes a filemark.
-fn write_mark<R: Wait>(rt: &R, alloc: Global, bay: &Bay) -> Result<(), Fail> {
-    let request = Request::WriteFilemarks {
-        write_setmarks: false,
-        filemark_count: 1,
-    };
-    perform(rt, alloc, bay, &request, &[])
-}
-
 /// The keeper of the volume, whose file is empty.
 fn keeper<'a, R: Wait>(
     rt: &'a R,
@@ -185,56 +157,138 @@ fn empty_file(alloc: Global) -> Mutex<SharedFile> {
     })
 }
 
-fn good(cdb: &[u8], length: usize) -> GoodCommand<'_> {
-    GoodCommand {
-        lun: 1,
-        cdb,
-        length,
+/// What is done, with the drive, its keeper or the disk.
+#[derive(Clone, Copy)]
+enum Act {
+    /// "hi" is written.
+    Write,
+    /// A filemark is written.
+    WriteMark,
+    /// What a command left is kept that was GOOD, by its CDB and how many bytes were sent with it.
+    Keep(&'static [u8], usize),
+    WriteBehind,
+    KeepAll,
+    /// The disk is full from now on, or no longer.
+    Fill(bool),
+}
+
+/// A drive whose volume is kept in a file.
+#[derive(Drop)]
+struct Scene<'a, R: Wait> {
+    rt: &'a R,
+    alloc: Global,
+    file: &'a Mutex<SharedFile>,
+    keeper: MediaKeeper<SharedStore<'a, R>, NoStore>,
+    bay: Bay,
+    notes: Notes<'a, R>,
+}
+
+impl<'a, R: Wait> Scene<'a, R> {
+    fn new(rt: &'a R, alloc: Global, file: &'a Mutex<SharedFile>) -> Result<Scene<'a, R>, Fail> {
+        Ok(Scene {
+            rt,
+            alloc,
+            file,
+            keeper: keeper(rt, alloc, file)?,
+            bay: drive_with_volume(alloc),
+            notes: Notes {
+                rt,
+                events: Mutex::new(Vec::new(alloc)),
+            },
+        })
+    }
+
+    /// The drive performs a request.
+    fn perform(&self, request: &Request, bytes: &[u8]) -> Result<bool, Fail> {
+        let mut device = self.bay.device.lock(self.rt);
+        let _outcome = device.perform(self.alloc, request, bytes)?;
+        Ok(true)
+    }
+
+    fn write(&self) -> Result<bool, Fail> {
+        let request = Request::Write {
+            fixed: false,
+            transfer_length: 2,
+        };
+        self.perform(&request, b"hi")
+    }
+
+    fn write_mark(&self) -> Result<bool, Fail> {
+        let request = Request::WriteFilemarks {
+            write_setmarks: false,
+            filemark_count: 1,
+        };
+        self.perform(&request, &[])
+    }
+
+    fn keep(&self, cdb: &[u8], length: usize) -> bool {
+        let command = GoodCommand {
+            lun: 1,
+            cdb,
+            length,
+        };
+        self.keeper
+            .keep(self.rt, self.alloc, &self.bay, &self.notes, command)
+    }
+
+    fn write_behind(&self) -> bool {
+        self.keeper
+            .write_behind(self.rt, self.alloc, &self.bay, &self.notes, 1);
+        true
+    }
+
+    fn keep_all(&self) -> bool {
+        self.keeper
+            .keep_all(self.rt, self.alloc, &self.bay, &self.notes)
+    }
+
+    fn fill(&self, is_full: bool) -> bool {
+        self.file.lock(self.rt).is_full = is_full;
+        true
+    }
+
+    /// Does what is to be done, and says whether it was kept, where that is asked.
+    fn act(&self, act: Act) -> Result<bool, Fail> {
+        match act {
+            Act::Write => self.write(),
+            Act::WriteMark => self.write_mark(),
+            Act::Keep(cdb, length) => Ok(self.keep(cdb, length)),
+            Act::WriteBehind => Ok(self.write_behind()),
+            Act::KeepAll => Ok(self.keep_all()),
+            Act::Fill(is_full) => Ok(self.fill(is_full)),
+        }
+    }
+
+    /// What the file has, and how many bytes of it are on the disk.
+    fn assert_file(&self, rt: &impl Abort, bytes: &[u8], synced: usize, shows: &'static str) {
+        let file = self.file.lock(self.rt);
+        assert_list(rt, &file.bytes, bytes, shows);
+        assert_same(rt, file.synced, synced, shows);
+    }
+
+    fn assert_told(&self, rt: &impl Abort, events: &[KeepEvent], shows: &'static str) {
+        assert_list(rt, &self.notes.events.lock(self.rt), events, shows);
+    }
+
+    fn go_on(&self, rt: &impl Abort, row: Row) -> Result<(), Fail> {
+        let (shows, act, is_kept, events, bytes, synced) = row;
+        assert_same(rt, self.act(act)?, is_kept, shows);
+        self.assert_told(rt, events, shows);
+        self.assert_file(rt, bytes, synced, shows);
+        Ok(())
     }
 }
 
-/// What the file has, and how many bytes of it are on the disk.
-fn assert_file<R: Abort + Wait>(
-    rt: &R,
-    file: &Mutex<SharedFile>,
-    bytes: &[u8],
-    synced: usize,
-    row: &str,
-) {
-    let file = file.lock(rt);
-    assert_eq!(rt;
-        (file.bytes.as_slice(), file.synced),
-        (bytes, synced),
-        "{row}"
-    );
-}
-
-#[test]
-fn a_filemark_is_on_the_disk_before_it_is_answered(rt: HostRuntime) -> Result<(), Fail> {
-    let alloc = rt.alloc();
-    let file = empty_file(alloc);
-    let keeper = keeper(&rt, alloc, &file)?;
-    let bay = drive_with_volume(alloc);
-    let notes = Notes {
-        rt: &rt,
-        events: Mutex::new(Vec::new(alloc)),
-    };
-    write(&rt, alloc, &bay)?;
-    let kept = keeper.keep(&rt, alloc, &bay, &notes, good(&WRITE, 2));
-    assert_eq!(&rt; kept, true);
-    assert_file(&rt, &file, &[], 0, "a block isn't copied at once");
-    keeper.write_behind(&rt, alloc, &bay, &notes, 1);
-    assert_file(&rt, &file, BLOCK, 0, "it is copied behind");
-    write_mark(&rt, alloc, &bay)?;
-    let kept = keeper.keep(&rt, alloc, &bay, &notes, good(&REWIND, 0));
-    assert_eq!(&rt; kept, true);
-    assert_file(&rt, &file, BLOCK, 0, "a REWIND brings nothing to the disk");
-    let kept = keeper.keep(&rt, alloc, &bay, &notes, good(&WRITE_FILEMARKS, 0));
-    assert_eq!(&rt; kept, true);
-    assert_file(&rt, &file, BLOCK_AND_MARK, 14, "a filemark does");
-    assert_eq!(&rt; notes.events.lock(&rt).len(), 0);
-    Ok(())
-}
+/// What is shown, what is done, whether it is kept, what was told by then, what the file has then, and how many bytes of it are on
+/// the disk.
+type Row = (
+    &'static str,
+    Act,
+    bool,
+    &'static [KeepEvent],
+    &'static [u8],
+    usize,
+);
 
 const FULL: KeepEvent = KeepEvent {
     thing: KeptThing::Volume(TAG),
@@ -246,30 +300,90 @@ const GOES_ON: KeepEvent = KeepEvent {
     change: KeepChange::GoesOn,
 };
 
+const OF_A_FILEMARK: [Row; 6] = [
+    ("a block is written", Act::Write, true, &[], &[], 0),
+    (
+        "it isn't copied at once",
+        Act::Keep(WRITE, 2),
+        true,
+        &[],
+        &[],
+        0,
+    ),
+    ("it is copied behind", Act::WriteBehind, true, &[], BLOCK, 0),
+    ("a filemark is written", Act::WriteMark, true, &[], BLOCK, 0),
+    (
+        "a REWIND brings nothing to the disk",
+        Act::Keep(REWIND, 0),
+        true,
+        &[],
+        BLOCK,
+        0,
+    ),
+    (
+        "a filemark does",
+        Act::Keep(WRITE_FILEMARKS, 0),
+        true,
+        &[],
+        BLOCK_AND_MARK,
+        14,
+    ),
+];
+
+const OF_A_FULL_DISK: [Row; 7] = [
+    ("the disk is full", Act::Fill(true), true, &[], &[], 0),
+    ("a block is written", Act::Write, true, &[], &[], 0),
+    ("a filemark is written", Act::WriteMark, true, &[], &[], 0),
+    (
+        "it isn't kept",
+        Act::Keep(WRITE_FILEMARKS, 0),
+        false,
+        &[FULL],
+        &[],
+        0,
+    ),
+    (
+        "that is told once",
+        Act::Keep(WRITE_FILEMARKS, 0),
+        false,
+        &[FULL],
+        &[],
+        0,
+    ),
+    (
+        "there is room again",
+        Act::Fill(false),
+        true,
+        &[FULL],
+        &[],
+        0,
+    ),
+    (
+        "all is kept at the end",
+        Act::KeepAll,
+        true,
+        &[FULL, GOES_ON],
+        BLOCK_AND_MARK,
+        14,
+    ),
+];
+
+#[test]
+fn a_filemark_is_on_the_disk_before_it_is_answered(rt: HostRuntime) -> Result<(), Fail> {
+    let file = empty_file(rt.alloc());
+    let scene = Scene::new(&rt, rt.alloc(), &file)?;
+    for row in OF_A_FILEMARK {
+        scene.go_on(&rt, row)?;
+    }
+    Ok(())
+}
+
 #[test]
 fn a_full_disk_is_told_once_and_tried_again(rt: HostRuntime) -> Result<(), Fail> {
-    let alloc = rt.alloc();
-    let file = empty_file(alloc);
-    let keeper = keeper(&rt, alloc, &file)?;
-    let bay = drive_with_volume(alloc);
-    let notes = Notes {
-        rt: &rt,
-        events: Mutex::new(Vec::new(alloc)),
-    };
-    file.lock(&rt).is_full = true;
-    write(&rt, alloc, &bay)?;
-    write_mark(&rt, alloc, &bay)?;
-    let first = keeper.keep(&rt, alloc, &bay, &notes, good(&WRITE_FILEMARKS, 0));
-    let second = keeper.keep(&rt, alloc, &bay, &notes, good(&WRITE_FILEMARKS, 0));
-    assert_eq!(&rt; (first, second), (false, false));
-    assert_eq!(&rt; notes.events.lock(&rt).as_slice(), [FULL].as_slice());
-    file.lock(&rt).is_full = false;
-    let all = keeper.keep_all(&rt, alloc, &bay, &notes);
-    assert_eq!(&rt; all, true);
-    assert_file(&rt, &file, BLOCK_AND_MARK, 14, "all is kept at the end");
-    assert_eq!(&rt;
-        notes.events.lock(&rt).as_slice(),
-        [FULL, GOES_ON].as_slice()
-    );
+    let file = empty_file(rt.alloc());
+    let scene = Scene::new(&rt, rt.alloc(), &file)?;
+    for row in OF_A_FULL_DISK {
+        scene.go_on(&rt, row)?;
+    }
     Ok(())
 }

@@ -1,3 +1,4 @@
+use crate::comparing::assert_same;
 use std::alloc::{AllocError, Global};
 use std::process::Abort;
 use std::test::Fail;
@@ -20,9 +21,13 @@ fn grows(tape: &mut Tape) -> Result<u32, TapeFault> {
     Ok(tape.object_count())
 }
 
-fn assert_grows(rt: &impl Abort, tape: &mut Tape, expected: Result<u32, TapeFault>, what: &str) {
-    let grown = grows(tape);
-    assert!(rt; grown == expected, "{what}");
+fn assert_grows(
+    rt: &impl Abort,
+    tape: &mut Tape,
+    expected: Result<u32, TapeFault>,
+    shows: &'static str,
+) {
+    assert_same(rt, grows(tape), expected, shows);
 }
 
 #[test]

@@ -1,3 +1,4 @@
+use crate::comparing::assert_same;
 use std::alloc::Global;
 use std::io::{self, Read};
 use std::process::Abort;
@@ -16,6 +17,14 @@ const GAPS: &[u8] = &[
     2, 0, 0, 0, b'h', b'i', 2, 0, 0, 0, 0, 0, 0, 0, 0xFE, 0xFF, 0xFF, 0xFF, 3, 0, 0, 0, b'o', b'd',
     b'd', 0, 3, 0, 0, 0, 0xFF, 0xFF, 0xFF, 0xFF, 9,
 ];
+
+/// The first 20 bytes of the image.
+const CUT: &[u8] = &[
+    2, 0, 0, 0, b'h', b'i', 2, 0, 0, 0, 0, 0, 0, 0, 3, 0, 0, 0, b'o', b'd',
+];
+
+/// A filemark, and then a record of an unknown class.
+const FAULTY: &[u8] = &[0, 0, 0, 0, 2, 0, 0, 0x80];
 
 /// A reader that gives a byte at a time, and fails behind the first so many.
 #[derive(Drop)]
@@ -41,95 +50,172 @@ impl Read for FailingReader<'_> {
     }
 }
 
-fn bytes_at(tape: &Tape, at: u32) -> Option<&[u8]> {
-    match tape.object(at)? {
-        TapeObject::Block(bytes) => Some(bytes),
-        TapeObject::Mark => None,
+/// What is seen of a tape that was read, and of the index of its image.
+#[derive(Clone, Copy, Debug, PartialEq, Eq)]
+struct Seen {
+    objects: u32,
+    /// Whether they are "hi", a filemark and "odd".
+    are_three: bool,
+    position: u32,
+    unchanged: u32,
+    capacity: u64,
+    indexed: usize,
+    end: ImageEnd,
+}
+
+/// A tape at its beginning, whose objects are all in the index and count as unchanged.
+fn at_its_beginning(objects: u32, are_three: bool, capacity: u64, end: ImageEnd) -> Seen {
+    Seen {
+        objects,
+        are_three,
+        position: 0,
+        unchanged: objects,
+        capacity,
+        indexed: objects as usize,
+        end,
     }
 }
 
-/// A tape is at its beginning, and has "hi", a filemark and "odd", which count as unchanged.
-fn assert_three(rt: &impl Abort, read: &ReadTape) {
-    assert_eq!(rt; read.tape.object_count(), 3);
-    assert_eq!(rt; read.tape.position(), 0);
-    assert_eq!(rt; read.tape.unchanged(), 3);
-    assert_eq!(rt; bytes_at(&read.tape, 0), Some(b"hi".as_slice()));
-    assert!(rt; matches!(read.tape.object(1), Some(TapeObject::Mark)));
-    assert_eq!(rt; bytes_at(&read.tape, 2), Some(b"odd".as_slice()));
-    assert_eq!(rt; read.index.objects.len(), 3);
-}
+/// What is shown, an image, for how many bytes of blocks it is read, and what must be seen then: how many objects, whether they are "hi",
+/// a filemark and "odd", and how the image ends.
+type Row = (
+    &'static str,
+    &'static [u8],
+    u64,
+    Result<(u32, bool, ImageEnd), ReadTapeFault>,
+);
 
-fn read(alloc: Global, mut bytes: &[u8], capacity: u64) -> Result<ReadTape, ReadTapeFault> {
-    read_tape(
-        alloc,
-        &mut bytes,
-        capacity.max(1).min(1_000),
-        MemoryLimit::none(),
-    )
-}
+const ROWS: [Row; 6] = [
+    (
+        "a tape that just takes its blocks",
+        IMAGE,
+        5,
+        Ok((3, true, ImageEnd::WholeEnd { whole: 26 })),
+    ),
+    (
+        "a gap, and what stands behind the end mark",
+        GAPS,
+        1_000,
+        Ok((3, true, ImageEnd::WholeEnd { whole: 30 })),
+    ),
+    (
+        "of a tail that was cut nothing is read",
+        CUT,
+        1_000,
+        Ok((2, false, ImageEnd::CutTail { whole: 14, lost: 6 })),
+    ),
+    (
+        "of a faulty image the objects before the fault",
+        FAULTY,
+        1_000,
+        Ok((
+            1,
+            false,
+            ImageEnd::Faulty {
+                fault: ImageFault::UnknownClass,
+                objects: 1,
+                whole: 4,
+            },
+        )),
+    ),
+    (
+        "the second block is too much",
+        IMAGE,
+        4,
+        Err(ReadTapeFault::TooLarge { objects: 2 }),
+    ),
+    (
+        "the first block is",
+        IMAGE,
+        1,
+        Err(ReadTapeFault::TooLarge { objects: 0 }),
+    ),
+];
 
-#[test]
-fn an_image_is_read_as_a_tape(rt: HostRuntime) -> Result<(), Fail> {
-    let whole = read(rt.alloc(), IMAGE, 5)?;
-    assert_three(&rt, &whole);
-    assert_eq!(rt; whole.tape.capacity(), 5);
-    assert_eq!(rt; whole.index.end, ImageEnd::WholeEnd { whole: 26 });
-    let gaps = read(rt.alloc(), GAPS, 1_000)?;
-    assert_three(&rt, &gaps);
-    assert_eq!(rt; gaps.index.end, ImageEnd::WholeEnd { whole: 30 });
-    Ok(())
-}
-
-#[test]
-fn of_a_tail_that_was_cut_nothing_is_read(rt: HostRuntime) -> Result<(), Fail> {
-    let cut = read(rt.alloc(), &IMAGE[..20], 1_000)?;
-    assert_eq!(rt; cut.tape.object_count(), 2);
-    assert_eq!(rt; cut.tape.unchanged(), 2);
-    assert_eq!(rt; cut.index.end, ImageEnd::CutTail { whole: 14, lost: 6 });
-    Ok(())
-}
-
-#[test]
-fn of_a_faulty_image_the_objects_before_the_fault_are_read(rt: HostRuntime) -> Result<(), Fail> {
-    let faulty = read(rt.alloc(), &[0, 0, 0, 0, 2, 0, 0, 0x80], 1_000)?;
-    assert_eq!(rt; faulty.tape.object_count(), 1);
-    let end = ImageEnd::Faulty {
-        fault: ImageFault::UnknownClass,
-        objects: 1,
-        whole: 4,
-    };
-    assert_eq!(rt; faulty.index.end, end);
-    Ok(())
-}
-
-fn fault_of(told: Result<ReadTape, ReadTapeFault>) -> Option<ReadTapeFault> {
-    told.err()
-}
-
-#[test]
-fn what_is_more_than_the_tape_takes_is_refused(rt: HostRuntime) -> Result<(), Fail> {
-    let too_large = |objects: u32| Some(ReadTapeFault::TooLarge { objects });
-    assert_eq!(rt; fault_of(read(rt.alloc(), IMAGE, 4)), too_large(2));
-    assert_eq!(rt; fault_of(read(rt.alloc(), IMAGE, 1)), too_large(0));
-    let marks = vec![in rt.alloc(); 0u8; 4_000_004]?;
-    assert_eq!(rt; fault_of(read(rt.alloc(), &marks, 4)), too_large(1_000_000));
-    Ok(())
-}
-
-#[test]
-fn a_read_that_fails_is_told(rt: HostRuntime) -> Result<(), Fail> {
-    for left in 0..27 {
-        let mut reader = FailingReader { bytes: IMAGE, left };
-        let told = fault_of(read_tape(rt.alloc(), &mut reader, 1_000, MemoryLimit::none()));
-        assert_eq!(rt; told, Some(ReadTapeFault::Read));
+fn is_block(tape: &Tape, at: u32, bytes: &[u8]) -> bool {
+    match tape.object(at) {
+        Some(TapeObject::Block(found)) => found == bytes,
+        Some(TapeObject::Mark) | None => false,
     }
-    let mut reader = FailingReader {
-        bytes: IMAGE,
-        left: 27,
-    };
-    assert_three(
-        &rt,
-        &read_tape(rt.alloc(), &mut reader, 1_000, MemoryLimit::none())?,
+}
+
+fn is_mark(tape: &Tape, at: u32) -> bool {
+    matches!(tape.object(at), Some(TapeObject::Mark))
+}
+
+/// Whether a tape begins with "hi", a filemark and "odd".
+fn are_three(tape: &Tape) -> bool {
+    is_block(tape, 0, b"hi") && is_mark(tape, 1) && is_block(tape, 2, b"odd")
+}
+
+fn seen_of(read: &ReadTape) -> Seen {
+    Seen {
+        objects: read.tape.object_count(),
+        are_three: are_three(&read.tape),
+        position: read.tape.position(),
+        unchanged: read.tape.unchanged(),
+        capacity: read.tape.capacity(),
+        indexed: read.index.objects.len(),
+        end: read.index.end,
+    }
+}
+
+/// Reads an image as a tape, and says what is seen of that.
+fn seen_in<R: Read>(alloc: Global, reader: &mut R, capacity: u64) -> Result<Seen, ReadTapeFault> {
+    match read_tape(alloc, reader, capacity.clamp(1, 1_000), MemoryLimit::none()) {
+        Ok(read) => Ok(seen_of(&read)),
+        Err(fault) => Err(fault),
+    }
+}
+
+/// What must be seen by a row.
+fn expected_of(row: Row) -> Result<Seen, ReadTapeFault> {
+    let (_, _, capacity, expected) = row;
+    match expected {
+        Ok((objects, are_three, end)) => Ok(at_its_beginning(objects, are_three, capacity, end)),
+        Err(fault) => Err(fault),
+    }
+}
+
+fn assert_row(rt: &impl Abort, alloc: Global, row: Row) {
+    let (shows, mut image, capacity, _) = row;
+    assert_same(
+        rt,
+        seen_in(alloc, &mut image, capacity),
+        expected_of(row),
+        shows,
     );
+}
+
+#[test]
+fn images_are_read_as_tapes(rt: HostRuntime) {
+    for row in ROWS {
+        assert_row(&rt, rt.alloc(), row);
+    }
+}
+
+#[test]
+fn more_filemarks_than_a_tape_takes_are_refused(rt: HostRuntime) -> Result<(), Fail> {
+    let marks = vec![in rt.alloc(); 0u8; 4_000_004]?;
+    let found = seen_in(rt.alloc(), &mut marks.as_slice(), 4);
+    let expected = Err(ReadTapeFault::TooLarge { objects: 1_000_000 });
+    assert_same(&rt, found, expected, "one filemark too many");
     Ok(())
+}
+
+/// What is seen where a read fails behind so many bytes of the image.
+fn seen_until(alloc: Global, left: usize) -> Result<Seen, ReadTapeFault> {
+    let mut reader = FailingReader { bytes: IMAGE, left };
+    seen_in(alloc, &mut reader, 1_000)
+}
+
+#[test]
+fn a_read_that_fails_is_told(rt: HostRuntime) {
+    for left in 0..27 {
+        let found = seen_until(rt.alloc(), left);
+        assert_same(&rt, found, Err(ReadTapeFault::Read), "a read that fails");
+    }
+    let whole = at_its_beginning(3, true, 1_000, ImageEnd::WholeEnd { whole: 26 });
+    let found = seen_until(rt.alloc(), 27);
+    assert_same(&rt, found, Ok(whole), "no read fails");
 }

@@ -1,3 +1,4 @@
+use crate::comparing::assert_same;
 use std::alloc::Global;
 use std::process::Abort;
 use std::test::Fail;
@@ -35,29 +36,43 @@ fn ends_of(tape: &Tape, at: u32) -> Option<(usize, u8, u8)> {
     }
 }
 
-fn assert_numbered(rt: &impl Abort, tape: &Tape, at: u32, number: u8) {
-    assert_eq!(rt; ends_of(tape, at), Some((SIZE, number, number)));
+/// Whether blocks at some places have their numbers.
+fn assert_numbered(rt: &impl Abort, tape: &Tape, numbered: &[(u32, u8)]) {
+    for (at, number) in numbered {
+        let ends = Some((SIZE, *number, *number));
+        assert_same(rt, ends_of(tape, *at), ends, "a block at its place");
+    }
+}
+
+/// How many objects a tape has, and how many of them count as unchanged.
+fn counts(tape: &Tape) -> (u32, u32) {
+    (tape.object_count(), tape.unchanged())
+}
+
+/// A tape of 200 blocks and a filemark.
+fn large_tape(alloc: Global) -> Result<Tape, Fail> {
+    let mut tape = Tape::new(alloc, 20_000_000);
+    write_numbered(alloc, &mut tape, 0, 200)?;
+    tape.write_marks(1)?;
+    Ok(tape)
+}
+
+/// Writes 100 blocks over the second half, once all counts as unchanged.
+fn write_over(alloc: Global, tape: &mut Tape) -> Result<(), Fail> {
+    tape.settle(tape.object_count());
+    let _ = tape.locate(100);
+    write_numbered(alloc, tape, 50, 100)
 }
 
 #[test]
 fn a_tape_of_more_than_a_piece_is_lent_and_written_over(rt: HostRuntime) -> Result<(), Fail> {
-    let mut tape = Tape::new(rt.alloc(), 20_000_000);
-    write_numbered(rt.alloc(), &mut tape, 0, 200)?;
-    tape.write_marks(1)?;
-    assert_eq!(rt; tape.object_count(), 201);
-    for (at, number) in FIRST {
-        assert_numbered(&rt, &tape, at, number);
-    }
-    assert_eq!(rt; ends_of(&tape, 200), Some((0, 0, 0)));
-    assert_eq!(rt; ends_of(&tape, 201), None);
-
-    tape.settle(201);
-    let _ = tape.locate(100);
-    write_numbered(rt.alloc(), &mut tape, 50, 100)?;
-    assert_eq!(rt; tape.object_count(), 200);
-    assert_eq!(rt; tape.unchanged(), 100);
-    for (at, number) in SECOND {
-        assert_numbered(&rt, &tape, at, number);
-    }
+    let mut tape = large_tape(rt.alloc())?;
+    assert_same(&rt, counts(&tape), (201, 0), "200 blocks and a filemark");
+    assert_numbered(&rt, &tape, &FIRST);
+    assert_same(&rt, ends_of(&tape, 200), Some((0, 0, 0)), "the filemark");
+    assert_same(&rt, ends_of(&tape, 201), None, "nothing is behind it");
+    write_over(rt.alloc(), &mut tape)?;
+    assert_same(&rt, counts(&tape), (200, 100), "the second half is new");
+    assert_numbered(&rt, &tape, &SECOND);
     Ok(())
 }
