@@ -1,5 +1,24 @@
 mod claims;
 mod endings;
+mod numbers;
+mod residuals;
 mod sessions;
+mod statuses;
 mod streams;
 mod tasks;
+mod words;
+mod writes;
+
+use std::fmt::Debug;
+use std::process::Abort;
+
+/// Compares what was found with what is expected. Each `assert_eq!` costs the proof of the function that it stands in some
+/// ten times this call.
+fn assert_same<T: Copy + PartialEq + Debug>(
+    rt: &impl Abort,
+    found: T,
+    expected: T,
+    shows: &'static str,
+) {
+    assert!(rt; found == expected, "{shows}: {found:?}, not {expected:?}");
+}

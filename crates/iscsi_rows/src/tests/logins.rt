@@ -1,12 +1,15 @@
 //! Logins, request by request.
 ghost use Rattle.std.specs.Prelude.{◌≤◌, length};
 
+use super::assert_same;
+use super::exchanges::request_of;
 use iscsi_login::{
     Access, Admission, Authentication, FullFeature, Host, Login, LoginEnd, LoginStep, LoginTarget,
     SessionType,
 };
 use iscsi_pdu::{LoginRequest, LoginStatus, SerialNumber, Stage};
 use std::alloc::Global;
+use std::process::Abort;
 use std::test::Fail;
 
 const SECURITY: Stage = Stage::SecurityNegotiation;
@@ -34,7 +37,7 @@ fn request(current_stage: Stage, next_stage: Stage) -> LoginRequest {
 }
 
 /// A target that lets one host in by its name.
-fn target(alloc: Global, any_host: bool) -> Result<LoginTarget, Fail> {
+pub(super) fn target(alloc: Global, any_host: bool) -> Result<LoginTarget, Fail> {
     let mut hosts = Vec::new(alloc);
     hosts.push(Host {
         name: Vec::from_slice(alloc, b"iqn.1993-08.org.debian:01:abc")?,
@@ -55,14 +58,16 @@ fn begun(step: LoginStep) -> Result<FullFeature, Fail> {
     }
 }
 
-/// How the first request of a login is met.
-fn first_status(alloc: Global, request: LoginRequest, text: &[u8]) -> Result<LoginStatus, Fail>
-    requires { length text.now ≤ 65536 }
-{
-    let target = target(alloc, false)?;
-    let mut answer = Vec::new(alloc);
-    let step = Login::new(1).step(&target, &request, text, &mut answer)?;
-    Ok(step.status())
+/// Compares the session that a login of the listed host has begun.
+fn assert_begun(rt: &impl Abort, step: LoginStep) -> Result<(), Fail> {
+    let session = begun(step)?;
+    let listed = Admission::Listed(0x5000_0000_0000_0001);
+    assert_same(rt, session.admission, listed, "the host");
+    assert_same(rt, session.session_type, SessionType::Normal, "the type");
+    let parameters = session.parameters;
+    assert_same(rt, parameters.first_burst_length, 262_144, "a first burst");
+    assert_same(rt, parameters.max_burst_length, 1_048_576, "a burst");
+    Ok(())
 }
 
 /// The first text of open-iscsi.
@@ -82,12 +87,10 @@ fn a_login_through_both_stages_reaches_full_feature(rt: HostRuntime) -> Result<(
     let mut login = Login::new(2);
     let mut answer = Vec::new(rt.alloc());
     let first = login.step(&target, &request(SECURITY, OPERATIONAL), NAMES, &mut answer)?;
-    assert!(rt; first.status() == LoginStatus::Success);
-    assert!(rt; first.next_stage() == Some(OPERATIONAL));
-    assert_eq!(rt;
-        answer.as_slice(),
-        b"TargetPortalGroupTag=2\0AuthMethod=None\0".as_slice()
-    );
+    assert_same(&rt, first.status(), LoginStatus::Success, "the names");
+    assert_same(&rt, first.next_stage(), Some(OPERATIONAL), "the next stage");
+    let expected = b"TargetPortalGroupTag=2\0AuthMethod=None\0".as_slice();
+    assert_same(&rt, answer.as_slice(), expected, "the answer to the names");
     answer.clear();
     let last = login.step(
         &target,
@@ -95,13 +98,8 @@ fn a_login_through_both_stages_reaches_full_feature(rt: HostRuntime) -> Result<(
         OFFERS,
         &mut answer,
     )?;
-    assert_eq!(rt; answer.as_slice(), ANSWERS);
-    let session = begun(last)?;
-    assert!(rt; session.admission == Admission::Listed(0x5000_0000_0000_0001));
-    assert!(rt; session.session_type == SessionType::Normal);
-    assert_eq!(rt; session.parameters.first_burst_length, 262_144);
-    assert_eq!(rt; session.parameters.max_burst_length, 1_048_576);
-    Ok(())
+    assert_same(&rt, answer.as_slice(), ANSWERS, "the answer to the offers");
+    assert_begun(&rt, last)
 }
 
 #[test]
@@ -116,11 +114,10 @@ fn a_login_may_begin_with_operational_keys(rt: HostRuntime) -> Result<(), Fail> 
         text,
         &mut answer,
     )?;
-    assert_eq!(rt;
-        answer.as_slice(),
-        b"TargetPortalGroupTag=1\0X-own=NotUnderstood\0".as_slice()
-    );
-    assert!(rt; begun(step)?.admission == Admission::Other(0x533F_C58F_33ED_C169));
+    let expected = b"TargetPortalGroupTag=1\0X-own=NotUnderstood\0".as_slice();
+    assert_same(&rt, answer.as_slice(), expected, "a key of its own");
+    let other = Admission::Other(0x533F_C58F_33ED_C169);
+    assert_same(&rt, begun(step)?.admission, other, "any other host");
     Ok(())
 }
 
@@ -136,104 +133,115 @@ fn a_discovery_session_needs_no_target(rt: HostRuntime) -> Result<(), Fail> {
         text,
         &mut answer,
     )?;
-    assert_eq!(rt;
-        answer.as_slice(),
-        b"MaxBurstLength=Irrelevant\0".as_slice()
-    );
-    assert!(rt; begun(step)?.session_type == SessionType::Discovery);
+    let expected = b"MaxBurstLength=Irrelevant\0".as_slice();
+    assert_same(&rt, answer.as_slice(), expected, "a key of data");
+    let session_type = begun(step)?.session_type;
+    assert_same(&rt, session_type, SessionType::Discovery, "the type");
     Ok(())
 }
 
-#[test]
-fn what_the_first_text_says_is_refused_by_its_status(rt: HostRuntime) -> Result<(), Fail> {
-    let request = request(SECURITY, OPERATIONAL);
-    let no_initiator = b"TargetName=iqn.2026-11.localhost:vtl\0";
-    assert_eq!(rt;
-        first_status(rt.alloc(), request, no_initiator)?,
-        LoginStatus::MissingParameter
-    );
-    let not_let_in =
-        b"InitiatorName=iqn.1993-08.org.debian:01:abcd\0TargetName=iqn.2026-11.localhost:vtl\0";
-    assert_eq!(rt;
-        first_status(rt.alloc(), request, not_let_in)?,
-        LoginStatus::AuthorizationFailure
-    );
-    let no_target = b"InitiatorName=iqn.1993-08.org.debian:01:abc\0";
-    assert_eq!(rt;
-        first_status(rt.alloc(), request, no_target)?,
-        LoginStatus::MissingParameter
-    );
-    let other_target =
-        b"InitiatorName=iqn.1993-08.org.debian:01:abc\0TargetName=iqn.2026-11.localhost:disk\0";
-    assert_eq!(rt;
-        first_status(rt.alloc(), request, other_target)?,
-        LoginStatus::NotFound
-    );
-    let other_session = b"InitiatorName=iqn.1993-08.org.debian:01:abc\0SessionType=Boot\0";
-    assert_eq!(rt;
-        first_status(rt.alloc(), request, other_session)?,
-        LoginStatus::SessionTypeNotSupported
-    );
-    Ok(())
-}
+/// What it shows, byte 1 of the first request and its least version, its text, and how it is met.
+type Refusal = (&'static str, u8, u8, &'static [u8], LoginStatus);
 
-#[test]
-fn keys_that_end_a_login_are_refused_by_their_status(rt: HostRuntime) -> Result<(), Fail> {
-    let request = request(SECURITY, OPERATIONAL);
-    let chap_alone =
-        b"InitiatorName=iqn.1993-08.org.debian:01:abc\0TargetName=iqn.2026-11.localhost:vtl\0AuthMethod=CHAP\0";
-    assert_eq!(rt;
-        first_status(rt.alloc(), request, chap_alone)?,
-        LoginStatus::AuthenticationFailure
-    );
-    let digest_alone =
-        b"InitiatorName=iqn.1993-08.org.debian:01:abc\0TargetName=iqn.2026-11.localhost:vtl\0HeaderDigest=CRC32C\0";
-    assert_eq!(rt;
-        first_status(rt.alloc(), request, digest_alone)?,
-        LoginStatus::InitiatorError
-    );
-    let no_nul =
-        b"InitiatorName=iqn.1993-08.org.debian:01:abc\0TargetName=iqn.2026-11.localhost:vtl\0AuthMethod=None";
-    assert_eq!(rt;
-        first_status(rt.alloc(), request, no_nul)?,
-        LoginStatus::InitiatorError
-    );
-    Ok(())
-}
+const REFUSALS: [Refusal; 13] = [
+    (
+        "no initiator",
+        0x81,
+        0,
+        b"TargetName=iqn.2026-11.localhost:vtl\0",
+        LoginStatus::MissingParameter,
+    ),
+    (
+        "an initiator that isn't let in",
+        0x81,
+        0,
+        b"InitiatorName=iqn.1993-08.org.debian:01:abcd\0TargetName=iqn.2026-11.localhost:vtl\0",
+        LoginStatus::AuthorizationFailure,
+    ),
+    (
+        "no target",
+        0x81,
+        0,
+        b"InitiatorName=iqn.1993-08.org.debian:01:abc\0",
+        LoginStatus::MissingParameter,
+    ),
+    (
+        "another target",
+        0x81,
+        0,
+        b"InitiatorName=iqn.1993-08.org.debian:01:abc\0TargetName=iqn.2026-11.localhost:disk\0",
+        LoginStatus::NotFound,
+    ),
+    (
+        "another type of session",
+        0x81,
+        0,
+        b"InitiatorName=iqn.1993-08.org.debian:01:abc\0SessionType=Boot\0",
+        LoginStatus::SessionTypeNotSupported,
+    ),
+    (
+        "another method",
+        0x81,
+        0,
+        b"InitiatorName=iqn.1993-08.org.debian:01:abc\0TargetName=iqn.2026-11.localhost:vtl\0AuthMethod=CHAP\0",
+        LoginStatus::AuthenticationFailure,
+    ),
+    (
+        "another digest",
+        0x81,
+        0,
+        b"InitiatorName=iqn.1993-08.org.debian:01:abc\0TargetName=iqn.2026-11.localhost:vtl\0HeaderDigest=CRC32C\0",
+        LoginStatus::InitiatorError,
+    ),
+    (
+        "no NUL",
+        0x81,
+        0,
+        b"InitiatorName=iqn.1993-08.org.debian:01:abc\0TargetName=iqn.2026-11.localhost:vtl\0AuthMethod=None",
+        LoginStatus::InitiatorError,
+    ),
+    (
+        "a later version",
+        0x81,
+        1,
+        NAMES,
+        LoginStatus::UnsupportedVersion,
+    ),
+    ("T with C", 0xC1, 0, NAMES, LoginStatus::InitiatorError),
+    ("back", 0x84, 0, NAMES, LoginStatus::InitiatorError),
+    ("no stage", 0x82, 0, NAMES, LoginStatus::InitiatorError),
+    ("no login", 0x0F, 0, NAMES, LoginStatus::InitiatorError),
+];
 
-#[test]
-fn headers_that_end_a_login_are_refused_by_their_status(rt: HostRuntime) -> Result<(), Fail> {
-    let later_version = LoginRequest {
-        version_min: 1,
-        ..request(SECURITY, OPERATIONAL)
+/// How the first request of a login is met.
+fn first_status(alloc: Global, flags: u8, version_min: u8, text: &[u8]) -> Result<LoginStatus, Fail>
+    requires { length text.now ≤ 65536 }
+{
+    let target = target(alloc, false)?;
+    let request = LoginRequest {
+        version_min,
+        ..request_of(flags)
     };
-    assert_eq!(rt;
-        first_status(rt.alloc(), later_version, NAMES)?,
-        LoginStatus::UnsupportedVersion
-    );
-    let more_to_come = LoginRequest {
-        continues: true,
-        ..request(SECURITY, OPERATIONAL)
-    };
-    assert_eq!(rt;
-        first_status(rt.alloc(), more_to_come, NAMES)?,
-        LoginStatus::InitiatorError
-    );
-    let back = request(OPERATIONAL, SECURITY);
-    assert_eq!(rt;
-        first_status(rt.alloc(), back, NAMES)?,
-        LoginStatus::InitiatorError
-    );
-    let no_stage = request(SECURITY, Stage::Reserved);
-    assert_eq!(rt;
-        first_status(rt.alloc(), no_stage, NAMES)?,
-        LoginStatus::InitiatorError
-    );
-    let no_login = request(FULL_FEATURE, FULL_FEATURE);
-    assert_eq!(rt;
-        first_status(rt.alloc(), no_login, NAMES)?,
-        LoginStatus::InitiatorError
-    );
+    let mut answer = Vec::new(alloc);
+    let step = Login::new(1).step(&target, &request, text, &mut answer)?;
+    Ok(step.status())
+}
+
+fn assert_refusal(rt: &impl Abort, alloc: Global, row: &Refusal) -> Result<(), Fail> {
+    let (shows, flags, version_min, text, status) = *row;
+    if text.len() > 65_536 {
+        return Err("too long a text".into());
+    }
+    let found = first_status(alloc, flags, version_min, text)?;
+    assert_same(rt, found, status, shows);
+    Ok(())
+}
+
+#[test]
+fn a_first_request_is_refused_by_its_status(rt: HostRuntime) -> Result<(), Fail> {
+    for row in &REFUSALS {
+        assert_refusal(&rt, rt.alloc(), row)?;
+    }
     Ok(())
 }
 
@@ -250,15 +258,25 @@ fn a_stage_that_was_left_does_not_come_again(rt: HostRuntime) -> Result<(), Fail
         OFFERS,
         &mut answer,
     )?;
-    assert_eq!(rt; again.status(), LoginStatus::InitiatorError);
+    assert_same(
+        &rt,
+        again.status(),
+        LoginStatus::InitiatorError,
+        "a stage again",
+    );
     let later = login.step(
         &target,
         &request(OPERATIONAL, FULL_FEATURE),
         OFFERS,
         &mut answer,
     )?;
-    assert_eq!(rt; later.status(), LoginStatus::InitiatorError);
-    assert!(rt; answer.is_empty());
+    assert_same(
+        &rt,
+        later.status(),
+        LoginStatus::InitiatorError,
+        "behind that",
+    );
+    assert_same(&rt, answer.is_empty(), true, "no answer");
     Ok(())
 }
 
@@ -273,7 +291,12 @@ fn a_request_of_another_login_is_refused(rt: HostRuntime) -> Result<(), Fail> {
         ..request(OPERATIONAL, FULL_FEATURE)
     };
     let step = login.step(&target, &other, OFFERS, &mut answer)?;
-    assert_eq!(rt; step.status(), LoginStatus::InitiatorError);
+    assert_same(
+        &rt,
+        step.status(),
+        LoginStatus::InitiatorError,
+        "other keys",
+    );
     Ok(())
 }
 
@@ -292,8 +315,9 @@ fn names_are_said_again_as_they_were(rt: HostRuntime) -> Result<(), Fail> {
         again,
         &mut answer,
     )?;
-    assert_eq!(rt; step.status(), LoginStatus::Success);
-    assert_eq!(rt; answer.as_slice(), b"MaxConnections=1\0".as_slice());
+    assert_same(&rt, step.status(), LoginStatus::Success, "the same names");
+    let expected = b"MaxConnections=1\0".as_slice();
+    assert_same(&rt, answer.as_slice(), expected, "the answer to them");
     let other = b"SessionType=Discovery\0";
     let step = login.step(
         &target,
@@ -301,7 +325,12 @@ fn names_are_said_again_as_they_were(rt: HostRuntime) -> Result<(), Fail> {
         other,
         &mut answer,
     )?;
-    assert_eq!(rt; step.status(), LoginStatus::InitiatorError);
+    assert_same(
+        &rt,
+        step.status(),
+        LoginStatus::InitiatorError,
+        "other keys",
+    );
     Ok(())
 }
 
@@ -315,15 +344,13 @@ fn a_text_in_pieces_is_answered_once_it_is_whole(rt: HostRuntime) -> Result<(), 
         ..request(SECURITY, SECURITY)
     };
     let step = login.step(&target, &piece, b"InitiatorN", &mut answer)?;
-    assert_eq!(rt; step.status(), LoginStatus::Success);
-    assert!(rt; step.next_stage() == None);
-    assert!(rt; answer.is_empty());
+    assert_same(&rt, step.status(), LoginStatus::Success, "a piece");
+    assert_same(&rt, step.next_stage(), None, "no next stage");
+    assert_same(&rt, answer.is_empty(), true, "no answer to a piece");
     let whole = login.step(&target, &request(SECURITY, OPERATIONAL), NAMES, &mut answer)?;
-    assert_eq!(rt; whole.status(), LoginStatus::Success);
-    assert_eq!(rt;
-        answer.as_slice(),
-        b"TargetPortalGroupTag=1\0AuthMethod=None\0".as_slice()
-    );
+    assert_same(&rt, whole.status(), LoginStatus::Success, "all pieces");
+    let expected = b"TargetPortalGroupTag=1\0AuthMethod=None\0".as_slice();
+    assert_same(&rt, answer.as_slice(), expected, "the answer to all");
     Ok(())
 }
 
@@ -335,11 +362,11 @@ fn the_last_response_has_the_number_of_the_session(rt: HostRuntime) -> Result<()
     let step = Login::new(1).step(&target, &request, NAMES, &mut answer)?;
     let stat_sn = SerialNumber { number: 7 };
     let response = step.response(&request, 3, stat_sn, SerialNumber { number: 32 });
-    assert!(rt; response.transit);
-    assert!(rt; response.next_stage == FULL_FEATURE);
-    assert_eq!(rt; response.tsih, 3);
-    assert_eq!(rt; response.exp_cmd_sn.number, 1);
-    assert_eq!(rt; response.status, LoginStatus::Success);
+    assert_same(&rt, response.transit, true, "T");
+    assert_same(&rt, response.next_stage, FULL_FEATURE, "the next stage");
+    assert_same(&rt, response.tsih, 3, "TSIH");
+    assert_same(&rt, response.exp_cmd_sn.number, 1, "ExpCmdSN");
+    assert_same(&rt, response.status, LoginStatus::Success, "the status");
     Ok(())
 }
 
@@ -358,10 +385,11 @@ fn a_host_that_is_named_twice_is_the_first_and_no_name_is_none(
         hosts,
         any_host: true,
     };
-    assert!(rt; access.admit(b"iqn.2026-11.localhost:a") == Some(Admission::Listed(1)));
-    assert!(rt;
-        access.admit(b"iqn.2026-11.localhost:b") == Some(Admission::Other(0x5681_B243_1E96_440A))
-    );
-    assert!(rt; access.admit(b"") == None);
+    let first = access.admit(b"iqn.2026-11.localhost:a");
+    assert_same(&rt, first, Some(Admission::Listed(1)), "the first of two");
+    let other = Some(Admission::Other(0x5681_B243_1E96_440A));
+    let found = access.admit(b"iqn.2026-11.localhost:b");
+    assert_same(&rt, found, other, "any other host");
+    assert_same(&rt, access.admit(b""), None, "no name");
     Ok(())
 }

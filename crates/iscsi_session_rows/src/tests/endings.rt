@@ -1,8 +1,11 @@
 //! How connections end: refused, silent, cut, discovery sessions.
+use super::assert_same;
 use super::sessions::{LET_IN, LOGIN};
-use super::streams::{Pieces, serve_stream, serve_whole};
+use super::streams::{Pieces, Served, serve_stream};
+use super::words::{LOST, assert_ended, assert_served};
 use iscsi_pdu::LoginStatus;
 use iscsi_session::{IscsiEnd, IscsiFault};
+use std::alloc::Global;
 use std::test::Fail;
 
 /// A login of a name that isn't let in.
@@ -18,25 +21,18 @@ const REFUSED: &[u8] =
 
 #[test]
 fn a_name_that_is_not_let_in_is_refused(rt: HostRuntime) -> Result<(), Fail> {
-    let served = serve_whole(rt.alloc(), UNKNOWN)?;
-    assert_eq!(rt;
-        served.ended,
-        Err(IscsiFault::Refused(LoginStatus::AuthorizationFailure))
-    );
-    assert_eq!(rt; served.output.as_slice(), REFUSED);
-    assert_eq!(rt; served.calls.as_slice(), b"".as_slice());
-    Ok(())
+    let ended = Err(IscsiFault::Refused(LoginStatus::AuthorizationFailure));
+    let shows = "another name";
+    assert_served(&rt, rt.alloc(), UNKNOWN, REFUSED, b"", ended, shows)
 }
 
 #[test]
 fn a_nexus_with_a_session_is_refused(rt: HostRuntime) -> Result<(), Fail> {
     let mut reader = LOGIN;
     let served = serve_stream(rt.alloc(), true, &mut reader)?;
-    assert_eq!(rt;
-        served.ended,
-        Err(IscsiFault::Refused(LoginStatus::OutOfResources))
-    );
-    assert_eq!(rt; served.calls.as_slice(), b"".as_slice());
+    let ended = Err(IscsiFault::Refused(LoginStatus::OutOfResources));
+    assert_same(&rt, served.ended, ended, "a nexus with a session");
+    assert_same(&rt, served.calls.is_empty(), true, "it isn't lost");
     Ok(())
 }
 
@@ -45,42 +41,34 @@ const PING: &[u8] =
     b"\x20\x80\0\0\0\0\0\0\0\0\0\0\0\0\0\0\xFF\xFF\xFF\xFF\0\0\0\0\0\0\0\x01\0\0\0\x01\
     \0\0\0\x20\0\0\0\0\0\0\0\0\0\0\0\0";
 
-/// The nexus comes, is lost and leaves.
-const NOTHING_ELSE: &[u8] = b"l\0\x0A\x01l\x01\x0A\x01";
+/// Serves what comes at once, and behind it so many silences.
+fn serve_silent(alloc: Global, bytes: &[u8], silences: u32) -> Result<Served, Fail> {
+    let mut reader = Pieces {
+        bytes,
+        size: 999,
+        silences,
+    };
+    serve_stream(alloc, false, &mut reader)
+}
 
 #[test]
 fn a_silence_is_met_by_a_ping_and_two_by_the_end(rt: HostRuntime) -> Result<(), Fail> {
     let alloc = rt.alloc();
     let expected = [LET_IN, PING].concat(alloc)?;
-    let mut twice = Pieces {
-        bytes: LOGIN,
-        size: 999,
-        silences: 2,
-    };
-    let served = serve_stream(alloc, false, &mut twice)?;
-    assert_eq!(rt; served.ended, Err(IscsiFault::Silent));
-    assert_eq!(rt; served.output.as_slice(), expected.as_slice());
-    assert_eq!(rt; served.calls.as_slice(), NOTHING_ELSE);
-    let mut once = Pieces {
-        bytes: LOGIN,
-        size: 999,
-        silences: 1,
-    };
-    let served = serve_stream(alloc, false, &mut once)?;
-    assert_eq!(rt; served.ended, Ok(IscsiEnd::Closed));
+    let twice = serve_silent(alloc, LOGIN, 2)?;
+    let ended = Err(IscsiFault::Silent);
+    assert_ended(&rt, &twice, &expected, LOST, ended, "two silences");
+    let once = serve_silent(alloc, LOGIN, 1)?;
+    let ended = Ok(IscsiEnd::Closed);
+    assert_ended(&rt, &once, &expected, LOST, ended, "one silence");
     Ok(())
 }
 
 #[test]
 fn a_login_in_which_nothing_comes_ends(rt: HostRuntime) -> Result<(), Fail> {
-    let mut reader = Pieces {
-        bytes: &LOGIN[..40],
-        size: 999,
-        silences: 1,
-    };
-    let served = serve_stream(rt.alloc(), false, &mut reader)?;
-    assert_eq!(rt; served.ended, Err(IscsiFault::Silent));
-    assert_eq!(rt; served.calls.as_slice(), b"".as_slice());
+    let served = serve_silent(rt.alloc(), &LOGIN[..40], 1)?;
+    let ended = Err(IscsiFault::Silent);
+    assert_ended(&rt, &served, b"", b"", ended, "a part of a login");
     Ok(())
 }
 
@@ -106,9 +94,7 @@ const FOUND: &[u8] =
 
 #[test]
 fn a_discovery_session_finds_the_target(rt: HostRuntime) -> Result<(), Fail> {
-    let served = serve_whole(rt.alloc(), DISCOVERY)?;
-    assert_eq!(rt; served.output.as_slice(), FOUND);
-    assert_eq!(rt; served.ended, Ok(IscsiEnd::Logout));
-    assert_eq!(rt; served.calls.as_slice(), b"".as_slice());
-    Ok(())
+    let ended = Ok(IscsiEnd::Logout);
+    let shows = "a discovery session";
+    assert_served(&rt, rt.alloc(), DISCOVERY, FOUND, b"", ended, shows)
 }

@@ -1,6 +1,9 @@
 //! Whole sessions.
-use super::streams::{Pieces, serve_stream, serve_whole};
+use super::streams::{Pieces, serve_stream};
+use super::words::{assert_ended, assert_served};
 use iscsi_session::IscsiEnd;
+use std::alloc::Global;
+use std::process::Abort;
 use std::test::Fail;
 
 /// A login of `iqn.a` in one request, CmdSN 1: operational negotiation, then full feature.
@@ -48,10 +51,26 @@ fn a_session_is_served_byte_for_byte(rt: HostRuntime) -> Result<(), Fail> {
     let alloc = rt.alloc();
     let input = [LOGIN, COMMANDS].concat(alloc)?;
     let expected = [LET_IN, ANSWERS].concat(alloc)?;
-    let served = serve_whole(alloc, input.as_slice())?;
-    assert_eq!(rt; served.output.as_slice(), expected.as_slice());
-    assert_eq!(rt; served.calls.as_slice(), CALLS);
-    assert_eq!(rt; served.ended, Ok(IscsiEnd::Logout));
+    let ended = Ok(IscsiEnd::Logout);
+    assert_served(&rt, alloc, &input, &expected, CALLS, ended, "all at once")
+}
+
+/// Serves a stream in pieces of a size, and compares what came of it.
+fn assert_pieces(
+    rt: &impl Abort,
+    alloc: Global,
+    size: usize,
+    input: &[u8],
+    expected: &[u8],
+) -> Result<(), Fail> {
+    let mut pieces = Pieces {
+        bytes: input,
+        size,
+        silences: 0,
+    };
+    let served = serve_stream(alloc, false, &mut pieces)?;
+    let ended = Ok(IscsiEnd::Logout);
+    assert_ended(rt, &served, expected, CALLS, ended, "in pieces");
     Ok(())
 }
 
@@ -61,17 +80,7 @@ fn a_stream_in_pieces_is_answered_alike(rt: HostRuntime) -> Result<(), Fail> {
     let input = [LOGIN, COMMANDS].concat(alloc)?;
     let expected = [LET_IN, ANSWERS].concat(alloc)?;
     for size in [1, 7, 48, 100] {
-        let mut pieces = Pieces {
-            bytes: input.as_slice(),
-            size,
-            silences: 0,
-        };
-        let served = serve_stream(alloc, false, &mut pieces)?;
-        assert!(rt;
-            served.output.as_slice() == expected.as_slice(),
-            "by {size}"
-        );
-        assert!(rt; served.calls.as_slice() == CALLS, "by {size}");
+        assert_pieces(&rt, alloc, size, &input, &expected)?;
     }
     Ok(())
 }

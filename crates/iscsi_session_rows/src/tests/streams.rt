@@ -194,9 +194,3 @@ pub(super) fn serve_beside<R: Read>(
         calls,
     })
 }
-
-/// Serves a stream that comes whole.
-pub(super) fn serve_whole(alloc: Global, bytes: &[u8]) -> Result<Served, Fail> {
-    let mut reader = bytes;
-    serve_stream(alloc, false, &mut reader)
-}
