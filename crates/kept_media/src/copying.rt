@@ -1,19 +1,15 @@
-//! The volumes of a device, copied into their images.
+//! The volumes of a unit, copied into their images part by part: the unit waits while a part is taken, and goes on while it is written.
 
-ghost use Rattle.std.specs.Prelude.{◌≡◌};
-ghost use Rattle.device_server.specs.Settled.{unsettled, SameButSettled};
-ghost use Rattle.library_device.specs.Devices.{shown_as};
-
-use crate::keeper::VolumeImage;
+use crate::keeper::{VolumeImage, change_of};
 use crate::kept_image::KeptImage;
-use device_server::{Attendant, DeviceServer};
+use crate::looking::{PartLook, Places, VolumePlace};
+use crate::part_range::PartRange;
 use library_device::Device;
-use scsi_cdb::Kind;
 use std::alloc::Global;
 use std::sync::Wait;
-use tape_flush::{FlushFault, ImageStore, StoreFault};
-use tape_keeper::{KeepChange, KeepEvent, KeepFault, KeepListener, KeptThing};
-use tape_medium::{FIRST_IMPORT_EXPORT, FIRST_STORAGE, Tape, Volume};
+use tape_flush::{FlushFault, ImageStore, StoreFault, TapePart};
+use tape_keeper::{KeepChange, KeepEvent, KeepFault, KeepListener, KeptThing, TapeSource};
+use tape_medium::VolumeTag;
 
 /// How far copies go.
 #[derive(Clone, Copy, Debug, PartialEq, Eq)]
@@ -24,109 +20,139 @@ pub(crate) enum Depth {
     Disk,
 }
 
-/// Copies the volumes of a device that aren't in their images yet, and settles them.
+/// What was copied of a unit.
+#[derive(Clone, Copy, Debug)]
+pub(crate) struct Copied {
+    /// Whether all of it was.
+    pub is_kept: bool,
+    /// Whether it has no volume.
+    pub is_empty: bool,
+}
+
+/// Copies volumes that aren't in their images yet. A volume's image is locked before its unit, and never behind it.
 #[derive(Drop)]
-pub(crate) struct Copying<'a, S: ImageStore + Drop, R: Wait, H: KeepListener> {
+pub(crate) struct Copying<
+    'a,
+    S: ImageStore + Drop,
+    R: Wait,
+    T: TapeSource<Device>,
+    H: KeepListener,
+> {
     pub rt: &'a R,
     pub alloc: Global,
     pub images: &'a [VolumeImage<S>],
+    pub source: &'a T,
     pub listener: &'a H,
     pub depth: Depth,
-    /// Whether all that was met is copied.
-    pub is_kept: bool,
 }
 
-impl<'a, S: ImageStore + Drop, R: Wait, H: KeepListener> Copying<'a, S, R, H> {
-    /// Copies a volume. How many objects it has, where all of them are copied now.
-    fn copy(&self, volume: &Volume) -> Option<u32> {
-        let count = volume.tape.object_count();
-        if volume.protected {
-            return Some(count);
+impl<'a, S: ImageStore + Drop, R: Wait, T: TapeSource<Device>, H: KeepListener> Copying<
+    'a,
+    S,
+    R,
+    T,
+    H,
+> {
+    /// Copies the volumes of a unit.
+    pub fn copy_unit(&self, lun: u8) -> Copied {
+        let places = self.places(lun);
+        let mut is_kept = places.is_whole;
+        for at in &places.found {
+            if !self.copy_volume(*at) {
+                is_kept = false;
+            }
         }
-        let Some(found) = VolumeImage::find(self.images, volume.tag) else {
-            self.tell(volume, KeepChange::Fails(KeepFault::NoImage));
-            return None;
+        Copied {
+            is_kept,
+            is_empty: places.is_empty,
+        }
+    }
+
+    /// Which volumes a unit has.
+    fn places(&self, lun: u8) -> Places {
+        let mut places = Places::new(self.alloc, lun);
+        self.source.attend(self.rt, lun, &mut places);
+        places
+    }
+
+    /// Copies the volume at a place, and tells where that fails for the first time, or no longer does. Whether it is copied.
+    fn copy_volume(&self, at: VolumePlace) -> bool {
+        let Some(found) = VolumeImage::find(self.images, at.tag) else {
+            self.tell(at.tag, KeepChange::Fails(KeepFault::NoImage));
+            return false;
         };
         let mut image = found.image.lock(self.rt);
         let was_failing = image.is_failing;
-        let kept = keep(self.alloc, &mut image.kept, &volume.tape, self.depth);
+        let kept = self.keep(&mut image.kept, at);
         image.is_failing = kept.is_err();
-        match kept {
-            Ok(()) => {
-                if was_failing {
-                    self.tell(volume, KeepChange::GoesOn);
-                }
-                Some(count)
-            }
-            Err(fault) => {
-                if !was_failing {
-                    self.tell(volume, KeepChange::Fails(fault));
-                }
-                None
-            }
+        if let Some(change) = change_of(was_failing, kept) {
+            self.tell(at.tag, change);
+        }
+        kept.is_ok()
+    }
+
+    /// Copies the volume at a place into its image, and brings that to the disk if it is to be there.
+    fn keep(&self, kept: &mut KeptImage<S>, at: VolumePlace) -> Result<(), KeepFault> {
+        self.copy(kept, at).map_err(fault_of_flush)?;
+        match self.depth {
+            Depth::Image => Ok(()),
+            Depth::Disk => kept.sync().map_err(fault_of_store),
         }
     }
 
-    fn tell(&self, volume: &Volume, change: KeepChange) {
+    /// Copies what a volume has by now, wherever it is moved meanwhile. What is written on behind that isn't waited for, and what was cut
+    /// off meanwhile isn't needed any more.
+    fn copy(&self, kept: &mut KeptImage<S>, at: VolumePlace) -> Result<(), FlushFault> {
+        let mut part = TapePart::new(self.alloc)?;
+        let mut at = at;
+        let mut wanted = u32::MAX;
+        for _look in self.rt.forever() {
+            let Some(taken) = self.take_part(kept, at, &mut part) else {
+                at = self.find(at);
+                continue;
+            };
+            let range = taken?;
+            kept.write_part(range, &part)?;
+            wanted = wanted.min(range.count);
+            if range.end >= wanted {
+                return Ok(());
+            }
+        }
+        Ok(())
+    }
+
+    /// Takes the next part of the volume at a place, if it is still there.
+    fn take_part(
+        &self,
+        kept: &KeptImage<S>,
+        at: VolumePlace,
+        part: &mut TapePart,
+    ) -> Option<Result<PartRange, FlushFault>> {
+        let mut look = PartLook {
+            kept,
+            at,
+            part,
+            taken: None,
+        };
+        self.source.attend(self.rt, at.lun, &mut look);
+        look.taken
+    }
+
+    /// Where a volume is that was moved: no volume leaves the library, but one that is moved again may be seen nowhere.
+    fn find(&self, gone: VolumePlace) -> VolumePlace {
+        for lun in 0..self.source.units() {
+            if let Some(at) = self.places(lun).of(gone.tag) {
+                return at;
+            }
+        }
+        gone
+    }
+
+    fn tell(&self, tag: VolumeTag, change: KeepChange) {
         self.listener.tell(&KeepEvent {
-            thing: KeptThing::Volume(volume.tag),
+            thing: KeptThing::Volume(tag),
             change,
         });
-    }
-
-    /// Copies the volume at a place, if there is one, and settles it.
-    fn copy_at(&mut self, device: &mut Device, place: u16)
-        ensures { SameButSettled (shown_as device.old) (shown_as device.new) }
-    {
-        let copied = match device.volume(place) {
-            Some(volume) => self.copy(volume),
-            None => return,
-        };
-        match copied {
-            Some(count) => device.settle(place, count),
-            None => self.is_kept = false,
-        }
-    }
-
-    /// Copies the volumes at places from an address on.
-    fn copy_from(&mut self, device: &mut Device, first: u16, count: u16)
-        ensures { SameButSettled (shown_as device.old) (shown_as device.new) }
-    {
-        'places: for number in 0..count {
-            self.copy_at(device, first.saturating_add(number));
-        }
-    }
-}
-
-impl<'a, S: ImageStore + Drop, R: Wait, H: KeepListener> Attendant<Device>
-    for Copying<'a, S, R, H> {
-    fn attend(&mut self, device: &mut Device) {
-        match device.kind() {
-            Kind::Drive => self.copy_at(device, 0),
-            Kind::Changer => {
-                self.copy_from(device, FIRST_IMPORT_EXPORT, MOST_PORTALS);
-                self.copy_from(device, FIRST_STORAGE, MOST_SLOTS);
-            }
-        }
-    }
-}
-
-/// The most import/export elements, and the most storage elements, that a changer has.
-const MOST_PORTALS: u16 = 16;
-
-const MOST_SLOTS: u16 = 1024;
-
-/// Copies a tape into its image, and brings that to the disk if it is to be there.
-fn keep<S: ImageStore>(
-    alloc: Global,
-    kept: &mut KeptImage<S>,
-    tape: &Tape,
-    depth: Depth,
-) -> Result<(), KeepFault> {
-    kept.copy(alloc, tape).map_err(fault_of_flush)?;
-    match depth {
-        Depth::Image => Ok(()),
-        Depth::Disk => kept.sync().map_err(fault_of_store),
     }
 }
 

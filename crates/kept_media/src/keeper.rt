@@ -1,6 +1,6 @@
 //! Who keeps the tapes of a library.
 
-use crate::copying::{Copying, Depth, fault_of_store};
+use crate::copying::{Copied, Copying, Depth, fault_of_store};
 use crate::kept_image::KeptImage;
 use crate::listing::Listing;
 use crate::store::InventoryStore;
@@ -104,7 +104,7 @@ impl<S: ImageStore + Drop, N: InventoryStore + Drop> MediaKeeper<S, N> {
         }
     }
 
-    /// Copies the volumes of a unit. Whether all of them are copied.
+    /// Copies the volumes of a unit.
     fn copy_unit<R: Wait, T: TapeSource<Device>, H: KeepListener>(
         &self,
         rt: &R,
@@ -113,21 +113,56 @@ impl<S: ImageStore + Drop, N: InventoryStore + Drop> MediaKeeper<S, N> {
         listener: &H,
         lun: u8,
         depth: Depth,
-    ) -> bool {
-        let mut copying = Copying {
+    ) -> Copied {
+        let bytes = self.unwritten.begin(lun);
+        let copying = Copying {
             rt,
             alloc,
             images: &self.images,
+            source,
             listener,
             depth,
-            is_kept: true,
         };
-        let copied = self.unwritten.begin(lun);
-        source.attend(rt, lun, &mut copying);
-        if !copying.is_kept {
-            self.unwritten.take_back(lun, copied);
+        let copied = copying.copy_unit(lun);
+        if !copied.is_kept {
+            self.unwritten.take_back(lun, bytes);
         }
-        copying.is_kept
+        copied
+    }
+
+    /// Keeps the volumes of all units. Whether all of them are kept.
+    fn keep_volumes<R: Wait, T: TapeSource<Device>, H: KeepListener>(
+        &self,
+        rt: &R,
+        alloc: Global,
+        source: &T,
+        listener: &H,
+    ) -> bool {
+        let mut is_kept = true;
+        for lun in 0..source.units() {
+            let copied = self.copy_unit(rt, alloc, source, listener, lun, Depth::Disk);
+            if !copied.is_kept {
+                is_kept = false;
+            }
+        }
+        is_kept
+    }
+
+    /// Keeps the volume on which a command was carried out. Where its drive is empty by now, the volume was moved: then those of all units
+    /// are kept.
+    fn keep_volume<R: Wait, T: TapeSource<Device>, H: KeepListener>(
+        &self,
+        rt: &R,
+        alloc: Global,
+        source: &T,
+        listener: &H,
+        lun: u8,
+    ) -> bool {
+        let copied = self.copy_unit(rt, alloc, source, listener, lun, Depth::Disk);
+        if copied.is_empty {
+            return self.keep_volumes(rt, alloc, source, listener);
+        }
+        copied.is_kept
     }
 
     /// Notes the bytes that were written to a drive's volume, and has them copied where they are many.
@@ -158,9 +193,11 @@ impl<S: ImageStore + Drop, N: InventoryStore + Drop> MediaKeeper<S, N> {
         listener: &H,
         cdb: &[u8],
     ) -> bool {
-        let mut is_kept = self.copy_unit(rt, alloc, source, listener, 0, Depth::Disk);
+        let changer = self.copy_unit(rt, alloc, source, listener, 0, Depth::Disk);
+        let mut is_kept = changer.is_kept;
         for lun in named(self.size.drives, cdb) {
-            if !self.copy_unit(rt, alloc, source, listener, lun, Depth::Disk) {
+            let drive = self.copy_unit(rt, alloc, source, listener, lun, Depth::Disk);
+            if !drive.is_kept {
                 is_kept = false;
             }
         }
@@ -215,7 +252,7 @@ impl<S: ImageStore + Drop, N: InventoryStore + Drop> MediaKeeper<S, N> {
 }
 
 /// What is to be told of how keeping something went: that it fails since now, or no longer does.
-fn change_of(was_failing: bool, kept: Result<(), KeepFault>) -> Option<KeepChange> {
+pub(crate) fn change_of(was_failing: bool, kept: Result<(), KeepFault>) -> Option<KeepChange> {
     match (was_failing, kept) {
         (false, Err(fault)) => Some(KeepChange::Fails(fault)),
         (true, Ok(())) => Some(KeepChange::GoesOn),
@@ -238,9 +275,7 @@ impl<S: ImageStore + Drop, N: InventoryStore + Drop> TapeKeeper<Device> for Medi
                 self.note_written(rt, alloc, source, listener, command);
                 true
             }
-            Wish::Volume => {
-                self.copy_unit(rt, alloc, source, listener, command.lun, Depth::Disk)
-            }
+            Wish::Volume => self.keep_volume(rt, alloc, source, listener, command.lun),
             Wish::Move => self.keep_move(rt, alloc, source, listener, command.cdb),
         }
     }
@@ -283,10 +318,8 @@ impl<S: ImageStore + Drop, N: InventoryStore + Drop> TapeKeeper<Device> for Medi
         source: &T,
         listener: &H,
     ) -> bool {
-        for lun in 0..source.units() {
-            // What isn't kept is told below.
-            let _ = self.copy_unit(rt, alloc, source, listener, lun, Depth::Disk);
-        }
+        // What isn't kept is told below.
+        let _ = self.keep_volumes(rt, alloc, source, listener);
         let is_noted = self.keep_inventory(rt, alloc, source, listener);
         let is_whole = self.tell_lost(rt, listener);
         is_noted && is_whole

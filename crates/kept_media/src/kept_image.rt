@@ -1,16 +1,20 @@
-ghost use Rattle.std.specs.Prelude.{◌≡◌, true, List, take, OnOk, OnErr};
+ghost use Rattle.std.specs.Prelude.{◌≡◌, true, false, List, take, IfOk, OnOk, OnErr};
 ghost use Rattle.std.specs.Io.KnownBytes.{Keeps};
 ghost use Rattle.tape_medium.specs.Object.{Object};
+ghost use Rattle.tape_medium.specs.TapeView.{TapeView};
 ghost use Rattle.tape_flush.specs.Images.{IsWhole};
-ghost use Rattle.kept_media.specs.Kept.{Has, IsCurrent};
+ghost use Rattle.kept_media.specs.Kept.{Has, Follows, IsTaken, Begins};
 
-use std::alloc::Global;
+use crate::part_range::PartRange;
 use std::marker::Model;
-use tape_flush::{FlushFault, ImageFile, ImageStore, StoreFault};
+use tape_flush::{FlushFault, ImageFile, ImageStore, StoreFault, TapePart};
 use tape_medium::Tape;
 
 /// The image of a tape in a file, with what is known of it: whether it has all that was copied and nothing else, and whether that
 /// was brought to the disk.
+///
+/// It is brought on part by part. A part is taken of the tape, which counts as unchanged up to the part's end from then on, and then it is
+/// written, while the tape may be written on.
 #[derive(Drop)]
 pub struct KeptImage<S: ImageStore> {
     image: ImageFile<S>,
@@ -27,8 +31,6 @@ impl<S: ImageStore> Model for KeptImage<S> {
 }
 
 impl<S: ImageStore> KeptImage<S> {
-    ghost use Rattle.std.specs.Prelude.{false};
-
     /// An image that was opened, and is whole.
     pub fn new(image: ImageFile<S>) -> KeptImage<S>
         ensures { result ≡ record { image = image; is_whole = true; is_synced = false } }
@@ -40,33 +42,35 @@ impl<S: ImageStore> KeptImage<S> {
         }
     }
 
-    /// Whether it has all that was copied, and that is on the disk.
-    pub fn is_kept(&self) -> bool {
-        self.is_whole && self.is_synced
-    }
-
-    /// Whether it is that of a tape already, of which the first objects that count as unchanged are in it.
-    fn is_current(&self, tape: &Tape) -> bool
-        ensures { result ≡ true → IsCurrent self.now tape.now }
+    /// Takes a part of a tape whose first objects the image has, as many as count as unchanged: of those that it doesn't have the first,
+    /// as many as a part holds. Nothing waits for the file.
+    pub fn take_part(&self, tape: &Tape, part: &mut TapePart) -> Result<PartRange, FlushFault>
+        ensures { IfOk result (λ range. IsTaken self.now tape.now range part.new) }
     {
         let count = tape.object_count();
-        self.is_whole && tape.unchanged() == count && self.image.count() == count as usize
+        let stay = (tape.unchanged() as usize).min(self.image.count()) as u32;
+        let end = stay + self.image.take_part(tape, stay, part)?;
+        Ok(PartRange { stay, end, count })
     }
 
-    /// Makes the image that of a tape whose first objects it has, as many as count as unchanged. Where it fails, some of the image or
-    /// of the tape is left, and the next call mends it.
-    pub fn copy(&mut self, alloc: Global, tape: &Tape) -> Result<(), FlushFault>
-        ensures whole { (known others : List Object) → Has self.old known others → take tape.now.unchanged known ≡ take tape.now.unchanged tape.now.objects → OnOk result (IsWhole self.new.image tape.now.objects) }
+    /// Writes the part that was taken last, whatever became of the tape since. Then the image is that of the tape's objects up to the
+    /// part's end, as they were when it was taken. Where it fails, it has those that stay, and behind them perhaps the first of those that
+    /// it had, or of the part.
+    pub fn write_part(&mut self, range: PartRange, part: &TapePart) -> Result<(), FlushFault>
+        ensures whole { (known others : List Object) (tape : TapeView) → Has self.old known others → Follows known tape → IsTaken self.old tape range part.now → OnOk result (IsWhole self.new.image (take range.end tape.objects)) }
+        ensures held { (known others : List Object) (tape : TapeView) → Has self.old known others → Follows known tape → IsTaken self.old tape range part.now → OnErr result (Begins range tape known others self.new.image) }
         ensures ok { OnOk result (self.new.is_whole ≡ true) }
         ensures err { OnErr result (self.new.is_whole ≡ false) }
     {
-        if self.is_current(tape) {
+        let count = self.image.count();
+        if self.is_whole && part.is_empty() && range.stay as usize == count {
             return Ok(());
         }
-        let stay = (tape.unchanged() as usize).min(self.image.count()) as u32;
         self.is_whole = false;
         self.is_synced = false;
-        self.image.flush(alloc, tape, stay)?;
+        // A part that was taken of it has no more that stay.
+        let stay = (range.stay as usize).min(count) as u32;
+        self.image.write_part(stay, part)?;
         self.is_whole = true;
         Ok(())
     }

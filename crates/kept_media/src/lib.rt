@@ -5,7 +5,10 @@
 mod copying;
 mod keeper;
 mod kept_image;
+mod laws;
 mod listing;
+mod looking;
+mod part_range;
 mod rows;
 mod start;
 mod store;
@@ -14,6 +17,8 @@ mod wish;
 
 pub use keeper::{MediaKeeper, VolumeImage};
 pub use kept_image::KeptImage;
+pub use laws::images_follow_tapes;
+pub use part_range::PartRange;
 pub use rows::worked_rows;
 pub use start::{LibraryFault, StartedVolume, library_of_volumes};
 pub use store::InventoryStore;

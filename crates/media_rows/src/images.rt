@@ -4,7 +4,7 @@ use std::alloc::Global;
 use std::process::Abort;
 use std::test::Fail;
 use tape_flush::{
-    FlushFault, ImageFile, ImageStore, MemoryStore, OpenFault, StoreFault, open_image,
+    FlushFault, ImageFile, ImageStore, MemoryStore, OpenFault, StoreFault, TapePart, open_image,
 };
 use tape_image::{ImageEnd, ImageFault, IndexedObject, index_image};
 use tape_medium::Tape;
@@ -78,15 +78,29 @@ fn empty_file(alloc: Global) -> MemoryStore {
     }
 }
 
-/// Makes an image that of a tape, of which so many objects stay, or all where it has fewer.
+/// Writes the part of a tape that comes behind so many objects of its image, or behind all where it has fewer.
+fn write_part<S: ImageStore>(
+    image: &mut ImageFile<S>,
+    tape: &Tape,
+    stay: u32,
+    part: &mut TapePart,
+) -> Result<(), FlushFault> {
+    let count = (tape.object_count() as usize).min(image.count());
+    let stay = (stay as usize).min(count) as u32;
+    image.take_part(tape, stay, part)?;
+    image.write_part(stay, part)
+}
+
+/// Makes an image that of a tape of two parts at most, of which so many objects stay, or all where it has fewer.
 fn flush<S: ImageStore>(
     alloc: Global,
     image: &mut ImageFile<S>,
     tape: &Tape,
     stay: u32,
 ) -> Result<(), FlushFault> {
-    let count = (tape.object_count() as usize).min(image.count());
-    image.flush(alloc, tape, (stay as usize).min(count) as u32)
+    let mut part = TapePart::new(alloc)?;
+    write_part(image, tape, stay, &mut part)?;
+    write_part(image, tape, u32::MAX, &mut part)
 }
 
 /// Notes that all of a tape is in its image. How many objects these are.
@@ -167,7 +181,7 @@ fn large_tape(alloc: Global) -> Result<Tape, Fail> {
 }
 
 #[test]
-fn more_than_a_piece_is_written_in_pieces(rt: HostRuntime) -> Result<(), Fail> {
+fn more_than_a_part_is_written_in_parts(rt: HostRuntime) -> Result<(), Fail> {
     let alloc = rt.alloc();
     let tape = large_tape(alloc)?;
     let (mut image, _) = opened(alloc, empty_file(alloc), &[])?;

@@ -8,7 +8,7 @@ use kept_media::{InventoryStore, KeptImage, MediaKeeper, VolumeImage};
 use library_device::Device;
 use library_inventory::{Inventory, LibrarySize};
 use scsi_cdb::Request;
-use std::alloc::Global;
+use std::alloc::{AllocError, Global};
 use std::process::Abort;
 use std::sync::{Mutex, Wait};
 use std::test::Fail;
@@ -20,39 +20,39 @@ use tape_keeper::{
 use tape_medium::{Tape, Volume, VolumeTag};
 use tape_server::TapeDrive;
 
-const TAG: VolumeTag = VolumeTag([b'A'; 32]);
+pub(crate) const TAG: VolumeTag = VolumeTag([b'A'; 32]);
 
 /// A library of one drive.
-const SIZE: LibrarySize = LibrarySize {
+pub(crate) const SIZE: LibrarySize = LibrarySize {
     drives: 1,
     slots: 1,
     portals: 0,
 };
 
-const WRITE: &[u8] = &[0x0a, 0, 0, 0, 2, 0];
+pub(crate) const WRITE: &[u8] = &[0x0a, 0, 0, 0, 2, 0];
 
 const WRITE_FILEMARKS: &[u8] = &[0x10, 0, 0, 0, 1, 0];
 
 const REWIND: &[u8] = &[0x01, 0, 0, 0, 0, 0];
 
 /// The image of "hi", and of "hi" and a filemark.
-const BLOCK: &[u8] = &[2, 0, 0, 0, b'h', b'i', 2, 0, 0, 0];
+pub(crate) const BLOCK: &[u8] = &[2, 0, 0, 0, b'h', b'i', 2, 0, 0, 0];
 
-const BLOCK_AND_MARK: &[u8] = &[2, 0, 0, 0, b'h', b'i', 2, 0, 0, 0, 0, 0, 0, 0];
+pub(crate) const BLOCK_AND_MARK: &[u8] = &[2, 0, 0, 0, b'h', b'i', 2, 0, 0, 0, 0, 0, 0, 0];
 
 /// A file that others look at, too.
 #[derive(Drop)]
-struct SharedFile {
-    bytes: Vec<u8>,
+pub(crate) struct SharedFile {
+    pub(crate) bytes: Vec<u8>,
     /// How many bytes were brought to the disk.
     synced: usize,
     is_full: bool,
 }
 
 #[derive(Drop)]
-struct SharedStore<'a, R: Wait> {
-    rt: &'a R,
-    file: &'a Mutex<SharedFile>,
+pub(crate) struct SharedStore<'a, R: Wait> {
+    pub(crate) rt: &'a R,
+    pub(crate) file: &'a Mutex<SharedFile>,
 }
 
 impl<'a, R: Wait> ImageStore for SharedStore<'a, R> {
@@ -81,7 +81,7 @@ impl<'a, R: Wait> ImageStore for SharedStore<'a, R> {
 
 /// Keeps no inventory.
 #[derive(Drop)]
-struct NoStore;
+pub(crate) struct NoStore;
 
 impl InventoryStore for NoStore {
     fn write(&mut self, _inventory: &Inventory) -> Result<(), StoreFault> {
@@ -91,8 +91,41 @@ impl InventoryStore for NoStore {
 
 /// A drive as logical unit 1.
 #[derive(Drop)]
-struct Bay {
+pub(crate) struct Bay {
     device: Mutex<Device>,
+}
+
+impl Bay {
+    /// The drive performs a request.
+    fn perform<R: Wait>(
+        &self,
+        rt: &R,
+        alloc: Global,
+        request: &Request,
+        bytes: &[u8],
+    ) -> Result<(), AllocError> {
+        let mut device = self.device.lock(rt);
+        let _outcome = device.perform(alloc, request, bytes)?;
+        Ok(())
+    }
+
+    /// Writes "hi".
+    pub(crate) fn write<R: Wait>(&self, rt: &R, alloc: Global) -> Result<(), AllocError> {
+        let request = Request::Write {
+            fixed: false,
+            transfer_length: 2,
+        };
+        self.perform(rt, alloc, &request, b"hi")
+    }
+
+    /// Writes a filemark.
+    pub(crate) fn write_mark<R: Wait>(&self, rt: &R, alloc: Global) -> Result<(), AllocError> {
+        let request = Request::WriteFilemarks {
+            write_setmarks: false,
+            filemark_count: 1,
+        };
+        self.perform(rt, alloc, &request, &[])
+    }
 }
 
 impl TapeSource<Device> for Bay {
@@ -110,9 +143,18 @@ impl TapeSource<Device> for Bay {
 
 /// Notes what is told.
 #[derive(Drop)]
-struct Notes<'a, R: Wait> {
+pub(crate) struct Notes<'a, R: Wait> {
     rt: &'a R,
     events: Mutex<Vec<KeepEvent>>,
+}
+
+impl<'a, R: Wait> Notes<'a, R> {
+    pub(crate) fn new(rt: &'a R, alloc: Global) -> Notes<'a, R> {
+        Notes {
+            rt,
+            events: Mutex::new(Vec::new(alloc)),
+        }
+    }
 }
 
 impl<'a, R: Wait> KeepListener for Notes<'a, R> {
@@ -122,7 +164,7 @@ impl<'a, R: Wait> KeepListener for Notes<'a, R> {
 }
 
 /// A drive with an empty volume.
-fn drive_with_volume(alloc: Global) -> Bay {
+pub(crate) fn drive_with_volume(alloc: Global) -> Bay {
     let mut drive = TapeDrive::new();
     let volume = Volume {
         tag: TAG,
@@ -149,7 +191,7 @@ fn keeper<'a, R: Wait>(
     Ok(MediaKeeper::new(SIZE, images, NoStore))
 }
 
-fn empty_file(alloc: Global) -> Mutex<SharedFile> {
+pub(crate) fn empty_file(alloc: Global) -> Mutex<SharedFile> {
     Mutex::new(SharedFile {
         bytes: Vec::new(alloc),
         synced: 0,
@@ -191,34 +233,8 @@ impl<'a, R: Wait> Scene<'a, R> {
             file,
             keeper: keeper(rt, alloc, file)?,
             bay: drive_with_volume(alloc),
-            notes: Notes {
-                rt,
-                events: Mutex::new(Vec::new(alloc)),
-            },
+            notes: Notes::new(rt, alloc),
         })
-    }
-
-    /// The drive performs a request.
-    fn perform(&self, request: &Request, bytes: &[u8]) -> Result<bool, Fail> {
-        let mut device = self.bay.device.lock(self.rt);
-        let _outcome = device.perform(self.alloc, request, bytes)?;
-        Ok(true)
-    }
-
-    fn write(&self) -> Result<bool, Fail> {
-        let request = Request::Write {
-            fixed: false,
-            transfer_length: 2,
-        };
-        self.perform(&request, b"hi")
-    }
-
-    fn write_mark(&self) -> Result<bool, Fail> {
-        let request = Request::WriteFilemarks {
-            write_setmarks: false,
-            filemark_count: 1,
-        };
-        self.perform(&request, &[])
     }
 
     fn keep(&self, cdb: &[u8], length: usize) -> bool {
@@ -250,8 +266,8 @@ impl<'a, R: Wait> Scene<'a, R> {
     /// Does what is to be done, and says whether it was kept, where that is asked.
     fn act(&self, act: Act) -> Result<bool, Fail> {
         match act {
-            Act::Write => self.write(),
-            Act::WriteMark => self.write_mark(),
+            Act::Write => Ok(self.bay.write(self.rt, self.alloc).is_ok()),
+            Act::WriteMark => Ok(self.bay.write_mark(self.rt, self.alloc).is_ok()),
             Act::Keep(cdb, length) => Ok(self.keep(cdb, length)),
             Act::WriteBehind => Ok(self.write_behind()),
             Act::KeepAll => Ok(self.keep_all()),

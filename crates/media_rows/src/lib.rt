@@ -3,6 +3,8 @@
 #![tactic(auto)]
 
 #[cfg(test)]
+mod busy;
+#[cfg(test)]
 mod comparing;
 #[cfg(test)]
 mod failing_store;

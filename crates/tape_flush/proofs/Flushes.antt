@@ -1,6 +1,6 @@
--- What a flush leaves of an image, and how that is read.
+-- What a part that is written leaves of an image, and how that is read.
 use Rattle.std.proofs.Common.{◌≡◌, inl, inr, ℕ, ◌+◌, ◌-◌, ◌≤◌, List, [], ◌++◌, length, take, drop, map, Option, Some, None, Result, Ok, Err, OnOk, OnErr, sym, ap, subst, ◌∙◌, append_assoc, length-append, arith}
-use Rattle.std.proofs.lemmas.List.{append-nil, take_at, take_all, drop_all, take-append-drop}
+use Rattle.std.proofs.lemmas.List.{append-nil, take_at}
 use Rattle.std.proofs.Math.Seq.{take-append-add}
 use Rattle.std.specs.Option.{IsSomeAnd}
 use Rattle.tape_medium.specs.Object.{Object}
@@ -8,8 +8,7 @@ use Rattle.tape_image.specs.Images.{image_bytes, AreKeepable}
 use Rattle.tape_image.specs.Reading.{Placed, Waiting, Reads}
 use Rattle.tape_flush.specs.declared.fault.FlushFault.{FlushFault}
 use Rattle.tape_flush.specs.Stores.{TruncatesInPart, Replaces}
-use Rattle.tape_flush.specs.Images.{ImageValue, end_at, ends_from, IsFlushed, Fails, unchanged, uncut, unfinished, object_in, HoldsAll, HoldsFirst, IsWhole, IsHeld, Leaves}
-use Rattle.tape_flush.proofs.Pieces.{keepable-take, keepable-drop}
+use Rattle.tape_flush.specs.Images.{ImageValue, end_at, ends_from, IsFlushed, Fails, uncut, unfinished, object_in, HoldsAll, HoldsFirst, IsWhole, IsHeld, Leaves}
 use Rattle.tape_flush.proofs.Holding.{Split, split, join, written, same_count, ReadsOn, reads_on, holds_nothing, first_cut, first_behind, first_written}
 
 -- bytes that hold objects for sure, and then the first of others
@@ -62,7 +61,7 @@ whole_after stay old new known others objects within can h f =
     subst (λ (es : List ℕ). IsSomeAnd new.contents (λ bytes. HoldsAll 0 bytes (take stay known ++ objects) es)) (sym f.ends)
     (whole_contents stay old.ends old.contents new.contents known others objects (known_stay old.ends old.contents known others stay h within) can h f.contents)
 
--- A FLUSH THAT FAILS
+-- A PART THAT FAILS
 
 cut_bytes : (stay left : ℕ) (ends bytes : List ℕ) (known others : List Object) → stay ≤ length known → end_at ends stay ≤ left → Bytes ends bytes known others
     → Bytes (take stay ends) (take left bytes) (take stay known) (drop stay known ++ others)
@@ -91,78 +90,58 @@ cut_contents stay ends (Some b) None known others within h r = absurd r.2
 cut_contents stay ends (Some b) (Some b') known others within h r =
     subst (λ (z : List ℕ). Bytes (take stay ends) z (take stay known) (drop stay known ++ others)) (sym r.2) (cut_bytes stay r.0 ends b known others within r.1 h)
 
-some_bytes : (stay n count : ℕ) (ends bytes bytes' : List ℕ) (known others new : List Object) → stay ≤ length known → AreKeepable new → Bytes ends bytes known others
-    → bytes' ≡ take (end_at ends stay) bytes ++ (image_bytes (take n new) ++ take count (image_bytes (drop n new)))
-    → Bytes (take stay ends ++ ends_from (end_at ends stay) (take n new)) bytes' (take stay known ++ take n new) (drop n new)
-some_bytes stay n count ends bytes bytes' known others new within can h is =
-    let g = grown stay ends bytes bytes' (take count (image_bytes (drop n new))) known others (take n new) within (keepable-take n new can) h is in
-    (g.0, take count (image_bytes (drop n new)), g.1, g.2, first_written (length g.0) count (drop n new) (keepable-drop n new can))
+some_bytes : (stay count : ℕ) (ends bytes bytes' : List ℕ) (known others new : List Object) → stay ≤ length known → AreKeepable new → Bytes ends bytes known others
+    → bytes' ≡ take (end_at ends stay) bytes ++ take count (image_bytes new) → Bytes (take stay ends) bytes' (take stay known) new
+some_bytes stay count ends bytes bytes' known others new within can h is =
+    let s : Split 0 stay h.0 known ends = split stay 0 h.0 known ends h.3 within in
+    let first : take (end_at ends stay) bytes ≡ s.front = front_of stay ends bytes h.0 h.1 known h.2 s in (
+      s.front,
+      take count (image_bytes new),
+      is ∙ ap (λ (z : List ℕ). z ++ take count (image_bytes new)) first,
+      s.first,
+      first_written (length s.front) count new can,
+    )
 
-some_contents : (stay n count : ℕ) (ends : List ℕ) (c c' : Option (List ℕ)) (known others new : List Object) → stay ≤ length known → AreKeepable new → Known ends c known others
-    → Replaces (end_at ends stay) c c' (image_bytes (take n new) ++ take count (image_bytes (drop n new)))
-    → Known (take stay ends ++ ends_from (end_at ends stay) (take n new)) c' (take stay known ++ take n new) (drop n new)
-some_contents stay n count ends None c' known others new within can h r = absurd h
-some_contents stay n count ends (Some b) None known others new within can h r = absurd r
-some_contents stay n count ends (Some b) (Some b') known others new within can h r = some_bytes stay n count ends b b' known others new within can h r
+some_contents : (stay count : ℕ) (ends : List ℕ) (c c' : Option (List ℕ)) (known others new : List Object) → stay ≤ length known → AreKeepable new → Known ends c known others
+    → Replaces (end_at ends stay) c c' (take count (image_bytes new)) → Known (take stay ends) c' (take stay known) new
+some_contents stay count ends None c' known others new within can h r = absurd h
+some_contents stay count ends (Some b) None known others new within can h r = absurd r
+some_contents stay count ends (Some b) (Some b') known others new within can h r = some_bytes stay count ends b b' known others new within can h r
 
 pub held_after : (stay : ℕ) (old new : ImageValue) (known others objects : List Object) → stay ≤ length old.ends → AreKeepable objects → IsHeld old known others
     → Fails stay objects old new → Leaves stay known others objects new
-held_after stay old new known others objects within can h (unchanged same) =
-    let here = known_stay old.ends old.contents known others stay h within in
-    let all : take (length known) known ≡ known = take_all (length known) known (omega arith) in
-    let none : drop (length known) known ≡ [] = drop_all (length known) known (omega arith) in
-    inl (
-      length known,
-      here,
-      subst (λ (v : ImageValue). IsHeld v (take (length known) known) (drop (length known) known ++ others)) (sym same)
-          (subst (λ (ks : List Object). IsHeld old ks (drop (length known) known ++ others)) (sym all)
-          (subst (λ (ks : List Object). IsHeld old known (ks ++ others)) (sym none) h)),
-    )
 held_after stay old new known others objects within can h (uncut ends cut) =
     let here = known_stay old.ends old.contents known others stay h within in
     inl (
-      stay,
-      omega arith,
-      subst (λ (es : List ℕ). Known es new.contents (take stay known) (drop stay known ++ others)) (sym ends)
-          (cut_contents stay old.ends old.contents new.contents known others here h cut),
+    subst (λ (es : List ℕ). Known es new.contents (take stay known) (drop stay known ++ others)) (sym ends)
+    (cut_contents stay old.ends old.contents new.contents known others here h cut)
     )
-held_after stay old new known others objects within can h (unfinished n count few ends more) =
+held_after stay old new known others objects within can h (unfinished count ends more) =
     let here = known_stay old.ends old.contents known others stay h within in
     inr (
-      n,
-      subst (λ (es : List ℕ). Known es new.contents (take stay known ++ take n objects) (drop n objects)) (sym ends)
-          (some_contents stay n count old.ends old.contents new.contents known others objects here can h more),
+    subst (λ (es : List ℕ). Known es new.contents (take stay known) objects) (sym ends)
+    (some_contents stay count old.ends old.contents new.contents known others objects here can h more)
     )
 
 -- AS THEY ARE TOLD
 
-pub flush_ok : (r : Result (Unit {0}) FlushFault) (stay : ℕ) (old old' new : ImageValue) (objects : List Object) → old' ≡ old → OnOk r (IsFlushed stay objects old' new)
+pub part_ok : (r : Result (Unit {0}) FlushFault) (stay : ℕ) (old old' new : ImageValue) (objects : List Object) → old' ≡ old → OnOk r (IsFlushed stay objects old' new)
     → OnOk r (IsFlushed stay objects old new)
-flush_ok r stay old old' new objects same h = subst (λ (v : ImageValue). OnOk r (IsFlushed stay objects v new)) same h
+part_ok r stay old old' new objects same h = subst (λ (v : ImageValue). OnOk r (IsFlushed stay objects v new)) same h
 
-pub flush_err : (r : Result (Unit {0}) FlushFault) (stay : ℕ) (old old' new : ImageValue) (objects : List Object) → old' ≡ old → OnErr r (Fails stay objects old' new)
+pub part_err : (r : Result (Unit {0}) FlushFault) (stay : ℕ) (old old' new : ImageValue) (objects : List Object) → old' ≡ old → OnErr r (Fails stay objects old' new)
     → OnErr r (Fails stay objects old new)
-flush_err r stay old old' new objects same h = subst (λ (v : ImageValue). OnErr r (Fails stay objects v new)) same h
+part_err r stay old old' new objects same h = subst (λ (v : ImageValue). OnErr r (Fails stay objects v new)) same h
 
-told_whole : (r : Result (Unit {0}) FlushFault) (stay : ℕ) (old new : ImageValue) (objects : List Object) → stay ≤ length old.ends → AreKeepable objects
-    → OnOk r (IsFlushed stay (drop stay objects) old new) → (known others : List Object) → IsHeld old known others → take stay known ≡ take stay objects → OnOk r (IsWhole new objects)
-told_whole (Ok done) stay old new objects within can h known others held same =
-    let all : take stay known ++ drop stay objects ≡ objects = ap (λ (xs : List Object). xs ++ drop stay objects) same ∙ take-append-drop stay objects in
-    subst (IsWhole new) all (whole_after stay old new known others (drop stay objects) within (keepable-drop stay objects can) held h)
-told_whole (Err fault) stay old new objects within can h known others held same = tt
+pub part_whole : (r : Result (Unit {0}) FlushFault) (stay : ℕ) (old new : ImageValue) (known others objects : List Object) → stay ≤ length old.ends → AreKeepable objects
+    → IsHeld old known others → OnOk r (IsFlushed stay objects old new) → OnOk r (IsWhole new (take stay known ++ objects))
+part_whole (Ok done) stay old new known others objects within can held h = whole_after stay old new known others objects within can held h
+part_whole (Err fault) stay old new known others objects within can held h = tt
 
-told_held : (r : Result (Unit {0}) FlushFault) (stay : ℕ) (old new : ImageValue) (objects : List Object) → stay ≤ length old.ends → AreKeepable objects
-    → OnErr r (Fails stay objects old new) → (known others : List Object) → IsHeld old known others → OnErr r (Leaves stay known others objects new)
-told_held (Ok done) stay old new objects within can h known others held = tt
-told_held (Err fault) stay old new objects within can h known others held = held_after stay old new known others objects within can held h
-
-pub flush_whole : (r : Result (Unit {0}) FlushFault) (stay : ℕ) (old old' new : ImageValue) (objects : List Object) → old' ≡ old → stay ≤ length old.ends → AreKeepable objects
-    → OnOk r (IsFlushed stay (drop stay objects) old' new) → (known others : List Object) → IsHeld old known others → take stay known ≡ take stay objects → OnOk r (IsWhole new objects)
-flush_whole r stay old old' new objects same within can h = told_whole r stay old new objects within can (flush_ok r stay old old' new (drop stay objects) same h)
-
-pub flush_held : (r : Result (Unit {0}) FlushFault) (stay : ℕ) (old old' new : ImageValue) (objects : List Object) → old' ≡ old → stay ≤ length old.ends → AreKeepable objects
-    → OnErr r (Fails stay objects old' new) → (known others : List Object) → IsHeld old known others → OnErr r (Leaves stay known others objects new)
-flush_held r stay old old' new objects same within can h = told_held r stay old new objects within can (flush_err r stay old old' new objects same h)
+pub part_held : (r : Result (Unit {0}) FlushFault) (stay : ℕ) (old new : ImageValue) (known others objects : List Object) → stay ≤ length old.ends → AreKeepable objects
+    → IsHeld old known others → OnErr r (Fails stay objects old new) → OnErr r (Leaves stay known others objects new)
+part_held (Ok done) stay old new known others objects within can held h = tt
+part_held (Err fault) stay old new known others objects within can held h = held_after stay old new known others objects within can held h
 
 -- HOW IT IS READ
 

@@ -1,29 +1,16 @@
 -- Images of several objects, and where these end.
-use Rattle.std.proofs.Common.{◌≡◌, ℕ, ◌+◌, ◌-◌, ◌≤◌, min, zero, suc, List, [], ◌∷◌, ◌++◌, length, take, drop, Option, Some, refl, sym, ap, subst, ◌∙◌, append_assoc, length-append, length-drop, arith}
-use Rattle.std.proofs.lemmas.List.{append-nil, take-take, drop-take, drop-drop, take_all, take-append-drop, take-append-le, take_min}
-use Rattle.std.proofs.KnownBytes.{Appends-nil, Appends-trans}
-use Rattle.std.specs.Io.KnownBytes.{Appends}
+use Rattle.std.proofs.Common.{◌≡◌, ℕ, ◌+◌, ◌-◌, ◌≤◌, zero, suc, List, [], ◌∷◌, ◌++◌, length, take, drop, Some, refl, sym, ap, ◌∙◌, append_assoc, length-append, arith}
+use Rattle.std.proofs.lemmas.List.{append-nil}
 use Rattle.std.specs.Prelude.{slice_get}
 use Rattle.std.proofs.lemmas.List.Elements.{All-head, All-tail}
 use Rattle.tape_medium.specs.Object.{Object, Block, Mark}
 use Rattle.tape_medium.specs.Kept.{HasLength, HaveLengths}
 use Rattle.tape_image.specs.Images.{object_bytes, image_bytes, IsKeepable, AreKeepable}
 use Rattle.tape_flush.specs.Images.{ends_from}
-use Rattle.tape_flush.specs.Stores.{AppendsInPart, AppendsSome}
 
 pub image-append : (xs ys : List Object) → image_bytes (xs ++ ys) ≡ image_bytes xs ++ image_bytes ys
 image-append [] ys = refl
 image-append (x ∷ xs) ys = ap (λ (b : List ℕ). object_bytes x ++ b) (image-append xs ys) ∙ sym (append_assoc (object_bytes x) (image_bytes xs) (image_bytes ys))
-
-pub image-split : (n : ℕ) (xs : List Object) → image_bytes xs ≡ image_bytes (take n xs) ++ image_bytes (drop n xs)
-image-split n xs = ap image_bytes (sym (take-append-drop n xs)) ∙ image-append (take n xs) (drop n xs)
-
-pub image_more : (n m : ℕ) (xs : List Object) → image_bytes (take (n + m) xs) ≡ image_bytes (take n xs) ++ image_bytes (take m (drop n xs))
-image_more n m xs =
-    let front : take n (take (n + m) xs) ≡ take n xs = take-take n (n + m) xs (omega arith) in
-    image-split n (take (n + m) xs)
-    ∙ ap (λ (ys : List Object). image_bytes ys ++ image_bytes (drop n (take (n + m) xs))) front
-    ∙ ap (λ (ys : List Object). image_bytes (take n xs) ++ image_bytes ys) (drop-take n m xs)
 
 pub keepable-drop : (n : ℕ) (xs : List Object) → AreKeepable xs → AreKeepable (drop n xs)
 keepable-drop zero xs can = can
@@ -80,26 +67,6 @@ take-ends zero o xs = refl
 take-ends (suc n) o [] = refl
 take-ends (suc n) o (x ∷ xs) = ap (λ (es : List ℕ). (o + length (object_bytes x)) ∷ es) (take-ends n (o + length (object_bytes x)) xs)
 
--- of a cut piece of the first objects
-pub in_part : (old new : Option (List ℕ)) (n : ℕ) (xs : List Object) → AppendsInPart old new (image_bytes (take n xs)) → AppendsInPart old new (image_bytes xs)
-in_part old new n xs h =
-    let a = image_bytes (take n xs) in
-    let k = min h.0 (length a) in
-    let e : take h.0 a ≡ take k (image_bytes xs) =
-    sym (take_min h.0 a) ∙ sym (take-append-le k a (image_bytes (drop n xs)) (omega arith)) ∙ ap (take k) (sym (image-split n xs)) in
-    (k, subst (Appends old new) e h.1)
-
-pub nothing_added : (old : Option (List ℕ)) (xs : List Object) → AppendsInPart old old (image_bytes xs)
-nothing_added old xs = (0, Appends-nil old)
-
--- behind the first objects
-pub some_behind : (a b c : Option (List ℕ)) (n : ℕ) (xs : List Object) → Appends a b (image_bytes (take n xs)) → AppendsInPart b c (image_bytes (drop n xs)) → AppendsSome n xs a c
-some_behind a b c n xs first h = (h.0, Appends-trans a b c (image_bytes (take n xs)) (take h.0 (image_bytes (drop n xs))) first h.1)
-
-pub more_behind : (a b c : Option (List ℕ)) (n m : ℕ) (xs : List Object) → Appends a b (image_bytes (take n xs)) → Appends b c (image_bytes (take m (drop n xs))) → Appends a c (image_bytes (take (n + m) xs))
-more_behind a b c n m xs first h =
-    subst (Appends a c) (sym (image_more n m xs)) (Appends-trans a b c (image_bytes (take n xs)) (image_bytes (take m (drop n xs))) first h)
-
 -- A LOOP OVER OBJECTS, from one on: one more of them
 
 -- the object behind the first ones
@@ -127,9 +94,9 @@ gathered os from at x front piece piece' le is before more =
     ∙ append_assoc front (image_bytes A) (object_bytes x)
     ∙ ap (λ (b : List ℕ). front ++ b) (sym (image_push A x) ∙ ap image_bytes (sym (lent_more os from at x le is)))
 
-pub next_end : (os : List Object) (from at : ℕ) (x : Object) (o end size next : ℕ) → from ≤ at → slice_get os at ≡ Some x → end ≡ last_from o (take (at - from) (drop from os))
-    → size ≡ length (object_bytes x) → next ≡ end + size → next ≡ last_from o (take (at + 1 - from) (drop from os))
-next_end os from at x o end size next le is before same sum =
+pub next_end : (os : List Object) (from at : ℕ) (x : Object) (o end next : ℕ) → from ≤ at → slice_get os at ≡ Some x → end ≡ last_from o (take (at - from) (drop from os))
+    → next ≡ end + length (object_bytes x) → next ≡ last_from o (take (at + 1 - from) (drop from os))
+next_end os from at x o end next le is before sum =
     let here : last_from o (take (at - from) (drop from os) ++ x ∷ []) ≡ last_from o (take (at - from) (drop from os)) + length (object_bytes x) = last_from-push o (take (at - from) (drop from os)) x in
     let more : last_from o (take (at + 1 - from) (drop from os)) ≡ last_from o (take (at - from) (drop from os) ++ x ∷ []) = ap (last_from o) (lent_more os from at x le is) in
     omega (arith, here, more)
@@ -142,28 +109,6 @@ next_ends os from at x o next front ends ends' le is before more same =
     more ∙ ap (λ (es : List ℕ). es ++ next ∷ []) before ∙ append_assoc front (ends_from o A) (next ∷ [])
     ∙ ap (λ (k : ℕ). front ++ (ends_from o A ++ k ∷ [])) (same ∙ ap (last_from o) (lent_more os from at x le is))
     ∙ ap (λ (es : List ℕ). front ++ es) (sym (ends_push o A x) ∙ ap (ends_from o) (sym (lent_more os from at x le is)))
-
-pub part_of_piece : (old new : Option (List ℕ)) (n : ℕ) (xs : List Object) (piece : List ℕ) → piece ≡ image_bytes (take n xs) → AppendsInPart old new piece → AppendsInPart old new (image_bytes xs)
-part_of_piece old new n xs piece is h = in_part old new n xs (subst (AppendsInPart old new) is h)
-
--- objects behind the first of those from one on
-drop_on : (os : List Object) (from at : ℕ) → from ≤ at → drop at os ≡ drop (at - from) (drop from os)
-drop_on os from at le = let same : from + (at - from) ≡ at = omega arith in sym (drop-drop (at - from) from os ∙ ap (λ (n : ℕ). drop n os) same)
-
-pub more_written : (a b c : Option (List ℕ)) (os : List Object) (from at count : ℕ) → from ≤ at → Appends a b (image_bytes (take (at - from) (drop from os)))
-    → Appends b c (image_bytes (take count (drop at os))) → Appends a c (image_bytes (take (at + count - from) (drop from os)))
-more_written a b c os from at count le first h =
-    let n : at + count - from ≡ at - from + count = omega arith in
-    rw n (more_behind a b c (at - from) count (drop from os) first (subst (λ (xs : List Object). Appends b c (image_bytes (take count xs))) (drop_on os from at le) h))
-
-pub some_written_of : (a b c : Option (List ℕ)) (os : List Object) (from at : ℕ) → from ≤ at → Appends a b (image_bytes (take (at - from) (drop from os)))
-    → AppendsInPart b c (image_bytes (drop at os)) → AppendsSome (at - from) (drop from os) a c
-some_written_of a b c os from at le first h =
-    some_behind a b c (at - from) (drop from os) first (subst (λ (xs : List Object). AppendsInPart b c (image_bytes xs)) (drop_on os from at le) h)
-
--- all of them
-pub all_written : (a b : Option (List ℕ)) (os : List Object) (from at : ℕ) → length os ≤ at → Appends a b (image_bytes (take (at - from) (drop from os))) → Appends a b (image_bytes (drop from os))
-all_written a b os from at past h = rw (take_all (at - from) (drop from os) (omega (arith, length-drop from os))) at h
 
 pub none_taken : (from : ℕ) (xs : List Object) → take (from - from) xs ≡ []
 none_taken from xs = let zero_left : from - from ≡ 0 = omega arith in rw zero_left refl

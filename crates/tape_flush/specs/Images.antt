@@ -1,9 +1,9 @@
 -- The image of a tape in a file: where each of its objects ends, and what the file holds.
-use Rattle.std.specs.Prelude.{◌≡◌, ◌⊎◌, ℕ, ◌+◌, ◌≤◌, List, [], ◌∷◌, ◌++◌, length, take, drop, map, slice_index_or, Option, IsSomeAnd}
+use Rattle.std.specs.Prelude.{◌≡◌, ◌⊎◌, ℕ, ◌+◌, ◌-◌, List, [], ◌∷◌, ◌++◌, length, take, drop, map, slice_index_or, Option, IsSomeAnd}
 use Rattle.tape_medium.specs.Object.{Object}
-use Rattle.tape_image.specs.Images.{object_bytes, image_bytes}
+use Rattle.tape_image.specs.Images.{object_bytes, image_bytes, AreKeepable}
 use Rattle.tape_image.specs.Reading.{Placed, Stop, Waiting, Reads}
-use Rattle.tape_flush.specs.Stores.{TruncatesInPart, AppendsSome, Replaces}
+use Rattle.tape_flush.specs.Stores.{TruncatesInPart, Replaces}
 
 -- where each object ends in the file, the bytes of the file, and those that were brought to the disk last
 pub record ImageValue : Type 0 where
@@ -23,24 +23,31 @@ abbrev pub ends_from : (offset : ℕ) → List Object → List ℕ
 ends_from offset [] = []
 ends_from offset (x ∷ others) = (offset + length (object_bytes x)) ∷ ends_from (offset + length (object_bytes x)) others
 
--- objects are written behind those that are there, of which there are so many: the first of them, and then some bytes of those behind
-abbrev pub WritesSome : (count : ℕ) → List Object → (ends ends' : List ℕ) → (old new : Option (List ℕ)) → Type 0
-WritesSome count objects ends ends' old new =
-    (written : ℕ) × (written ≤ length objects) × (ends' ≡ ends ++ ends_from (end_at ends count) (take written objects)) × AppendsSome written objects old new
+-- A PART of an image: the bytes of objects that follow one another from an offset on, and where each of them ends
+pub record TapePartValue : Type 0 where
+  pub bytes : List ℕ
+  pub ends : List ℕ
 
--- A FLUSH, byte by byte: the first objects stay, and what lies behind them is replaced
+-- it is that of some objects, each of which an image takes
+pub record IsPart (offset : ℕ) (objects : List Object) (part : TapePartValue) : Type 0 where
+  pub keepable : AreKeepable objects
+  pub bytes : part.bytes ≡ image_bytes objects
+  pub ends : part.ends ≡ ends_from offset objects
+
+-- the objects of a tape behind the first `from`, up to one
+abbrev pub between : (from to : ℕ) → List Object → List Object
+between from to objects = take (to - from) (drop from objects)
+
+-- A part is written, byte by byte: the first objects stay, and what lies behind them is replaced
 pub record IsFlushed (stay : ℕ) (objects : List Object) (old new : ImageValue) : Type 0 where
   pub ends : new.ends ≡ take stay old.ends ++ ends_from (end_at old.ends stay) objects
   pub contents : Replaces (end_at old.ends stay) old.contents new.contents (image_bytes objects)
 
--- A flush that fails: before anything is done; as the file is cut back; or behind the first of the new objects, of which the image
--- has so many, and then some bytes of those behind
+-- It fails: the file isn't cut back, or not as far; or some bytes of the part come behind the objects that stay. These are known to be
+-- there in either case, and none behind them
 pub data Fails (stay : ℕ) (objects : List Object) (old new : ImageValue) : Type 0 where
-  unchanged : new ≡ old → Fails stay objects old new
   uncut : new.ends ≡ take stay old.ends → TruncatesInPart (end_at old.ends stay) old.contents new.contents → Fails stay objects old new
-  unfinished : (written count : ℕ) → written ≤ length objects
-      → new.ends ≡ take stay old.ends ++ ends_from (end_at old.ends stay) (take written objects)
-      → Replaces (end_at old.ends stay) old.contents new.contents (image_bytes (take written objects) ++ take count (image_bytes (drop written objects)))
+  unfinished : (count : ℕ) → new.ends ≡ take stay old.ends → Replaces (end_at old.ends stay) old.contents new.contents (take count (image_bytes objects))
       → Fails stay objects old new
 
 -- WHAT THE FILE HOLDS, as images are read; nothing is said of a file whose bytes aren't known
@@ -75,8 +82,6 @@ IsHeld image known others =
     IsSomeAnd image.contents
     (λ bytes. (front tail : List ℕ) × (bytes ≡ front ++ tail) × HoldsAll 0 front known image.ends × HoldsFirst (length front) tail others)
 
--- what a flush that fails leaves: the first objects of the old tape, at least those that stay, or those and the first of the new ones
+-- what a part that fails leaves: the objects that stay, and behind them perhaps the first of those that were there, or of the new ones
 abbrev pub Leaves : (stay : ℕ) → (known others objects : List Object) → ImageValue → Type 0
-Leaves stay known others objects image =
-    ((kept : ℕ) × (stay ≤ kept) × IsHeld image (take kept known) (drop kept known ++ others))
-    ⊎ ((written : ℕ) × IsHeld image (take stay known ++ take written objects) (drop written objects))
+Leaves stay known others objects image = IsHeld image (take stay known) (drop stay known ++ others) ⊎ IsHeld image (take stay known) objects

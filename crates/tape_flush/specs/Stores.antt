@@ -1,8 +1,6 @@
 -- What becomes of the bytes of a file, where they are known.
-use Rattle.std.specs.Prelude.{◌≡◌, ℕ, ◌≤◌, List, ◌++◌, take, drop, Option, Some, None}
+use Rattle.std.specs.Prelude.{◌≡◌, ℕ, ◌≤◌, List, ◌++◌, take, Option, Some, None}
 use Rattle.std.specs.Io.KnownBytes.{Appends}
-use Rattle.tape_medium.specs.Object.{Object}
-use Rattle.tape_image.specs.Images.{image_bytes}
 
 -- the file is cut back to so many bytes
 abbrev pub Truncates : (count : ℕ) → (old new : Option (List ℕ)) → Type 0
@@ -17,11 +15,6 @@ TruncatesInPart count old new = (left : ℕ) × (count ≤ left) × Truncates le
 -- some bytes of a piece are added, the first of them
 abbrev pub AppendsInPart : (old new : Option (List ℕ)) → (piece : List ℕ) → Type 0
 AppendsInPart old new piece = (count : ℕ) × Appends old new (take count piece)
-
--- the first so many objects are added, and then some bytes of those behind
-abbrev pub AppendsSome : (written : ℕ) → List Object → (old new : Option (List ℕ)) → Type 0
-AppendsSome written objects old new =
-    (count : ℕ) × Appends old new (image_bytes (take written objects) ++ take count (image_bytes (drop written objects)))
 
 -- the file is cut back to so many bytes, and then a piece is added
 abbrev pub Replaces : (count : ℕ) → (old new : Option (List ℕ)) → (piece : List ℕ) → Type 0

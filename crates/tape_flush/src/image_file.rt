@@ -1,12 +1,13 @@
-ghost use Rattle.std.specs.Prelude.{◌≡◌, ◌≤◌, ◌+◌, ◌++◌, List, length, take, drop, OnOk, OnErr};
+ghost use Rattle.std.specs.Prelude.{◌≡◌, ◌≤◌, ◌<◌, ◌+◌, ◌++◌, List, length, take, drop, IfOk, OnOk, OnErr};
 ghost use Rattle.std.specs.Io.KnownBytes.{Keeps};
 ghost use Rattle.tape_medium.specs.Object.{Object};
-ghost use Rattle.tape_flush.specs.Images.{IsFlushed, Fails, IsHeld, IsWhole, Leaves};
+ghost use Rattle.tape_flush.specs.Images.{end_at, IsPart, IsFlushed, Fails, IsHeld, IsWhole, Leaves};
 
+use crate::ends::end_at;
 use crate::fault::FlushFault;
+use crate::part::TapePart;
 use crate::replacing::replace;
 use crate::store::{ImageStore, StoreFault};
-use std::alloc::Global;
 use std::marker::Model;
 use tape_medium::Tape;
 
@@ -15,9 +16,10 @@ use tape_medium::Tape;
 ///
 /// ```text
 /// let stay = (tape.unchanged() as usize).min(image.count()) as u32;
-/// image.flush(alloc, &tape, stay)?;
+/// let count = image.take_part(&tape, stay, &mut part)?;
+/// tape.settle(stay + count);
+/// image.write_part(stay, &part)?;
 /// image.sync()?;
-/// tape.settle(tape.object_count());
 /// ```
 #[derive(Drop)]
 pub struct ImageFile<S: ImageStore> {
@@ -48,20 +50,28 @@ impl<S: ImageStore> ImageFile<S> {
         self.ends.len()
     }
 
-    /// Makes the image that of a tape whose first `stay` objects are in the file already: what lies behind those that stay is cut
-    /// off, and then the tape's others are written, in pieces of at most 1 MiB; each block is copied once. Where it fails, some of the
-    /// old image or of the new one is left, and the next call mends it.
-    pub fn flush(&mut self, alloc: Global, tape: &Tape, stay: u32) -> Result<(), FlushFault>
-        requires stay { stay ≤ length self.old.ends }
+    /// Takes a tape's objects behind the first `stay` as a part of the image, as many as a part holds, of some at least one. How many they
+    /// are. Nothing waits for the file.
+    pub fn take_part(&self, tape: &Tape, stay: u32, part: &mut TapePart) -> Result<u32, FlushFault>
+        requires stay { stay ≤ length self.now.ends }
         requires within { stay ≤ length tape.now.objects }
-        ensures ok { OnOk result (IsFlushed stay (drop stay tape.now.objects) self.old self.new) }
-        ensures err { OnErr result (Fails stay (drop stay tape.now.objects) self.old self.new) }
-        ensures whole { (known others : List Object) → IsHeld self.old known others → take stay known ≡ take stay tape.now.objects → OnOk result (IsWhole self.new tape.now.objects) }
-        ensures held { (known others : List Object) → IsHeld self.old known others → OnErr result (Leaves stay known others (drop stay tape.now.objects) self.new) }
+        ensures within { IfOk result (λ count. stay + count ≤ length tape.now.objects) }
+        ensures some { IfOk result (λ count. stay < length tape.now.objects → 0 < count) }
+        ensures part { IfOk result (λ count. IsPart (end_at self.now.ends stay) (take count (drop stay tape.now.objects)) part.new) }
     {
-        // Says to the prover alone that each block of a tape has a length that an image takes.
-        let _count = tape.object_count();
-        replace(alloc, &mut self.store, &mut self.ends, tape, stay)
+        part.gather(tape, stay, end_at(&self.ends, stay as usize))
+    }
+
+    /// Writes a part behind the first `stay` objects, for which it was taken: what lies behind these is cut off first. Where it fails, the
+    /// objects that stay are there, and none behind them is known to be; the next call mends it.
+    pub fn write_part(&mut self, stay: u32, part: &TapePart) -> Result<(), FlushFault>
+        requires { stay ≤ length self.old.ends }
+        ensures ok { (objects : List Object) → IsPart (end_at self.old.ends stay) objects part.now → OnOk result (IsFlushed stay objects self.old self.new) }
+        ensures err { (objects : List Object) → IsPart (end_at self.old.ends stay) objects part.now → OnErr result (Fails stay objects self.old self.new) }
+        ensures whole { (known others objects : List Object) → IsPart (end_at self.old.ends stay) objects part.now → IsHeld self.old known others → OnOk result (IsWhole self.new (take stay known ++ objects)) }
+        ensures held { (known others objects : List Object) → IsPart (end_at self.old.ends stay) objects part.now → IsHeld self.old known others → OnErr result (Leaves stay known others objects self.new) }
+    {
+        replace(&mut self.store, &mut self.ends, stay as usize, part)
     }
 
     /// Brings all of the file to the disk. Where it fails, also again, it may be tried again.

@@ -1,8 +1,7 @@
-//! Tapes that are kept in files: an image is cut back to the objects that stay, what replaces the others is written behind them,
-//! and all of it is brought to the disk. Whatever fails, the image holds the first objects of one of the two tapes.
+//! Tapes that are kept in files: an image is cut back to the objects that stay, what replaces the others is written behind them, part by
+//! part, and all of it is brought to the disk. Whatever fails, the image holds the first objects of one of the two tapes.
 #![tactic(auto)]
 
-mod appending;
 mod ends;
 mod fault;
 mod image_file;
@@ -10,6 +9,7 @@ mod laws;
 mod memory;
 mod object;
 mod opening;
+mod part;
 mod read_fault;
 mod reading;
 mod replacing;
@@ -21,6 +21,7 @@ pub use image_file::ImageFile;
 pub use laws::{held_images_are_read, whole_images_are_read};
 pub use memory::MemoryStore;
 pub use opening::{OpenedImage, open_image};
+pub use part::TapePart;
 pub use read_fault::ReadTapeFault;
 pub use reading::{ReadTape, read_tape};
 pub use rows::worked_rows;

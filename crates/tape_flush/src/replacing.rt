@@ -1,15 +1,13 @@
-ghost use Rattle.std.specs.Prelude.{◌≡◌, ◌≤◌, ◌++◌, length, take, drop, vec_len, OnOk, OnErr};
+ghost use Rattle.std.specs.Prelude.{◌≡◌, ◌≤◌, ◌++◌, List, take, vec_len, OnOk, OnErr};
 ghost use Rattle.std.specs.Io.KnownBytes.{Appends};
-ghost use Rattle.tape_image.specs.Images.{image_bytes};
-ghost use Rattle.tape_flush.specs.Images.{end_at, ends_from, image_value, IsFlushed, Fails, WritesSome};
-ghost use Rattle.tape_flush.specs.Stores.{Truncates, TruncatesInPart};
+ghost use Rattle.tape_medium.specs.Object.{Object};
+ghost use Rattle.tape_flush.specs.Images.{end_at, image_value, IsPart, IsFlushed, Fails};
+ghost use Rattle.tape_flush.specs.Stores.{Truncates, TruncatesInPart, AppendsInPart};
 
-use crate::appending::{PIECE, append_all};
-use crate::ends::{end_at, note_ends};
+use crate::ends::end_at;
 use crate::fault::FlushFault;
+use crate::part::TapePart;
 use crate::store::{ImageStore, StoreFault};
-use std::alloc::Global;
-use tape_medium::Tape;
 
 /// Cuts a file back to where its first objects end, and forgets the others, also where it fails.
 fn cut_back<S: ImageStore>(
@@ -27,48 +25,39 @@ fn cut_back<S: ImageStore>(
     store.truncate(end)
 }
 
-/// Writes a tape's objects behind those that are in a file, from one on, and notes where those end that are in it for sure.
-fn write_on<S: ImageStore>(
+/// Adds a part's bytes to a file, and notes where its objects end, where all of it was added.
+fn append<S: ImageStore>(
     store: &mut S,
     ends: &mut Vec<u64>,
-    piece: &mut Vec<u8>,
-    tape: &Tape,
-    from: u32,
+    part: &TapePart,
 ) -> Result<(), FlushFault>
-    requires { from ≤ length tape.now.objects }
-    ensures ends { OnOk result (ends.new.items ≡ ends.old.items ++ ends_from (end_at ends.old.items (vec_len ends.old)) (drop from tape.now.objects)) }
-    ensures ok { OnOk result (Appends (S.contents store.old) (S.contents store.new) (image_bytes (drop from tape.now.objects))) }
-    ensures err { OnErr result (WritesSome (vec_len ends.old) (drop from tape.now.objects) ends.old.items ends.new.items (S.contents store.old) (S.contents store.new)) }
+    ensures ends_of_all { OnOk result (ends.new.items ≡ ends.old.items ++ part.now.ends) }
+    ensures ends_of_none { OnErr result (ends.new.items ≡ ends.old.items) }
+    ensures ok { OnOk result (Appends (S.contents store.old) (S.contents store.new) part.now.bytes) }
+    ensures err { OnErr result (AppendsInPart (S.contents store.old) (S.contents store.new) part.now.bytes) }
 {
     let count = ends.len();
-    note_ends(ends, tape, from)?;
-    match append_all(store, piece, tape, from) {
+    ends.extend_from_slice(part.ends())?;
+    match store.append(part.bytes()) {
         Ok(()) => Ok(()),
-        Err(unfinished) => {
-            ends.truncate(count + unfinished.written as usize);
-            Err(unfinished.fault)
+        Err(fault) => {
+            ends.truncate(count);
+            Err(FlushFault::Store(fault))
         }
     }
 }
 
-/// Cuts a file back to the first objects, which stay, and writes the tape's others behind them. All memory is taken before that.
+/// Cuts a file back to the first objects, which stay, and adds a part behind them. Where it fails no others are known to be there.
 pub(crate) fn replace<S: ImageStore>(
-    alloc: Global,
     store: &mut S,
     ends: &mut Vec<u64>,
-    tape: &Tape,
-    stay: u32,
+    stay: usize,
+    part: &TapePart,
 ) -> Result<(), FlushFault>
-    requires stay { stay ≤ vec_len ends.old }
-    requires within { stay ≤ length tape.now.objects }
-    ensures ok { OnOk result (IsFlushed stay (drop stay tape.now.objects) (image_value ends.old.items (S.contents store.old) (S.synced store.old)) (image_value ends.new.items (S.contents store.new) (S.synced store.new))) }
-    ensures err { OnErr result (Fails stay (drop stay tape.now.objects) (image_value ends.old.items (S.contents store.old) (S.synced store.old)) (image_value ends.new.items (S.contents store.new) (S.synced store.new))) }
+    requires { stay ≤ vec_len ends.old }
+    ensures ok { (objects : List Object) → IsPart (end_at ends.old.items stay) objects part.now → OnOk result (IsFlushed stay objects (image_value ends.old.items (S.contents store.old) (S.synced store.old)) (image_value ends.new.items (S.contents store.new) (S.synced store.new))) }
+    ensures err { (objects : List Object) → IsPart (end_at ends.old.items stay) objects part.now → OnErr result (Fails stay objects (image_value ends.old.items (S.contents store.old) (S.synced store.old)) (image_value ends.new.items (S.contents store.new) (S.synced store.new))) }
 {
-    let mut piece = Vec::with_capacity(alloc, PIECE)?;
-    ends.reserve((tape.object_count() - stay) as usize)?;
-    cut_back(store, ends, stay as usize)?;
-    match write_on(store, ends, &mut piece, tape, stay) {
-        Ok(()) => Ok(()),
-        Err(fault) => Err(fault),
-    }
+    cut_back(store, ends, stay)?;
+    append(store, ends, part)
 }

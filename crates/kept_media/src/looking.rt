@@ -1,0 +1,122 @@
+//! What is done with a device while nobody else is at it: to see which volumes it has, and to take a part of one.
+
+ghost use Rattle.device_server.specs.Settled.{SameButSettled};
+
+use crate::kept_image::KeptImage;
+use crate::part_range::PartRange;
+use device_server::{Attendant, DeviceServer};
+use library_device::Device;
+use scsi_cdb::Kind;
+use std::alloc::Global;
+use tape_flush::{FlushFault, ImageStore, TapePart};
+use tape_medium::{FIRST_IMPORT_EXPORT, FIRST_STORAGE, VolumeTag};
+
+/// The most import/export elements, and the most storage elements, that a changer has.
+const MOST_PORTALS: u16 = 16;
+
+const MOST_SLOTS: u16 = 1024;
+
+/// Where a volume lies: in which unit's device, and where in that.
+#[derive(Clone, Copy)]
+pub(crate) struct VolumePlace {
+    pub lun: u8,
+    pub place: u16,
+    pub tag: VolumeTag,
+}
+
+/// Notes which volumes a device has, but for protected ones, which are as their images are.
+#[derive(Drop)]
+pub(crate) struct Places {
+    lun: u8,
+    pub found: Vec<VolumePlace>,
+    /// Whether there was memory for all of them.
+    pub is_whole: bool,
+    /// Whether the device has no volume, protected ones neither.
+    pub is_empty: bool,
+}
+
+impl Places {
+    /// None was noted yet.
+    pub fn new(alloc: Global, lun: u8) -> Places {
+        Places {
+            lun,
+            found: Vec::new(alloc),
+            is_whole: true,
+            is_empty: true,
+        }
+    }
+
+    /// Where a volume lies, if it is among them.
+    pub fn of(&self, tag: VolumeTag) -> Option<VolumePlace> {
+        self.found.iter().find(|at| at.tag == tag).copied()
+    }
+
+    fn note(&mut self, device: &Device, place: u16) {
+        let Some(volume) = device.volume(place) else {
+            return;
+        };
+        self.is_empty = false;
+        if volume.protected {
+            return;
+        }
+        let at = VolumePlace {
+            lun: self.lun,
+            place,
+            tag: volume.tag,
+        };
+        if self.found.push(at).is_err() {
+            self.is_whole = false;
+        }
+    }
+
+    /// Notes the volumes at so many places from an address on.
+    fn note_from(&mut self, device: &Device, first: u16, count: u16) {
+        for number in 0..count {
+            self.note(device, first.saturating_add(number));
+        }
+    }
+}
+
+impl Attendant<Device> for Places {
+    fn attend(&mut self, device: &mut Device) {
+        match device.kind() {
+            Kind::Drive => self.note(device, 0),
+            Kind::Changer => {
+                self.note_from(device, FIRST_IMPORT_EXPORT, MOST_PORTALS);
+                self.note_from(device, FIRST_STORAGE, MOST_SLOTS);
+            }
+        }
+    }
+}
+
+/// Takes a part of a volume for its image, and settles the volume up to there.
+#[derive(Drop)]
+pub(crate) struct PartLook<'a, S: ImageStore> {
+    pub kept: &'a KeptImage<S>,
+    pub at: VolumePlace,
+    pub part: &'a mut TapePart,
+    /// What was taken, if the volume was there.
+    pub taken: Option<Result<PartRange, FlushFault>>,
+}
+
+impl<'a, S: ImageStore> PartLook<'a, S> {
+    /// Takes a part of the volume, if it is still at its place.
+    fn take(&mut self, device: &Device) -> Option<Result<PartRange, FlushFault>> {
+        let volume = device.volume(self.at.place)?;
+        if volume.tag == self.at.tag {
+            Some(self.kept.take_part(&volume.tape, self.part))
+        } else {
+            None
+        }
+    }
+}
+
+impl<'a, S: ImageStore> Attendant<Device> for PartLook<'a, S> {
+    fn attend(&mut self, device: &mut Device) {
+        let taken = self.take(device);
+        if let Some(Ok(range)) = taken {
+            device.settle(self.at.place, range.end);
+        }
+        self.taken = taken;
+    }
+}
