@@ -1,5 +1,6 @@
 //! The volumes of a unit, copied into their images part by part: the unit waits while a part is taken, and goes on while it is written.
 
+use crate::behind::Behind;
 use crate::keeper::{VolumeImage, change_of};
 use crate::kept_image::KeptImage;
 use crate::looking::{PartLook, Places, VolumePlace};
@@ -20,8 +21,11 @@ pub(crate) enum Depth {
     Disk,
 }
 
+/// So many parts of a volume are copied before others have their turn.
+const MOST_PARTS: u8 = 16;
+
 /// What was copied of a unit.
-#[derive(Clone, Copy, Debug)]
+#[derive(Clone, Copy)]
 pub(crate) struct Copied {
     /// Whether all of it was.
     pub is_kept: bool,
@@ -41,6 +45,7 @@ pub(crate) struct Copying<
     pub rt: &'a R,
     pub alloc: Global,
     pub images: &'a [VolumeImage<S>],
+    pub behind: &'a Behind,
     pub source: &'a T,
     pub listener: &'a H,
     pub depth: Depth,
@@ -55,12 +60,19 @@ impl<'a, S: ImageStore + Drop, R: Wait, T: TapeSource<Device>, H: KeepListener> 
 > {
     /// Copies the volumes of a unit.
     pub fn copy_unit(&self, lun: u8) -> Copied {
+        let before = self.behind.at(self.rt, lun);
         let places = self.places(lun);
+        if places.is_empty {
+            self.behind.take(self.rt, lun, before);
+        }
         let mut is_kept = places.is_whole;
         for at in &places.found {
             if !self.copy_volume(*at) {
                 is_kept = false;
             }
+        }
+        if !is_kept {
+            self.behind.stick(self.rt, lun);
         }
         Copied {
             is_kept,
@@ -100,25 +112,40 @@ impl<'a, S: ImageStore + Drop, R: Wait, T: TapeSource<Device>, H: KeepListener> 
         }
     }
 
-    /// Copies what a volume has by now, wherever it is moved meanwhile. What is written on behind that isn't waited for, and what was cut
-    /// off meanwhile isn't needed any more.
+    /// Copies what a volume has by now, wherever it is moved meanwhile; into its image alone only so many parts at once, so that the volumes
+    /// of other drives have their turn. What is written on behind that isn't waited for, and what was cut off meanwhile isn't needed any
+    /// more.
     fn copy(&self, kept: &mut KeptImage<S>, at: VolumePlace) -> Result<(), FlushFault> {
         let mut part = TapePart::new(self.alloc)?;
         let mut at = at;
         let mut wanted = u32::MAX;
+        let mut parts = 0u8;
         for _look in self.rt.forever() {
+            let before = self.behind.at(self.rt, at.lun);
             let Some(taken) = self.take_part(kept, at, &mut part) else {
-                at = self.find(at);
+                at = self.find(at)?;
                 continue;
             };
             let range = taken?;
             kept.write_part(range, &part)?;
+            self.note_copied(at.lun, range, &part, before);
             wanted = wanted.min(range.count);
-            if range.end >= wanted {
+            parts = parts.saturating_add(1);
+            if range.end >= wanted || self.depth == Depth::Image && parts >= MOST_PARTS {
                 return Ok(());
             }
         }
         Ok(())
+    }
+
+    /// Notes what isn't behind any more: the part, or where the volume has no more, all that was behind before it was taken.
+    fn note_copied(&self, lun: u8, range: PartRange, part: &TapePart, before: u64) {
+        let copied = if range.end >= range.count {
+            before
+        } else {
+            before.min(part.size() as u64)
+        };
+        self.behind.take(self.rt, lun, copied);
     }
 
     /// Takes the next part of the volume at a place, if it is still there.
@@ -139,13 +166,17 @@ impl<'a, S: ImageStore + Drop, R: Wait, T: TapeSource<Device>, H: KeepListener> 
     }
 
     /// Where a volume is that was moved: no volume leaves the library, but one that is moved again may be seen nowhere.
-    fn find(&self, gone: VolumePlace) -> VolumePlace {
+    fn find(&self, gone: VolumePlace) -> Result<VolumePlace, FlushFault> {
         for lun in 0..self.source.units() {
-            if let Some(at) = self.places(lun).of(gone.tag) {
-                return at;
+            let places = self.places(lun);
+            if let Some(at) = places.of(gone.tag) {
+                return Ok(at);
+            }
+            if !places.is_whole {
+                return Err(FlushFault::NoMemory);
             }
         }
-        gone
+        Ok(gone)
     }
 
     fn tell(&self, tag: VolumeTag, change: KeepChange) {

@@ -1,31 +1,22 @@
 //! Who keeps the tapes of a library.
 
+use crate::behind::Behind;
 use crate::copying::{Copied, Copying, Depth, fault_of_store};
 use crate::kept_image::KeptImage;
 use crate::listing::Listing;
 use crate::store::InventoryStore;
-use crate::unwritten::Unwritten;
 use crate::wish::{Wish, wish_of};
 use library_device::Device;
 use library_inventory::{AddFault, LibrarySize};
 use logical_unit::named;
 use std::alloc::Global;
-use std::sync::{Condvar, Mutex, Wait};
-use std::time::{Clock, Duration};
+use std::sync::{Mutex, Wait};
+use std::time::Clock;
 use tape_flush::ImageStore;
 use tape_keeper::{
     GoodCommand, KeepChange, KeepEvent, KeepFault, KeepListener, KeptThing, TapeKeeper, TapeSource,
 };
 use tape_medium::VolumeTag;
-
-/// Once so many bytes were written to a drive's volume, they are copied without waiting for the time.
-const MANY: u64 = 8 * 1024 * 1024;
-
-/// A command that has written so many waits until they are copied.
-const MOST: u64 = 64 * 1024 * 1024;
-
-/// After so many milliseconds what was written is copied.
-const TURN: u64 = 500;
 
 /// The image of a volume, and whether it couldn't be written the last time.
 #[derive(Drop)]
@@ -66,23 +57,13 @@ struct WatchedInventory<N: InventoryStore + Drop> {
     is_failing: bool,
 }
 
-/// What the thread that copies is to do.
-#[derive(Clone, Copy, Debug, PartialEq, Eq)]
-struct Turn {
-    is_due: bool,
-    is_over: bool,
-}
-
 /// Keeps the tapes of a library, each in its image, and the inventory of where they lie.
 #[derive(Drop)]
 pub struct MediaKeeper<S: ImageStore + Drop, N: InventoryStore + Drop> {
     size: LibrarySize,
     images: Vec<VolumeImage<S>>,
     inventory: Mutex<WatchedInventory<N>>,
-    /// How many bytes were written to each drive's volume since they were copied.
-    unwritten: Unwritten,
-    turn: Mutex<Turn>,
-    asked: Condvar,
+    behind: Behind,
 }
 
 impl<S: ImageStore + Drop, N: InventoryStore + Drop> MediaKeeper<S, N> {
@@ -95,12 +76,7 @@ impl<S: ImageStore + Drop, N: InventoryStore + Drop> MediaKeeper<S, N> {
                 store,
                 is_failing: false,
             }),
-            unwritten: Unwritten::new(),
-            turn: Mutex::new(Turn {
-                is_due: false,
-                is_over: false,
-            }),
-            asked: Condvar::new(),
+            behind: Behind::new(),
         }
     }
 
@@ -114,20 +90,16 @@ impl<S: ImageStore + Drop, N: InventoryStore + Drop> MediaKeeper<S, N> {
         lun: u8,
         depth: Depth,
     ) -> Copied {
-        let bytes = self.unwritten.begin(lun);
         let copying = Copying {
             rt,
             alloc,
             images: &self.images,
+            behind: &self.behind,
             source,
             listener,
             depth,
         };
-        let copied = copying.copy_unit(lun);
-        if !copied.is_kept {
-            self.unwritten.take_back(lun, bytes);
-        }
-        copied
+        copying.copy_unit(lun)
     }
 
     /// Keeps the volumes of all units. Whether all of them are kept.
@@ -163,25 +135,6 @@ impl<S: ImageStore + Drop, N: InventoryStore + Drop> MediaKeeper<S, N> {
             return self.keep_volumes(rt, alloc, source, listener);
         }
         copied.is_kept
-    }
-
-    /// Notes the bytes that were written to a drive's volume, and has them copied where they are many.
-    fn note_written<R: Wait, T: TapeSource<Device>, H: KeepListener>(
-        &self,
-        rt: &R,
-        alloc: Global,
-        source: &T,
-        listener: &H,
-        command: GoodCommand<'_>,
-    ) {
-        let written = self.unwritten.add(command.lun, command.length as u64);
-        if written >= MOST {
-            // What can't be copied is told, and tried again.
-            let _ = self.copy_unit(rt, alloc, source, listener, command.lun, Depth::Image);
-        } else if written >= MANY {
-            self.turn.lock(rt).is_due = true;
-            self.asked.notify_all();
-        }
     }
 
     /// Copies the volumes of the units that a MOVE MEDIUM names, and writes where the volumes lie.
@@ -272,7 +225,7 @@ impl<S: ImageStore + Drop, N: InventoryStore + Drop> TapeKeeper<Device> for Medi
         match wish_of(command.cdb) {
             Wish::Nothing => true,
             Wish::Behind => {
-                self.note_written(rt, alloc, source, listener, command);
+                self.behind.add(rt, command.lun, command.length as u64);
                 true
             }
             Wish::Volume => self.keep_volume(rt, alloc, source, listener, command.lun),
@@ -281,15 +234,7 @@ impl<S: ImageStore + Drop, N: InventoryStore + Drop> TapeKeeper<Device> for Medi
     }
 
     fn await_turn<R: Clock + Wait>(&self, rt: &R) -> bool {
-        let turn = self.turn.lock(rt);
-        let (mut turn, _) = self.asked.wait_timeout_while(
-            rt,
-            turn,
-            Duration::from_millis(TURN),
-            |turn| !turn.is_due && !turn.is_over,
-        );
-        turn.is_due = false;
-        !turn.is_over
+        self.behind.await_turn(rt)
     }
 
     fn write_behind<R: Wait, T: TapeSource<Device>, H: KeepListener>(
@@ -300,15 +245,14 @@ impl<S: ImageStore + Drop, N: InventoryStore + Drop> TapeKeeper<Device> for Medi
         listener: &H,
         lun: u8,
     ) {
-        if self.unwritten.at(lun) > 0 {
+        if self.behind.at(rt, lun) > 0 {
             // What can't be copied is told, and tried again.
             let _ = self.copy_unit(rt, alloc, source, listener, lun, Depth::Image);
         }
     }
 
     fn end<R: Wait>(&self, rt: &R) {
-        self.turn.lock(rt).is_over = true;
-        self.asked.notify_all();
+        self.behind.end(rt);
     }
 
     fn keep_all<R: Wait, T: TapeSource<Device>, H: KeepListener>(

@@ -2,6 +2,7 @@
 //! reply says to be kept is on the disk before it goes out.
 #![tactic(auto)]
 
+mod behind;
 mod copying;
 mod keeper;
 mod kept_image;
@@ -12,7 +13,6 @@ mod part_range;
 mod rows;
 mod start;
 mod store;
-mod unwritten;
 mod wish;
 
 pub use keeper::{MediaKeeper, VolumeImage};

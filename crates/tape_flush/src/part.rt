@@ -46,6 +46,13 @@ impl TapePart {
         self.ends.is_empty()
     }
 
+    /// How many bytes it has.
+    pub fn size(&self) -> usize
+        ensures { result ≡ length self.now.bytes }
+    {
+        self.bytes.len()
+    }
+
     pub(crate) fn bytes(&self) -> &[u8]
         ensures { result.now ≡ self.now.bytes }
     {
