@@ -50,7 +50,7 @@ brought_append (Commanded c payload ∷ xs) ys = ap (λ (l : List Act). Commande
 brought_append (DataCame d payload ∷ xs) ys = ap (λ (l : List Act). DataCame d payload ∷ l) (brought_append xs ys)
 brought_append (Numbered immediate cmd_sn ∷ xs) ys = brought_append xs ys
 brought_append (AskedNext ∷ xs) ys = brought_append xs ys
-brought_append (Aborted tag ∷ xs) ys = brought_append xs ys
+brought_append (Aborted unit tag ∷ xs) ys = brought_append xs ys
 brought_append (Dropped unit ∷ xs) ys = brought_append xs ys
 
 commands_append : (ds es : List DoneValue) → commands_of (ds ++ es) ≡ commands_of ds ++ commands_of es
@@ -116,7 +116,7 @@ act_executes k (Commanded c payload) = command_executes c payload (command_answe
 act_executes k (DataCame d payload) = data_executes (data_answer k d (length payload))
 act_executes k AskedNext = next_executes (next_of k)
 act_executes k (Numbered immediate cmd_sn) = refl
-act_executes k (Aborted tag) = refl
+act_executes k (Aborted unit tag) = refl
 act_executes k (Dropped unit) = refl
 
 does_hands : {S : Type 0} (notes : S → DoneValue → S → Type 0) (n : Nexus) (s t : S) (k : TasksValue) (o : Outcome) (said : List TargetPduValue) → Does notes n s k o said t
@@ -157,8 +157,8 @@ goes_hands {S} notes n (suc times) k k' s t said so =
 number_hands : {S : Type 0} (notes : S → DoneValue → S → Type 0) (n : Nexus) (k k' : TasksValue) (s t : S) (immediate : Bool) (cmd_sn : SerialNumber) → k' ≡ stepped k (Numbered immediate cmd_sn) → t ≡ s → Hands notes n k s [] k' t
 number_hands notes n k k' s t immediate cmd_sn steps still = record { acts = Numbered immediate cmd_sn ∷ []; calls = []; run_is = steps; brought_is = refl; made = still; handed_is = refl }
 
-abort_hands : {S : Type 0} (notes : S → DoneValue → S → Type 0) (n : Nexus) (k k' : TasksValue) (s t : S) (tag : ℕ) → k' ≡ stepped k (Aborted tag) → t ≡ s → Hands notes n k s [] k' t
-abort_hands notes n k k' s t tag steps still = record { acts = Aborted tag ∷ []; calls = []; run_is = steps; brought_is = refl; made = still; handed_is = refl }
+abort_hands : {S : Type 0} (notes : S → DoneValue → S → Type 0) (n : Nexus) (k k' : TasksValue) (s t : S) (unit tag : ℕ) → k' ≡ stepped k (Aborted unit tag) → t ≡ s → Hands notes n k s [] k' t
+abort_hands notes n k k' s t unit tag steps still = record { acts = Aborted unit tag ∷ []; calls = []; run_is = steps; brought_is = refl; made = still; handed_is = refl }
 
 drop_hands : {S : Type 0} (notes : S → DoneValue → S → Type 0) (n : Nexus) (k k' : TasksValue) (s t : S) (unit : ℕ) → k' ≡ stepped k (Dropped unit) → t ≡ s → Hands notes n k s [] k' t
 drop_hands notes n k k' s t unit steps still = record { acts = Dropped unit ∷ []; calls = []; run_is = steps; brought_is = refl; made = still; handed_is = refl }
@@ -181,7 +181,7 @@ below_hands {S} notes n (suc unit) k k' s t so =
 
 aborts_task : {S : Type 0} (notes : S → DoneValue → S → Type 0) (n : Nexus) (k k' : TasksValue) (s t : S) (tag : ℕ) (o : Option ℕ) (result : TaskManagementResult) → AbortsTask k tag o k' result → t ≡ s → Hands notes n k s [] k' t
 aborts_task notes n k k' s t tag None result so still = hands_none notes n k k' s t so.0 still
-aborts_task notes n k k' s t tag (Some unit) result so still = abort_hands notes n k k' s t tag so.0 still
+aborts_task notes n k k' s t tag (Some unit) result so still = abort_hands notes n k k' s t unit tag so.0 still
 
 aborts_set : {S : Type 0} (notes : S → DoneValue → S → Type 0) (n : Nexus) (k k' : TasksValue) (s t : S) (o : Option ℕ) (result : TaskManagementResult) → AbortsTaskSet k o k' result → t ≡ s → Hands notes n k s [] k' t
 aborts_set notes n k k' s t None result so still = hands_none notes n k k' s t so.0 still

@@ -72,7 +72,7 @@ outcome k (Commanded c payload) = command_outcome c payload (tasks.command_answe
 outcome k (DataCame d payload) = data_outcome (data_answer k d (length payload))
 outcome k AskedNext = next_outcome (next_of k)
 outcome k (Numbered immediate cmd_sn) = Nothing
-outcome k (Aborted tag) = Nothing
+outcome k (Aborted unit tag) = Nothing
 outcome k (Dropped unit) = Nothing
 
 -- what an answer takes from its command, of whose data so many bytes were handed over

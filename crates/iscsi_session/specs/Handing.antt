@@ -18,7 +18,7 @@ brought (Commanded c payload ∷ acts) = Commanded c payload ∷ brought acts
 brought (DataCame d payload ∷ acts) = DataCame d payload ∷ brought acts
 brought (Numbered immediate cmd_sn ∷ acts) = brought acts
 brought (AskedNext ∷ acts) = brought acts
-brought (Aborted tag ∷ acts) = brought acts
+brought (Aborted unit tag ∷ acts) = brought acts
 brought (Dropped unit ∷ acts) = brought acts
 
 -- and among PDUs

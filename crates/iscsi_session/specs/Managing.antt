@@ -14,8 +14,8 @@ use Rattle.iscsi_pdu.specs.declared.task_management_request.TaskManagementReques
 use Rattle.iscsi_pdu.specs.declared.task_management_result.TaskManagementResult.{TaskManagementResult}
 use Rattle.iscsi_pdu.specs.declared.task_management_result.TaskManagementResult.TheVariants.{FunctionComplete, TaskDoesNotExist, LunDoesNotExist, TaskAllegianceReassignmentNotSupported, FunctionNotSupported, FunctionRejected}
 use Rattle.iscsi_tasks.specs.Values.{TasksValue}
-use Rattle.iscsi_tasks.specs.Commands.{is_taken, is_waiting, counted}
-use Rattle.iscsi_tasks.specs.Aborts.{without_task, without_unit}
+use Rattle.iscsi_tasks.specs.Commands.{is_taken, counted}
+use Rattle.iscsi_tasks.specs.Aborts.{is_waiting_at, without_task, without_unit}
 use Rattle.iscsi_answers.specs.Single.{task_management_answer}
 use Rattle.iscsi_session.specs.Executing.{numbers}
 
@@ -41,9 +41,10 @@ abbrev pub unit_below : (units : ℕ) → Option ℕ → Option ℕ
 unit_below units None = None
 unit_below units (Some unit) = if nat_lt unit units then Some unit else None
 
+-- a task at another unit isn't there, whatever its tag
 abbrev pub AbortsTask : TasksValue → (tag : ℕ) → Option ℕ → TasksValue → TaskManagementResult → Type 0
 AbortsTask k tag None k' result = (k' ≡ k) × (result ≡ LunDoesNotExist)
-AbortsTask k tag (Some unit) k' result = (k' ≡ without_task k tag) × (result ≡ (if is_waiting k tag then FunctionComplete else TaskDoesNotExist))
+AbortsTask k tag (Some unit) k' result = (k' ≡ without_task k unit tag) × (result ≡ (if is_waiting_at k unit tag then FunctionComplete else TaskDoesNotExist))
 
 abbrev pub AbortsTaskSet : TasksValue → Option ℕ → TasksValue → TaskManagementResult → Type 0
 AbortsTaskSet k None k' result = (k' ≡ k) × (result ≡ LunDoesNotExist)

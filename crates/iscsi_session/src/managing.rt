@@ -77,13 +77,10 @@ fn unit_below(units: u8, named: Option<u8>) -> Option<u8>
 fn abort_task(tasks: &mut Tasks, tag: u32, unit: Option<u8>) -> TaskManagementResult
     ensures { AbortsTask tasks.old tag unit tasks.new result }
 {
-    if unit.is_none() {
-        return TaskManagementResult::LunDoesNotExist;
-    }
-    if tasks.abort_task(tag) {
-        TaskManagementResult::FunctionComplete
-    } else {
-        TaskManagementResult::TaskDoesNotExist
+    match unit {
+        Some(unit) if tasks.abort_task(unit, tag) => TaskManagementResult::FunctionComplete,
+        Some(_) => TaskManagementResult::TaskDoesNotExist,
+        None => TaskManagementResult::LunDoesNotExist,
     }
 }
 

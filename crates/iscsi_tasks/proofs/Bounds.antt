@@ -23,7 +23,7 @@ use Rattle.iscsi_tasks.specs.Writes.{data_fault}
 use Rattle.iscsi_tasks.specs.Commands.{has_tag, is_taken, counted, after_command, command_answer, begun_task, is_waiting, is_at_once, remembered, most_waiting, most_held, room_for, waits_if, IsBounded}
 use Rattle.iscsi_tasks.specs.DataOuts.{unless_data_fault, task_at, task_after, tasks_after, data_answer, after_data, answer_among}
 use Rattle.iscsi_tasks.specs.Next.{is_whole, left_at, left_for, without_first, with_first_asked}
-use Rattle.iscsi_tasks.specs.Aborts.{is_at}
+use Rattle.iscsi_tasks.specs.Aborts.{is_at, is_named, is_waiting_at}
 use Rattle.iscsi_tasks.specs.Runs.{Act, Numbered, Commanded, DataCame, AskedNext, Aborted, Dropped, stepped, run}
 use Rattle.iscsi_tasks.proofs.Order.{count_waits}
 
@@ -170,9 +170,9 @@ step_bounded s (Commanded c payload) b =
     (only_room _ _ (is_at_once s c (length payload)) _ (room_for s.waiting (length (begun_task s.parameters c payload).bytes))) b
 step_bounded s (DataCame d payload) b = after_data_bounded s d payload (data_answer s d (length payload)) refl b
 step_bounded s AskedNext b = next_bounded s s.waiting refl b
-step_bounded s (Aborted tag) b =
-    either_bounded (is_waiting s tag) (record s { waiting = filter (λ t. not (has_tag tag t)) s.waiting; passed_over = remembered s.passed_over tag }) s
-    (filter_bounded (λ (t : TaskValue). not (has_tag tag t)) s.waiting b) b
+step_bounded s (Aborted unit tag) b =
+    either_bounded (is_waiting_at s unit tag) (record s { waiting = filter (λ t. not (is_named unit tag t)) s.waiting; passed_over = remembered s.passed_over tag }) s
+    (filter_bounded (λ (t : TaskValue). not (is_named unit tag t)) s.waiting b) b
 step_bounded s (Dropped unit) b = filter_bounded (λ (t : TaskValue). not (is_at unit t)) s.waiting b
 
 run_bounded : (s : TasksValue) (acts : List Act) → IsBounded s.waiting → IsBounded (run s acts).waiting

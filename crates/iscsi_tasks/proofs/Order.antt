@@ -22,7 +22,7 @@ use Rattle.iscsi_tasks.specs.Writes.{data_fault}
 use Rattle.iscsi_tasks.specs.Commands.{has_tag, is_taken, counted, after_command, command_answer, begun_task, is_waiting, remembered, room_for, waits_if}
 use Rattle.iscsi_tasks.specs.DataOuts.{unless_data_fault, task_at, task_after, tasks_after, data_answer, after_data}
 use Rattle.iscsi_tasks.specs.Next.{is_whole, next_at, left_at, next_for, left_for, handed, request, without_first, with_first_asked}
-use Rattle.iscsi_tasks.specs.Aborts.{is_at, without_task}
+use Rattle.iscsi_tasks.specs.Aborts.{is_at, is_named, is_waiting_at, without_task}
 use Rattle.iscsi_tasks.specs.Runs.{Act, Numbered, Commanded, DataCame, AskedNext, Aborted, Dropped, stepped, run, Executed, executed, executed_by, at_once, found_next, commands, handed_next, handed_at_once, handed_by, handed_out, taken_if, taken_by, taken_in, EndsNone, IsPartOf}
 use Rattle.iscsi_tasks.proofs.Parts.{whole, part_start, part_both, part_join, part_filter}
 
@@ -139,10 +139,10 @@ next_keeps s (t ∷ ts) e = at_keeps s t ts t.awaiting e
 
 -- ---- aborts
 
-aborted_part : (s : TasksValue) (tag : ℕ) (b : Bool)
-    → IsPartOf (commands (cond b (record s { waiting = filter (λ t. not (has_tag tag t)) s.waiting; passed_over = remembered s.passed_over tag }) s).waiting) (commands s.waiting)
-aborted_part s tag true = part_filter (λ (t : TaskValue). t.command) (λ (t : TaskValue). not (has_tag tag t)) s.waiting
-aborted_part s tag false = whole (commands s.waiting)
+aborted_part : (s : TasksValue) (unit tag : ℕ) (b : Bool)
+    → IsPartOf (commands (cond b (record s { waiting = filter (λ t. not (is_named unit tag t)) s.waiting; passed_over = remembered s.passed_over tag }) s).waiting) (commands s.waiting)
+aborted_part s unit tag true = part_filter (λ (t : TaskValue). t.command) (λ (t : TaskValue). not (is_named unit tag t)) s.waiting
+aborted_part s unit tag false = whole (commands s.waiting)
 
 -- ---- runs
 
@@ -151,14 +151,14 @@ step_keeps s (Numbered immediate cmd_sn) none = numbered_keeps s immediate (is_t
 step_keeps s (Commanded c payload) none = commanded_keeps s c payload (command_answer s c payload) (at_once_alone s c payload)
 step_keeps s (DataCame d payload) none = same _ _ (data_orders s d payload (data_answer s d (length payload)))
 step_keeps s AskedNext none = next_keeps s s.waiting refl
-step_keeps s (Aborted tag) none = absurd none
+step_keeps s (Aborted unit tag) none = absurd none
 step_keeps s (Dropped unit) none = absurd none
 
 step_kept : (s : TasksValue) (act : Act) → EndsNone act → Orders (handed_by s act) (commands (stepped s act).waiting) (commands s.waiting) (taken_by s act)
 step_kept s act none = kept_order (handed_by s act) (commands (stepped s act).waiting) (commands s.waiting) (taken_by s act) (step_keeps s act none)
 
 step_orders : (s : TasksValue) (act : Act) → Orders (handed_by s act) (commands (stepped s act).waiting) (commands s.waiting) (taken_by s act)
-step_orders s (Aborted tag) = fewer _ _ (aborted_part s tag (is_waiting s tag))
+step_orders s (Aborted unit tag) = fewer _ _ (aborted_part s unit tag (is_waiting_at s unit tag))
 step_orders s (Dropped unit) = fewer _ _ (part_filter (λ (t : TaskValue). t.command) (λ (t : TaskValue). not (is_at unit t)) s.waiting)
 step_orders s (Numbered immediate cmd_sn) = step_kept s (Numbered immediate cmd_sn) tt
 step_orders s (Commanded c payload) = step_kept s (Commanded c payload) tt
@@ -207,7 +207,7 @@ executed_step s (Numbered immediate cmd_sn) = tt
 executed_step s (Commanded c payload) = executed_at_once c payload (command_answer s c payload)
 executed_step s (DataCame d payload) = tt
 executed_step s AskedNext = executed_next (next_for s (slice_get s.waiting 0))
-executed_step s (Aborted tag) = tt
+executed_step s (Aborted unit tag) = tt
 executed_step s (Dropped unit) = tt
 
 pub all_executed : (s : TasksValue) (acts : List Act) → IsPartOf (map (λ e. e.command) (executed s acts)) (handed_out s acts)
@@ -220,12 +220,12 @@ all_executed s (act ∷ acts) =
 
 -- ---- after an abort
 
-abort_waits : (s : TasksValue) (tag : ℕ) → is_waiting s tag ≡ true → (without_task s tag).waiting ≡ filter (λ t. not (has_tag tag t)) s.waiting
-abort_waits s tag e =
-    ap (λ (b : Bool). (cond b (record s { waiting = filter (λ t. not (has_tag tag t)) s.waiting; passed_over = remembered s.passed_over tag }) s).waiting) e
+abort_waits : (s : TasksValue) (unit tag : ℕ) → is_waiting_at s unit tag ≡ true → (without_task s unit tag).waiting ≡ filter (λ t. not (is_named unit tag t)) s.waiting
+abort_waits s unit tag e =
+    ap (λ (b : Bool). (cond b (record s { waiting = filter (λ t. not (is_named unit tag t)) s.waiting; passed_over = remembered s.passed_over tag }) s).waiting) e
 
-pub after_abort : (s : TasksValue) (tag : ℕ) (acts : List Act) → is_waiting s tag ≡ true
-    → IsPartOf (handed_out (without_task s tag) acts) (commands (filter (λ t. not (has_tag tag t)) s.waiting) ++ taken_in (without_task s tag) acts)
-after_abort s tag acts e =
-    let P : List TaskValue → Type 0 = λ ts. IsPartOf (handed_out (without_task s tag) acts) (commands ts ++ taken_in (without_task s tag) acts) in
-    subst P (abort_waits s tag e) (all_handed (without_task s tag) acts)
+pub after_abort : (s : TasksValue) (unit tag : ℕ) (acts : List Act) → is_waiting_at s unit tag ≡ true
+    → IsPartOf (handed_out (without_task s unit tag) acts) (commands (filter (λ t. not (is_named unit tag t)) s.waiting) ++ taken_in (without_task s unit tag) acts)
+after_abort s unit tag acts e =
+    let P : List TaskValue → Type 0 = λ ts. IsPartOf (handed_out (without_task s unit tag) acts) (commands ts ++ taken_in (without_task s unit tag) acts) in
+    subst P (abort_waits s unit tag e) (all_handed (without_task s unit tag) acts)

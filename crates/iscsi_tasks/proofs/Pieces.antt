@@ -24,7 +24,7 @@ use Rattle.iscsi_tasks.specs.Writes.{wanted, first_awaited, data_fault}
 use Rattle.iscsi_tasks.specs.Commands.{has_tag, is_taken, counted, after_command, command_answer, begun_task, unless_failed, is_waiting, is_whole_at, remembered, room_for, waits_if}
 use Rattle.iscsi_tasks.specs.DataOuts.{unless_data_fault, task_at, task_after, tasks_after, data_answer, after_data}
 use Rattle.iscsi_tasks.specs.Next.{is_whole, next_at, left_at, next_for, left_for, handed, request, without_first, with_first_asked}
-use Rattle.iscsi_tasks.specs.Aborts.{is_at}
+use Rattle.iscsi_tasks.specs.Aborts.{is_at, is_named, is_waiting_at}
 use Rattle.iscsi_tasks.specs.Runs.{Act, Numbered, Commanded, DataCame, AskedNext, Aborted, Dropped, stepped, Executed, executed, executed_by, at_once, found_next, Piece, piece_if, pieces_of, Continue, together, IsMadeOf, IsPartOf}
 use Rattle.iscsi_tasks.proofs.Parts.{part_behind, part_late, part_more, whole}
 use Rattle.iscsi_tasks.proofs.Order.{count_waits}
@@ -52,7 +52,7 @@ pieces_of-append tag (Commanded c payload ∷ h) g = piece-append (c.initiator_t
 pieces_of-append tag (DataCame d payload ∷ h) g = piece-append (d.initiator_task_tag == tag) d.buffer_offset payload _ _ _ (pieces_of-append tag h g)
 pieces_of-append tag (Numbered immediate cmd_sn ∷ h) g = pieces_of-append tag h g
 pieces_of-append tag (AskedNext ∷ h) g = pieces_of-append tag h g
-pieces_of-append tag (Aborted aborted ∷ h) g = pieces_of-append tag h g
+pieces_of-append tag (Aborted unit aborted ∷ h) g = pieces_of-append tag h g
 pieces_of-append tag (Dropped unit ∷ h) g = pieces_of-append tag h g
 
 later : (tag : ℕ) (ps : List Piece) (h g : List Act) → IsPartOf ps (pieces_of tag h) → IsPartOf ps (pieces_of tag (h ++ g))
@@ -226,10 +226,10 @@ filter_has : (h : List Act) (test : TaskValue → Bool) (ts : List TaskValue) �
 filter_has h test [] has = tt
 filter_has h test (t ∷ ts) has = filtered_has h t (filter test ts) (test t) has.0 (filter_has h test ts has.1)
 
-aborted_has : (h : List Act) (s : TasksValue) (tag : ℕ) (b : Bool) → AllHaveData h s.waiting
-    → AllHaveData h (cond b (record s { waiting = filter (λ t. not (has_tag tag t)) s.waiting; passed_over = remembered s.passed_over tag }) s).waiting
-aborted_has h s tag true has = filter_has h (λ (t : TaskValue). not (has_tag tag t)) s.waiting has
-aborted_has h s tag false has = has
+aborted_has : (h : List Act) (s : TasksValue) (unit tag : ℕ) (b : Bool) → AllHaveData h s.waiting
+    → AllHaveData h (cond b (record s { waiting = filter (λ t. not (is_named unit tag t)) s.waiting; passed_over = remembered s.passed_over tag }) s).waiting
+aborted_has h s unit tag true has = filter_has h (λ (t : TaskValue). not (is_named unit tag t)) s.waiting has
+aborted_has h s unit tag false has = has
 
 numbered_has : (h : List Act) (s : TasksValue) (immediate b : Bool) → AllHaveData h s.waiting → AllHaveData h (cond b (counted s immediate) s).waiting
 numbered_has h s immediate true has = subst (AllHaveData h) (sym (count_waits s immediate)) has
@@ -240,7 +240,7 @@ step_has h s (Numbered immediate cmd_sn) has = numbered_has _ s immediate (is_ta
 step_has h s (Commanded c payload) has = commanded_has h s c payload (command_answer s c payload) has
 step_has h s (DataCame d payload) has = after_data_has h s d payload (data_answer s d (length payload)) has
 step_has h s AskedNext has = next_has h s s.waiting refl has
-step_has h s (Aborted tag) has = aborted_has _ s tag (is_waiting s tag) (all_keep h _ s.waiting has)
+step_has h s (Aborted unit tag) has = aborted_has _ s unit tag (is_waiting_at s unit tag) (all_keep h _ s.waiting has)
 step_has h s (Dropped unit) has = filter_has _ (λ (t : TaskValue). not (is_at unit t)) s.waiting (all_keep h _ s.waiting has)
 
 -- ---- what is executed
@@ -330,7 +330,7 @@ step_made h s (Numbered immediate cmd_sn) has = tt
 step_made h s (Commanded c payload) has = at_once_made s.limit h c payload (command_answer s c payload) (at_once_facts s c payload)
 step_made h s (DataCame d payload) has = tt
 step_made h s AskedNext has = next_made h s s.waiting has
-step_made h s (Aborted tag) has = tt
+step_made h s (Aborted unit tag) has = tt
 step_made h s (Dropped unit) has = tt
 
 -- ---- the limit stays
@@ -369,8 +369,8 @@ limit_stays s (Numbered immediate cmd_sn) = either_limit (is_taken s immediate c
 limit_stays s (Commanded c payload) = command_limit s c payload (command_answer s c payload)
 limit_stays s (DataCame d payload) = data_limit s d payload (data_answer s d (length payload))
 limit_stays s AskedNext = next_limit s (slice_get s.waiting 0)
-limit_stays s (Aborted tag) =
-    either_limit (is_waiting s tag) s (record s { waiting = filter (λ t. not (has_tag tag t)) s.waiting; passed_over = remembered s.passed_over tag }) s refl refl
+limit_stays s (Aborted unit tag) =
+    either_limit (is_waiting_at s unit tag) s (record s { waiting = filter (λ t. not (is_named unit tag t)) s.waiting; passed_over = remembered s.passed_over tag }) s refl refl
 limit_stays s (Dropped unit) = refl
 
 -- ---- runs

@@ -18,7 +18,7 @@ use Rattle.iscsi_tasks.specs.Windows.{numbered, max_cmd_sn}
 use Rattle.iscsi_tasks.specs.Commands.{has_tag, is_taken, counted, after_command, command_answer, begun_task, is_waiting, remembered, IsBounded}
 use Rattle.iscsi_tasks.specs.DataOuts.{tasks_after, data_answer, after_data}
 use Rattle.iscsi_tasks.specs.Next.{is_whole, asked, left_at, left_for, without_first, with_first_asked}
-use Rattle.iscsi_tasks.specs.Aborts.{is_at}
+use Rattle.iscsi_tasks.specs.Aborts.{is_at, is_named, is_waiting_at}
 use Rattle.iscsi_tasks.specs.Runs.{Act, Numbered, Commanded, DataCame, AskedNext, Aborted, Dropped, stepped, run, commands}
 use Rattle.iscsi_tasks.proofs.Order.{data_commands}
 use Rattle.iscsi_tasks.proofs.Bounds.{all_bounded, step_bounded}
@@ -130,9 +130,9 @@ step_moves s (Numbered immediate cmd_sn) small =
 step_moves s (Commanded c payload) small = commanded_moves s c payload (command_answer s c payload) small
 step_moves s (DataCame d payload) small = data_moves s d payload (data_answer s d (length payload)) small
 step_moves s AskedNext small = next_moves s s.waiting refl small
-step_moves s (Aborted tag) small =
-    either_moves _ _ (is_waiting s tag) (record s { waiting = filter (λ t. not (has_tag tag t)) s.waiting; passed_over = remembered s.passed_over tag }) s
-    (stays _ _ _ small (filter_numbered (λ (t : TaskValue). not (has_tag tag t)) s.waiting)) (stays _ _ _ small (omega arith))
+step_moves s (Aborted unit tag) small =
+    either_moves _ _ (is_waiting_at s unit tag) (record s { waiting = filter (λ t. not (is_named unit tag t)) s.waiting; passed_over = remembered s.passed_over tag }) s
+    (stays _ _ _ small (filter_numbered (λ (t : TaskValue). not (is_named unit tag t)) s.waiting)) (stays _ _ _ small (omega arith))
 step_moves s (Dropped unit) small = stays _ _ _ small (filter_numbered (λ (t : TaskValue). not (is_at unit t)) s.waiting)
 
 -- ---- on the circle

@@ -1,16 +1,12 @@
 -- Tasks that end without having been executed (RFC 7143, "Task Management Function Request").
-use Rattle.std.specs.Prelude.{ℕ, ◌==◌, Bool, false, not, List, [], ◌∷◌, filter, Option, Some, None, if◌then◌else◌}
+use Rattle.std.specs.Prelude.{ℕ, ◌==◌, Bool, false, not, ◌&&◌, List, [], ◌∷◌, filter, Option, Some, None, if◌then◌else◌}
+use Rattle.std.specs.List.{list_any}
 use Rattle.iscsi_pdu.specs.Luns.{unit_of}
 use Rattle.iscsi_tasks.specs.Values.{TaskValue, TasksValue}
-use Rattle.iscsi_tasks.specs.Commands.{has_tag, is_waiting, remembered}
+use Rattle.iscsi_tasks.specs.Commands.{has_tag, remembered}
 
 abbrev pub tag_of : TaskValue → ℕ
 tag_of t = t.command.initiator_task_tag
-
--- its Data-Out that are under way are passed over
-abbrev pub without_task : TasksValue → (tag : ℕ) → TasksValue
-without_task s tag =
-    if is_waiting s tag then record s { waiting = filter (λ t. not (has_tag tag t)) s.waiting; passed_over = remembered s.passed_over tag } else s
 
 abbrev pub is_unit : (unit : ℕ) → Option ℕ → Bool
 is_unit unit None = false
@@ -18,6 +14,18 @@ is_unit unit (Some own) = own == unit
 
 abbrev pub is_at : (unit : ℕ) → TaskValue → Bool
 is_at unit t = is_unit unit (unit_of t.command.lun)
+
+-- a task is named by its unit and its tag
+abbrev pub is_named : (unit tag : ℕ) → TaskValue → Bool
+is_named unit tag t = has_tag tag t && is_at unit t
+
+abbrev pub is_waiting_at : TasksValue → (unit tag : ℕ) → Bool
+is_waiting_at s unit tag = list_any (is_named unit tag) s.waiting
+
+-- its Data-Out that are under way are passed over
+abbrev pub without_task : TasksValue → (unit tag : ℕ) → TasksValue
+without_task s unit tag =
+    if is_waiting_at s unit tag then record s { waiting = filter (λ t. not (is_named unit tag t)) s.waiting; passed_over = remembered s.passed_over tag } else s
 
 -- the tags of those at the unit
 abbrev pub remembered_at : (unit : ℕ) → (tags : List ℕ) → List TaskValue → List ℕ

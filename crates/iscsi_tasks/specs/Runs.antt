@@ -21,7 +21,7 @@ pub data Act : Type 0 where
   Commanded : ScsiCommand → (payload : List ℕ) → Act
   DataCame : DataOut → (payload : List ℕ) → Act
   AskedNext : Act
-  Aborted : (tag : ℕ) → Act
+  Aborted : (unit tag : ℕ) → Act
   Dropped : (unit : ℕ) → Act
 
 abbrev pub stepped : TasksValue → Act → TasksValue
@@ -29,7 +29,7 @@ stepped s (Numbered immediate cmd_sn) = if is_taken s immediate cmd_sn then coun
 stepped s (Commanded c payload) = after_command s c payload (command_answer s c payload)
 stepped s (DataCame d payload) = after_data s d payload (data_answer s d (length payload))
 stepped s AskedNext = after_next s
-stepped s (Aborted tag) = without_task s tag
+stepped s (Aborted unit tag) = without_task s unit tag
 stepped s (Dropped unit) = without_unit s unit
 
 abbrev pub run : TasksValue → List Act → TasksValue
@@ -97,7 +97,7 @@ taken_in s (act ∷ acts) = taken_by s act ++ taken_in (stepped s act) acts
 
 -- no command goes unexecuted by task management
 abbrev pub EndsNone : Act → Type 0
-EndsNone (Aborted tag) = ⊥
+EndsNone (Aborted unit tag) = ⊥
 EndsNone (Dropped unit) = ⊥
 EndsNone _ = Unit {0}
 
@@ -122,7 +122,7 @@ pieces_of tag (Commanded c payload ∷ acts) = piece_if (c.initiator_task_tag ==
 pieces_of tag (DataCame d payload ∷ acts) = piece_if (d.initiator_task_tag == tag) d.buffer_offset payload (pieces_of tag acts)
 pieces_of tag (Numbered immediate cmd_sn ∷ acts) = pieces_of tag acts
 pieces_of tag (AskedNext ∷ acts) = pieces_of tag acts
-pieces_of tag (Aborted aborted ∷ acts) = pieces_of tag acts
+pieces_of tag (Aborted unit aborted ∷ acts) = pieces_of tag acts
 pieces_of tag (Dropped unit ∷ acts) = pieces_of tag acts
 
 -- each begins where the one before ends

@@ -5,8 +5,8 @@ ghost use Rattle.iscsi_pdu.specs.declared.serial_number.SerialNumber.{SerialNumb
 ghost use Rattle.iscsi_keys.specs.declared.parameters.SessionParameters.{SessionParameters};
 ghost use Rattle.iscsi_tasks.specs.Values.{TasksValue, begun_tasks};
 ghost use Rattle.iscsi_tasks.specs.Windows.{max_cmd_sn};
-ghost use Rattle.iscsi_tasks.specs.Commands.{has_tag, is_waiting, IsBounded};
-ghost use Rattle.iscsi_tasks.specs.Aborts.{is_at, without_task, without_unit};
+ghost use Rattle.iscsi_tasks.specs.Commands.{IsBounded};
+ghost use Rattle.iscsi_tasks.specs.Aborts.{is_at, is_named, is_waiting_at, without_task, without_unit};
 ghost use Rattle.iscsi_tasks.specs.Runs.{Act, run, stepped, commands, handed_out, taken_in, executed, EndsNone, IsPartOf, IsMadeOf};
 
 /// Law: commands are handed out in the order in which they were taken, none of them twice, and those that still wait come behind
@@ -19,7 +19,7 @@ pub fn commands_in_order()
 
 /// Law: no command is handed out that was aborted, or that was dropped with its unit.
 pub fn aborted_is_gone()
-    ensures task { (s : TasksValue) (tag : ℕ) (acts : List Act) → is_waiting s tag ≡ true → IsPartOf (handed_out (without_task s tag) acts) (commands (filter (λ t. not (has_tag tag t)) s.waiting) ++ taken_in (without_task s tag) acts) }
+    ensures task { (s : TasksValue) (unit tag : ℕ) (acts : List Act) → is_waiting_at s unit tag ≡ true → IsPartOf (handed_out (without_task s unit tag) acts) (commands (filter (λ t. not (is_named unit tag t)) s.waiting) ++ taken_in (without_task s unit tag) acts) }
     ensures unit { (s : TasksValue) (unit : ℕ) (acts : List Act) → IsPartOf (handed_out (without_unit s unit) acts) (commands (filter (λ t. not (is_at unit t)) s.waiting) ++ taken_in (without_unit s unit) acts) }
 {}
 

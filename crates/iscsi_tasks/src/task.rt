@@ -32,7 +32,7 @@ impl Task {
     ghost use Rattle.iscsi_tasks.specs.Writes.{data_fault};
     ghost use Rattle.iscsi_tasks.specs.Commands.{begun_task};
     ghost use Rattle.iscsi_tasks.specs.DataOuts.{task_after, task_answer, fault_answer, unless_data_fault, with_fault};
-    ghost use Rattle.iscsi_tasks.specs.Aborts.{is_at};
+    ghost use Rattle.iscsi_tasks.specs.Aborts.{is_at, is_named};
     ghost use Rattle.iscsi_tasks.specs.Next.{request, asked, handed, is_whole};
 
     /// The command, as its PDU tells it.
@@ -57,6 +57,13 @@ impl Task {
             Some(own) => own == unit,
             None => false,
         }
+    }
+
+    /// Whether it is the one at the unit that has the tag.
+    pub(crate) fn is_named(&self, unit: u8, tag: u32) -> bool
+        ensures { result ≡ is_named unit tag self.now }
+    {
+        self.command.initiator_task_tag == tag && self.is_at(unit)
     }
 
     pub(crate) fn awaiting(&self) -> Awaiting

@@ -50,10 +50,10 @@ impl Tasks {
     ghost use Rattle.iscsi_tasks.specs.declared.fault.TasksFault.TheVariants.{NoMemory};
     ghost use Rattle.iscsi_tasks.specs.Values.{begun_tasks};
     ghost use Rattle.iscsi_tasks.specs.Windows.{max_cmd_sn};
-    ghost use Rattle.iscsi_tasks.specs.Commands.{is_taken, counted, is_waiting, is_at_once, command_answer, after_command, IsWithin};
+    ghost use Rattle.iscsi_tasks.specs.Commands.{is_taken, counted, is_at_once, command_answer, after_command, IsWithin};
     ghost use Rattle.iscsi_tasks.specs.DataOuts.{data_answer, after_data};
     ghost use Rattle.iscsi_tasks.specs.Next.{next_of, after_next};
-    ghost use Rattle.iscsi_tasks.specs.Aborts.{without_task, without_unit};
+    ghost use Rattle.iscsi_tasks.specs.Aborts.{is_waiting_at, without_task, without_unit};
 
     /// Of a session that begins, whose units take so many bytes of data of a command at most.
     pub fn new(
@@ -204,16 +204,16 @@ impl Tasks {
         }
     }
 
-    /// Lets the command with the tag go unexecuted, if it waits. Its Data-Out that are under way are passed over.
-    pub fn abort_task(&mut self, initiator_task_tag: u32) -> bool
-        ensures found { result ≡ is_waiting self.old initiator_task_tag }
-        ensures state { self.new ≡ without_task self.old initiator_task_tag }
+    /// Lets the command with the tag at a unit go unexecuted, if it waits. Its Data-Out that are under way are passed over.
+    pub fn abort_task(&mut self, unit: u8, initiator_task_tag: u32) -> bool
+        ensures found { result ≡ is_waiting_at self.old unit initiator_task_tag }
+        ensures state { self.new ≡ without_task self.old unit initiator_task_tag }
     {
-        if !is_waiting(self.waiting.as_slice(), initiator_task_tag) {
+        if !is_waiting_at(self.waiting.as_slice(), unit, initiator_task_tag) {
             return false;
         }
         self.passed_over.remember(initiator_task_tag);
-        drop_tagged(&mut self.waiting, initiator_task_tag);
+        drop_named(&mut self.waiting, unit, initiator_task_tag);
         true
     }
 

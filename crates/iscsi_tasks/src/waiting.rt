@@ -1,11 +1,12 @@
 //! The tasks that wait, as a list.
 ghost use Rattle.std.specs.Prelude.{◌≡◌, ◌≢◌, ◌≤◌, ◌+◌, ◌++◌, ◌∷◌, [], nat_le, not, is_some, filter, length, vec_len, position, Some, Err, IfOk, OnOk, OnErr};
+ghost use Rattle.std.specs.List.{list_any};
 ghost use Rattle.iscsi_tasks.specs.declared.fault.TasksFault.TheVariants.{NoMemory};
 ghost use Rattle.iscsi_tasks.specs.Values.{held};
 ghost use Rattle.iscsi_tasks.specs.Windows.{numbered};
 ghost use Rattle.iscsi_tasks.specs.Commands.{has_tag, most_held, room_for};
 ghost use Rattle.iscsi_tasks.specs.DataOuts.{answer_among, tasks_after};
-ghost use Rattle.iscsi_tasks.specs.Aborts.{is_at, remembered_at};
+ghost use Rattle.iscsi_tasks.specs.Aborts.{is_at, is_named, remembered_at};
 
 use crate::fault::TasksFault;
 use crate::passed_over::PassedOver;
@@ -93,12 +94,19 @@ pub(crate) fn take_at(
     task.take(data_out, payload)
 }
 
-/// Drops the tasks that have the tag.
-pub(crate) fn drop_tagged(waiting: &mut Vec<Task>, tag: u32)
-    ensures left { waiting.new.items ≡ filter (λ t. not (has_tag tag t)) waiting.old.items }
+/// Whether one at the unit has the tag.
+pub(crate) fn is_waiting_at(waiting: &[Task], unit: u8, tag: u32) -> bool
+    ensures { result ≡ list_any (is_named unit tag) waiting.now }
+{
+    waiting.iter().any(|task| task.is_named(unit, tag))
+}
+
+/// Drops the task at a unit that has the tag.
+pub(crate) fn drop_named(waiting: &mut Vec<Task>, unit: u8, tag: u32)
+    ensures left { waiting.new.items ≡ filter (λ t. not (is_named unit tag t)) waiting.old.items }
     ensures most { vec_len waiting.new ≤ vec_len waiting.old }
 {
-    waiting.retain(|task| task.command().initiator_task_tag != tag);
+    waiting.retain(|task| !task.is_named(unit, tag));
 }
 
 /// Drops the tasks at a unit.

@@ -116,10 +116,14 @@ type Function = (&'static str, u32, u64, u32, u32, &'static [u8], bool);
 const NONE: u32 = 0xFFFF_FFFF;
 
 /// The units are absent here, and say so, or have no room: no reset is complete.
-const FUNCTIONS: [Function; 21] = [
+const FUNCTIONS: [Function; 25] = [
     ("ABORT TASK", 0x81, 0, 2, 0, b"", false),
     ("ABORT TASK, no task", 0x81, 0, 9, 1, b"", true),
+    ("ABORT TASK elsewhere", 0x81, ONE, 2, 1, b"", true),
+    ("ABORT TASK, no task elsewhere", 0x81, ONE, 9, 1, b"", true),
+    ("ABORT TASK, flat LUN", 0x81, FLAT_ZERO, 2, 0, b"", false),
     ("ABORT TASK, no unit", 0x81, TWO, 2, 2, b"", true),
+    ("ABORT TASK, two levels", 0x81, TWO_LEVELS, 2, 2, b"", true),
     ("ABORT TASK SET", 0x82, 0, NONE, 0, b"", false),
     (
         "ABORT TASK SET, flat LUN",

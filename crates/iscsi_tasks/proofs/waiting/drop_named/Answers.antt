@@ -1,10 +1,10 @@
 use Rattle.std.proofs.Common.{not, rules}
 use Rattle.std.proofs.lemmas.Fn.{filter_same}
 use Rattle.iscsi_tasks.specs.Values.{TaskValue}
-use Rattle.iscsi_tasks.specs.Commands.{has_tag}
-use Rattle.iscsi_tasks.proofs.waiting.drop_tagged.Goals as goal
+use Rattle.iscsi_tasks.specs.Aborts.{is_named}
+use Rattle.iscsi_tasks.proofs.waiting.drop_named.Goals as goal
 
 pub returns-clause-left : goal.returns-clause-left
 returns-clause-left c =
-    let test = λ (t : TaskValue). not (has_tag c.args.tag t) in
+    let test = λ (t : TaskValue). not (is_named c.args.unit c.args.tag t) in
     filter_same _ test _ (λ x b f called. (search rules, search rules)) _ _ c.retain.ensures.filtered
