@@ -11,12 +11,12 @@ use Rattle.iscsi_keys.specs.Texts.{ItemValue, End, Pair, Invalid, first_item, it
 use Rattle.iscsi_keys.specs.Negotiations.{answered, negotiated}
 use Rattle.iscsi_keys.specs.declared.answer.KeyAnswer.{KeyAnswer}
 use Rattle.iscsi_keys.specs.declared.answer.KeyAnswer.TheVariants as answer
+use Rattle.iscsi_keys.specs.declared.key.Key.TheVariants as key
 use Rattle.iscsi_keys.specs.declared.negotiation.Negotiation.{Negotiation}
 use Rattle.iscsi_login.specs.Admissions.{entry_of}
 use Rattle.iscsi_login.specs.ChapKeys.{is_chap_key}
 use Rattle.iscsi_login.specs.Logins.{stepped}
-use Rattle.iscsi_login.specs.declared.names.SessionType.{SessionType}
-use Rattle.iscsi_login.specs.declared.names.SessionType.TheVariants.{Normal, Discovery}
+use Rattle.iscsi_login.specs.Names.{declared}
 use Rattle.iscsi_login.specs.declared.target.LoginTarget.{LoginTarget}
 use Rattle.iscsi_login.specs.declared.admitted.Admitted.{Admitted}
 use Rattle.iscsi_login.specs.declared.login.Login.{Login}
@@ -57,14 +57,14 @@ answers_within (suc items) n text = answers_at (answers_within items) n (first_i
 abbrev pub answers_to : Negotiation → (text : List ℕ) → List ℕ
 answers_to n text = answers_within (length text + 1) n text
 
--- (RFC 7143, "TargetPortalGroupTag")
-abbrev pub group_tag : (group : ℕ) → SessionType → List ℕ
-group_tag group Normal = item_bytes (codes "TargetPortalGroupTag") (decimal group)
-group_tag group Discovery = []
+-- told whoever names the target, whatever the session is for (RFC 7143, "TargetPortalGroupTag")
+abbrev pub group_tag : (group : ℕ) → (wanted : Option (List ℕ)) → List ℕ
+group_tag group None = []
+group_tag group (Some name) = item_bytes (codes "TargetPortalGroupTag") (decimal group)
 
 abbrev pub first_answers : (group : ℕ) → (text : List ℕ) → Result Admitted LoginStatus → List ℕ
 first_answers group text (Err fault) = []
-first_answers group text (Ok a) = group_tag group a.session_type ++ answers_to a.negotiation text
+first_answers group text (Ok a) = group_tag group (declared text key.TargetName) ++ answers_to a.negotiation text
 
 abbrev pub answers_of : (group : ℕ) → Option Admitted → LoginTarget → (text : List ℕ) → List ℕ
 answers_of group None target text = first_answers group text (entry_of target text)

@@ -1,17 +1,18 @@
 ghost use Rattle.std.specs.Prelude.{◌≡◌, ◌≤◌, ◌++◌, length, OnOk};
 ghost use Rattle.std.specs.Fmt.{decimal};
+ghost use Rattle.std.specs.Option.{option_copied};
 ghost use Rattle.iscsi_keys.specs.Texts.{item_bytes};
 ghost use Rattle.iscsi_login.specs.AnswerTexts.{answers_to, answer_item, known_answer, is_key_of, answers_of, group_tag};
 
 use crate::admitted::{Admitted, entry_of};
 use crate::chap_keys::{CHAP_A, CHAP_C, CHAP_I, CHAP_N, CHAP_R};
-use crate::names::SessionType;
+use crate::names::declared_value;
 use crate::target::LoginTarget;
-use iscsi_keys::{KeyAnswer, Negotiation, TextItem, Word, first_item};
+use iscsi_keys::{Key, KeyAnswer, Negotiation, TextItem, Word, first_item};
 use itoa::Buffer;
 use std::alloc::AllocError;
 
-/// Adds the answers to a text. The first of a normal session tell the portal group too.
+/// Adds the answers to a text. The first tell the portal group too, where the text names the target.
 pub(crate) fn write_answers(
     out: &mut Vec<u8>,
     portal_group: u16,
@@ -28,23 +29,21 @@ pub(crate) fn write_answers(
     let Ok(admitted) = entry_of(target, text) else {
         return Ok(());
     };
-    write_group_tag(out, portal_group, admitted.session_type)?;
+    write_group_tag(out, portal_group, declared_value(text, Key::TargetName))?;
     write_offers(out, admitted.negotiation, text)
 }
 
-/// Adds the portal group, which a normal session is told (RFC 7143, "TargetPortalGroupTag").
+/// Adds the portal group, which is told whoever names the target, for discovery too (RFC 7143, "TargetPortalGroupTag").
 fn write_group_tag(
     out: &mut Vec<u8>,
     portal_group: u16,
-    session_type: SessionType,
+    wanted: Option<&[u8]>,
 ) -> Result<(), AllocError>
-    ensures { OnOk result (out.new.items ≡ out.old.items ++ group_tag portal_group session_type) }
+    ensures { OnOk result (out.new.items ≡ out.old.items ++ group_tag portal_group (option_copied wanted.entry)) }
 {
-    match session_type {
-        SessionType::Discovery => Ok(()),
-        SessionType::Normal => {
-            write_number(out, b"TargetPortalGroupTag", u32::from(portal_group))
-        }
+    match wanted {
+        None => Ok(()),
+        Some(_) => write_number(out, b"TargetPortalGroupTag", u32::from(portal_group)),
     }
 }
 
