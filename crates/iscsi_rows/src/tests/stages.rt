@@ -144,6 +144,176 @@ const PIECES: [Exchange; 3] = [
     ),
 ];
 
+/// The names of a discovery session, with the target's and without.
+const DISCOVERY: &[u8] = b"InitiatorName=iqn.1993-08.org.debian:01:abc\0\
+    TargetName=iqn.2026-11.localhost:vtl\0SessionType=Discovery\0";
+
+const DISCOVERY_OF_ALL: &[u8] =
+    b"InitiatorName=iqn.1993-08.org.debian:01:abc\0SessionType=Discovery\0";
+
+/// The portal group is told with the first response to who names the target, and never again.
+const GROUPS: [Exchange; 5] = [
+    (
+        "a discovery session that names the target",
+        &[((0x87, DISCOVERY), (0x87, 0, GROUP))],
+    ),
+    (
+        "a discovery session that names none",
+        &[((0x87, DISCOVERY_OF_ALL), (0x87, 0, b""))],
+    ),
+    (
+        "the target is named in pieces",
+        &[
+            (
+                (
+                    0x44,
+                    b"InitiatorName=iqn.1993-08.org.debian:01:abc\0TargetN",
+                ),
+                (0x04, 0, b""),
+            ),
+            (
+                (
+                    0x87,
+                    b"ame=iqn.2026-11.localhost:vtl\0SessionType=Discovery\0",
+                ),
+                (0x87, 0, GROUP),
+            ),
+        ],
+    ),
+    (
+        "a discovery session that names the target again",
+        &[
+            ((0x81, DISCOVERY), (0x81, 0, GROUP)),
+            ((0x87, DISCOVERY), (0x87, 0, b"")),
+        ],
+    ),
+    (
+        "a discovery session that names another target",
+        &[(
+            (
+                0x87,
+                b"InitiatorName=iqn.1993-08.org.debian:01:abc\0TargetName=iqn.2026-11.localhost:other\0SessionType=Discovery\0",
+            ),
+            (0x04, 0x0203, b""),
+        )],
+    ),
+];
+
+/// FirstBurstLength is told as no more than the burst that is agreed before it, and MaxBurstLength as it is offered.
+const BURSTS: [Exchange; 9] = [
+    (
+        "a burst, and behind it a longer first burst in the same text",
+        &[
+            TO_OPERATIONAL,
+            (
+                (0x87, b"MaxBurstLength=8192\0FirstBurstLength=65536\0"),
+                (0x87, 0, b"MaxBurstLength=8192\0FirstBurstLength=8192\0"),
+            ),
+        ],
+    ),
+    (
+        "a burst, and a first burst as long",
+        &[
+            TO_OPERATIONAL,
+            (
+                (0x87, b"MaxBurstLength=8192\0FirstBurstLength=8192\0"),
+                (0x87, 0, b"MaxBurstLength=8192\0FirstBurstLength=8192\0"),
+            ),
+        ],
+    ),
+    (
+        "a burst, and a longer first burst in a later text",
+        &[
+            TO_OPERATIONAL,
+            (
+                (0x04, b"MaxBurstLength=8192\0"),
+                (0x04, 0, b"MaxBurstLength=8192\0"),
+            ),
+            (
+                (0x87, b"FirstBurstLength=65536\0"),
+                (0x87, 0, b"FirstBurstLength=8192\0"),
+            ),
+        ],
+    ),
+    (
+        "a first burst, and behind it a shorter burst in the same text",
+        &[
+            TO_OPERATIONAL,
+            (
+                (0x87, b"FirstBurstLength=65536\0MaxBurstLength=8192\0"),
+                (0x87, 0, b"FirstBurstLength=65536\0MaxBurstLength=8192\0"),
+            ),
+        ],
+    ),
+    (
+        "a first burst, and a shorter burst in a later text",
+        &[
+            TO_OPERATIONAL,
+            (
+                (0x04, b"FirstBurstLength=65536\0"),
+                (0x04, 0, b"FirstBurstLength=65536\0"),
+            ),
+            (
+                (0x87, b"MaxBurstLength=8192\0"),
+                (0x87, 0, b"MaxBurstLength=8192\0"),
+            ),
+        ],
+    ),
+    (
+        "a longer burst than the target's, and a first burst as long",
+        &[
+            TO_OPERATIONAL,
+            (
+                (
+                    0x87,
+                    b"MaxBurstLength=16776192\0FirstBurstLength=16776192\0",
+                ),
+                (
+                    0x87,
+                    0,
+                    b"MaxBurstLength=1048576\0FirstBurstLength=262144\0",
+                ),
+            ),
+        ],
+    ),
+    (
+        "a first burst alone, no longer than the burst of the default",
+        &[
+            TO_OPERATIONAL,
+            (
+                (0x87, b"FirstBurstLength=16777215\0"),
+                (0x87, 0, b"FirstBurstLength=262144\0"),
+            ),
+        ],
+    ),
+    (
+        "a burst alone",
+        &[
+            TO_OPERATIONAL,
+            (
+                (0x87, b"MaxBurstLength=512\0"),
+                (0x87, 0, b"MaxBurstLength=512\0"),
+            ),
+        ],
+    ),
+    (
+        "a burst in security negotiation, and a longer first burst behind it",
+        &[
+            (
+                (
+                    0x81,
+                    b"InitiatorName=iqn.1993-08.org.debian:01:abc\0TargetName=iqn.2026-11.localhost:vtl\0MaxBurstLength=1024\0",
+                ),
+                (0x81, 0, b"TargetPortalGroupTag=1\0MaxBurstLength=1024\0"),
+            ),
+            (
+                (0x87, b"FirstBurstLength=0x400000\0"),
+                (0x87, 0, b"FirstBurstLength=1024\0"),
+            ),
+        ],
+    ),
+];
+
 /// The initiator takes 512 bytes, and its keys are answered by 602.
 const KEYS: &[u8] = b"MaxRecvDataSegmentLength=512\0\
     X-00=1\0X-01=1\0X-02=1\0X-03=1\0X-04=1\0X-05=1\0X-06=1\0X-07=1\0X-08=1\0X-09=1\0\
@@ -203,6 +373,16 @@ fn stages_lead_on_and_never_back(rt: HostRuntime) -> Result<(), Fail> {
 #[test]
 fn a_text_may_be_cut_anywhere(rt: HostRuntime) -> Result<(), Fail> {
     assert_all(&rt, rt.alloc(), &PIECES)
+}
+
+#[test]
+fn the_portal_group_is_told_who_names_the_target(rt: HostRuntime) -> Result<(), Fail> {
+    assert_all(&rt, rt.alloc(), &GROUPS)
+}
+
+#[test]
+fn a_first_burst_is_no_longer_than_a_burst(rt: HostRuntime) -> Result<(), Fail> {
+    assert_all(&rt, rt.alloc(), &BURSTS)
 }
 
 #[test]
