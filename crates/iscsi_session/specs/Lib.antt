@@ -4,6 +4,7 @@ pub mod Executing
 pub mod Managing
 pub mod Saying
 pub mod Talking
+pub mod Texts
 pub mod LoggingIn
 pub mod Handing
 pub mod Serving

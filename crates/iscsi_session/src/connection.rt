@@ -3,6 +3,7 @@ ghost use Rattle.std.specs.Io.KnownBytes.{Appends};
 ghost use Rattle.iscsi_session.specs.Faults.{IsLater};
 
 use crate::fault::IscsiFault;
+use crate::texts::OpenText;
 use iscsi_answers::{SequenceNumbers, TransferLimits};
 use iscsi_login::FullFeature;
 use iscsi_pdu::SerialNumber;
@@ -12,16 +13,6 @@ use std::io::Write;
 
 /// The most data of a command that a unit is handed, in bytes: as much as a COMMAND frame has room for behind a CDB of 16 bytes.
 const MOST_DATA: u32 = 131_053;
-
-/// A text that is being answered (RFC 7143, "Text Response").
-#[derive(Drop)]
-pub(crate) struct OpenText {
-    pub(crate) text: Vec<u8>,
-    /// How much of it was sent.
-    pub(crate) sent: usize,
-    /// The target transfer tag that asks for the rest, where there is one.
-    pub(crate) tag: Option<u32>,
-}
 
 /// A connection in full feature.
 #[derive(Drop)]
@@ -50,11 +41,7 @@ impl Connection {
                 parameters.max_burst_length,
             ),
             stat_sn,
-            open_text: OpenText {
-                text: Vec::new(alloc),
-                sent: 0,
-                tag: None,
-            },
+            open_text: OpenText::new(alloc),
             cid: begun.cid,
         }
     }

@@ -16,6 +16,7 @@ mod requests;
 mod rows;
 mod serving;
 mod talking;
+mod texts;
 
 pub use claiming::{Claim, SessionIdentity, SessionRegister, claim_of, claim_rows};
 pub use fault::{IscsiEnd, IscsiFault};

@@ -1,4 +1,4 @@
-//! NOP-Out, text and logout, which concern no unit, and what is rejected.
+//! NOP-Out and logout, which concern no unit, and what is rejected.
 ghost use Rattle.std.specs.Prelude.{◌≡◌, ◌≤◌, ◌++◌, List, length, take, IfErr, OnOk};
 ghost use Rattle.iscsi_pdu.specs.Pdus.{TargetPduValue};
 ghost use Rattle.iscsi_answers.specs.Written.{bytes_of_all};
@@ -6,23 +6,16 @@ ghost use Rattle.iscsi_session.specs.Executing.{refusal};
 ghost use Rattle.iscsi_session.specs.Saying.{AddsPlain, behind_other, numbered};
 ghost use Rattle.iscsi_session.specs.Faults.{IsLater};
 
-use crate::connection::{Connection, OpenText};
+use crate::connection::Connection;
 use crate::fault::IscsiFault;
 use crate::portal::Portal;
-use iscsi_answers::{
-    Portals, TextTags, TransferLimits, declared_length, write_logout_response, write_nop_in,
-    write_reject, write_text_answers, write_text_response,
-};
-use iscsi_keys::Key;
-use iscsi_login::{SessionType, declared_value};
+use crate::texts::take_text;
+use iscsi_answers::{write_logout_response, write_nop_in, write_reject};
+use iscsi_login::SessionType;
 use iscsi_pdu::{
     BASIC_HEADER_SEGMENT, InitiatorHeader, InitiatorPdu, LogoutReason, LogoutRequest, LogoutResult,
-    NopOut, RESERVED_TAG, RejectReason, SerialNumber, TextRequest,
+    NopOut, RESERVED_TAG, RejectReason, SerialNumber,
 };
-use std::alloc::AllocError;
-
-/// The most bytes of the text of a request.
-const MOST_TEXT: usize = 65_536;
 
 /// Adds a Reject, with the header of the PDU that it is for.
 pub(crate) fn reject(
@@ -98,7 +91,7 @@ pub(crate) fn answer_other(
 }
 
 /// Rejects a PDU by which the connection doesn't end.
-fn turn_down(
+pub(crate) fn turn_down(
     connection: &mut Connection,
     reason: RejectReason,
     header: &[u8],
@@ -190,101 +183,4 @@ fn take_logout(
     )?;
     connection.has_answered();
     Ok(result == LogoutResult::Closed)
-}
-
-/// Takes a text request: a new one, or one that asks for what is left of the answer to the last.
-fn take_text(
-    connection: &mut Connection,
-    portal: &Portal<'_>,
-    session_type: SessionType,
-    request: &TextRequest,
-    header: &[u8],
-    payload: &[u8],
-    out: &mut Vec<u8>,
-) -> Result<bool, IscsiFault>
-    ensures fault { IfErr result IsLater }
-    ensures tasks { connection.new.tasks ≡ numbered connection.old.tasks request.now.immediate request.now.cmd_sn }
-    ensures said { OnOk result (AddsPlain out.old.items out.new.items) }
-{
-    if !connection
-        .tasks
-        .take_number(request.immediate, request.cmd_sn)
-    {
-        return Ok(false);
-    }
-    let is_new = request.target_transfer_tag == RESERVED_TAG;
-    let is_asked_for = connection.open_text.tag == Some(request.target_transfer_tag);
-    if request.continues || payload.len() > MOST_TEXT || !is_new && !is_asked_for {
-        return turn_down(connection, RejectReason::ProtocolError, header, out);
-    }
-    if is_new {
-        begin_text(&mut connection.open_text, session_type, portal, payload)?;
-    }
-    answer_text(connection, request, out)?;
-    declare(&mut connection.limits, payload);
-    Ok(false)
-}
-
-/// Begins the answer to a text, and forgets what was left of another.
-fn begin_text(
-    open_text: &mut OpenText,
-    session_type: SessionType,
-    portal: &Portal<'_>,
-    payload: &[u8],
-) -> Result<(), AllocError>
-    requires { length payload.now ≤ 65536 }
-{
-    open_text.text.clear();
-    open_text.sent = 0;
-    let portals = Portals {
-        name: portal.target.name.as_slice(),
-        group: portal.group,
-        address: portal.address.as_bytes(),
-        all: portal.portals,
-    };
-    let discovery = matches!(session_type, SessionType::Discovery);
-    write_text_answers(&mut open_text.text, &portals, discovery, payload)
-}
-
-/// The target transfer tag of texts.
-const TEXT_TAG: u32 = 1;
-
-/// Adds what is left of a text, as much of it as the initiator takes.
-fn answer_text(
-    connection: &mut Connection,
-    request: &TextRequest,
-    out: &mut Vec<u8>,
-) -> Result<(), IscsiFault>
-    ensures fault { IfErr result IsLater }
-    ensures tasks { connection.new.tasks ≡ connection.old.tasks }
-    ensures said { OnOk result (AddsPlain out.old.items out.new.items) }
-{
-    let numbers = connection.numbers();
-    let tags = TextTags {
-        initiator_task_tag: request.initiator_task_tag,
-        target_transfer_tag: TEXT_TAG,
-        is_final: request.is_final,
-    };
-    let text = connection.open_text.text.as_slice();
-    let start = connection.open_text.sent.min(text.len());
-    let left = &text[start..];
-    write_text_response(out, connection.limits, numbers, tags, left)?;
-    let most = connection.limits.max_data_segment_length as usize;
-    let is_at_end = request.is_final && left.len() <= most;
-    connection.open_text.sent = start.saturating_add(most);
-    connection.open_text.tag = if is_at_end { None } else { Some(TEXT_TAG) };
-    connection.has_answered();
-    Ok(())
-}
-
-/// Goes by the length that a text declares anew, if it does, from the next PDU on.
-fn declare(limits: &mut TransferLimits, payload: &[u8])
-    requires { length payload.now ≤ 65536 }
-{
-    let Some(value) = declared_value(payload, Key::MaxRecvDataSegmentLength) else {
-        return;
-    };
-    if let Some(length) = declared_length(value) {
-        *limits = TransferLimits::new(length, limits.max_burst_length);
-    }
 }
