@@ -6,6 +6,7 @@ mod sessions;
 mod statuses;
 mod streams;
 mod tasks;
+mod texts;
 mod words;
 mod writes;
 
