@@ -8,11 +8,12 @@ use Rattle.iscsi_answers.specs.Written.{bytes_of_all}
 use Rattle.iscsi_tasks.specs.Next.{next_of}
 use Rattle.iscsi_tasks.specs.declared.next_task.NextTask.TheVariants.{Idle}
 use Rattle.iscsi_tasks.specs.Values.{TasksValue}
+use Rattle.iscsi_session.specs.Executing.{GoesOn}
 use Rattle.iscsi_session.specs.Reading.{Added}
 use Rattle.iscsi_session.specs.Saying.{Says}
 use Rattle.iscsi_session.specs.Talking.{Answers, BeginsWith, Converses, IsPinged, Writes, pinged}
 use Rattle.iscsi_session.proofs.Acted.{said_more}
-use Rattle.iscsi_session.proofs.Talked.{answers_none, answers_one, answers_pinged, answers_then, converses_none, converses_read, converses_then, writes_flushed, writes_said, writes_then}
+use Rattle.iscsi_session.proofs.Talked.{answers_none, answers_one, answers_pinged, answers_then, answers_went, converses_none, converses_read, converses_then, writes_flushed, writes_said, writes_then}
 
 pub no_matter : {A F : Type 0} (Q : Type 0) (r : Result A F) → IsErr r → OnOk r Q
 no_matter Q (Ok value) e = absurd cc
@@ -54,6 +55,31 @@ answered_broken {S} notes count n k0 k k' s0 s t pending out0 rest out p size r 
   subst (λ (x : TasksValue). Answers notes count n k0 s0 pending so.0 x t rest) (sym still.0) (subst (λ (x : S). Answers notes count n k0 s0 pending so.0 k x rest) (sym still.1) so.1),
   no_matter _ r e,
 )
+
+-- those that waited went on, and then PDUs were answered
+pub went_then : {S A F : Type 0} (notes : S → DoneValue → S → Type 0) (count : S → ℕ) (n : Nexus) (k k1 k' : TasksValue) (s m t : S) (pending rest' out mid out' : List ℕ) (r : Result A F)
+    → (times : ℕ) × (said : List TargetPduValue) × GoesOn notes n times k s said k1 m × (mid ≡ out ++ bytes_of_all said)
+    → (said : List TargetPduValue) × (rest : List ℕ) × Answers notes count n k1 m pending said k' t rest × OnOk r ((rest ≡ rest') × (out' ≡ mid ++ bytes_of_all said))
+    → (said : List TargetPduValue) × (rest : List ℕ) × Answers notes count n k s pending said k' t rest × OnOk r ((rest ≡ rest') × (out' ≡ out ++ bytes_of_all said))
+went_then {S} notes count n k k1 k' s m t pending rest' out mid out' (Ok value) went one = (
+  went.1 ++ one.0,
+  one.1,
+  answers_then notes count n k k1 k' s m t pending pending one.1 went.1 one.0 (answers_went notes count n went.0 k k1 s m pending went.1 went.2) one.2,
+  (one.3.0, said_more went.1 one.0 out mid out' went.3 one.3.1),
+)
+went_then {S} notes count n k k1 k' s m t pending rest' out mid out' (Err fault) went one = (
+  went.1 ++ one.0,
+  one.1,
+  answers_then notes count n k k1 k' s m t pending pending one.1 went.1 one.0 (answers_went notes count n went.0 k k1 s m pending went.1 went.2) one.2,
+  tt,
+)
+
+-- where a fault ended it
+pub went_broken : {S A F : Type 0} (notes : S → DoneValue → S → Type 0) (count : S → ℕ) (n : Nexus) (k k' : TasksValue) (s t : S) (pending : List ℕ) (r : Result A F) (P : List TargetPduValue → Type 0)
+    (Q : List TargetPduValue → List ℕ → Type 0) → IsErr r → (times : ℕ) × (said : List TargetPduValue) × GoesOn notes n times k s said k' t × P said
+    → (said : List TargetPduValue) × (rest : List ℕ) × Answers notes count n k s pending said k' t rest × OnOk r (Q said rest)
+went_broken {S} notes count n k k' s t pending r P Q e went =
+    (went.1, pending, answers_went notes count n went.0 k k' s t pending went.1 went.2, no_matter _ r e)
 
 -- ---- what is written
 

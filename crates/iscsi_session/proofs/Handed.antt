@@ -14,6 +14,7 @@ use Rattle.iscsi_pdu.specs.declared.task_management.TaskManagementFunction.{Task
 use Rattle.iscsi_pdu.specs.declared.task_management.TaskManagementFunction.TheVariants as asked
 use Rattle.iscsi_pdu.specs.declared.task_management_request.TaskManagementRequest.{TaskManagementRequest}
 use Rattle.iscsi_pdu.specs.declared.task_management_result.TaskManagementResult.{TaskManagementResult}
+use Rattle.iscsi_tasks.specs.Aborts.{without_unit}
 use Rattle.iscsi_tasks.specs.Commands.{command_answer, counted, is_taken}
 use Rattle.iscsi_tasks.specs.DataOuts.{data_answer}
 use Rattle.iscsi_tasks.specs.Next.{next_of}
@@ -27,11 +28,11 @@ use Rattle.iscsi_tasks.specs.declared.taken.TakenCommand.TheVariants as taken
 use Rattle.iscsi_tasks.specs.declared.taken.TakenData.{TakenData}
 use Rattle.iscsi_tasks.specs.declared.taken.TakenData.TheVariants as taken_data
 use Rattle.session.specs.Answering.{Calls}
-use Rattle.iscsi_session.specs.Executing.{Acts, Does, GoesOn, Outcome, Nothing, Execute, Fail, Ask, Reject, command_outcome, data_outcome, next_outcome, outcome, unit_number}
+use Rattle.iscsi_session.specs.Executing.{Acts, Does, GoesOn, Outcome, Nothing, Execute, Fail, Ask, Reject, command_outcome, data_outcome, next_outcome, outcome, unit_number, without_units}
 use Rattle.iscsi_session.specs.Handing.{Hands, asked_command, brought, brought_by, brought_in, commands_of, handed}
 use Rattle.iscsi_session.specs.Managing.{Manages, ManagesTasks, Resets, ResetsBelow, ResetsUnit, AbortsTask, AbortsTaskSet, unit_below}
 use Rattle.iscsi_session.specs.Saying.{Says, TakesTask, Works, behind_other, is_of_tasks}
-use Rattle.iscsi_session.specs.Talking.{Came, Event, Silence, Talks}
+use Rattle.iscsi_session.specs.Talking.{Came, Event, Looked, Silence, Talks}
 
 -- ---- one after another
 
@@ -146,11 +147,18 @@ acts_hands notes n k k' s t act said so =
 
 -- ---- what is to be done next
 
+units_hand : {S : Type 0} (notes : S → DoneValue → S → Type 0) (n : Nexus) (k : TasksValue) (s : S) (units : List ℕ) → Hands notes n k s [] (without_units k units) s
+units_hand notes n k s [] = hands_none notes n k k s s refl refl
+units_hand {S} notes n k s (unit ∷ units) =
+    hands_then notes n k (without_units k units) (without_unit (without_units k units) unit) s s s [] [] (units_hand notes n k s units)
+    (acts_hands notes n (without_units k units) (without_unit (without_units k units) unit) s s (Dropped unit) [] (refl, (refl, refl)))
+
 goes_hands : {S : Type 0} (notes : S → DoneValue → S → Type 0) (n : Nexus) (times : ℕ) (k k' : TasksValue) (s t : S) (said : List TargetPduValue) → GoesOn notes n times k s said k' t → Hands notes n k s [] k' t
 unfolding GoesOn
 goes_hands notes n zero k k' s t said so = hands_none notes n k k' s t so.1 so.2
 goes_hands {S} notes n (suc times) k k' s t said so =
-    hands_then notes n k so.0 k' s so.1 t [] [] (goes_hands notes n times k so.0 s so.1 so.2 so.5) (acts_hands notes n so.0 k' so.1 t AskedNext so.3 so.6)
+    hands_then notes n k so.0 k' s so.1 t [] [] (goes_hands notes n times k so.0 s so.1 so.3 so.6)
+    (hands_then notes n so.0 (without_units so.0 so.2) k' so.1 so.1 t [] [] (units_hand notes n so.0 so.1 so.2) (acts_hands notes n (without_units so.0 so.2) k' so.1 t AskedNext so.4 so.7))
 
 -- ---- task management
 
@@ -262,6 +270,8 @@ pub talks_hands : {S : Type 0} (notes : S → DoneValue → S → Type 0) (count
 talks_hands notes count n [] k k' s t said so = hands_none notes n k k' s t so.1 so.2
 talks_hands {S} notes count n (Silence ∷ es) k k' s t said so =
     hands_then notes n k so.0 k' s so.1 t [] (brought_in es) (hands_none notes n k so.0 s so.1 so.5.2 so.5.3) (talks_hands notes count n es so.0 k' so.1 t so.3 so.6)
+talks_hands {S} notes count n (Looked ∷ es) k k' s t said so =
+    hands_then notes n k so.0 k' s so.1 t [] (brought_in es) (goes_hands notes n so.5.0 k so.0 s so.1 so.2 so.5.1) (talks_hands notes count n es so.0 k' so.1 t so.3 so.6)
 talks_hands {S} notes count n (Came p ∷ es) k k' s t said so =
     hands_then notes n k so.0 k' s so.1 t (brought_by p.header p.payload) (brought_in es) (says_hands notes count n p k so.0 s so.1 so.2 so.5.1)
     (talks_hands notes count n es so.0 k' so.1 t so.3 so.6)

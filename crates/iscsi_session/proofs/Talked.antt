@@ -14,9 +14,10 @@ use Rattle.iscsi_tasks.specs.Next.{next_of}
 use Rattle.iscsi_tasks.specs.declared.next_task.NextTask.TheVariants.{Idle}
 use Rattle.iscsi_tasks.specs.Values.{TasksValue}
 use Rattle.session.proofs.Read.{consumes_more, consumes_none}
+use Rattle.iscsi_session.specs.Executing.{GoesOn}
 use Rattle.iscsi_session.specs.Reading.{Added}
 use Rattle.iscsi_session.specs.Saying.{Says}
-use Rattle.iscsi_session.specs.Talking.{Answers, BeginsWith, Came, Converses, Event, Silence, Takes, Talks, Writes, pdus_of, pinged}
+use Rattle.iscsi_session.specs.Talking.{Answers, BeginsWith, Came, Converses, Event, Looked, Silence, Takes, Talks, Writes, pdus_of, pinged}
 
 known_segments : (s : Found SegmentsValue) → IsKnown (initiator_found s) → IsKnown s
 known_segments (Partial wanted) known = known
@@ -49,6 +50,7 @@ pdus_append : (es fs : List Event) → pdus_of (es ++ fs) ≡ pdus_of es ++ pdus
 pdus_append [] fs = refl
 pdus_append (Came p ∷ es) fs = ap (λ (ps : List InitiatorPduValue). p ∷ ps) (pdus_append es fs)
 pdus_append (Silence ∷ es) fs = pdus_append es fs
+pdus_append (Looked ∷ es) fs = pdus_append es fs
 
 talks_append : {S : Type 0} (notes : S → DoneValue → S → Type 0) (count : S → ℕ) (n : Nexus) (es fs : List Event) (k k1 k' : TasksValue) (s m t : S) (a b : List TargetPduValue)
     → Talks notes count n es k s a k1 m → Talks notes count n fs k1 m b k' t → Talks notes count n (es ++ fs) k s (a ++ b) k' t
@@ -91,6 +93,14 @@ pub answers_pinged : {S : Type 0} (notes : S → DoneValue → S → Type 0) (co
 answers_pinged notes count n k s pending stat_sn = record {
   events = Silence ∷ [];
   talks = (k, s, pinged k stat_sn, [], sym (append-nil (pinged k stat_sn)), (stat_sn, refl, refl, refl), (refl, refl, refl));
+  takes = refl;
+}
+
+pub answers_went : {S : Type 0} (notes : S → DoneValue → S → Type 0) (count : S → ℕ) (n : Nexus) (times : ℕ) (k k' : TasksValue) (s t : S) (pending : List ℕ) (said : List TargetPduValue)
+    → GoesOn notes n times k s said k' t → Answers notes count n k s pending said k' t pending
+answers_went notes count n times k k' s t pending said so = record {
+  events = Looked ∷ [];
+  talks = (k', t, said, [], sym (append-nil said), (times, so), (refl, refl, refl));
   takes = refl;
 }
 

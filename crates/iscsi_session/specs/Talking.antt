@@ -11,7 +11,7 @@ use Rattle.iscsi_answers.specs.Written.{bytes_of_all}
 use Rattle.iscsi_tasks.specs.Next.{next_of}
 use Rattle.iscsi_tasks.specs.Values.{TasksValue}
 use Rattle.iscsi_tasks.specs.declared.next_task.NextTask.TheVariants.{Idle}
-use Rattle.iscsi_session.specs.Executing.{numbers}
+use Rattle.iscsi_session.specs.Executing.{GoesOn, numbers}
 use Rattle.iscsi_session.specs.Saying.{Says}
 
 -- a stream begins with a PDU of so many bytes, whose data segment has 262,144 bytes at most
@@ -25,15 +25,17 @@ abbrev pub Takes : (bytes : List ℕ) → List InitiatorPduValue → (rest : Lis
 Takes bytes [] rest = rest ≡ bytes
 Takes bytes (p ∷ ps) rest = (size : ℕ) × BeginsWith bytes p size × Takes (drop size bytes) ps rest
 
--- what happens to a session: a PDU comes, or nothing for a while
+-- what happens to a session: a PDU comes, or nothing for a while; or it looks whether others have reset units where commands of its own wait
 pub data Event : Type 0 where
   Came : InitiatorPduValue → Event
   Silence : Event
+  Looked : Event
 
 abbrev pub pdus_of : List Event → List InitiatorPduValue
 pdus_of [] = []
 pdus_of (Came p ∷ es) = p ∷ pdus_of es
 pdus_of (Silence ∷ es) = pdus_of es
+pdus_of (Looked ∷ es) = pdus_of es
 
 -- a ping
 abbrev pub pinged : TasksValue → SerialNumber → List TargetPduValue
@@ -43,10 +45,12 @@ pinged k stat_sn = ping (numbers k stat_sn) 0 ∷ []
 abbrev pub IsPinged : TasksValue → (out out' : List ℕ) → Type 0
 IsPinged k out out' = (stat_sn : SerialNumber) × (out' ≡ out ++ bytes_of_all (pinged k stat_sn))
 
--- a PDU is taken where nothing is left to be done with those before it; behind a silence the target pings
+-- a PDU is taken where nothing is left to be done with those before it; behind a silence the target pings; behind a look those go on that waited
+-- for others which have gone
 abbrev pub Happens : {S : Type 0} → (S → DoneValue → S → Type 0) → (count : S → ℕ) → Nexus → Event → TasksValue → S → (said : List TargetPduValue) → TasksValue → S → Type 0
 Happens notes count n (Came p) k s said k' t = (next_of k ≡ Idle) × Says notes count n p k s said k' t
 Happens notes count n Silence k s said k' t = (stat_sn : SerialNumber) × (said ≡ pinged k stat_sn) × (k' ≡ k) × (t ≡ s)
+Happens notes count n Looked k s said k' t = (times : ℕ) × GoesOn notes n times k s said k' t
 
 -- one after another, and what is said to them
 abbrev pub Talks : {S : Type 0} → (S → DoneValue → S → Type 0) → (count : S → ℕ) → Nexus → List Event → TasksValue → S → (said : List TargetPduValue) → TasksValue → S → Type 0

@@ -9,6 +9,7 @@ ghost use Rattle.iscsi_session.specs.Faults.{IsLater};
 ghost use Rattle.iscsi_session.specs.Executing.{Adds, OrElse};
 ghost use Rattle.iscsi_session.specs.Saying.{Says, TakesTask, Works, is_of_tasks};
 
+use crate::claiming::SessionRegister;
 use crate::connection::Connection;
 use crate::executing::{go_on, take_command, take_data};
 use crate::fault::IscsiFault;
@@ -22,9 +23,10 @@ use session::Service;
 use std::alloc::Global;
 
 /// Answers one PDU, whose bytes are handed in too, and says whether the connection ends by it.
-pub(crate) fn answer<S: Service>(
+pub(crate) fn answer<S: Service, G: SessionRegister>(
     alloc: Global,
     service: &mut S,
+    register: &G,
     nexus: Nexus,
     portal: &Portal<'_>,
     session_type: SessionType,
@@ -39,7 +41,9 @@ pub(crate) fn answer<S: Service>(
 {
     let is_normal = matches!(session_type, SessionType::Normal);
     if is_normal && is_of_tasks(&pdu.header) {
-        work(alloc, service, nexus, connection, pdu, header, out)?;
+        work(
+            alloc, service, register, nexus, connection, pdu, header, out,
+        )?;
         return Ok(false);
     }
     answer_other(connection, portal, session_type, pdu, header, out)
@@ -63,9 +67,10 @@ fn is_of_tasks(header: &InitiatorHeader) -> bool
 }
 
 /// Takes a PDU of a task, and goes on with the commands that wait.
-fn work<S: Service>(
+fn work<S: Service, G: SessionRegister>(
     alloc: Global,
     service: &mut S,
+    register: &G,
     nexus: Nexus,
     connection: &mut Connection,
     pdu: &InitiatorPdu<'_>,
@@ -77,14 +82,17 @@ fn work<S: Service>(
     ensures worked { OrElse result ((connection.new.tasks ≡ connection.old.tasks) × (service.new ≡ service.old)) ((said : List TargetPduValue) × Works S.notes S.count nexus (initiator_value pdu.now) connection.old.tasks service.old said connection.new.tasks service.new × Adds result out.old.items out.new.items said) }
     ensures idle { OnOk result (next_of connection.new.tasks ≡ Idle) }
 {
-    take_task(alloc, service, nexus, connection, pdu, header, out)?;
-    go_on(alloc, service, nexus, connection, out)
+    take_task(
+        alloc, service, register, nexus, connection, pdu, header, out,
+    )?;
+    go_on(alloc, service, register, nexus, connection, out)
 }
 
 /// Takes a PDU of a task.
-fn take_task<S: Service>(
+fn take_task<S: Service, G: SessionRegister>(
     alloc: Global,
     service: &mut S,
+    register: &G,
     nexus: Nexus,
     connection: &mut Connection,
     pdu: &InitiatorPdu<'_>,
@@ -102,7 +110,7 @@ fn take_task<S: Service>(
         ),
         InitiatorHeader::DataOut(data_out) => take_data(connection, data_out, header, payload, out),
         InitiatorHeader::TaskManagementRequest(request) => {
-            manage(alloc, service, connection, request, out)
+            manage(alloc, service, register, connection, request, out)
         }
         _ => Ok(()),
     }

@@ -29,6 +29,13 @@ pub trait SessionRegister {
 
     /// Notes that the session of the caller lives, whose initiator has given a name.
     fn note(&self, nexus: Nexus, session: SessionIdentity, name: &[u8]);
+
+    /// Whether another session has reset a unit since this was last asked of the unit, or since the session of the caller began.
+    /// It is asked before each command is handed over that waited.
+    fn was_reset(&self, unit: u8) -> bool;
+
+    /// Notes that the session of the caller has reset a unit.
+    fn note_reset(&self, unit: u8);
 }
 
 /// What a login asks for.

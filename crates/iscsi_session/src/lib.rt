@@ -13,6 +13,7 @@ mod managing;
 mod portal;
 mod read_buffer;
 mod requests;
+mod resets;
 mod rows;
 mod serving;
 mod talking;

@@ -6,6 +6,7 @@ ghost use Rattle.iscsi_session.specs.Faults.{IsLater};
 ghost use Rattle.iscsi_session.specs.Executing.{Adds};
 ghost use Rattle.iscsi_session.specs.Managing.{AbortsTask, AbortsTaskSet, Manages, ManagesTasks, Resets, ResetsBelow, ResetsUnit, reset_result, unit_below};
 
+use crate::claiming::SessionRegister;
 use crate::connection::Connection;
 use crate::fault::IscsiFault;
 use iscsi_answers::write_task_management_response;
@@ -16,9 +17,10 @@ use session::Service;
 use std::alloc::Global;
 
 /// Takes a task management request, and adds its answer.
-pub(crate) fn manage<S: Service>(
+pub(crate) fn manage<S: Service, G: SessionRegister>(
     alloc: Global,
     service: &mut S,
+    register: &G,
     connection: &mut Connection,
     request: &TaskManagementRequest,
     out: &mut Vec<u8>,
@@ -32,7 +34,7 @@ pub(crate) fn manage<S: Service>(
     {
         return Ok(());
     }
-    let result = result_of(alloc, service, &mut connection.tasks, request);
+    let result = result_of(alloc, service, register, &mut connection.tasks, request);
     let numbers = connection.numbers();
     write_task_management_response(out, numbers, request.initiator_task_tag, result)?;
     connection.has_answered();
@@ -40,9 +42,10 @@ pub(crate) fn manage<S: Service>(
 }
 
 /// Does what a task management function asks for, and says how that ended.
-fn result_of<S: Service>(
+fn result_of<S: Service, G: SessionRegister>(
     alloc: Global,
     service: &mut S,
+    register: &G,
     tasks: &mut Tasks,
     request: &TaskManagementRequest,
 ) -> TaskManagementResult
@@ -52,8 +55,10 @@ fn result_of<S: Service>(
     match request.function {
         TaskManagementFunction::AbortTask => abort_task(tasks, request.referenced_task_tag, unit),
         TaskManagementFunction::AbortTaskSet => abort_task_set(tasks, unit),
-        TaskManagementFunction::LogicalUnitReset => reset_unit(alloc, service, tasks, unit),
-        TaskManagementFunction::TargetWarmReset => reset_all(alloc, service, tasks),
+        TaskManagementFunction::LogicalUnitReset => {
+            reset_unit(alloc, service, register, tasks, unit)
+        }
+        TaskManagementFunction::TargetWarmReset => reset_all(alloc, service, register, tasks),
         TaskManagementFunction::TaskReassign => {
             TaskManagementResult::TaskAllegianceReassignmentNotSupported
         }
@@ -96,9 +101,10 @@ fn abort_task_set(tasks: &mut Tasks, unit: Option<u8>) -> TaskManagementResult
     }
 }
 
-fn reset_unit<S: Service>(
+fn reset_unit<S: Service, G: SessionRegister>(
     alloc: Global,
     service: &mut S,
+    register: &G,
     tasks: &mut Tasks,
     unit: Option<u8>,
 ) -> TaskManagementResult
@@ -107,20 +113,25 @@ fn reset_unit<S: Service>(
     match unit {
         Some(unit) => {
             tasks.drop_unit(unit);
-            reset(alloc, service, unit)
+            reset(alloc, service, register, unit)
         }
         None => TaskManagementResult::LunDoesNotExist,
     }
 }
 
 /// Resets every unit in ascending order.
-fn reset_all<S: Service>(alloc: Global, service: &mut S, tasks: &mut Tasks) -> TaskManagementResult
+fn reset_all<S: Service, G: SessionRegister>(
+    alloc: Global,
+    service: &mut S,
+    register: &G,
+    tasks: &mut Tasks,
+) -> TaskManagementResult
     ensures reset { ResetsBelow S.notes (S.count service.old) tasks.old service.old tasks.new service.new }
 {
     let mut result = TaskManagementResult::FunctionComplete;
     'units: for unit in 0..service.units() {
         tasks.drop_unit(unit);
-        let ended = reset(alloc, service, unit);
+        let ended = reset(alloc, service, register, unit);
         if ended != TaskManagementResult::FunctionComplete {
             result = ended;
         }
@@ -128,11 +139,20 @@ fn reset_all<S: Service>(alloc: Global, service: &mut S, tasks: &mut Tasks) -> T
     result
 }
 
-/// Resets a unit, and says how that ended.
-fn reset<S: Service>(alloc: Global, service: &mut S, unit: u8) -> TaskManagementResult
+/// Resets a unit, has the other sessions know if it was, and says how that ended.
+fn reset<S: Service, G: SessionRegister>(
+    alloc: Global,
+    service: &mut S,
+    register: &G,
+    unit: u8,
+) -> TaskManagementResult
     ensures reset { Resets S.notes unit service.old service.new result }
 {
-    reset_result(service.reset(alloc, unit).receipt().reply.status)
+    let result = reset_result(service.reset(alloc, unit).receipt().reply.status);
+    if result == TaskManagementResult::FunctionComplete {
+        register.note_reset(unit);
+    }
+    result
 }
 
 /// How a reset is told whose unit has answered so. It is rejected where the unit has no room for it, which changes nothing there.

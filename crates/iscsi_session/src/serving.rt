@@ -80,6 +80,7 @@ pub fn serve<S: Service, G: SessionRegister, R: Read, W: Write>(
         SessionType::Discovery => discover(
             alloc,
             &mut NoUnits,
+            register,
             portal,
             &mut exchange,
             tsih,
@@ -124,9 +125,10 @@ fn refuse<W: Write>(
 }
 
 /// A discovery session, from the last request of its login to its end. It takes the place of none.
-fn discover<S: Service, R: Read, W: Write>(
+fn discover<S: Service, G: SessionRegister, R: Read, W: Write>(
     alloc: Global,
     service: &mut S,
+    register: &G,
     portal: &Portal<'_>,
     exchange: &mut LoginExchange,
     tsih: u16,
@@ -143,6 +145,7 @@ fn discover<S: Service, R: Read, W: Write>(
     greet_and_converse(
         alloc,
         service,
+        register,
         NO_NEXUS,
         portal,
         exchange,
@@ -218,6 +221,7 @@ fn hold<S: Service, G: SessionRegister, R: Read, W: Write>(
     let ended = greet_and_converse(
         alloc,
         service,
+        register,
         nexus,
         portal,
         exchange,
@@ -254,9 +258,10 @@ fn status_of(fault: SessionFault) -> LoginStatus {
 }
 
 /// Adds the last response of the login, and answers what comes behind it.
-fn greet_and_converse<S: Service, R: Read, W: Write>(
+fn greet_and_converse<S: Service, G: SessionRegister, R: Read, W: Write>(
     alloc: Global,
     service: &mut S,
+    register: &G,
     nexus: Nexus,
     portal: &Portal<'_>,
     exchange: &mut LoginExchange,
@@ -276,6 +281,7 @@ fn greet_and_converse<S: Service, R: Read, W: Write>(
     converse(
         alloc,
         service,
+        register,
         nexus,
         portal,
         begun.session_type,

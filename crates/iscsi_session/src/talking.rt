@@ -10,7 +10,9 @@ ghost use Rattle.iscsi_session.specs.Talking.{Answers, Converses, IsPinged, Writ
 ghost use Rattle.iscsi_session.specs.Reading.{Added};
 
 use crate::answering::answer;
+use crate::claiming::SessionRegister;
 use crate::connection::{Connection, flush};
+use crate::executing::go_on;
 use crate::fault::{IscsiEnd, IscsiFault};
 use crate::login::{end_of, read_fault};
 use crate::portal::Portal;
@@ -44,10 +46,43 @@ enum Pause {
     LoggedOut,
 }
 
-/// Answers the PDUs that have come whole, in order, until there are enough answers to be written.
-fn answer_some<S: Service>(
+/// Goes on with the commands that wait, where another session has reset the units of those before them, and answers PDUs.
+fn answer_some<S: Service, G: SessionRegister>(
     alloc: Global,
     service: &mut S,
+    register: &G,
+    nexus: Nexus,
+    portal: &Portal<'_>,
+    session_type: SessionType,
+    connection: &mut Connection,
+    read_buffer: &mut ReadBuffer,
+    out: &mut Vec<u8>,
+) -> Result<Pause, IscsiFault>
+    requires { next_of connection.old.tasks ≡ Idle }
+    ensures fault { IfErr result IsLater }
+    ensures full { result ≡ Ok Pause.FlushDue → length read_buffer.new < length read_buffer.old }
+    ensures talks { session_type ≡ Normal → (said : List TargetPduValue) × (rest : List ℕ) × Answers S.notes S.count nexus connection.old.tasks service.old read_buffer.old said connection.new.tasks service.new rest × OnOk result ((rest ≡ read_buffer.new) × (out.new.items ≡ out.old.items ++ bytes_of_all said)) }
+    ensures idle { OnOk result (next_of connection.new.tasks ≡ Idle) }
+{
+    go_on(alloc, service, register, nexus, connection, out)?;
+    answer_pending(
+        alloc,
+        service,
+        register,
+        nexus,
+        portal,
+        session_type,
+        connection,
+        read_buffer,
+        out,
+    )
+}
+
+/// Answers the PDUs that have come whole, in order, until there are enough answers to be written.
+fn answer_pending<S: Service, G: SessionRegister>(
+    alloc: Global,
+    service: &mut S,
+    register: &G,
     nexus: Nexus,
     portal: &Portal<'_>,
     session_type: SessionType,
@@ -70,6 +105,7 @@ fn answer_some<S: Service>(
                 let ends = answer(
                     alloc,
                     service,
+                    register,
                     nexus,
                     portal,
                     session_type,
@@ -91,9 +127,10 @@ fn answer_some<S: Service>(
 }
 
 /// Answers all PDUs that have come whole, writes the answers, and says whether the connection goes on.
-fn answer_all<S: Service, W: Write>(
+fn answer_all<S: Service, G: SessionRegister, W: Write>(
     alloc: Global,
     service: &mut S,
+    register: &G,
     nexus: Nexus,
     portal: &Portal<'_>,
     session_type: SessionType,
@@ -112,6 +149,7 @@ fn answer_all<S: Service, W: Write>(
         let pause = answer_some(
             alloc,
             service,
+            register,
             nexus,
             portal,
             session_type,
@@ -158,9 +196,10 @@ fn read_on<R: Read>(
 }
 
 /// Answers what is pending and what comes, until the connection ends, by at most `turns` reads.
-pub(crate) fn converse<S: Service, R: Read, W: Write>(
+pub(crate) fn converse<S: Service, G: SessionRegister, R: Read, W: Write>(
     alloc: Global,
     service: &mut S,
+    register: &G,
     nexus: Nexus,
     portal: &Portal<'_>,
     session_type: SessionType,
@@ -182,6 +221,7 @@ pub(crate) fn converse<S: Service, R: Read, W: Write>(
         if !answer_all(
             alloc,
             service,
+            register,
             nexus,
             portal,
             session_type,

@@ -1,6 +1,7 @@
 mod claims;
 mod endings;
 mod numbers;
+mod resets;
 mod residuals;
 mod sessions;
 mod statuses;

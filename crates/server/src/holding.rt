@@ -153,6 +153,7 @@ fn converse_by_iscsi<S: Service, R: Clock + RandomSource + Wait, E: Write, I: Re
         key: visit.key,
         number: visit.number,
         teller,
+        seen: acceptor.limits.sessions.resets_so_far(),
     };
     let ended = iscsi_session::serve(
         alloc,

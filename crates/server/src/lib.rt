@@ -17,6 +17,7 @@ mod live_sessions;
 mod logged_in;
 mod record_drain;
 mod record_source;
+mod reset_counts;
 mod server_fault;
 mod serving;
 mod session_flags;

@@ -1,4 +1,5 @@
 use crate::logged_in::{LoggedIn, shown_name};
+use crate::reset_counts::ResetCounts;
 use crate::teller::Teller;
 use iscsi_session::{SessionIdentity, SessionRegister};
 use scsi_nexus::Nexus;
@@ -69,6 +70,8 @@ pub struct LiveSessions {
     live: Mutex<LiveList>,
     /// Told whenever one has ended.
     ended: Condvar,
+    /// The resets that sessions of iSCSI have made.
+    resets: ResetCounts,
 }
 
 impl LiveSessions {
@@ -80,7 +83,13 @@ impl LiveSessions {
                 sessions: Slab::new(alloc),
             }),
             ended: Condvar::new(),
+            resets: ResetCounts::new(),
         }
+    }
+
+    /// The resets that were made so far.
+    pub(crate) fn resets_so_far(&self) -> ResetCounts {
+        self.resets.copied()
     }
 
     /// Whether no more sessions may begin.
@@ -156,6 +165,8 @@ pub(crate) struct SessionsBeside<'a, R: Clock + Wait, E: Write> {
     /// Its place in the order of accepting, from 1 on.
     pub number: u64,
     pub teller: &'a Teller<E>,
+    /// The resets that it has made or seen.
+    pub seen: ResetCounts,
 }
 
 impl<'a, R: Clock + Wait, E: Write> SessionRegister for SessionsBeside<'a, R, E> {
@@ -176,5 +187,18 @@ impl<'a, R: Clock + Wait, E: Write> SessionRegister for SessionsBeside<'a, R, E>
             name: shown_name(name),
         };
         self.teller.tell_login(self.rt, &login);
+    }
+
+    fn was_reset(&self, unit: u8) -> bool {
+        let count = self.sessions.resets.of(unit);
+        if self.seen.of(unit) == count {
+            return false;
+        }
+        self.seen.set(unit, count);
+        true
+    }
+
+    fn note_reset(&self, unit: u8) {
+        self.seen.set(unit, self.sessions.resets.add(unit));
     }
 }

@@ -86,6 +86,12 @@ impl SessionRegister for Beside {
     }
 
     fn note(&self, _nexus: Nexus, _session: SessionIdentity, _name: &[u8]) {}
+
+    fn was_reset(&self, _unit: u8) -> bool {
+        false
+    }
+
+    fn note_reset(&self, _unit: u8) {}
 }
 
 /// Gives its bytes in pieces of a size, and then fails so many times by what says that nothing came.
@@ -148,11 +154,21 @@ pub(super) fn serve_stream<R: Read>(
     serve_beside(alloc, is_connected, beside, reader)
 }
 
-/// Serves a stream at portal group 1 of two.
+/// Serves a stream beside a session that may live.
 pub(super) fn serve_beside<R: Read>(
     alloc: Global,
     is_connected: bool,
     beside: Beside,
+    reader: &mut R,
+) -> Result<Served, Fail> {
+    serve_with(alloc, is_connected, &beside, reader)
+}
+
+/// Serves a stream at portal group 1 of two.
+pub(super) fn serve_with<G: SessionRegister, R: Read>(
+    alloc: Global,
+    is_connected: bool,
+    register: &G,
     reader: &mut R,
 ) -> Result<Served, Fail> {
     let target = target(alloc)?;
@@ -179,7 +195,7 @@ pub(super) fn serve_beside<R: Read>(
     let ended = serve(
         alloc,
         &mut service,
-        &beside,
+        register,
         &portal,
         None,
         7,

@@ -5,7 +5,7 @@ use Rattle.iscsi_tasks.specs.Next.{next_of}
 use Rattle.iscsi_tasks.specs.declared.next_task.NextTask.TheVariants.{Idle}
 use Rattle.iscsi_login.specs.declared.names.SessionType.TheVariants.{Normal}
 use Rattle.iscsi_session.specs.Talking.{Answers}
-use Rattle.iscsi_session.proofs.talking.answer_some.Given as goal
+use Rattle.iscsi_session.proofs.talking.answer_pending.Given as goal
 
 abbrev pub invariant-pdus : goal.invariant-pdus
 invariant-pdus g l =

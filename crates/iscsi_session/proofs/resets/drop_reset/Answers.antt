@@ -1,0 +1,15 @@
+use Rattle.std.proofs.Common.{◌∷◌, [], refl, ap, ◌∙◌}
+use Rattle.iscsi_tasks.specs.Values.{TasksValue}
+use Rattle.iscsi_tasks.specs.Aborts.{without_unit}
+use Rattle.iscsi_session.proofs.resets.drop_reset.Goals as goal
+use Rattle.iscsi_session.proofs.resets.drop_reset.Goals.{then-was_reset, else-was_reset}
+
+pub units-init : goal.units-init
+units-init g c = ([], refl)
+
+pub units-preserved : goal.units-preserved
+units-preserved g c =
+    let so = c.units.invariant in elim c.if-was_reset.branch [
+      | then-was_reset w ↦ (c.units.unit ∷ so.0, w.tasks-is ∙ w.drop_unit.ensures ∙ ap (λ (k : TasksValue). without_unit k c.units.unit) so.1)
+      | else-was_reset w ↦ (so.0, w.tasks-is ∙ so.1)
+    ]
