@@ -1,13 +1,12 @@
 -- Worked rows: how serving ends by a fault.
 use Rattle.std.specs.Prelude.{◌≡◌, codes, Some}
-use Rattle.lun_router.specs.declared.closing.CloseFault.TheVariants.{Mismatch}
 use Rattle.server.specs.declared.server_fault.ServerFault.TheVariants.{Close, NoMemory, Write}
 use Rattle.server_socket.specs.declared.socket_fault.SocketFault.TheVariants.{Server}
 use Rattle.server_socket.specs.Faults.{socket_status, socket_text}
 
 pub record StatusesOfServing : Type 0 where
   pub write : socket_status (Server Write) ≡ 4
-  pub mismatch : socket_status (Server (Close Mismatch)) ≡ 4
+  pub close : (fault : _) → socket_status (Server (Close fault)) ≡ 4
   pub no_memory : socket_status (Server NoMemory) ≡ 3
 
 pub record LinesOfServing : Type 0 where
