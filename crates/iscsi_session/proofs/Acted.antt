@@ -1,6 +1,6 @@
 -- What comes of what happens to the tasks.
 use Rattle.std.proofs.Common.{◌≡◌, ◌≢◌, ℕ, ◌+◌, ◌*◌, ◌<◌, ◌≤◌, suc, Bool, true, false, MatchBool, cond, inl, ◌⊎◌, IsErr, List, [], ◌∷◌, ◌++◌, length, drop, Option, Some, None, Result, Ok, Err, refl, sym, ap, subst, ◌∙◌, append_assoc, append-nil, arith}
-use Rattle.std.specs.Prelude.{slice_get, filter, not}
+use Rattle.std.specs.Prelude.{slice_get}
 use Rattle.std.proofs.lemmas.Grind.{flat_map-append}
 use Rattle.scsi_nexus.specs.declared.nexus.Nexus.{Nexus}
 use Rattle.kept_unit.specs.Answers.{DoneValue}
@@ -21,13 +21,12 @@ use Rattle.iscsi_tasks.specs.declared.taken.TakenCommand.TheVariants as taken
 use Rattle.iscsi_tasks.specs.declared.taken.TakenData.TheVariants as taken_data
 use Rattle.iscsi_tasks.specs.declared.taken.TakenData.{TakenData}
 use Rattle.iscsi_tasks.specs.Values.{TaskValue, TasksValue}
-use Rattle.iscsi_tasks.specs.Aborts.{is_at}
 use Rattle.iscsi_tasks.specs.Commands.{command_answer, after_command}
 use Rattle.iscsi_tasks.specs.DataOuts.{data_answer, after_data}
 use Rattle.iscsi_tasks.specs.Next.{asked, is_whole, next_of, after_next, next_for, left_for, next_at, left_at, handed, request, without_first, with_first_asked}
 use Rattle.iscsi_tasks.specs.Runs.{Act, Commanded, DataCame, AskedNext, stepped}
 use Rattle.iscsi_session.specs.Saying.{AddsPlain, IsOfNoCommand}
-use Rattle.iscsi_session.specs.Executing.{Acts, Adds, Does, GoesOn, OrElse, Outcome, Nothing, Execute, Fail, Ask, Reject, Tells, refusal, command_outcome, data_outcome, is_idle, next_outcome, outcome, without_units}
+use Rattle.iscsi_session.specs.Executing.{Acts, Adds, Does, GoesOn, OrElse, Outcome, Nothing, Execute, Fail, Ask, Reject, Tells, refusal, command_outcome, data_outcome, is_idle, next_outcome, outcome}
 
 -- ---- bytes
 
@@ -147,13 +146,12 @@ pub goes_none : {S : Type 0} (notes : S → DoneValue → S → Type 0) (n : Nex
 unfolding GoesOn
 goes_none notes n k s = (refl, refl, refl)
 
-pub goes_more : {S : Type 0} (notes : S → DoneValue → S → Type 0) (n : Nexus) (times : ℕ) (k k1 k2 k' : TasksValue) (s m t : S) (units : List ℕ) (first last : List TargetPduValue)
-    → GoesOn notes n times k s first k1 m → k2 ≡ without_units k1 units → Acts notes n k2 m AskedNext last k' t → GoesOn notes n (times + 1) k s (first ++ last) k' t
+pub goes_more : {S : Type 0} (notes : S → DoneValue → S → Type 0) (n : Nexus) (times : ℕ) (k k1 k' : TasksValue) (s m t : S) (first last : List TargetPduValue)
+    → GoesOn notes n times k s first k1 m → Acts notes n k1 m AskedNext last k' t → GoesOn notes n (times + 1) k s (first ++ last) k' t
 unfolding GoesOn
-goes_more {S} notes n times k k1 k2 k' s m t units first last so dropped acts =
+goes_more {S} notes n times k k1 k' s m t first last so acts =
     let more : suc times ≡ times + 1 = omega arith in
-    let behind : Acts notes n (without_units k1 units) m AskedNext last k' t = subst (λ (x : TasksValue). Acts notes n x m AskedNext last k' t) dropped acts in
-    subst (λ (j : ℕ). GoesOn notes n j k s (first ++ last) k' t) more (k1, m, units, first, last, refl, so, behind)
+    subst (λ (j : ℕ). GoesOn notes n j k s (first ++ last) k' t) more (k1, m, first, last, refl, so, acts)
 
 -- ---- and there is an end to that
 
@@ -200,31 +198,6 @@ tasks_fall : (k : TasksValue) (ws : List TaskValue) → k.waiting ≡ ws → is_
 tasks_fall k [] e goes = absurd cc
 tasks_fall k (t ∷ ts) e goes = task_falls k t ts t.awaiting e goes
 
--- no more is left to be done where tasks are dropped
-
-shorter : (t : TaskValue) (ts kept : List TaskValue) (b : Bool) → length kept ≤ length ts → length (cond b (t ∷ kept) kept) ≤ length (t ∷ ts)
-shorter t ts kept true h = omega (arith, h)
-shorter t ts kept false h = omega (arith, h)
-
-filter_short : (test : TaskValue → Bool) (ts : List TaskValue) → length (filter test ts) ≤ length ts
-filter_short test [] = omega arith
-filter_short test (t ∷ ts) = shorter t ts (filter test ts) (test t) (filter_short test ts)
-
-less_to_do : (t : TaskValue) (ts kept : List TaskValue) (b : Bool) → length kept ≤ length ts → left_to_do (cond b (t ∷ kept) kept) ≤ length ts * 2 + turn t.awaiting
-less_to_do t ts kept true h = omega (arith, h)
-less_to_do t ts kept false h = omega (arith, h, at_most kept)
-
-filter_less : (test : TaskValue → Bool) (ts : List TaskValue) → left_to_do (filter test ts) ≤ left_to_do ts
-filter_less test [] = omega arith
-filter_less test (t ∷ ts) = less_to_do t ts (filter test ts) (test t) (filter_short test ts)
-
-units_less : (k : TasksValue) (units : List ℕ) → left_to_do (without_units k units).waiting ≤ left_to_do k.waiting
-units_less k [] = omega arith
-units_less k (unit ∷ units) = omega (arith, filter_less (λ (t : TaskValue). not (is_at unit t)) (without_units k units).waiting, units_less k units)
-
-pub drops : (k k1 : TasksValue) (units : List ℕ) → k1 ≡ without_units k units → left_to_do k1.waiting ≤ left_to_do k.waiting
-drops k k1 units e = subst (λ (x : TasksValue). left_to_do x.waiting ≤ left_to_do k.waiting) (sym e) (units_less k units)
-
 pub falls : (k k1 k' : TasksValue) (next : NextTask) → next ≡ next_of k → k1 ≡ after_next k → k' ≡ k1 → is_idle next ≡ false → left_to_do k'.waiting < left_to_do k.waiting
 falls k k1 k' next is left same goes =
     subst (λ (x : TasksValue). left_to_do x.waiting < left_to_do k.waiting) (sym (same ∙ left)) (tasks_fall k k.waiting refl (ap is_idle (sym is) ∙ goes))
@@ -253,12 +226,6 @@ idle_only (found.Fail t fault) idle = absurd cc
 
 pub idle_stays : (k k1 : TasksValue) (next : NextTask) → next ≡ next_of k → k1 ≡ after_next k → is_idle next ≡ true → k1 ≡ k
 idle_stays k k1 next is left idle = left ∙ tasks_stay k (slice_get k.waiting 0) (ap is_idle (sym is) ∙ idle)
-
--- nor anything is said
-pub idle_acts : {S : Type 0} (notes : S → DoneValue → S → Type 0) (n : Nexus) (k k1 : TasksValue) (s : S) (next : NextTask) → next ≡ next_of k → k1 ≡ after_next k → is_idle next ≡ true
-    → Acts notes n k s AskedNext [] k1 s
-idle_acts {S} notes n k k1 s next is left idle =
-    (left, subst (λ (x : NextTask). Does notes n s k1 (next_outcome x) [] s) (sym (idle_only next idle) ∙ is) (refl, refl))
 
 pub idle_is : (k k1 : TasksValue) (next : NextTask) → next ≡ next_of k → k1 ≡ after_next k → is_idle next ≡ true → next_of k1 ≡ found.Idle
 idle_is k k1 next is left idle = ap next_of (idle_stays k k1 next is left idle) ∙ sym is ∙ idle_only next idle

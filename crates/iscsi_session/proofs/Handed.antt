@@ -28,11 +28,11 @@ use Rattle.iscsi_tasks.specs.declared.taken.TakenCommand.TheVariants as taken
 use Rattle.iscsi_tasks.specs.declared.taken.TakenData.{TakenData}
 use Rattle.iscsi_tasks.specs.declared.taken.TakenData.TheVariants as taken_data
 use Rattle.session.specs.Answering.{Calls}
-use Rattle.iscsi_session.specs.Executing.{Acts, Does, GoesOn, Outcome, Nothing, Execute, Fail, Ask, Reject, command_outcome, data_outcome, next_outcome, outcome, unit_number, without_units}
+use Rattle.iscsi_session.specs.Executing.{Acts, Does, GoesOn, Outcome, Nothing, Execute, Fail, Ask, Reject, command_outcome, data_outcome, next_outcome, outcome, unit_number}
 use Rattle.iscsi_session.specs.Handing.{Hands, asked_command, brought, brought_by, brought_in, commands_of, handed}
 use Rattle.iscsi_session.specs.Managing.{Manages, ManagesTasks, Resets, ResetsBelow, ResetsUnit, AbortsTask, AbortsTaskSet, unit_below}
 use Rattle.iscsi_session.specs.Saying.{Says, TakesTask, Works, behind_other, is_of_tasks}
-use Rattle.iscsi_session.specs.Talking.{Came, Event, Looked, Silence, Talks}
+use Rattle.iscsi_session.specs.Talking.{Came, Event, Silence, Talks, Told, without_units}
 
 -- ---- one after another
 
@@ -157,8 +157,7 @@ goes_hands : {S : Type 0} (notes : S → DoneValue → S → Type 0) (n : Nexus)
 unfolding GoesOn
 goes_hands notes n zero k k' s t said so = hands_none notes n k k' s t so.1 so.2
 goes_hands {S} notes n (suc times) k k' s t said so =
-    hands_then notes n k so.0 k' s so.1 t [] [] (goes_hands notes n times k so.0 s so.1 so.3 so.6)
-    (hands_then notes n so.0 (without_units so.0 so.2) k' so.1 so.1 t [] [] (units_hand notes n so.0 so.1 so.2) (acts_hands notes n (without_units so.0 so.2) k' so.1 t AskedNext so.4 so.7))
+    hands_then notes n k so.0 k' s so.1 t [] [] (goes_hands notes n times k so.0 s so.1 so.2 so.5) (acts_hands notes n so.0 k' so.1 t AskedNext so.3 so.6)
 
 -- ---- task management
 
@@ -270,8 +269,10 @@ pub talks_hands : {S : Type 0} (notes : S → DoneValue → S → Type 0) (count
 talks_hands notes count n [] k k' s t said so = hands_none notes n k k' s t so.1 so.2
 talks_hands {S} notes count n (Silence ∷ es) k k' s t said so =
     hands_then notes n k so.0 k' s so.1 t [] (brought_in es) (hands_none notes n k so.0 s so.1 so.5.2 so.5.3) (talks_hands notes count n es so.0 k' so.1 t so.3 so.6)
-talks_hands {S} notes count n (Looked ∷ es) k k' s t said so =
-    hands_then notes n k so.0 k' s so.1 t [] (brought_in es) (goes_hands notes n so.5.0 k so.0 s so.1 so.2 so.5.1) (talks_hands notes count n es so.0 k' so.1 t so.3 so.6)
+talks_hands {S} notes count n (Told units ∷ es) k k' s t said so =
+    hands_then notes n k so.0 k' s so.1 t [] (brought_in es)
+    (hands_then notes n k (without_units k units) so.0 s s so.1 [] [] (units_hand notes n k s units) (goes_hands notes n so.5.0 (without_units k units) so.0 s so.1 so.2 so.5.1))
+    (talks_hands notes count n es so.0 k' so.1 t so.3 so.6)
 talks_hands {S} notes count n (Came p ∷ es) k k' s t said so =
     hands_then notes n k so.0 k' s so.1 t (brought_by p.header p.payload) (brought_in es) (says_hands notes count n p k so.0 s so.1 so.2 so.5.1)
     (talks_hands notes count n es so.0 k' so.1 t so.3 so.6)

@@ -13,7 +13,6 @@ use Rattle.iscsi_pdu.specs.declared.reject_reason.RejectReason.{RejectReason}
 use Rattle.iscsi_pdu.specs.declared.scsi_command.ScsiCommand.{ScsiCommand}
 use Rattle.iscsi_pdu.specs.declared.target_header.TargetHeader.TheVariants as header
 use Rattle.iscsi_tasks.specs.Values.{TasksValue}
-use Rattle.iscsi_tasks.specs.Aborts.{without_unit}
 use Rattle.iscsi_tasks.specs.Commands as tasks
 use Rattle.iscsi_tasks.specs.DataOuts.{data_answer}
 use Rattle.iscsi_tasks.specs.Next.{next_of, ready_to_transfer}
@@ -147,16 +146,11 @@ Tells k (Ask request) said = ⊥
 abbrev pub Acts : {S : Type 0} → (S → DoneValue → S → Type 0) → Nexus → TasksValue → S → Act → (said : List TargetPduValue) → TasksValue → S → Type 0
 Acts notes n k s act said k' t = (k' ≡ stepped k act) × Does notes n s k' (outcome k act) said t
 
--- without the tasks at units that another session has reset, the first of them last
-abbrev pub without_units : TasksValue → (units : List ℕ) → TasksValue
-without_units k [] = k
-without_units k (unit ∷ units) = without_unit (without_units k units) unit
-
--- what is to be done next is done, so many times, each behind a look at which units other sessions have reset
+-- what is to be done next is done, so many times
 unfoldable pub GoesOn : {S : Type 0} → (S → DoneValue → S → Type 0) → Nexus → (times : ℕ) → TasksValue → S → (said : List TargetPduValue) → TasksValue → S → Type 0
 GoesOn notes n zero k s said k' t = (said ≡ []) × (k' ≡ k) × (t ≡ s)
 GoesOn {S} notes n (suc times) k s said k' t =
-    (k1 : TasksValue) × (m : S) × (units : List ℕ) × (first last : List TargetPduValue) × (said ≡ first ++ last) × GoesOn notes n times k s first k1 m × Acts notes n (without_units k1 units) m AskedNext last k' t
+    (k1 : TasksValue) × (m : S) × (first last : List TargetPduValue) × (said ≡ first ++ last) × GoesOn notes n times k s first k1 m × Acts notes n k1 m AskedNext last k' t
 
 abbrev pub is_idle : NextTask → Bool
 is_idle found.Idle = true

@@ -1,5 +1,5 @@
 -- The PDUs of a stream, one after another. `notes s d t` says that a call with the answer d makes t of the service s.
-use Rattle.std.specs.Prelude.{◌≡◌, ◌≤◌, ℕ, List, [], ◌∷◌, ◌++◌, length, drop, Option}
+use Rattle.std.specs.Prelude.{◌≡◌, ◌≤◌, ℕ, List, [], ◌∷◌, ◌++◌, length, drop, All, Option}
 use Rattle.std.specs.Io.KnownBytes.{Consumes, Appends}
 use Rattle.scsi_nexus.specs.declared.nexus.Nexus.{Nexus}
 use Rattle.kept_unit.specs.Answers.{DoneValue}
@@ -8,6 +8,7 @@ use Rattle.iscsi_pdu.specs.Pdus.{InitiatorPduValue, TargetPduValue, parsed_initi
 use Rattle.iscsi_pdu.specs.Segments.{Complete}
 use Rattle.iscsi_answers.specs.Single.{ping}
 use Rattle.iscsi_answers.specs.Written.{bytes_of_all}
+use Rattle.iscsi_tasks.specs.Aborts.{without_unit}
 use Rattle.iscsi_tasks.specs.Next.{next_of}
 use Rattle.iscsi_tasks.specs.Values.{TasksValue}
 use Rattle.iscsi_tasks.specs.declared.next_task.NextTask.TheVariants.{Idle}
@@ -25,17 +26,28 @@ abbrev pub Takes : (bytes : List ℕ) → List InitiatorPduValue → (rest : Lis
 Takes bytes [] rest = rest ≡ bytes
 Takes bytes (p ∷ ps) rest = (size : ℕ) × BeginsWith bytes p size × Takes (drop size bytes) ps rest
 
--- what happens to a session: a PDU comes, or nothing for a while; or it looks whether others have reset units where commands of its own wait
+-- what happens to a session: a PDU comes, or nothing for a while; or it is told of units that other sessions have reset
 pub data Event : Type 0 where
   Came : InitiatorPduValue → Event
   Silence : Event
-  Looked : Event
+  Told : (units : List ℕ) → Event
+
+-- what it is told is so, by `resets`
+abbrev pub IsSo : (resets : ℕ → Type 0) → Event → Type 0
+IsSo resets (Came p) = Unit {0}
+IsSo resets Silence = Unit {0}
+IsSo resets (Told units) = All resets units
+
+-- without the commands that wait at these units, the first of them last
+abbrev pub without_units : TasksValue → (units : List ℕ) → TasksValue
+without_units k [] = k
+without_units k (unit ∷ units) = without_unit (without_units k units) unit
 
 abbrev pub pdus_of : List Event → List InitiatorPduValue
 pdus_of [] = []
 pdus_of (Came p ∷ es) = p ∷ pdus_of es
 pdus_of (Silence ∷ es) = pdus_of es
-pdus_of (Looked ∷ es) = pdus_of es
+pdus_of (Told units ∷ es) = pdus_of es
 
 -- a ping
 abbrev pub pinged : TasksValue → SerialNumber → List TargetPduValue
@@ -45,12 +57,12 @@ pinged k stat_sn = ping (numbers k stat_sn) 0 ∷ []
 abbrev pub IsPinged : TasksValue → (out out' : List ℕ) → Type 0
 IsPinged k out out' = (stat_sn : SerialNumber) × (out' ≡ out ++ bytes_of_all (pinged k stat_sn))
 
--- a PDU is taken where nothing is left to be done with those before it; behind a silence the target pings; behind a look those go on that waited
--- for others which have gone
+-- a PDU is taken where nothing is left to be done with those before it; behind a silence the target pings; of units that others have reset the
+-- commands that wait there go unexecuted, and those that waited behind them go on
 abbrev pub Happens : {S : Type 0} → (S → DoneValue → S → Type 0) → (count : S → ℕ) → Nexus → Event → TasksValue → S → (said : List TargetPduValue) → TasksValue → S → Type 0
 Happens notes count n (Came p) k s said k' t = (next_of k ≡ Idle) × Says notes count n p k s said k' t
 Happens notes count n Silence k s said k' t = (stat_sn : SerialNumber) × (said ≡ pinged k stat_sn) × (k' ≡ k) × (t ≡ s)
-Happens notes count n Looked k s said k' t = (times : ℕ) × GoesOn notes n times k s said k' t
+Happens notes count n (Told units) k s said k' t = (times : ℕ) × GoesOn notes n times (without_units k units) s said k' t
 
 -- one after another, and what is said to them
 abbrev pub Talks : {S : Type 0} → (S → DoneValue → S → Type 0) → (count : S → ℕ) → Nexus → List Event → TasksValue → S → (said : List TargetPduValue) → TasksValue → S → Type 0
@@ -59,16 +71,17 @@ Talks {S} notes count n (e ∷ es) k s said k' t =
     (k1 : TasksValue) × (m : S) × (first others : List TargetPduValue) × (said ≡ first ++ others) × Happens notes count n e k s first k1 m × Talks notes count n es k1 m others k' t
 
 -- some of what is pending is answered, and this is the rest
-pub record Answers {S : Type 0} (notes : S → DoneValue → S → Type 0) (count : S → ℕ) (n : Nexus) (k : TasksValue) (s : S) (pending : List ℕ) (said : List TargetPduValue) (k' : TasksValue) (t : S) (rest : List ℕ) : Type 0 where
+pub record Answers {S : Type 0} (notes : S → DoneValue → S → Type 0) (count : S → ℕ) (resets : ℕ → Type 0) (n : Nexus) (k : TasksValue) (s : S) (pending : List ℕ) (said : List TargetPduValue) (k' : TasksValue) (t : S) (rest : List ℕ) : Type 0 where
   pub events : List Event
+  pub so : All (IsSo resets) events
   pub talks : Talks notes count n events k s said k' t
   pub takes : Takes pending (pdus_of events) rest
 
 -- and of what is read behind it
-pub record Converses {S : Type 0} (notes : S → DoneValue → S → Type 0) (count : S → ℕ) (n : Nexus) (k : TasksValue) (s : S) (pending : List ℕ) (left left' : Option (List ℕ)) (said : List TargetPduValue) (k' : TasksValue) (t : S) (rest : List ℕ) : Type 0 where
+pub record Converses {S : Type 0} (notes : S → DoneValue → S → Type 0) (count : S → ℕ) (resets : ℕ → Type 0) (n : Nexus) (k : TasksValue) (s : S) (pending : List ℕ) (left left' : Option (List ℕ)) (said : List TargetPduValue) (k' : TasksValue) (t : S) (rest : List ℕ) : Type 0 where
   pub read : List ℕ
   pub consumed : Consumes left left' read
-  pub answers : Answers notes count n k s (pending ++ read) said k' t rest
+  pub answers : Answers notes count resets n k s (pending ++ read) said k' t rest
 
 -- what waited to be written and what was said are written, or wait
 abbrev pub Writes : (written written' : Option (List ℕ)) → (out out' : List ℕ) → (said : List TargetPduValue) → Type 0

@@ -85,7 +85,7 @@ fn work<S: Service, G: SessionRegister>(
     take_task(
         alloc, service, register, nexus, connection, pdu, header, out,
     )?;
-    go_on(alloc, service, register, nexus, connection, out)
+    go_on(alloc, service, nexus, connection, out)
 }
 
 /// Takes a PDU of a task.

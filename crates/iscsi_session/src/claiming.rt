@@ -21,6 +21,11 @@ pub struct SessionIdentity {
 
 /// Where the sessions that live are noted, those of all portals.
 pub trait SessionRegister {
+    ghost use Rattle.std.specs.Prelude.{ℕ, IsTrue};
+
+    // That another session has reset a unit, as far as whoever keeps the register says what that means.
+    ghost resets: { Self → ℕ → Type 0 } = { λ _ _. Unit {0} };
+
     /// The session that lives as a nexus, if it is one of iSCSI.
     fn living(&self, nexus: Nexus) -> Option<SessionIdentity>;
 
@@ -31,8 +36,9 @@ pub trait SessionRegister {
     fn note(&self, nexus: Nexus, session: SessionIdentity, name: &[u8]);
 
     /// Whether another session has reset a unit since this was last asked of the unit, or since the session of the caller began.
-    /// It is asked before each command is handed over that waited.
-    fn was_reset(&self, unit: u8) -> bool;
+    /// It is asked whenever something was read, before commands go on that waited.
+    fn was_reset(&self, unit: u8) -> bool
+        ensures { IsTrue result → resets self.now unit };
 
     /// Notes that the session of the caller has reset a unit.
     fn note_reset(&self, unit: u8);

@@ -8,11 +8,9 @@ ghost use Rattle.iscsi_tasks.specs.declared.next_task.NextTask.TheVariants.{Idle
 ghost use Rattle.iscsi_session.specs.Faults.{IsLater};
 ghost use Rattle.iscsi_session.specs.Executing.{Acts, Adds, Does, Executes, GoesOn, OrElse, Tells, answer_to, demand, failure, is_idle, next_outcome, outcome};
 
-use crate::claiming::SessionRegister;
 use crate::connection::Connection;
 use crate::fault::IscsiFault;
 use crate::requests::reject;
-use crate::resets::drop_reset;
 use iscsi_answers::{AnsweredCommand, UnitAnswer, write_command_answer, write_ready_to_transfer};
 use iscsi_pdu::{DataOut, ScsiCommand, unit_of};
 use iscsi_tasks::{NextTask, TakenCommand, TakenData, TaskFault, TransferRequest};
@@ -160,11 +158,10 @@ fn is_idle(next: &NextTask) -> bool
     matches!(next, NextTask::Idle)
 }
 
-/// Goes on with the commands that wait, until they wait for PDUs. Before each it looks whether another session has reset its unit.
-pub(crate) fn go_on<S: Service, G: SessionRegister>(
+/// Goes on with the commands that wait, until they wait for PDUs.
+pub(crate) fn go_on<S: Service>(
     alloc: Global,
     service: &mut S,
-    register: &G,
     nexus: Nexus,
     connection: &mut Connection,
     out: &mut Vec<u8>,
@@ -174,7 +171,6 @@ pub(crate) fn go_on<S: Service, G: SessionRegister>(
     ensures idle { OnOk result (next_of connection.new.tasks ≡ Idle) }
 {
     'steps: loop {
-        drop_reset(register, service.units(), &mut connection.tasks);
         let next = connection.tasks.next();
         if is_idle(&next) {
             return Ok(());

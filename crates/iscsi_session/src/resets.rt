@@ -1,6 +1,6 @@
 //! Units that other sessions reset.
-ghost use Rattle.std.specs.Prelude.{◌≡◌, ℕ, List};
-ghost use Rattle.iscsi_session.specs.Executing.{without_units};
+ghost use Rattle.std.specs.Prelude.{◌≡◌, ℕ, List, All};
+ghost use Rattle.iscsi_session.specs.Talking.{without_units};
 
 use crate::claiming::SessionRegister;
 use iscsi_tasks::Tasks;
@@ -8,7 +8,7 @@ use iscsi_tasks::Tasks;
 /// Lets those commands go unexecuted that wait at a unit which another session has reset: LOGICAL UNIT RESET and TARGET WARM RESET end
 /// the tasks of all sessions (RFC 7143, "Task Management Function Request").
 pub(crate) fn drop_reset<G: SessionRegister>(register: &G, count: u8, tasks: &mut Tasks)
-    ensures { (units : List ℕ) × (tasks.new ≡ without_units tasks.old units) }
+    ensures { (units : List ℕ) × All (G.resets register.now) units × (tasks.new ≡ without_units tasks.old units) }
 {
     'units: for unit in 0..count {
         if register.was_reset(unit) {

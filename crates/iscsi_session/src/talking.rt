@@ -17,6 +17,7 @@ use crate::fault::{IscsiEnd, IscsiFault};
 use crate::login::{end_of, read_fault};
 use crate::portal::Portal;
 use crate::read_buffer::ReadBuffer;
+use crate::resets::drop_reset;
 use iscsi_answers::write_ping;
 use iscsi_keys::TARGET_MAX_RECV_DATA_SEGMENT_LENGTH;
 use iscsi_login::SessionType;
@@ -46,7 +47,7 @@ enum Pause {
     LoggedOut,
 }
 
-/// Goes on with the commands that wait, where another session has reset the units of those before them, and answers PDUs.
+/// Lets those commands go unexecuted that wait at a unit which another session has reset, goes on with those behind them, and answers PDUs.
 fn answer_some<S: Service, G: SessionRegister>(
     alloc: Global,
     service: &mut S,
@@ -61,10 +62,11 @@ fn answer_some<S: Service, G: SessionRegister>(
     requires { next_of connection.old.tasks ≡ Idle }
     ensures fault { IfErr result IsLater }
     ensures full { result ≡ Ok Pause.FlushDue → length read_buffer.new < length read_buffer.old }
-    ensures talks { session_type ≡ Normal → (said : List TargetPduValue) × (rest : List ℕ) × Answers S.notes S.count nexus connection.old.tasks service.old read_buffer.old said connection.new.tasks service.new rest × OnOk result ((rest ≡ read_buffer.new) × (out.new.items ≡ out.old.items ++ bytes_of_all said)) }
+    ensures talks { session_type ≡ Normal → (said : List TargetPduValue) × (rest : List ℕ) × Answers S.notes S.count (G.resets register.now) nexus connection.old.tasks service.old read_buffer.old said connection.new.tasks service.new rest × OnOk result ((rest ≡ read_buffer.new) × (out.new.items ≡ out.old.items ++ bytes_of_all said)) }
     ensures idle { OnOk result (next_of connection.new.tasks ≡ Idle) }
 {
-    go_on(alloc, service, register, nexus, connection, out)?;
+    drop_reset(register, service.units(), &mut connection.tasks);
+    go_on(alloc, service, nexus, connection, out)?;
     answer_pending(
         alloc,
         service,
@@ -93,7 +95,7 @@ fn answer_pending<S: Service, G: SessionRegister>(
     requires { next_of connection.old.tasks ≡ Idle }
     ensures fault { IfErr result IsLater }
     ensures full { result ≡ Ok Pause.FlushDue → length read_buffer.new < length read_buffer.old }
-    ensures talks { session_type ≡ Normal → (said : List TargetPduValue) × (rest : List ℕ) × Answers S.notes S.count nexus connection.old.tasks service.old read_buffer.old said connection.new.tasks service.new rest × OnOk result ((rest ≡ read_buffer.new) × (out.new.items ≡ out.old.items ++ bytes_of_all said)) }
+    ensures talks { session_type ≡ Normal → (said : List TargetPduValue) × (rest : List ℕ) × Answers S.notes S.count (G.resets register.now) nexus connection.old.tasks service.old read_buffer.old said connection.new.tasks service.new rest × OnOk result ((rest ≡ read_buffer.new) × (out.new.items ≡ out.old.items ++ bytes_of_all said)) }
     ensures idle { OnOk result (next_of connection.new.tasks ≡ Idle) }
 {
     'pdus: loop {
@@ -141,7 +143,7 @@ fn answer_all<S: Service, G: SessionRegister, W: Write>(
 ) -> Result<bool, IscsiFault>
     requires { next_of connection.old.tasks ≡ Idle }
     ensures fault { IfErr result IsLater }
-    ensures talks { session_type ≡ Normal → (said : List TargetPduValue) × (rest : List ℕ) × Answers S.notes S.count nexus connection.old.tasks service.old read_buffer.old said connection.new.tasks service.new rest × OnOk result ((rest ≡ read_buffer.new) × Writes (W.contents writer.old) (W.contents writer.new) out.old.items out.new.items said) }
+    ensures talks { session_type ≡ Normal → (said : List TargetPduValue) × (rest : List ℕ) × Answers S.notes S.count (G.resets register.now) nexus connection.old.tasks service.old read_buffer.old said connection.new.tasks service.new rest × OnOk result ((rest ≡ read_buffer.new) × Writes (W.contents writer.old) (W.contents writer.new) out.old.items out.new.items said) }
     ensures idle { OnOk result (next_of connection.new.tasks ≡ Idle) }
     ensures empty { out.new.items ≡ [] }
 {
@@ -212,7 +214,7 @@ pub(crate) fn converse<S: Service, G: SessionRegister, R: Read, W: Write>(
 ) -> Result<IscsiEnd, IscsiFault>
     requires { next_of connection.old.tasks ≡ Idle }
     ensures fault { IfErr result IsLater }
-    ensures talks { session_type ≡ Normal → (said : List TargetPduValue) × (rest : List ℕ) × Converses S.notes S.count nexus connection.old.tasks service.old read_buffer.old (R.remaining reader.old) (R.remaining reader.new) said connection.new.tasks service.new rest × OnOk result (Writes (W.contents writer.old) (W.contents writer.new) out.old.items [] said) }
+    ensures talks { session_type ≡ Normal → (said : List TargetPduValue) × (rest : List ℕ) × Converses S.notes S.count (G.resets register.now) nexus connection.old.tasks service.old read_buffer.old (R.remaining reader.old) (R.remaining reader.new) said connection.new.tasks service.new rest × OnOk result (Writes (W.contents writer.old) (W.contents writer.new) out.old.items [] said) }
     ensures idle { OnOk result (next_of connection.new.tasks ≡ Idle) }
 {
     let mut is_pinged = false;

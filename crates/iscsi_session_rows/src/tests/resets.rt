@@ -1,5 +1,5 @@
 //! Units that another session resets where commands wait.
-use super::streams::serve_with;
+use super::streams::{Pieces, serve_with};
 use super::words::{LOST, Pdu, add_pdus, assert_ended, let_in, login};
 use iscsi_session::{IscsiEnd, SessionIdentity, SessionRegister};
 use scsi_nexus::Nexus;
@@ -65,13 +65,14 @@ const AT_ONE: Pdu<'static> = Pdu(
 
 const AT_ZERO: Pdu<'static> = Pdu(0x0181_0000, 0, 3, [0, 2, 1, 0, 0, 0, 0], b"");
 
-/// It looks before the first PDU (0), before the R2T (1) and behind it (2), and behind the next PDU (3).
+/// It looks before the first byte behind the login (0) and behind each byte that is read. A command has 48 bytes, and the data have 52;
+/// those of a write that is gone are passed over.
 const RESETS: [Reset; 7] = [
     (
         "a write that waits for its data goes, and the command behind it is executed",
         0,
-        3,
-        &[WRITE, AT_ONE, DATA],
+        96,
+        &[WRITE, AT_ONE],
         &[
             ASKED,
             Pdu(0x2180_0002, 0, 3, [0, 1, 3, 34, 0, 0, 0], ANSWER),
@@ -81,7 +82,7 @@ const RESETS: [Reset; 7] = [
     (
         "a command that waits for its turn goes, and the write before it is executed",
         1,
-        3,
+        148,
         &[WRITE, AT_ONE, DATA],
         &[
             ASKED,
@@ -92,7 +93,7 @@ const RESETS: [Reset; 7] = [
     (
         "both are at the unit",
         0,
-        3,
+        148,
         &[WRITE, AT_ZERO, DATA],
         &[ASKED],
         b"",
@@ -100,7 +101,7 @@ const RESETS: [Reset; 7] = [
     (
         "the last of its data come, and it isn't executed",
         0,
-        3,
+        100,
         &[WRITE, DATA],
         &[ASKED],
         b"",
@@ -108,7 +109,7 @@ const RESETS: [Reset; 7] = [
     (
         "a command that comes behind the reset is executed",
         0,
-        3,
+        60,
         &[WRITE, DATA, AT_ZERO],
         &[
             ASKED,
@@ -130,7 +131,7 @@ const RESETS: [Reset; 7] = [
     (
         "a reset of another unit",
         1,
-        3,
+        100,
         &[WRITE, DATA],
         &[
             ASKED,
@@ -153,7 +154,11 @@ fn assert_reset(rt: &impl Abort, alloc: Global, row: &Reset) -> Result<(), Fail>
         at,
         looks: AtomicU64::new(0),
     };
-    let mut reader = input.as_slice();
+    let mut reader = Pieces {
+        bytes: &input,
+        size: 1,
+        silences: 0,
+    };
     let served = serve_with(alloc, false, &register, &mut reader)?;
     assert_ended(rt, &served, &output, &calls, Ok(IscsiEnd::Closed), shows);
     Ok(())

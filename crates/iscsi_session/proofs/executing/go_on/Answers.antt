@@ -1,19 +1,12 @@
-use Rattle.std.proofs.Common.{◌+◌, ◌++◌, ◌∙◌, [], List, ap, append-nil, arith, rules, sym}
-use Rattle.iscsi_pdu.specs.Pdus.{TargetPduValue}
-use Rattle.iscsi_answers.specs.Written.{bytes_of_all}
-use Rattle.iscsi_session.proofs.Acted.{drops, falls, goes_more, goes_none, idle_acts, next_acts, said_more}
+use Rattle.std.proofs.Common.{◌+◌, ◌++◌, [], append-nil, rules, sym}
+use Rattle.iscsi_session.proofs.Acted.{falls, goes_more, goes_none, next_acts, said_more}
 use Rattle.iscsi_session.proofs.executing.go_on.Goals as goal
 
 pub steps-init : goal.steps-init
 steps-init g c = (0, [], goes_none g.S.Service.notes c.args.nexus c.args.connection.now.tasks c.args.service.now, sym (append-nil c.args.out.now.items))
 
 pub steps-smaller : goal.steps-smaller
-steps-smaller g c =
-    omega (
-      arith,
-      falls c.drop_reset.new.tasks c.next-next.new.self c.do_next.new.connection.tasks c.next-next.result c.next-next.ensures.next c.next-next.ensures.state c.do_next.ensures.tasks cc,
-      drops c.steps.connection.tasks c.drop_reset.new.tasks c.drop_reset.ensures.0 c.drop_reset.ensures.1,
-    )
+steps-smaller g c = falls c.steps.connection.tasks c.next-next.new.self c.do_next.new.connection.tasks c.next-next.result c.next-next.ensures.next c.next-next.ensures.state c.do_next.ensures.tasks cc
 
 pub steps-preserved : goal.steps-preserved
 steps-preserved g c =
@@ -21,8 +14,8 @@ steps-preserved g c =
     let done = c.in_ok-do_next.ensures.done in (
       so.0 + 1,
       so.1 ++ done.0,
-      goes_more g.S.Service.notes c.args.nexus so.0 _ c.steps.connection.tasks c.drop_reset.new.tasks _ _ c.steps.service _ c.drop_reset.ensures.0 so.1 done.0 so.2 c.drop_reset.ensures.1
-          (next_acts g.S.Service.notes c.args.nexus c.drop_reset.new.tasks c.next-next.new.self _ c.steps.service _ c.next-next.result done.0 c.next-next.ensures.next c.next-next.ensures.state c.do_next.ensures.tasks done.1),
+      goes_more g.S.Service.notes c.args.nexus so.0 _ c.steps.connection.tasks _ _ c.steps.service _ so.1 done.0 so.2
+          (next_acts g.S.Service.notes c.args.nexus c.steps.connection.tasks c.next-next.new.self _ c.steps.service _ c.next-next.result done.0 c.next-next.ensures.next c.next-next.ensures.state c.do_next.ensures.tasks done.1),
       said_more so.1 done.0 _ _ _ so.3 done.2,
     )
 
@@ -32,17 +25,7 @@ returns-in_err-do_next-clause-gone g c =
     let done = c.do_next.ensures.done in (
       so.0 + 1,
       so.1 ++ done.0,
-      goes_more g.S.Service.notes c.args.nexus so.0 _ c.steps.connection.tasks c.drop_reset.new.tasks _ _ c.steps.service _ c.drop_reset.ensures.0 so.1 done.0 so.2 c.drop_reset.ensures.1
-          (next_acts g.S.Service.notes c.args.nexus c.drop_reset.new.tasks c.next-next.new.self _ c.steps.service _ c.next-next.result done.0 c.next-next.ensures.next c.next-next.ensures.state c.do_next.ensures.tasks done.1),
+      goes_more g.S.Service.notes c.args.nexus so.0 _ c.steps.connection.tasks _ _ c.steps.service _ so.1 done.0 so.2
+          (next_acts g.S.Service.notes c.args.nexus c.steps.connection.tasks c.next-next.new.self _ c.steps.service _ c.next-next.result done.0 c.next-next.ensures.next c.next-next.ensures.state c.do_next.ensures.tasks done.1),
       search rules,
-    )
-
-pub returns-then-is_idle-clause-gone : goal.returns-then-is_idle-clause-gone
-returns-then-is_idle-clause-gone g c =
-    let so = c.steps.invariant in (
-      so.0 + 1,
-      so.1 ++ [],
-      goes_more g.S.Service.notes c.args.nexus so.0 _ c.steps.connection.tasks c.drop_reset.new.tasks _ _ c.steps.service _ c.drop_reset.ensures.0 so.1 [] so.2 c.drop_reset.ensures.1
-          (idle_acts g.S.Service.notes c.args.nexus c.drop_reset.new.tasks c.next-next.new.self c.steps.service c.next-next.result c.next-next.ensures.next c.next-next.ensures.state (sym c.is_idle.ensures ∙ c.if-is_idle.true)),
-      so.3 ∙ ap (λ (said : List TargetPduValue). c.args.out.now.items ++ bytes_of_all said) (sym (append-nil so.1)),
     )

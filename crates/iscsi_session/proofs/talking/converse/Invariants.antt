@@ -10,7 +10,7 @@ abbrev pub invariant-turns : goal.invariant-turns
 invariant-turns g l =
     (next_of l.connection.tasks ≡ Idle)
     × (l.session_type ≡ Normal
-    → (said : List TargetPduValue) × Converses g.S.Service.notes g.S.Service.count l.nexus l.fn.connection.tasks l.fn.service l.fn.read_buffer (g.R.Read.remaining l.fn.reader) (g.R.Read.remaining l.reader) said l.connection.tasks l.service l.read_buffer
+    → (said : List TargetPduValue) × Converses g.S.Service.notes g.S.Service.count (g.G.SessionRegister.resets l.register) l.nexus l.fn.connection.tasks l.fn.service l.fn.read_buffer (g.R.Read.remaining l.fn.reader) (g.R.Read.remaining l.reader) said l.connection.tasks l.service l.read_buffer
     × Writes (g.W.Write.contents l.fn.writer) (g.W.Write.contents l.writer) l.fn.out.items l.out.items said)
 
 abbrev pub decreases-turns : goal.decreases-turns
