@@ -177,7 +177,7 @@ reset_hands notes n k k' s t unit result steps so = record {
   calls = so.0 ∷ [];
   run_is = steps;
   brought_is = refl;
-  made = (t, inr so.1.2, so.2, refl);
+  made = (t, inr (so.1.0, so.1.2), so.2, refl);
   handed_is = ap (λ (e : EventValue). asked_command so.0.lun e ++ []) so.1.2;
 }
 

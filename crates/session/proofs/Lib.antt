@@ -3,3 +3,4 @@ pub mod Answered
 pub mod Read
 pub mod Conversed
 pub mod Splitting
+pub mod Left

@@ -33,9 +33,9 @@ abbrev pub Talks : {S : Type 0} → (S → DoneValue → S → Type 0) → Nexus
 Talks notes n s [] out out' t = (out' ≡ out) × (t ≡ s)
 Talks {S} notes n s (f ∷ fs) out out' t = (m : S) × (mid : List ℕ) × Says notes n s f out mid m × Talks notes n m fs mid out' t
 
--- a call of a session, by its answer: it is of the session's nexus, or a reset
+-- a call of a session, by its answer: it is of the session's nexus, or a reset, which is of none
 abbrev pub IsCall : Nexus → DoneValue → Type 0
-IsCall n d = (d.nexus ≡ Some n) ⊎ (d.asked ≡ event.Reset)
+IsCall n d = (d.nexus ≡ Some n) ⊎ ((d.nexus ≡ None) × (d.asked ≡ event.Reset))
 
 -- calls of a session one after another, and nothing else, make t of s
 abbrev pub Calls : {S : Type 0} → (S → DoneValue → S → Type 0) → Nexus → S → List DoneValue → S → Type 0

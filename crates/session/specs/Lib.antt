@@ -4,3 +4,4 @@ pub mod Answering
 pub mod Directories
 pub mod Login
 pub mod Serving
+pub mod Leaving

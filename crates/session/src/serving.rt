@@ -4,6 +4,7 @@ ghost use Rattle.frames.specs.Replies.{LoginReply, reply_bytes};
 ghost use Rattle.frames.specs.declared.reply_frame.LoginAnswer.TheVariants.{Accepted};
 ghost use Rattle.session.specs.Answering.{HasRoom, ComesByCalls};
 ghost use Rattle.session.specs.Faults.{IsOfStream};
+ghost use Rattle.session.specs.Leaving.{Leaves};
 ghost use Rattle.session.specs.Login.{ReadsAtMost};
 ghost use Rattle.session.specs.Serving.{Writes, WritesAll, Converses, IsLostBelow, IsKeptOut, BreaksOff, Serves, refusal};
 
@@ -138,6 +139,7 @@ pub fn serve<S: Service, R: Read, W: Write>(
     ensures session { IfOk result (λ end. Serves S.notes S.count service.old (R.remaining reader.old) (R.remaining reader.new) (W.contents writer.old) (W.contents writer.new) end service.new) }
     ensures broken { IfErr result (λ fault. IsKeptOut service.old (R.remaining reader.old) (R.remaining reader.new) (W.contents writer.old) (W.contents writer.new) fault service.new ⊎ BreaksOff S.notes S.count service.old (R.remaining reader.old) fault service.new) }
     ensures reads { ReadsAtMost (turns * 262144) (R.remaining reader.old) (R.remaining reader.new) }
+    ensures service { Leaves S.notes S.count service.old service.new }
 {
     let mut read_buffer = ReadBuffer::new(alloc)?;
     let mut out = Vec::with_capacity(alloc, ROOM)?;

@@ -6,6 +6,7 @@ use Rattle.session.specs.Answering.{ComesByCalls}
 use Rattle.session.specs.Login.{Awaits, LeavesReads}
 use Rattle.session.specs.Serving.{Converses, IsLostBelow}
 use Rattle.session.proofs.Conversed.{held}
+use Rattle.session.proofs.Left.{is_left}
 use Rattle.session.proofs.Read.{at_ok, kept_out, kept_untold, reads_then}
 use Rattle.session.proofs.serving.serve.Goals as goal
 
@@ -108,3 +109,18 @@ returns-in-Err-clause-broken g c =
       because = kept_out c.in-Err.fault c.args.turns _ _ _ _ _ c.in-Err.ensures.faults came;
       said = λ other. at_ok c.refuse.result c.is_err.result c.is_err.ensures.value c.if-is_err.false c.refuse.ensures.said;
     })
+
+pub returns-then-not-is_lost-clause-service : goal.returns-then-not-is_lost-clause-service
+returns-then-not-is_lost-clause-service g c =
+    is_left g.S.Service.notes g.S.Service.count _ c.args.service.now c.login.new.self c.greet_and_converse-ended.new.service c.lose_all-is_lost.new.service c.logout.new.self c.units-units.result
+    c.lose_all-is_lost.result c.login.ensures.library c.greet_and_converse-ended.ensures.calls c.units-units.ensures c.lose_all-is_lost.ensures c.logout.ensures
+
+pub returns-in-Ok-ended-clause-service : goal.returns-in-Ok-ended-clause-service
+returns-in-Ok-ended-clause-service g c =
+    is_left g.S.Service.notes g.S.Service.count _ c.args.service.now c.login.new.self c.greet_and_converse-ended.new.service c.lose_all-is_lost.new.service c.logout.new.self c.units-units.result
+    c.lose_all-is_lost.result c.login.ensures.library c.greet_and_converse-ended.ensures.calls c.units-units.ensures c.lose_all-is_lost.ensures c.logout.ensures
+
+pub returns-clause-service : goal.returns-clause-service
+returns-clause-service g c =
+    is_left g.S.Service.notes g.S.Service.count _ c.args.service.now c.login.new.self c.greet_and_converse-ended.new.service c.lose_all-is_lost.new.service c.logout.new.self c.units-units.result
+    c.lose_all-is_lost.result c.login.ensures.library c.greet_and_converse-ended.ensures.calls c.units-units.ensures c.lose_all-is_lost.ensures c.logout.ensures
