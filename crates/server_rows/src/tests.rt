@@ -2,10 +2,12 @@ mod drains;
 mod endings;
 mod hosts;
 mod initiators;
+mod keepers;
 mod listeners;
 mod portals;
 mod streams;
 
+use self::keepers::FailingKeeper;
 use changer_server::Changer;
 use element_map::Elements;
 use library_device::{Device, unit_at};
@@ -30,7 +32,6 @@ use std::sync::{Condvar, Mutex, Wait};
 use std::test::Fail;
 use std::thread::{self, Threads};
 use std::time::{Clock, Duration};
-use tape_keeper::NoKeeper;
 use tape_medium::{Tape, Volume, VolumeTag};
 use tape_server::TapeDrive;
 use target_core::TargetCore;
@@ -68,6 +69,9 @@ const RESERVE: &[u8] = b"\0\0\0\x25\x02\x01\x0a\x5f\x01\x03\0\0\0\0\0\x18\0\
 
 /// WRITE(6) of a block of four bytes to the drive.
 const WRITE: &[u8] = b"\0\0\0\x0d\x02\x01\x06\x0a\0\0\0\x04\0\x01\x02\x03\x04";
+
+/// WRITE FILEMARKS(6) of one filemark.
+const FILEMARK: &[u8] = b"\0\0\0\x09\x02\x01\x06\x10\0\0\0\x01\0";
 
 const REWIND: &[u8] = b"\0\0\0\x09\x02\x01\x06\x01\0\0\0\0\0";
 
@@ -119,6 +123,10 @@ const BLOCK_16: &[u8] = b"\0\0\0\x0f\x82\0\0\0\0\0\0\0\0\0\x10\x01\x02\x03\x04";
 /// The drive stands behind one object, of record 14.
 const BEHIND_ONE_14: &[u8] = b"\0\0\0\x1f\x82\0\0\0\0\0\0\0\0\0\x0e\
     \0\0\0\0\0\0\0\x01\0\0\0\x01\0\0\0\0\0\0\0\0";
+
+/// The drive stands behind two objects, of record 9.
+const BEHIND_TWO_9: &[u8] = b"\0\0\0\x1f\x82\0\0\0\0\0\0\0\0\0\x09\
+    \0\0\0\0\0\0\0\x02\0\0\0\x02\0\0\0\0\0\0\0\0";
 
 /// CHECK CONDITION with BLANK CHECK, end of data, four bytes wanted; of record 17.
 const END_OF_DATA_17: &[u8] = b"\0\0\0\x1d\x82\x02\x12\
@@ -181,6 +189,7 @@ enum Frame {
     Reservation,
     ToDrive,
     Write,
+    Filemark,
     Read,
     Rewind,
     Position,
@@ -196,6 +205,7 @@ enum Data {
     TwoKeys10,
     Block12,
     BehindOne14,
+    BehindTwo9,
     Block16,
     EndOfData17,
     NoUnit,
@@ -262,6 +272,7 @@ fn sent(frame: Frame) -> &'static [u8] {
         Frame::Reservation => RESERVATION,
         Frame::ToDrive => TO_DRIVE,
         Frame::Write => WRITE,
+        Frame::Filemark => FILEMARK,
         Frame::Read => READ,
         Frame::Rewind => REWIND,
         Frame::Position => POSITION,
@@ -277,6 +288,7 @@ fn data_frame(data: Data) -> &'static [u8] {
         Data::TwoKeys10 => TWO_KEYS_10,
         Data::Block12 => BLOCK_12,
         Data::BehindOne14 => BEHIND_ONE_14,
+        Data::BehindTwo9 => BEHIND_TWO_9,
         Data::Block16 => BLOCK_16,
         Data::EndOfData17 => END_OF_DATA_17,
         Data::NoUnit => NO_UNIT,
@@ -468,6 +480,8 @@ struct Meeting {
     /// How many connections the client makes.
     connections: usize,
     records: RecordOutput,
+    /// At which of the commands that are GOOD keeping fails, from 1 on; at none where it is 0.
+    keeping_fails_at: u64,
 }
 
 /// Hosts are waited for for ever.
@@ -487,6 +501,7 @@ const fn sessions(name: &'static str, workers: u8) -> Meeting {
         times: PATIENT,
         connections: workers as usize,
         records: RecordOutput::AtTheEnd(Audit::Lines),
+        keeping_fails_at: 0,
     }
 }
 
@@ -554,6 +569,7 @@ fn serve_and_talk<
 ) -> (Result<(), ServerFault>, io::Result<bool>) {
     let alloc = rt.alloc();
     let sessions = LiveSessions::new(alloc);
+    let keeper = FailingKeeper::new(meeting.keeping_fails_at);
     let ending = Ending {
         sessions: &sessions,
         gate,
@@ -575,7 +591,7 @@ fn serve_and_talk<
                 doors,
                 limits,
                 meeting.records,
-                &NoKeeper,
+                &keeper,
                 output,
                 &teller,
             )
