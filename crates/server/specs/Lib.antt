@@ -4,4 +4,6 @@ pub mod Events
 pub mod Batches
 pub mod Serving
 pub mod LibraryService
+pub mod Sessions
 pub mod Logins
+pub mod Rows

@@ -8,6 +8,9 @@ pub record LibraryServiceValue : Type 0 where
   pub seat : SeatValue
   pub units : ℕ
 
+abbrev pub service_at : (units : ℕ) → SeatValue → LibraryServiceValue
+service_at units seat = record { seat = seat; units = units }
+
 -- what a call with this answer does to it
 abbrev pub DoesToService : LibraryServiceValue → DoneValue → LibraryServiceValue → Type 0
 DoesToService p d q = Notes p.seat d q.seat × (q.units ≡ p.units)

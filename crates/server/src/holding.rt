@@ -1,6 +1,7 @@
 //! A session from its connection on, with the times that its host has.
 ghost use Rattle.std.specs.Prelude.{◌⊎◌, IfOk, IfErr};
-ghost use Rattle.iscsi_session.specs.Leaving.{Leaves};
+ghost use Rattle.iscsi_session.specs.Leaving as iscsi;
+ghost use Rattle.session.specs.Leaving.{Leaves};
 ghost use Rattle.session.specs.Serving.{BreaksOff, IsKeptOut, Serves};
 ghost use Rattle.server.specs.LibraryService.{DoesForWorker};
 
@@ -32,7 +33,9 @@ pub(crate) fn hold<'a, S: SeatService, R: Clock + RandomSource + Wait, E: Write>
     service: &mut WorkerService<'a, S, R, E>,
     acceptor: &Acceptor<'_>,
     visit: Visit<'_, '_>,
-) -> Result<End, FaultySession> {
+) -> Result<End, FaultySession>
+    ensures { Leaves (DoesForWorker S.notes S.settles) S.count service.old service.new }
+{
     let stream = &visit.visitor.stream;
     let times = acceptor.limits.times;
     let flags = service.flags;
@@ -91,7 +94,9 @@ fn meet<'a, S: SeatService, R: Clock + RandomSource + Wait, E: Write, I: Read, O
     visit: Visit<'_, '_>,
     reader: &mut I,
     writer: &mut O,
-) -> Result<End, Cause> {
+) -> Result<End, Cause>
+    ensures { Leaves (DoesForWorker S.notes S.settles) S.count service.old service.new }
+{
     match visit.door.portal() {
         None => match converse(alloc, service, reader, writer) {
             Ok(end) => Ok(end),
@@ -117,6 +122,7 @@ fn converse<'a, S: SeatService, R: Wait, E: Write, I: Read, O: Write>(
     writer: &mut O,
 ) -> Result<End, SessionFault>
     ensures session { IfOk result (λ end. Serves (DoesForWorker S.notes S.settles) S.count service.old (I.remaining reader.old) (I.remaining reader.new) (O.contents writer.old) (O.contents writer.new) end service.new) }
+    ensures service { Leaves (DoesForWorker S.notes S.settles) S.count service.old service.new }
     ensures broken { IfErr result (λ fault. IsKeptOut service.old (I.remaining reader.old) (I.remaining reader.new) (O.contents writer.old) (O.contents writer.new) fault service.new ⊎ BreaksOff (DoesForWorker S.notes S.settles) S.count service.old (I.remaining reader.old) fault service.new) }
 {
     serve(alloc, service, reader, writer, u64::MAX)
@@ -134,7 +140,7 @@ fn converse_by_iscsi<S: Service, R: Clock + RandomSource + Wait, E: Write, I: Re
     reader: &mut I,
     writer: &mut O,
 ) -> Result<End, IscsiFault>
-    ensures { Leaves S.notes S.count door.entry.group service.old service.new }
+    ensures { iscsi.Leaves S.notes S.count door.entry.group service.old service.new }
 {
     let came_to = visit.visitor.came_to.unwrap_or(door.address);
     let portals = addresses_from(alloc, acceptor.doors(), came_to)?;

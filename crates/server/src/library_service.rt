@@ -18,6 +18,9 @@ pub(crate) trait SeatService: Service + Drop {
     /// What settling the seat by these numbers does.
     ghost settles: { List ℕ → Self → Self → Type 0 };
 
+    /// The seat.
+    ghost seat_of: { Self → Self.Seat };
+
     /// Whether a nexus has a slot at a unit, or finds one.
     fn has_room(&self, nexus: Nexus, lun: u8) -> bool;
 
@@ -33,7 +36,8 @@ pub(crate) trait SeatService: Service + Drop {
         ensures err { OnErr result (self.new ≡ self.old) };
 
     /// The seat, with which the library is closed.
-    fn leave_seat(self) -> Self::Seat;
+    fn leave_seat(self) -> Self::Seat
+        ensures { result ≡ seat_of self };
 }
 
 /// A seat at a library, and the directory of its sessions beside it. Contracts see what the seat holds, and how many
@@ -194,6 +198,8 @@ impl<
     type Seat = Seat<L0, L1, L2, L3, L4>;
 
     ghost settles = { SettlesService };
+
+    ghost seat_of = { λ p. p.seat };
 
     fn has_room(&self, nexus: Nexus, lun: u8) -> bool {
         self.library.has_room(self.rt, nexus, lun)

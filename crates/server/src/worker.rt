@@ -1,3 +1,7 @@
+ghost use Rattle.session.specs.Leaving.{Leaves};
+ghost use Rattle.server.specs.LibraryService.{DoesForWorker};
+ghost use Rattle.server.specs.Sessions.{ComesBySessions};
+
 use crate::acceptor::{Acceptor, Connection};
 use crate::door::{Door, Visitor};
 use crate::event::{EndedSession, Event};
@@ -32,13 +36,15 @@ pub(crate) struct Visit<'v, 'd> {
 impl<'a, S: SeatService, R: Clock + RandomSource + Wait, E: Write> Worker<'a, S, R, E> {
     /// Serves one connection of its door after another, until no more are to be. Behind each it asks that the records so far be
     /// handed out, where they are while the library is served. Its place among the workers says which door is its own.
-    pub fn work(&mut self, alloc: Global, acceptor: &Acceptor<'_>, place: usize) {
+    pub fn work(&mut self, alloc: Global, acceptor: &Acceptor<'_>, place: usize)
+        ensures { ComesBySessions S.notes S.settles S.count self.old.service self.new.service }
+    {
         let rt = self.service.rt;
         let teller = self.service.teller;
         let Some(door) = acceptor.door_of(place) else {
             return;
         };
-        for _turn in rt.forever() {
+        'turns: for _turn in rt.forever() {
             match acceptor.accept(rt, door, teller) {
                 Connection::Accepted(visitor, number) => {
                     self.serve_one(alloc, acceptor, door, &visitor, number);
@@ -58,7 +64,9 @@ impl<'a, S: SeatService, R: Clock + RandomSource + Wait, E: Write> Worker<'a, S,
         door: &Door<'_>,
         visitor: &Visitor,
         number: u64,
-    ) {
+    )
+        ensures { Leaves (DoesForWorker S.notes S.settles) S.count self.old.service self.new.service }
+    {
         let rt = self.service.rt;
         let sessions = acceptor.limits.sessions;
         match sessions.enter(rt, &visitor.stream) {
@@ -87,7 +95,9 @@ impl<'a, S: SeatService, R: Clock + RandomSource + Wait, E: Write> Worker<'a, S,
         alloc: Global,
         acceptor: &Acceptor<'_>,
         visit: Visit<'_, '_>,
-    ) -> Option<FaultySession> {
+    ) -> Option<FaultySession>
+        ensures { Leaves (DoesForWorker S.notes S.settles) S.count self.old.service self.new.service }
+    {
         let rt = self.service.rt;
         let teller = self.service.teller;
         let number = visit.number;

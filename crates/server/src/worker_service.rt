@@ -132,7 +132,9 @@ impl<'a, S: SeatService, R: Wait, E: Write> WorkerService<'a, S, R, E> {
     }
 
     /// The seat, with which the library is closed.
-    pub fn into_seat(self) -> S::Seat {
+    pub fn into_seat(self) -> S::Seat
+        ensures { result ≡ S.seat_of self.entry }
+    {
         let WorkerService { seat_service, .. } = self;
         seat_service.leave_seat()
     }

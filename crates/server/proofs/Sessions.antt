@@ -1,0 +1,144 @@
+-- What sessions make of a seat, one after another.
+use Rattle.std.proofs.Common.{◌≡◌, ◌<◌, ℕ, zero, suc, Bool, List, [], ◌∷◌, ◌++◌, length, map, Option, Some, None, Result, Ok, Err, inl, inr, refl, sym, ap, subst, ◌∙◌, ◌⊎◌, arith}
+use Rattle.std.specs.Prelude.{slice_index_or, IfNone, IfOk, All}
+use Rattle.std.specs.List.{AllZip}
+use Rattle.std.specs.Fork.{ChangesAt, ChangesEach}
+use denote.Ref.{MutBor}
+use denote.Param.Members.{Shared}
+use Rattle.std.proofs.lemmas.List.Elements.{All-nil, All-cons, All-head, All-tail}
+use Rattle.scsi_nexus.specs.declared.nexus.Nexus.{Nexus}
+use Rattle.kept_unit.specs.Answers.{DoneValue}
+use Rattle.lun_router.specs.Seats.{SeatValue, IsUntold, Notes, Settles}
+use Rattle.session.specs.Answering.{Calls, ComesByCalls}
+use Rattle.session.specs.Leaving.{ComesBySession, IsLeft, Leaves}
+use Rattle.session.specs.Serving.{IsLostBelow}
+use Rattle.iscsi_session.specs.Leaving as iscsi
+use Rattle.server.specs.LibraryService.{DoesForWorker, DoesToService, LibraryServiceValue, MaySettle, SettlesService, service_at}
+use Rattle.server.specs.Sessions.{ComesBySessions, IsOfSessions, SeatComes, SeatsCome, Sessions}
+
+-- a session of iSCSI leaves what one of frames does
+pub portal_left : {S : Type 0} (notes : S → DoneValue → S → Type 0) (count : S → ℕ) (port : ℕ) (s t : S) → iscsi.Leaves notes count port s t → Leaves notes count s t
+portal_left notes count port s t (inl same) = (None, same)
+portal_left notes count port s t (inr held) = (Some held.nexus, record { before = held.before; all = held.all; calls = held.calls; lost = held.lost })
+
+pub nobody : {S : Type 0} (notes : S → DoneValue → S → Type 0) (count : S → ℕ) (s t : S) → t ≡ s → Leaves notes count s t
+nobody notes count s t same = (None, same)
+
+pub no_session : {S : Type 0} (notes : S → DoneValue → S → Type 0) (settles : List ℕ → S → S → Type 0) (count : S → ℕ) (s t : S) → t ≡ s → ComesBySessions notes settles count s t
+no_session notes settles count s t same = ([], same)
+
+sessions_then : {S : Type 0} (notes : S → DoneValue → S → Type 0) (settles : List ℕ → S → S → Type 0) (count : S → ℕ) (xs ys : List (Option Nexus)) (s t u : S)
+    → Sessions notes settles count xs s t → Sessions notes settles count ys t u → Sessions notes settles count (xs ++ ys) s u
+sessions_then {S} notes settles count [] ys s t u one two = subst (λ (x : S). Sessions notes settles count ys x u) one two
+sessions_then notes settles count (x ∷ xs) ys s t u one two = (one.0, one.1, one.2, one.3, sessions_then notes settles count xs ys one.1 t u one.4 two)
+
+-- one session more
+pub one_more : {S : Type 0} (notes : S → DoneValue → S → Type 0) (settles : List ℕ → S → S → Type 0) (count : S → ℕ) (s t m k : S) → ComesBySessions notes settles count s t
+    → Leaves (DoesForWorker notes settles) count t m → MaySettle settles m k → ComesBySessions notes settles count s k
+one_more notes settles count s t m k so here settled =
+    (so.0 ++ here.0 ∷ [], sessions_then notes settles count so.0 (here.0 ∷ []) s t k so.1 (m, k, here.1, settled, refl))
+
+-- ---- a service's seat
+
+settled_at : (p q : LibraryServiceValue) → MaySettle SettlesService p q → MaySettle Settles p.seat q.seat × (q.units ≡ p.units)
+settled_at p q (inl same) = (inl (ap (λ (x : LibraryServiceValue). x.seat) same), ap (λ (x : LibraryServiceValue). x.units) same)
+settled_at p q (inr so) = (inr (so.0, so.1.0), so.1.1)
+
+does_at : (p q : LibraryServiceValue) (d : DoneValue) → DoesForWorker DoesToService SettlesService p d q → DoesForWorker Notes Settles p.seat d q.seat × (q.units ≡ p.units)
+does_at p q d so = let settled = settled_at so.0 q so.2 in ((so.0.seat, so.1.0, settled.0), settled.1 ∙ so.1.1)
+
+calls_at : (n : Nexus) (ds : List DoneValue) (p q : LibraryServiceValue) → Calls (DoesForWorker DoesToService SettlesService) n p ds q
+    → Calls (DoesForWorker Notes Settles) n p.seat ds q.seat × (q.units ≡ p.units)
+calls_at n [] p q so = (ap (λ (x : LibraryServiceValue). x.seat) so, ap (λ (x : LibraryServiceValue). x.units) so)
+calls_at n (d ∷ ds) p q so =
+    let here = does_at p so.0 d so.2 in
+    let rest = calls_at n ds so.0 q so.3 in ((so.0.seat, so.1, here.0, rest.0), rest.1 ∙ here.1)
+
+lost_at : (n : Nexus) (units : ℕ) (p q : LibraryServiceValue) (all : Bool) → IsLostBelow (DoesForWorker DoesToService SettlesService) n units p q all
+    → IsLostBelow (DoesForWorker Notes Settles) n units p.seat q.seat all × (q.units ≡ p.units)
+lost_at n zero p q all so = ((ap (λ (x : LibraryServiceValue). x.seat) so.0, so.1), ap (λ (x : LibraryServiceValue). x.units) so.0)
+lost_at n (suc lun) p q all so =
+    let before = lost_at n lun p so.0 so.1 so.3 in
+    let here = does_at so.0 q so.2 so.5 in ((so.0.seat, so.1, so.2, before.0, so.4, here.0, so.6), here.1 ∙ before.1)
+
+session_at : (u : ℕ) (who : Option Nexus) (p q : LibraryServiceValue) → p.units ≡ u → ComesBySession (DoesForWorker DoesToService SettlesService) (λ x. x.units) who p q
+    → ComesBySession (DoesForWorker Notes Settles) (λ _. u) who p.seat q.seat × (q.units ≡ u)
+session_at u None p q size so = (ap (λ (x : LibraryServiceValue). x.seat) so, ap (λ (x : LibraryServiceValue). x.units) so ∙ size)
+session_at u (Some n) p q size so =
+    let calls = calls_at n so.calls.0 p so.before so.calls.1 in
+    let lost = lost_at n so.before.units so.before q so.all so.lost in (
+      record {
+        before = so.before.seat;
+        all = so.all;
+        calls = (so.calls.0, calls.0);
+        lost = subst (λ (k : ℕ). IsLostBelow (DoesForWorker Notes Settles) n k so.before.seat q.seat so.all) (calls.1 ∙ size) lost.0;
+      },
+      lost.1 ∙ calls.1 ∙ size,
+    )
+
+sessions_at : (u : ℕ) (sessions : List (Option Nexus)) (p q : LibraryServiceValue) → p.units ≡ u → Sessions DoesToService SettlesService (λ x. x.units) sessions p q
+    → Sessions Notes Settles (λ _. u) sessions p.seat q.seat
+sessions_at u [] p q size so = ap (λ (x : LibraryServiceValue). x.seat) so
+sessions_at u (who ∷ others) p q size so =
+    let here = session_at u who p so.0 size so.2 in
+    let settled = settled_at so.0 so.1 so.3 in
+    (so.0.seat, so.1.seat, here.0, settled.0, sessions_at u others so.1 q (settled.1 ∙ here.1) so.4)
+
+seats_at : (u : ℕ) (seats : List SeatValue) (ends : List LibraryServiceValue) → AllZip (ComesBySessions DoesToService SettlesService (λ x. x.units)) (map (service_at u) seats) ends
+    → SeatsCome u seats (map (λ x. x.seat) ends)
+seats_at u [] [] so = tt
+seats_at u [] (q ∷ ends) so = absurd so
+seats_at u (s ∷ seats) [] so = absurd so
+seats_at u (s ∷ seats) (q ∷ ends) so = ((so.0.0, sessions_at u so.0.0 (service_at u s) q refl so.0.1), seats_at u seats ends so.1)
+
+-- ---- all seats of a library
+
+pub of_sessions : (u : ℕ) (opened seats : List SeatValue) → All IsUntold opened → SeatsCome u opened seats → All (IsOfSessions u) seats × (length seats ≡ length opened)
+of_sessions u [] [] untold so = (All-nil (IsOfSessions u), refl)
+of_sessions u [] (t ∷ seats) untold so = absurd so
+of_sessions u (s ∷ opened) [] untold so = absurd so
+of_sessions u (s ∷ opened) (t ∷ seats) untold so =
+    let rest = of_sessions u opened seats (All-tail IsUntold s opened untold) so.1 in (
+      All-cons (IsOfSessions u) t seats (record { opened = s; untold = All-head IsUntold s opened untold; comes = so.0 }) rest.0,
+      ap suc rest.1,
+    )
+
+-- ---- lists
+
+-- what holds at each place
+pub each_zip : {A : Type 0} (R : A → A → Type 0) (xs ys : List A) → length ys ≡ length xs → ((i : ℕ) (d : A) → i < length xs → R (slice_index_or xs i d) (slice_index_or ys i d)) → AllZip R xs ys
+each_zip R [] [] size each = tt
+each_zip R [] (y ∷ ys) size each = absurd (omega (arith, size))
+each_zip R (x ∷ xs) [] size each = absurd (omega (arith, size))
+each_zip R (x ∷ xs) (y ∷ ys) size each = (each 0 x (omega arith), each_zip R xs ys (omega (arith, size)) (λ i d here. each (suc i) d (omega (arith, here))))
+
+-- what holds of two lists' images holds of them
+pub zip_map : {A B : Type 0} (R : B → B → Type 0) (f : A → B) (xs ys : List A) → AllZip (λ v w. R (f v) (f w)) xs ys → AllZip R (map f xs) (map f ys)
+zip_map R f [] [] so = tt
+zip_map R f [] (y ∷ ys) so = absurd so
+zip_map R f (x ∷ xs) [] so = absurd so
+zip_map R f (x ∷ xs) (y ∷ ys) so = (so.0, zip_map R f xs ys so.1)
+
+-- ---- what workers give back
+
+map_map : {A B C : Type 0} (f : A → B) (h : B → C) (xs : List A) → map (λ x. h (f x)) xs ≡ map h (map f xs)
+map_map f h [] = refl
+map_map {A} {B} {C} f h (x ∷ xs) = ap (λ (ys : List C). h (f x) ∷ ys) (map_map f h xs)
+
+-- services were made for seats and given to workers, these had their sessions, and their seats are back where no fault is told
+pub served : {W F : Type 0} (service : W → LibraryServiceValue) (u : ℕ) (seats : List SeatValue) (services : List LibraryServiceValue) (before after : List W) (none back : List SeatValue) (told : Option F)
+    → services ≡ map (service_at u) seats → map service before ≡ services → AllZip (λ v w. ComesBySessions DoesToService SettlesService (λ x. x.units) (service v) (service w)) before after → none ≡ []
+    → IfNone told (back ≡ none ++ map (λ w. (service w).seat) after) → IfNone told (SeatsCome u seats back)
+served service u seats services before after none back (Some fault) made held came empty given = tt
+served {W} service u seats services before after none back None made held came empty given =
+    let ends = map service after in
+    let zipped = zip_map (ComesBySessions DoesToService SettlesService (λ x. x.units)) service before after came in
+    let seats_are : back ≡ map (λ x. x.seat) ends =
+    given ∙ ap (λ (xs : List SeatValue). xs ++ map (λ (w : W). (service w).seat) after) empty ∙ map_map service (λ (x : LibraryServiceValue). x.seat) after in
+    subst (λ (xs : List SeatValue). SeatsCome u seats xs) (sym seats_are)
+    (seats_at u seats ends (subst (λ (xs : List LibraryServiceValue). AllZip (ComesBySessions DoesToService SettlesService (λ x. x.units)) xs ends) (held ∙ made) zipped))
+
+-- what a call of each left
+pub changes_zip : {F T : Type 0} (g : Shared F (ℕ × (MutBor T × Unit {0})) ((Unit {0}) × (MutBor T × Unit {0}))) (f : F) (R : T → T → Type 0) (xs ys : List T) → length ys ≡ length xs
+    → ((i : ℕ) (x y : T) → ChangesAt g f i x y → R x y) → ChangesEach g f xs ys → AllZip R xs ys
+changes_zip g f R xs ys size one each = each_zip R xs ys size (λ i d here. one i (slice_index_or xs i d) (slice_index_or ys i d) (each i d here).1)

@@ -1,0 +1,12 @@
+ghost use Rattle.std.specs.Prelude.{[], ◌∷◌, Some, None};
+ghost use Rattle.kept_unit.specs.Answers.{DoneValue};
+ghost use Rattle.server.specs.Rows.{Gives, IsCommandOf, IsLossOf, a, b};
+
+/// Worked rows: what sessions leave of two nexuses, and of nobody; and that a session makes no call of another nexus, and ends with the loss of its own.
+pub fn session_rows()
+    ensures nobody { Gives (None ∷ []) [] }
+    ensures one { (d l : DoneValue) → IsCommandOf a d → IsLossOf a l → Gives (Some a ∷ []) (d ∷ (l ∷ [])) }
+    ensures two { (d l e m : DoneValue) → IsCommandOf a d → IsLossOf a l → IsCommandOf b e → IsLossOf b m → Gives (Some a ∷ (Some b ∷ [])) (d ∷ (l ∷ (e ∷ (m ∷ [])))) }
+    ensures of_another { (d l : DoneValue) → IsCommandOf b d → Gives (Some a ∷ []) (d ∷ (l ∷ [])) → ⊥ }
+    ensures without_the_loss { (d : DoneValue) → IsCommandOf a d → Gives (Some a ∷ []) (d ∷ []) → ⊥ }
+{}
