@@ -1,15 +1,20 @@
 -- A library that was closed, from what its parts say.
-use Rattle.std.proofs.Common.{◌≡◌, ℕ, refl, List, [], Option, Some, None, IfSome, Ok, Err, IsOk, OnOk, subst, sym}
-use Rattle.std.specs.Prelude.{Result}
+use Rattle.std.proofs.Common.{◌≡◌, ◌∙◌, ℕ, refl, List, [], length, Option, Some, None, IfSome, Ok, Err, IsOk, OnOk, subst, sym}
+use Rattle.std.specs.Prelude.{All, IfNone, IsNone, Result}
 use Rattle.logical_unit.specs.UnitView.{UnitView, last_number}
 use Rattle.lun_router.specs.Opening.{IsSince, LastIs}
-use Rattle.lun_router.specs.Seats.{SeatValue}
+use Rattle.lun_router.specs.Seats.{SeatValue, IsUntold}
 use Rattle.output_lines.specs.declared.audit_lines.Audit.{Audit}
 use Rattle.server.specs.declared.serving.RecordOutput.{RecordOutput}
 use Rattle.server.specs.declared.serving.RecordOutput.TheVariants.{AtTheEnd, AsTheyCome}
+use Rattle.server.specs.declared.server_fault.ServerFault.{ServerFault}
 use Rattle.server.specs.Batches.{HandsOut}
+use Rattle.server.specs.Faults.{earlier}
 use Rattle.server.specs.Serving.{DrainsAndCloses, IsClosed, ServesLibrary}
+use Rattle.server.specs.Sessions.{IsOfSessions, SeatsCome}
 use Rattle.server.proofs.HandingOut.{hands_left, hands_more}
+use Rattle.server.proofs.Sessions.{of_sessions}
+use Rattle.server.proofs.Told.{none_first, where_none}
 use Rattle.std.specs.Io.KnownBytes.{Appends}
 use Rattle.std.specs.Option.{option_map}
 
@@ -32,26 +37,34 @@ last_is None = tt
 last_is (Some u) = refl
 
 -- what held where one of two went well, where the other does only then
-pub through : {E : Type 0} {P : Type 0} {Q : Type 0} (r s : Result (Unit {0}) E) → (IsOk r → IsOk s) → (P → Q) → OnOk s P → OnOk r Q
+pub through : {E : Type 0} {P : Type 0} {Q : Type 0} (r s : Result (Unit {0}) E) → (IsOk r → IsOk s) → (IsOk r → P → Q) → OnOk s P → OnOk r Q
 through (Err e) s so f p = tt
-through (Ok u) (Ok v) so f p = f p
+through (Ok u) (Ok v) so f p = f refl p
 through (Ok u) (Err e) so f p = let never = so refl in absurd cc
 
+-- of the seats that a library was opened with, where no fault is told of serving and keeping it
+pub seats_served : (core : List UnitView) (units count : ℕ) (opened seats : List SeatValue) (served kept : Option ServerFault) → units ≡ length core → length opened ≡ count → All IsUntold opened
+    → IfNone served (SeatsCome units opened seats) → IsNone (earlier served kept) → All (IsOfSessions (length core)) seats × (length seats ≡ count)
+seats_served core units count opened seats served kept size many untold came none =
+    let so = where_none served (none_first served kept none) came in
+    let both = of_sessions (length core) opened seats untold (subst (λ (u : ℕ). SeatsCome u opened seats) size so) in (both.0, both.1 ∙ many)
+
 -- a library that was served, from its closing
-pub at_the_end : (core : List UnitView) (records : RecordOutput) (audit : Audit) (seats : List SeatValue) (zero one two three four : ℕ) (w w' : Option (List ℕ)) → records ≡ AtTheEnd audit
-    → IsSince core zero one two three four → IsClosed seats audit zero one two three four w w' → ServesLibrary core records w w'
-at_the_end core records audit seats zero one two three four w w' is since closed =
+pub at_the_end : (core : List UnitView) (count : ℕ) (records : RecordOutput) (audit : Audit) (seats : List SeatValue) (zero one two three four : ℕ) (w w' : Option (List ℕ)) → records ≡ AtTheEnd audit
+    → All (IsOfSessions (length core)) seats × (length seats ≡ count) → IsSince core zero one two three four → IsClosed seats audit zero one two three four w w' → ServesLibrary core count records w w'
+at_the_end core count records audit seats zero one two three four w w' is served since closed =
     rw is (record {
       before = w;
       as_they_came = refl;
-      rest = record { zero = zero; one = one; two = two; three = three; four = four; seats = seats; since = since; closed = closed };
+      rest = record { zero = zero; one = one; two = two; three = three; four = four; seats = seats; many = served.1; served = served.0; since = since; closed = closed };
     })
 
-pub as_they_come : (core : List UnitView) (records : RecordOutput) (none left : List ℕ) (zero one two three four : ℕ) (w v w' : Option (List ℕ)) → records ≡ AsTheyCome
-    → IsSince core zero one two three four → none ≡ [] → HandsOut w v none left → DrainsAndCloses left zero one two three four v w' → ServesLibrary core records w w'
-as_they_come core records none left zero one two three four w v w' is since empty came closed =
+pub as_they_come : (core : List UnitView) (count : ℕ) (records : RecordOutput) (seats : List SeatValue) (none left : List ℕ) (zero one two three four : ℕ) (w v w' : Option (List ℕ)) → records ≡ AsTheyCome
+    → All (IsOfSessions (length core)) seats × (length seats ≡ count) → IsSince core zero one two three four → none ≡ [] → HandsOut w v none left
+    → DrainsAndCloses left seats zero one two three four v w' → ServesLibrary core count records w w'
+as_they_come core count records seats none left zero one two three four w v w' is served since empty came closed =
     rw is (record {
       before = closed.before;
       as_they_came = hands_more w v closed.before [] left [] (subst (λ (l : List ℕ). HandsOut w v l left) empty came) (hands_left v closed.before left [] closed.rest);
-      rest = record { zero = zero; one = one; two = two; three = three; four = four; seats = closed.seats; since = since; closed = closed.closed };
+      rest = record { zero = zero; one = one; two = two; three = three; four = four; seats = seats; many = served.1; served = served.0; since = since; closed = closed.closed };
     })

@@ -1,5 +1,5 @@
 -- Sessions at a service of one unit that keeps each answer.
-use Rattle.std.proofs.Common.{◌≡◌, ◌≢◌, ℕ, Bool, true, List, [], ◌∷◌, ◌++◌, Option, Some, None, inl, inr, refl, sym, ap, subst, ◌∙◌, ◌⊎◌, append_assoc, append-nil}
+use Rattle.std.proofs.Common.{◌≡◌, ◌≢◌, true, List, [], ◌∷◌, ◌++◌, Some, None, inl, inr, refl, sym, ap, ◌∙◌, append_assoc, append-nil}
 use Rattle.std.specs.Prelude.{◌&&◌, not}
 use Rattle.scsi_nexus.specs.declared.nexus.Nexus.{Nexus}
 use Rattle.kept_unit.specs.Answers as event
@@ -7,9 +7,8 @@ use Rattle.kept_unit.specs.Answers.{DoneValue, EventValue, IsAnswer}
 use Rattle.session.specs.Answering.{Calls, IsCall}
 use Rattle.session.specs.Leaving.{ComesBySession}
 use Rattle.session.specs.Serving.{is_busy}
-use Rattle.server.specs.LibraryService.{DoesForWorker, MaySettle}
+use Rattle.server.specs.LibraryService.{DoesForWorker}
 use Rattle.server.specs.Rows.{Gives, IsCommandOf, IsLossOf, KeepsAnswer, NeverSettles}
-use Rattle.server.specs.Sessions.{Sessions}
 
 abbrev Kept : List DoneValue → DoneValue → List DoneValue → Type 0
 Kept = DoesForWorker KeepsAnswer NeverSettles

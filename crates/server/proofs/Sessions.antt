@@ -1,20 +1,21 @@
 -- What sessions make of a seat, one after another.
-use Rattle.std.proofs.Common.{◌≡◌, ◌<◌, ℕ, zero, suc, Bool, List, [], ◌∷◌, ◌++◌, length, map, Option, Some, None, Result, Ok, Err, inl, inr, refl, sym, ap, subst, ◌∙◌, ◌⊎◌, arith}
-use Rattle.std.specs.Prelude.{slice_index_or, IfNone, IfOk, All}
+use Rattle.std.proofs.Common.{◌≡◌, ◌<◌, ℕ, zero, suc, Bool, List, [], ◌∷◌, ◌++◌, length, map, take, Option, Some, None, inl, inr, refl, sym, ap, subst, ◌∙◌, arith}
+use Rattle.std.specs.Prelude.{slice_index_or, IfNone, All}
 use Rattle.std.specs.List.{AllZip}
 use Rattle.std.specs.Fork.{ChangesAt, ChangesEach}
+use Rattle.std.proofs.Math.Seq.{take-append_seam}
 use denote.Ref.{MutBor}
 use denote.Param.Members.{Shared}
 use Rattle.std.proofs.lemmas.List.Elements.{All-nil, All-cons, All-head, All-tail}
 use Rattle.scsi_nexus.specs.declared.nexus.Nexus.{Nexus}
 use Rattle.kept_unit.specs.Answers.{DoneValue}
 use Rattle.lun_router.specs.Seats.{SeatValue, IsUntold, Notes, Settles}
-use Rattle.session.specs.Answering.{Calls, ComesByCalls}
-use Rattle.session.specs.Leaving.{ComesBySession, IsLeft, Leaves}
+use Rattle.session.specs.Answering.{Calls}
+use Rattle.session.specs.Leaving.{ComesBySession, Leaves}
 use Rattle.session.specs.Serving.{IsLostBelow}
 use Rattle.iscsi_session.specs.Leaving as iscsi
 use Rattle.server.specs.LibraryService.{DoesForWorker, DoesToService, LibraryServiceValue, MaySettle, SettlesService, service_at}
-use Rattle.server.specs.Sessions.{ComesBySessions, IsOfSessions, SeatComes, SeatsCome, Sessions}
+use Rattle.server.specs.Sessions.{ComesBySessions, IsOfSessions, SeatsCome, Sessions}
 
 -- a session of iSCSI leaves what one of frames does
 pub portal_left : {S : Type 0} (notes : S → DoneValue → S → Type 0) (count : S → ℕ) (port : ℕ) (s t : S) → iscsi.Leaves notes count port s t → Leaves notes count s t
@@ -111,6 +112,9 @@ each_zip R [] [] size each = tt
 each_zip R [] (y ∷ ys) size each = absurd (omega (arith, size))
 each_zip R (x ∷ xs) [] size each = absurd (omega (arith, size))
 each_zip R (x ∷ xs) (y ∷ ys) size each = (each 0 x (omega arith), each_zip R xs ys (omega (arith, size)) (λ i d here. each (suc i) d (omega (arith, here))))
+
+pub take_at : {A : Type 0} (xs ys : List A) (n : ℕ) → length xs ≡ n → take n (xs ++ ys) ≡ xs
+take_at {A} xs ys n size = subst (λ (k : ℕ). take k (xs ++ ys) ≡ xs) size (take-append_seam xs ys)
 
 -- what holds of two lists' images holds of them
 pub zip_map : {A B : Type 0} (R : B → B → Type 0) (f : A → B) (xs ys : List A) → AllZip (λ v w. R (f v) (f w)) xs ys → AllZip R (map f xs) (map f ys)

@@ -1,5 +1,5 @@
 -- What a server has served, and what it wrote at its end.
-use Rattle.std.specs.Prelude.{◌≡◌, ℕ, List, [], ◌∷◌, ◌++◌, Option, Some, None, IfSome}
+use Rattle.std.specs.Prelude.{◌≡◌, ℕ, List, [], ◌∷◌, ◌++◌, length, All, Option, Some, None, IfSome}
 use Rattle.std.specs.Io.KnownBytes.{Appends}
 use Rattle.kept_unit.specs.Agreeing.{Agrees}
 use Rattle.logical_unit.specs.UnitView.{UnitView}
@@ -11,6 +11,7 @@ use Rattle.output_lines.specs.AuditLines.{audit_text}
 use Rattle.server.specs.declared.serving.RecordOutput.{RecordOutput}
 use Rattle.server.specs.declared.serving.RecordOutput.TheVariants.{AtTheEnd, AsTheyCome}
 use Rattle.server.specs.Batches.{GoesOn, HandsOut}
+use Rattle.server.specs.Sessions.{IsOfSessions}
 
 -- a unit that may be absent
 abbrev pub if_there : Option UnitView → List UnitView
@@ -38,20 +39,21 @@ pub record IsClosed (seats : List SeatValue) (audit : Audit) (zero one two three
   pub lines : Appends written written' (audit_text audit (changer ∷ first ∷ if_there second ++ if_there third ++ if_there fourth))
 
 -- the same with a line for each record, behind the lines that were left of records that had been taken before
-pub record DrainsAndCloses (left : List ℕ) (zero one two three four : ℕ) (written written' : Option (List ℕ)) : Type 0 where
-  pub seats : List SeatValue
+pub record DrainsAndCloses (left : List ℕ) (seats : List SeatValue) (zero one two three four : ℕ) (written written' : Option (List ℕ)) : Type 0 where
   pub before : Option (List ℕ)
   pub rest : GoesOn written before left []
   pub closed : IsClosed seats Lines zero one two three four before written'
 
--- the same of the target that the library was opened over
-pub record ClosesOver (core : List UnitView) (audit : Audit) (written written' : Option (List ℕ)) : Type 0 where
+-- the same of the target that the library was opened over, with so many seats, of which each was told of the sessions of one worker alone
+pub record ClosesOver (core : List UnitView) (count : ℕ) (audit : Audit) (written written' : Option (List ℕ)) : Type 0 where
   pub zero : ℕ
   pub one : ℕ
   pub two : ℕ
   pub three : ℕ
   pub four : ℕ
   pub seats : List SeatValue
+  pub many : length seats ≡ count
+  pub served : All (IsOfSessions (length core)) seats
   pub since : IsSince core zero one two three four
   pub closed : IsClosed seats audit zero one two three four written written'
 
@@ -65,8 +67,8 @@ abbrev pub WritesBefore : RecordOutput → (written written' : Option (List ℕ)
 WritesBefore (AtTheEnd audit) written written' = written' ≡ written
 WritesBefore AsTheyCome written written' = HandsOut written written' [] []
 
--- a server that wrote its lines at the end, behind those that it wrote as they came, if it was to write some then
-pub record ServesLibrary (core : List UnitView) (records : RecordOutput) (written written' : Option (List ℕ)) : Type 0 where
+-- a server of so many workers that wrote its lines at the end, behind those that it wrote as they came, if it was to write some then
+pub record ServesLibrary (core : List UnitView) (count : ℕ) (records : RecordOutput) (written written' : Option (List ℕ)) : Type 0 where
   pub before : Option (List ℕ)
   pub as_they_came : WritesBefore records written before
-  pub rest : ClosesOver core (of_the_rest records) before written'
+  pub rest : ClosesOver core count (of_the_rest records) before written'

@@ -1,8 +1,9 @@
-ghost use Rattle.std.specs.Prelude.{◌≡◌, ◌<◌, ◌≤◌, length, IsOk, OnOk};
+ghost use Rattle.std.specs.Prelude.{◌≡◌, ◌*◌, ◌<◌, ◌≤◌, length, IsNone, IsOk, OnOk};
 ghost use Rattle.logical_unit.specs.UnitView.{units_of};
 ghost use Rattle.lun_router.specs.Opening.{IsSince};
 ghost use Rattle.server.specs.Batches.{HandsOut, left_in};
 ghost use Rattle.server.specs.Serving.{DrainsAndCloses, ServesLibrary};
+ghost use Rattle.server.specs.Sessions.{SeatsCome, WhereServed};
 
 use crate::acceptor::{Acceptor, ServeLimits};
 use crate::batch::Batch;
@@ -63,7 +64,7 @@ pub fn serve_library<
 ) -> Result<(), ServerFault>
     requires some { 0 < limits.workers }
     requires doors { (0 < length doors.now) × (length doors.now ≤ 5) }
-    ensures { OnOk result (ServesLibrary (units_of core) records (W.contents writer.old) (W.contents writer.new)) }
+    ensures { OnOk result (ServesLibrary (units_of core) (limits.entry.workers * length doors.now) records (W.contents writer.old) (W.contents writer.new)) }
 {
     let seats = seats_at(limits.workers, doors.len());
     let parts = seats as u64;
@@ -85,7 +86,8 @@ pub fn serve_library<
 fn seats_at(workers: u8, doors: usize) -> usize
     requires workers { 0 < workers }
     requires doors { (0 < doors) × (doors ≤ 5) }
-    ensures { (0 < result) × (result ≤ 1275) }
+    ensures count { result ≡ workers * doors }
+    ensures some { (0 < result) × (result ≤ 1275) }
 {
     usize::from(workers) * doors
 }
@@ -120,7 +122,7 @@ fn serve_with_ledgers<
     requires three { (blanks.three.name ≡ L3.name) × (blanks.three.parts ≡ L3.parts) × (L3.parts ≡ workers) }
     requires four { (blanks.four.name ≡ L4.name) × (blanks.four.parts ≡ L4.parts) × (L4.parts ≡ workers) }
     requires since { IsSince (units_of core) L0.since L1.since L2.since L3.since L4.since }
-    ensures { OnOk result (ServesLibrary (units_of core) records (W.contents writer.old) (W.contents writer.new)) }
+    ensures { OnOk result (ServesLibrary (units_of core) workers records (W.contents writer.old) (W.contents writer.new)) }
 {
     let opened = Library::<L0, L1, L2, L3, L4, Device, Pass>::new(
         alloc, core, workers, blanks, Pass,
@@ -175,7 +177,8 @@ fn keep_library<
 
 /// The fault of serving, or of closing, whichever is told.
 fn first_of(served: Option<ServerFault>, closed: Result<(), ServerFault>) -> Result<(), ServerFault>
-    ensures { IsOk result → IsOk closed }
+    ensures closed { IsOk result → IsOk closed }
+    ensures served { IsOk result → IsNone served }
 {
     match earlier(served, closed.err()) {
         None => Ok(()),
@@ -202,7 +205,7 @@ fn write_and_close<
     writer: &mut W,
     teller: &Teller<E>,
 ) -> Result<(), ServerFault>
-    ensures { OnOk result (DrainsAndCloses (left_in batch) L0.since L1.since L2.since L3.since L4.since (W.contents writer.old) (W.contents writer.new)) }
+    ensures { OnOk result (DrainsAndCloses (left_in batch) seats.items L0.since L1.since L2.since L3.since L4.since (W.contents writer.old) (W.contents writer.new)) }
 {
     let written = batch.write_left(alloc, writer);
     if let Some(records) = batch.unwritten() {
@@ -239,7 +242,8 @@ fn serve_and_write<
     writer: &mut W,
     teller: &'x Teller<E>,
 ) -> Result<Option<ServerFault>, ServerFault>
-    ensures { HandsOut (W.contents writer.old) (W.contents writer.new) (left_in batch.old) (left_in batch.new) }
+    ensures lines { HandsOut (W.contents writer.old) (W.contents writer.new) (left_in batch.old) (left_in batch.new) }
+    ensures served { WhereServed result (SeatsCome library.now.units seats.old.items seats.new.items) }
 {
     let alloc_of_workers = alloc;
     let ((), served) = thread::join_mut(

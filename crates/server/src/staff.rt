@@ -1,3 +1,7 @@
+//! The workers of a library, made over their services, and the seats that they give back.
+
+ghost use Rattle.std.specs.Prelude.{◌≡◌, ◌++◌, length, map, IfOk, IfNone, vec_len};
+
 use crate::library_service::SeatService;
 use crate::record_drain::RecordDrain;
 use crate::server_fault::{ServerFault, earlier};
@@ -9,61 +13,79 @@ use std::alloc::{AllocError, Global};
 use std::io::Write;
 use std::sync::Wait;
 
-/// The workers of a library, and room for the seats that they give back.
-#[derive(Drop)]
-pub(crate) struct Staff<'a, S: SeatService, R: Wait, E: Write> {
-    pub workers: Vec<Worker<'a, S, R, E>>,
-    back: Vec<S::Seat>,
+/// The flags of so many workers' sessions.
+pub(crate) fn flags_of(alloc: Global, count: usize) -> Result<Vec<SessionFlags>, AllocError>
+    ensures { IfOk result (λ flags. vec_len flags ≡ count) }
+{
+    let mut flags = Vec::new(alloc);
+    'flags: for _worker in 0..count {
+        flags.push(SessionFlags::new())?;
+    }
+    Ok(flags)
 }
 
-impl<'a, S: SeatService, R: Wait, E: Write> Staff<'a, S, R, E> {
-    /// No workers, with room for the seats of so many.
-    pub fn new(alloc: Global, count: usize) -> Result<Staff<'a, S, R, E>, AllocError> {
-        let mut back = Vec::new(alloc);
-        back.reserve(count)?;
-        Ok(Staff {
-            workers: Vec::new(alloc),
-            back,
-        })
+/// A worker who has served nobody.
+fn worker_for<'a, S: SeatService, R: Wait, E: Write>(
+    rt: &'a R,
+    seat_service: S,
+    flags: &'a SessionFlags,
+    drain: Option<&'a RecordDrain>,
+    teller: &'a Teller<E>,
+) -> Worker<'a, S, R, E>
+    ensures { result.service ≡ seat_service }
+{
+    let service = WorkerService {
+        seat_service,
+        rt,
+        drain,
+        teller,
+        flags,
+        number: 0,
+        nexus: None,
+        commands: 0,
+    };
+    Worker {
+        service,
+        fault: None,
     }
+}
 
-    /// One more worker, who serves by this.
-    pub fn hire(
-        &mut self,
-        rt: &'a R,
-        seat_service: S,
-        flags: &'a SessionFlags,
-        drain: Option<&'a RecordDrain>,
-        teller: &'a Teller<E>,
-    ) -> Result<(), AllocError> {
-        let service = WorkerService {
-            seat_service,
-            rt,
-            drain,
-            teller,
-            flags,
-            number: 0,
-            nexus: None,
-            commands: 0,
-        };
-        self.workers.push(Worker {
-            service,
-            fault: None,
-        })?;
-        Ok(())
+/// Workers who serve by these, in their order, each with the flags at its place.
+pub(crate) fn workers_of<'a, S: SeatService, R: Wait, E: Write>(
+    rt: &'a R,
+    alloc: Global,
+    services: Vec<S>,
+    flags: &'a [SessionFlags],
+    drain: Option<&'a RecordDrain>,
+    teller: &'a Teller<E>,
+) -> Result<Vec<Worker<'a, S, R, E>>, AllocError>
+    requires { length flags.now ≡ vec_len services }
+    ensures { IfOk result (λ workers. map (λ w. w.service) workers.items ≡ services.items) }
+{
+    let mut workers = Vec::new(alloc);
+    let mut place = 0usize;
+    'services: for seat_service in services {
+        workers.push(worker_for(rt, seat_service, &flags[place], drain, teller))?;
+        place += 1;
     }
+    Ok(workers)
+}
 
-    /// The seats, and the fault that is told of the sessions, if there was one.
-    pub fn into_seats(self) -> (Vec<S::Seat>, Option<ServerFault>) {
-        let Staff { workers, mut back } = self;
-        let mut told = None;
-        for worker in workers {
-            let Worker { service, fault } = worker;
-            told = earlier(told, fault);
-            if back.push(service.into_seat()).is_err() {
-                told = earlier(told, Some(ServerFault::NoMemory));
-            }
+/// Puts the seats of workers behind those that are there, in their order, and answers the fault that is told of the sessions, if
+/// there was one.
+pub(crate) fn give_back<'a, S: SeatService, R: Wait, E: Write>(
+    workers: Vec<Worker<'a, S, R, E>>,
+    seats: &mut Vec<S::Seat>,
+) -> Option<ServerFault>
+    ensures { IfNone result (seats.new.items ≡ seats.old.items ++ map (λ w. S.seat_of w.service) workers.entry.items) }
+{
+    let mut told = None;
+    'workers: for worker in workers {
+        let Worker { service, fault } = worker;
+        told = earlier(told, fault);
+        if seats.push(service.into_seat()).is_err() {
+            told = earlier(told, Some(ServerFault::NoMemory));
         }
-        (back, told)
     }
+    told
 }

@@ -1,14 +1,19 @@
 //! Sessions of a library, by a worker at each of its seats.
 
+ghost use Rattle.std.specs.Prelude.{◌≡◌, map, length, IfOk, vec_len};
+ghost use Rattle.std.specs.List.{AllZip};
+ghost use Rattle.server.specs.LibraryService.{DoesToService, SettlesService, service_at};
+ghost use Rattle.server.specs.Sessions.{ComesBySessions, SeatsCome, WhereServed};
+
 use crate::acceptor::Acceptor;
 use crate::keeping::write_behind;
 use crate::library_service::LibraryService;
 use crate::library_tapes::LibraryTapes;
 use crate::record_drain::RecordDrain;
 use crate::server_fault::ServerFault;
-use crate::session_flags::SessionFlags;
-use crate::staff::Staff;
+use crate::staff::{flags_of, give_back, workers_of};
 use crate::teller::Teller;
+use crate::worker::Worker;
 use kept_unit::UnitLedger;
 use library_device::Device;
 use lun_router::{Library, Pass, Seat};
@@ -42,7 +47,9 @@ pub(crate) fn serve_and_end<
     drain: &'x RecordDrain,
     keeper: &'x K,
     teller: &'x Teller<E>,
-) -> Result<Option<ServerFault>, ServerFault> {
+) -> Result<Option<ServerFault>, ServerFault>
+    ensures { WhereServed result (SeatsCome library.now.units seats.old.items seats.new.items) }
+{
     let served = serve_all(
         rt,
         alloc,
@@ -77,7 +84,9 @@ pub(crate) fn serve_all<
     drain: Option<&'x RecordDrain>,
     keeper: &'x K,
     teller: &'x Teller<E>,
-) -> Result<Option<ServerFault>, ServerFault> {
+) -> Result<Option<ServerFault>, ServerFault>
+    ensures { WhereServed result (SeatsCome library.now.units seats.old.items seats.new.items) }
+{
     let alloc_of_workers = alloc;
     let ((), served) = thread::join_mut(
         rt,
@@ -137,7 +146,9 @@ fn serve_and_stop<
     drain: Option<&'x RecordDrain>,
     keeper: &'x K,
     teller: &'x Teller<E>,
-) -> Result<Option<ServerFault>, ServerFault> {
+) -> Result<Option<ServerFault>, ServerFault>
+    ensures { WhereServed result (SeatsCome library.now.units seats.old.items seats.new.items) }
+{
     let served = serve_sessions(rt, alloc, library, seats, acceptor, drain, keeper, teller);
     keeper.end(rt);
     served
@@ -163,21 +174,24 @@ fn serve_sessions<
     drain: Option<&'x RecordDrain>,
     keeper: &'x K,
     teller: &'x Teller<E>,
-) -> Result<Option<ServerFault>, ServerFault> {
+) -> Result<Option<ServerFault>, ServerFault>
+    ensures { WhereServed result (SeatsCome library.now.units seats.old.items seats.new.items) }
+{
     let directory = Mutex::new(Directory::new(alloc));
     let flags = flags_of(alloc, seats.len())?;
+    let mut back = Vec::new(alloc);
+    back.reserve(seats.len())?;
     let taken = mem::replace(seats, Vec::new(alloc));
-    let mut staff = staff_of(
-        rt, alloc, library, &directory, taken, &flags, drain, keeper, teller,
-    )?;
-    work_all(rt, alloc, &mut staff, acceptor);
-    let (back, served) = staff.into_seats();
+    let services = services_of(rt, alloc, library, &directory, taken, keeper)?;
+    let mut workers = workers_of(rt, alloc, services, &flags, drain, teller)?;
+    work_all(rt, alloc, workers.as_mut_slice(), acceptor);
+    let served = give_back(workers, &mut back);
     *seats = back;
     Ok(served)
 }
 
-/// A worker at each seat. All that is needed for giving the seats back is there before the first session.
-fn staff_of<
+/// A service at each seat.
+fn services_of<
     'a,
     L0: UnitLedger,
     L1: UnitLedger,
@@ -185,7 +199,6 @@ fn staff_of<
     L3: UnitLedger,
     L4: UnitLedger,
     R: Wait,
-    E: Write,
     K: TapeKeeper<Device>,
 >(
     rt: &'a R,
@@ -193,17 +206,15 @@ fn staff_of<
     library: &'a Library<L0, L1, L2, L3, L4, Device, Pass>,
     directory: &'a Mutex<Directory>,
     seats: Vec<Seat<L0, L1, L2, L3, L4>>,
-    flags: &'a [SessionFlags],
-    drain: Option<&'a RecordDrain>,
     keeper: &'a K,
-    teller: &'a Teller<E>,
-) -> Result<Staff<'a, LibraryService<'a, L0, L1, L2, L3, L4, R, K>, R, E>, AllocError> {
-    let mut staff = Staff::new(alloc, seats.len())?;
-    for (seat, flags) in seats.into_iter().zip(flags) {
-        let seat_service = LibraryService::new(rt, library, directory, seat, keeper);
-        staff.hire(rt, seat_service, flags, drain, teller)?;
+) -> Result<Vec<LibraryService<'a, L0, L1, L2, L3, L4, R, K>>, AllocError>
+    ensures { IfOk result (λ services. services.items ≡ map (service_at library.now.units) seats.items) }
+{
+    let mut services = Vec::new(alloc);
+    'seats: for seat in seats {
+        services.push(LibraryService::new(rt, library, directory, seat, keeper))?;
     }
-    Ok(staff)
+    Ok(services)
 }
 
 /// Has all workers serve sessions until there are no more.
@@ -220,23 +231,18 @@ fn work_all<
 >(
     rt: &R,
     alloc: Global,
-    staff: &mut Staff<'a, LibraryService<'a, L0, L1, L2, L3, L4, R, K>, R, E>,
+    workers: &mut [Worker<'a, LibraryService<'a, L0, L1, L2, L3, L4, R, K>, R, E>],
     acceptor: &Acceptor<'_>,
-) {
-    let count = staff.workers.len();
+)
+    ensures { AllZip (λ v w. ComesBySessions DoesToService SettlesService (λ s. s.units) v.service w.service) workers.old workers.new }
+{
+    let count = workers.len();
     thread::for_each_mut(
         rt,
-        staff.workers.as_mut_slice(),
+        workers,
         count.max(1),
-        &|place, worker| worker.work(alloc, acceptor, place),
+        &|place: usize, worker: &mut Worker<'_, LibraryService<'_, L0, L1, L2, L3, L4, R, K>, R, E>|
+            ensures { ComesBySessions DoesToService SettlesService (λ s. s.units) worker.entry.now.service worker.exit.now.service }
+        { worker.work(alloc, acceptor, place) },
     );
-}
-
-/// The flags of so many workers' sessions.
-fn flags_of(alloc: Global, count: usize) -> Result<Vec<SessionFlags>, AllocError> {
-    let mut flags = Vec::new(alloc);
-    for _worker in 0..count {
-        flags.push(SessionFlags::new())?;
-    }
-    Ok(flags)
 }

@@ -1,5 +1,4 @@
 use Rattle.std.proofs.Common.{subst}
-use Rattle.output_lines.specs.AuditLines.{lines_of_records}
 use Rattle.server.specs.Batches.{GoesOn, left_in}
 use Rattle.server.proofs.HandingOut.{hands_left, hands_batch}
 use Rattle.server.proofs.record_drain.RecordDrain.hand_out_unit.Goals as goal
