@@ -40,7 +40,7 @@ pub trait SessionRegister {
     fn was_reset(&self, unit: u8) -> bool
         ensures { IsTrue result → resets self.now unit };
 
-    /// Notes that the session of the caller has reset a unit.
+    /// Notes that a reset which the session's service has made of a unit is the session's own: the service has others know of it.
     fn note_reset(&self, unit: u8);
 }
 

@@ -139,7 +139,7 @@ fn reset_all<S: Service, G: SessionRegister>(
     result
 }
 
-/// Resets a unit, has the other sessions know if it was, and says how that ended.
+/// Resets a unit, notes that as the session's own if it was, and says how that ended.
 fn reset<S: Service, G: SessionRegister>(
     alloc: Global,
     service: &mut S,

@@ -159,7 +159,7 @@ fn converse_by_iscsi<S: Service, R: Clock + RandomSource + Wait, E: Write, I: Re
         key: visit.key,
         number: visit.number,
         teller,
-        seen: acceptor.limits.sessions.resets_so_far(),
+        seen: acceptor.limits.sessions.resets().copied(),
     };
     let ended = iscsi_session::serve(
         alloc,

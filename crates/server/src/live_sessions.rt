@@ -70,7 +70,7 @@ pub struct LiveSessions {
     live: Mutex<LiveList>,
     /// Told whenever one has ended.
     ended: Condvar,
-    /// The resets that sessions of iSCSI have made.
+    /// The resets that sessions have made, those of frames and those of iSCSI.
     resets: ResetCounts,
 }
 
@@ -87,9 +87,9 @@ impl LiveSessions {
         }
     }
 
-    /// The resets that were made so far.
-    pub(crate) fn resets_so_far(&self) -> ResetCounts {
-        self.resets.copied()
+    /// The resets that are made, to which those who make them add.
+    pub(crate) fn resets(&self) -> &ResetCounts {
+        &self.resets
     }
 
     /// Whether no more sessions may begin.
@@ -165,7 +165,7 @@ pub(crate) struct SessionsBeside<'a, R: Clock + Wait, E: Write> {
     /// Its place in the order of accepting, from 1 on.
     pub number: u64,
     pub teller: &'a Teller<E>,
-    /// The resets that it has made or seen.
+    /// The resets that it has made or seen: of those that all sessions have made, each one that isn't among these is another's.
     pub seen: ResetCounts,
 }
 
@@ -198,7 +198,9 @@ impl<'a, R: Clock + Wait, E: Write> SessionRegister for SessionsBeside<'a, R, E>
         true
     }
 
+    // The session's worker has counted it among all. It is one more here, and not as many as there are: a reset that another session
+    // has made meanwhile would be lost by that.
     fn note_reset(&self, unit: u8) {
-        self.seen.set(unit, self.sessions.resets.add(unit));
+        self.seen.add(unit);
     }
 }

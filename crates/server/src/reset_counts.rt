@@ -51,11 +51,10 @@ impl ResetCounts {
         }
     }
 
-    /// Counts one more, and says how many there are with it.
-    pub fn add(&self, lun: u8) -> u64 {
-        match self.at(lun) {
-            Some(count) => count.fetch_add(1, Ordering::SeqCst).saturating_add(1),
-            None => 0,
+    /// Counts one more.
+    pub fn add(&self, lun: u8) {
+        if let Some(count) = self.at(lun) {
+            count.fetch_add(1, Ordering::SeqCst);
         }
     }
 

@@ -4,6 +4,7 @@ ghost use Rattle.std.specs.Prelude.{◌≡◌, ◌++◌, length, map, IfOk, IfNo
 
 use crate::library_service::SeatService;
 use crate::record_drain::RecordDrain;
+use crate::reset_counts::ResetCounts;
 use crate::server_fault::{ServerFault, earlier};
 use crate::session_flags::SessionFlags;
 use crate::teller::Teller;
@@ -29,6 +30,7 @@ fn worker_for<'a, S: SeatService, R: Wait, E: Write>(
     rt: &'a R,
     seat_service: S,
     flags: &'a SessionFlags,
+    resets: &'a ResetCounts,
     drain: Option<&'a RecordDrain>,
     teller: &'a Teller<E>,
 ) -> Worker<'a, S, R, E>
@@ -40,6 +42,7 @@ fn worker_for<'a, S: SeatService, R: Wait, E: Write>(
         drain,
         teller,
         flags,
+        resets,
         number: 0,
         nexus: None,
         commands: 0,
@@ -56,6 +59,7 @@ pub(crate) fn workers_of<'a, S: SeatService, R: Wait, E: Write>(
     alloc: Global,
     services: Vec<S>,
     flags: &'a [SessionFlags],
+    resets: &'a ResetCounts,
     drain: Option<&'a RecordDrain>,
     teller: &'a Teller<E>,
 ) -> Result<Vec<Worker<'a, S, R, E>>, AllocError>
@@ -65,7 +69,7 @@ pub(crate) fn workers_of<'a, S: SeatService, R: Wait, E: Write>(
     let mut workers = Vec::new(alloc);
     let mut place = 0usize;
     'services: for seat_service in services {
-        workers.push(worker_for(rt, seat_service, &flags[place], drain, teller))?;
+        workers.push(worker_for(rt, seat_service, &flags[place], resets, drain, teller))?;
         place += 1;
     }
     Ok(workers)

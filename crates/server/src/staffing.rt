@@ -183,7 +183,8 @@ fn serve_sessions<
     back.reserve(seats.len())?;
     let taken = mem::replace(seats, Vec::new(alloc));
     let services = services_of(rt, alloc, library, &directory, taken, keeper)?;
-    let mut workers = workers_of(rt, alloc, services, &flags, drain, teller)?;
+    let resets = acceptor.limits.sessions.resets();
+    let mut workers = workers_of(rt, alloc, services, &flags, resets, drain, teller)?;
     work_all(rt, alloc, workers.as_mut_slice(), acceptor);
     let served = give_back(workers, &mut back);
     *seats = back;

@@ -4,6 +4,7 @@ use crate::event::Event;
 use crate::keeping::KeepTeller;
 use crate::library_service::SeatService;
 use crate::record_drain::RecordDrain;
+use crate::reset_counts::ResetCounts;
 use crate::session_flags::SessionFlags;
 use crate::teller::Teller;
 use kept_unit::Done;
@@ -53,7 +54,7 @@ fn settle_with<S: SeatService>(service: &mut S, drain: &RecordDrain)
 }
 
 /// What a worker serves its sessions by, one after another: a library's service, beside which it asks that records be handed out
-/// where a unit has many of them, settles its seat, and tells of commands that were BUSY.
+/// where a unit has many of them, settles its seat, tells of commands that were BUSY, and counts resets.
 #[derive(Drop)]
 pub(crate) struct WorkerService<'a, S: SeatService, R: Wait, E: Write> {
     pub seat_service: S,
@@ -62,6 +63,8 @@ pub(crate) struct WorkerService<'a, S: SeatService, R: Wait, E: Write> {
     pub drain: Option<&'a RecordDrain>,
     pub teller: &'a Teller<E>,
     pub flags: &'a SessionFlags,
+    /// The resets of all sessions, which end the tasks that wait in those of iSCSI.
+    pub resets: &'a ResetCounts,
     /// The session's place in the order of accepting, from 1 on.
     pub number: u64,
     /// Who asked last for a session.
@@ -172,7 +175,12 @@ impl<'a, S: SeatService, R: Wait, E: Write> Service for WorkerService<'a, S, R, 
 
     fn reset(&mut self, alloc: Global, lun: u8) -> Done<'static> {
         let done = self.seat_service.reset(alloc, lun);
-        self.tend(lun, done.receipt().reply.number);
+        let reply = &done.receipt().reply;
+        // It counts before it is answered, and only if the unit has carried it out.
+        if reply.status == Status::Good {
+            self.resets.add(lun);
+        }
+        self.tend(lun, reply.number);
         done
     }
 
