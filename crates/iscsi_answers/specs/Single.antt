@@ -1,6 +1,7 @@
 -- Answers of one PDU. n holds the sequence numbers that stand in it.
 use Rattle.std.specs.Prelude.{ℕ, nat_lt, not, ◌&&◌, Bool, List, [], length, take, if◌then◌else◌}
 use Rattle.iscsi_pdu.specs.Pdus.{TargetPduValue}
+use Rattle.iscsi_pdu.specs.declared.async_event.AsyncEvent.TheVariants.{LogoutRequested}
 use Rattle.iscsi_pdu.specs.declared.target_header.TargetHeader.{TargetHeader}
 use Rattle.iscsi_pdu.specs.declared.target_header.TargetHeader.TheVariants as header
 use Rattle.iscsi_pdu.specs.declared.task_management_result.TaskManagementResult.{TaskManagementResult}
@@ -33,6 +34,20 @@ nop_answer n most tag ping = nop n tag reserved_tag (take most ping)
 -- the target's own ping
 abbrev pub ping : SequenceNumbers → (transfer_tag : ℕ) → TargetPduValue
 ping n transfer_tag = nop n reserved_tag transfer_tag []
+
+-- a logout is asked for, within so many seconds
+abbrev pub leave_request : SequenceNumbers → (seconds : ℕ) → TargetPduValue
+leave_request n seconds = pdu (header.AsyncMessage (record {
+  lun = 0;
+  stat_sn = n.stat_sn;
+  exp_cmd_sn = n.exp_cmd_sn;
+  max_cmd_sn = n.max_cmd_sn;
+  event = LogoutRequested;
+  vendor_code = 0;
+  parameter_1 = 0;
+  parameter_2 = 0;
+  parameter_3 = seconds;
+})) []
 
 abbrev pub task_management_answer : SequenceNumbers → (tag : ℕ) → TaskManagementResult → TargetPduValue
 task_management_answer n tag result = pdu (header.TaskManagementResponse (record {

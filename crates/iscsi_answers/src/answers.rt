@@ -1,15 +1,16 @@
 //! Answers of one PDU.
 ghost use Rattle.std.specs.Prelude.{◌≡◌, ◌<◌, ◌+◌, ◌^◌, ◌++◌, ◌≤◌, [], length, take, OnOk};
 ghost use Rattle.iscsi_answers.specs.Written.{bytes_of};
-ghost use Rattle.iscsi_answers.specs.Single.{pdu, nop_answer, ping, task_management_answer, logout_answer, rejection, text_answer};
+ghost use Rattle.iscsi_answers.specs.Single.{pdu, nop_answer, ping, leave_request, task_management_answer, logout_answer, rejection, text_answer};
 ghost use Rattle.iscsi_pdu.specs.declared.target_header.TargetHeader.TheVariants as header;
 
 use crate::limits::TransferLimits;
 use crate::sequence::SequenceNumbers;
 use crate::writing::write_pdu;
 use iscsi_pdu::{
-    LogoutResponse, LogoutResult, NopIn, RESERVED_TAG, ReadyToTransfer, Reject, RejectReason,
-    TargetHeader, TargetPdu, TaskManagementResponse, TaskManagementResult, TextResponse,
+    AsyncEvent, AsyncMessage, LogoutResponse, LogoutResult, NopIn, RESERVED_TAG, ReadyToTransfer,
+    Reject, RejectReason, TargetHeader, TargetPdu, TaskManagementResponse, TaskManagementResult,
+    TextResponse,
 };
 use std::alloc::AllocError;
 
@@ -61,6 +62,35 @@ fn nop_in(
         exp_cmd_sn: numbers.exp_cmd_sn,
         max_cmd_sn: numbers.max_cmd_sn,
     })
+}
+
+/// Adds an Asynchronous Message that asks for a logout within so many seconds. It takes up a StatSN (RFC 7143, "Asynchronous
+/// Message").
+pub fn write_leave_request(
+    out: &mut Vec<u8>,
+    numbers: SequenceNumbers,
+    seconds: u16,
+) -> Result<(), AllocError>
+    ensures { OnOk result (out.new.items ≡ out.old.items ++ bytes_of (leave_request numbers seconds)) }
+{
+    let header = TargetHeader::AsyncMessage(AsyncMessage {
+        lun: 0,
+        stat_sn: numbers.stat_sn,
+        exp_cmd_sn: numbers.exp_cmd_sn,
+        max_cmd_sn: numbers.max_cmd_sn,
+        event: AsyncEvent::LogoutRequested,
+        vendor_code: 0,
+        parameter_1: 0,
+        parameter_2: 0,
+        parameter_3: seconds,
+    });
+    write_pdu(
+        out,
+        &TargetPdu {
+            header,
+            payload: &[],
+        },
+    )
 }
 
 /// Adds the answer to a task management function. It takes up a StatSN.

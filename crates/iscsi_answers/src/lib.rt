@@ -1,5 +1,6 @@
 //! The PDUs that answer an initiator in full feature: data and the response to a command, and the answers to NOP-Out, text, task
-//! management and logout. No state here: what an answer goes by is handed in.
+//! management and logout; and what is sent unasked, a ping and a logout that is asked for. No state here: what an answer goes by is
+//! handed in.
 #![tactic(auto)]
 
 mod answers;
@@ -13,8 +14,8 @@ mod text;
 mod writing;
 
 pub use answers::{
-    TextTags, write_logout_response, write_nop_in, write_ping, write_ready_to_transfer,
-    write_reject, write_task_management_response, write_text_response,
+    TextTags, write_leave_request, write_logout_response, write_nop_in, write_ping,
+    write_ready_to_transfer, write_reject, write_task_management_response, write_text_response,
 };
 pub use command_answer::{AnsweredCommand, UnitAnswer, write_command_answer};
 pub use laws::{data_are_whole, residual_balances, residual_rows, segments_are_short};

@@ -32,7 +32,7 @@ use Rattle.iscsi_session.specs.Executing.{Acts, Does, GoesOn, Outcome, Nothing, 
 use Rattle.iscsi_session.specs.Handing.{Hands, asked_command, brought, brought_by, brought_in, commands_of, handed}
 use Rattle.iscsi_session.specs.Managing.{Manages, ManagesTasks, Resets, ResetsBelow, ResetsUnit, AbortsTask, AbortsTaskSet, unit_below}
 use Rattle.iscsi_session.specs.Saying.{Says, TakesTask, Works, behind_other, is_of_tasks}
-use Rattle.iscsi_session.specs.Talking.{Came, Event, Silence, Talks, Told, without_units}
+use Rattle.iscsi_session.specs.Talking.{Came, Ending, Event, Silence, Talks, Told, without_units}
 
 -- ---- one after another
 
@@ -268,6 +268,8 @@ pub talks_hands : {S : Type 0} (notes : S → DoneValue → S → Type 0) (count
     → Talks notes count n es k s said k' t → Hands notes n k s (brought_in es) k' t
 talks_hands notes count n [] k k' s t said so = hands_none notes n k k' s t so.1 so.2
 talks_hands {S} notes count n (Silence ∷ es) k k' s t said so =
+    hands_then notes n k so.0 k' s so.1 t [] (brought_in es) (hands_none notes n k so.0 s so.1 so.5.2 so.5.3) (talks_hands notes count n es so.0 k' so.1 t so.3 so.6)
+talks_hands {S} notes count n (Ending seconds ∷ es) k k' s t said so =
     hands_then notes n k so.0 k' s so.1 t [] (brought_in es) (hands_none notes n k so.0 s so.1 so.5.2 so.5.3) (talks_hands notes count n es so.0 k' so.1 t so.3 so.6)
 talks_hands {S} notes count n (Told units ∷ es) k k' s t said so =
     hands_then notes n k so.0 k' s so.1 t [] (brought_in es)

@@ -1,5 +1,5 @@
 -- PDUs taken off a stream, one after another, and what is written.
-use Rattle.std.proofs.Common.{◌≡◌, ℕ, List, [], ◌∷◌, ◌++◌, length-append, drop, refl, sym, ap, subst, ◌∙◌, append_assoc, append-nil, Option, Some, None, arith, All}
+use Rattle.std.proofs.Common.{◌≡◌, ◌≤◌, ◌+◌, ℕ, List, [], ◌∷◌, ◌++◌, length-append, drop, refl, sym, ap, subst, ◌∙◌, append_assoc, append-nil, Option, Some, None, arith, All}
 use Rattle.std.proofs.lemmas.List.Elements.{All-append, All-cons, All-nil}
 use Rattle.std.proofs.lemmas.List.{drop-append-le}
 use Rattle.std.proofs.lemmas.Grind.{flat_map-append}
@@ -18,7 +18,7 @@ use Rattle.session.proofs.Read.{consumes_more, consumes_none}
 use Rattle.iscsi_session.specs.Executing.{GoesOn}
 use Rattle.iscsi_session.specs.Reading.{Added}
 use Rattle.iscsi_session.specs.Saying.{Says}
-use Rattle.iscsi_session.specs.Talking.{Answers, BeginsWith, Came, Converses, Event, IsSo, Silence, Told, Takes, Talks, Writes, pdus_of, pinged, without_units}
+use Rattle.iscsi_session.specs.Talking.{Answers, BeginsWith, Came, Converses, Ending, Event, IsSo, Silence, Told, Takes, Talks, Writes, asked_to_leave, leave_requests, pdus_of, pinged, without_units}
 
 known_segments : (s : Found SegmentsValue) → IsKnown (initiator_found s) → IsKnown s
 known_segments (Partial wanted) known = known
@@ -52,6 +52,14 @@ pdus_append [] fs = refl
 pdus_append (Came p ∷ es) fs = ap (λ (ps : List InitiatorPduValue). p ∷ ps) (pdus_append es fs)
 pdus_append (Silence ∷ es) fs = pdus_append es fs
 pdus_append (Told units ∷ es) fs = pdus_append es fs
+pdus_append (Ending seconds ∷ es) fs = pdus_append es fs
+
+requests_append : (es fs : List Event) → leave_requests (es ++ fs) ≡ leave_requests es + leave_requests fs
+requests_append [] fs = omega arith
+requests_append (Came p ∷ es) fs = requests_append es fs
+requests_append (Silence ∷ es) fs = requests_append es fs
+requests_append (Told units ∷ es) fs = requests_append es fs
+requests_append (Ending seconds ∷ es) fs = omega (arith, requests_append es fs)
 
 talks_append : {S : Type 0} (notes : S → DoneValue → S → Type 0) (count : S → ℕ) (n : Nexus) (es fs : List Event) (k k1 k' : TasksValue) (s m t : S) (a b : List TargetPduValue)
     → Talks notes count n es k s a k1 m → Talks notes count n fs k1 m b k' t → Talks notes count n (es ++ fs) k s (a ++ b) k' t
@@ -70,83 +78,126 @@ talks_append {S} notes count n (e ∷ es) fs k k1 k' s m t a b one two = (
 
 -- ---- what is pending
 
-one_so : (resets : ℕ → Type 0) (e : Event) → IsSo resets e → All (IsSo resets) (e ∷ [])
-one_so resets e so = All-cons (IsSo resets) e [] so (All-nil (IsSo resets))
+one_so : (resets ends : ℕ → Type 0) (e : Event) → IsSo resets ends e → All (IsSo resets ends) (e ∷ [])
+one_so resets ends e so = All-cons (IsSo resets ends) e [] so (All-nil (IsSo resets ends))
 
-pub answers_none : {S : Type 0} {resets : ℕ → Type 0} (notes : S → DoneValue → S → Type 0) (count : S → ℕ) (n : Nexus) (k : TasksValue) (s : S) (pending : List ℕ) → Answers notes count resets n k s pending [] k s pending
-answers_none {resets = resets} notes count n k s pending = record { events = []; so = All-nil (IsSo resets); talks = (refl, refl, refl); takes = refl }
+pub answers_none : {S : Type 0} {resets ends : ℕ → Type 0} {most : ℕ} (notes : S → DoneValue → S → Type 0) (count : S → ℕ) (n : Nexus) (k : TasksValue) (s : S) (pending : List ℕ) → Answers notes count resets ends most n k s pending [] k s pending
+answers_none {resets = resets} {ends = ends} {most = most} notes count n k s pending = record { events = []; so = All-nil (IsSo resets ends); asked = omega arith; talks = (refl, refl, refl); takes = refl }
 
-pub answers_then : {S : Type 0} {resets : ℕ → Type 0} (notes : S → DoneValue → S → Type 0) (count : S → ℕ) (n : Nexus) (k k1 k' : TasksValue) (s m t : S) (pending mid rest : List ℕ) (a b : List TargetPduValue)
-    → Answers notes count resets n k s pending a k1 m mid → Answers notes count resets n k1 m mid b k' t rest → Answers notes count resets n k s pending (a ++ b) k' t rest
-answers_then {S} {resets = resets} notes count n k k1 k' s m t pending mid rest a b one two = record {
+answers_and : {S : Type 0} {resets ends : ℕ → Type 0} (i j most : ℕ) (notes : S → DoneValue → S → Type 0) (count : S → ℕ) (n : Nexus) (k k1 k' : TasksValue) (s m t : S) (pending mid rest : List ℕ) (a b : List TargetPduValue)
+    → i + j ≤ most → Answers notes count resets ends i n k s pending a k1 m mid → Answers notes count resets ends j n k1 m mid b k' t rest → Answers notes count resets ends most n k s pending (a ++ b) k' t rest
+answers_and {S} {resets = resets} {ends = ends} i j most notes count n k k1 k' s m t pending mid rest a b few one two = record {
   events = one.events ++ two.events;
-  so = All-append (IsSo resets) one.events two.events one.so two.so;
+  so = All-append (IsSo resets ends) one.events two.events one.so two.so;
+  asked = omega (arith, few, one.asked, two.asked, requests_append one.events two.events);
   talks = talks_append notes count n one.events two.events k k1 k' s m t a b one.talks two.talks;
   takes = subst (λ (ps : List InitiatorPduValue). Takes pending ps rest) (sym (pdus_append one.events two.events)) (takes_append (pdus_of one.events) (pdus_of two.events) pending mid rest one.takes two.takes);
 }
 
-pub answers_one : {S : Type 0} {resets : ℕ → Type 0} (notes : S → DoneValue → S → Type 0) (count : S → ℕ) (n : Nexus) (k k' : TasksValue) (s t : S) (pending rest : List ℕ) (p : InitiatorPduValue) (size : ℕ) (said : List TargetPduValue)
-    → next_of k ≡ Idle → BeginsWith pending p size → rest ≡ drop size pending → Says notes count n p k s said k' t → Answers notes count resets n k s pending said k' t rest
-answers_one {resets = resets} notes count n k k' s t pending rest p size said idle here cut says = record {
+-- more, in which no logout is asked for
+pub answers_then : {S : Type 0} {resets ends : ℕ → Type 0} {most : ℕ} (notes : S → DoneValue → S → Type 0) (count : S → ℕ) (n : Nexus) (k k1 k' : TasksValue) (s m t : S) (pending mid rest : List ℕ) (a b : List TargetPduValue)
+    → Answers notes count resets ends most n k s pending a k1 m mid → Answers notes count resets ends 0 n k1 m mid b k' t rest → Answers notes count resets ends most n k s pending (a ++ b) k' t rest
+answers_then {S} {most = most} notes count n k k1 k' s m t pending mid rest a b one two = answers_and most 0 most notes count n k k1 k' s m t pending mid rest a b (omega arith) one two
+
+pub answers_one : {S : Type 0} {resets ends : ℕ → Type 0} (notes : S → DoneValue → S → Type 0) (count : S → ℕ) (n : Nexus) (k k' : TasksValue) (s t : S) (pending rest : List ℕ) (p : InitiatorPduValue) (size : ℕ) (said : List TargetPduValue)
+    → next_of k ≡ Idle → BeginsWith pending p size → rest ≡ drop size pending → Says notes count n p k s said k' t → Answers notes count resets ends 0 n k s pending said k' t rest
+answers_one {resets = resets} {ends = ends} notes count n k k' s t pending rest p size said idle here cut says = record {
   events = Came p ∷ [];
-  so = one_so resets (Came p) tt;
+  so = one_so resets ends (Came p) tt;
+  asked = omega arith;
   talks = (k', t, said, [], sym (append-nil said), (idle, says), (refl, refl, refl));
   takes = (size, here, cut);
 }
 
-pub answers_pinged : {S : Type 0} {resets : ℕ → Type 0} (notes : S → DoneValue → S → Type 0) (count : S → ℕ) (n : Nexus) (k : TasksValue) (s : S) (pending : List ℕ) (stat_sn : SerialNumber)
-    → Answers notes count resets n k s pending (pinged k stat_sn) k s pending
-answers_pinged {resets = resets} notes count n k s pending stat_sn = record {
+pub answers_pinged : {S : Type 0} {resets ends : ℕ → Type 0} (notes : S → DoneValue → S → Type 0) (count : S → ℕ) (n : Nexus) (k : TasksValue) (s : S) (pending : List ℕ) (stat_sn : SerialNumber)
+    → Answers notes count resets ends 0 n k s pending (pinged k stat_sn) k s pending
+answers_pinged {resets = resets} {ends = ends} notes count n k s pending stat_sn = record {
   events = Silence ∷ [];
-  so = one_so resets Silence tt;
+  so = one_so resets ends Silence tt;
+  asked = omega arith;
   talks = (k, s, pinged k stat_sn, [], sym (append-nil (pinged k stat_sn)), (stat_sn, refl, refl, refl), (refl, refl, refl));
   takes = refl;
 }
 
-pub answers_went : {S : Type 0} {resets : ℕ → Type 0} (notes : S → DoneValue → S → Type 0) (count : S → ℕ) (n : Nexus) (times : ℕ) (k k' : TasksValue) (s t : S) (pending units : List ℕ) (said : List TargetPduValue)
-    → All resets units → GoesOn notes n times (without_units k units) s said k' t → Answers notes count resets n k s pending said k' t pending
-answers_went {resets = resets} notes count n times k k' s t pending units said told so = record {
+pub answers_asked : {S : Type 0} {resets ends : ℕ → Type 0} (notes : S → DoneValue → S → Type 0) (count : S → ℕ) (n : Nexus) (k : TasksValue) (s : S) (pending : List ℕ) (stat_sn : SerialNumber) (seconds : ℕ)
+    → ends seconds → Answers notes count resets ends 1 n k s pending (asked_to_leave k stat_sn seconds) k s pending
+answers_asked {resets = resets} {ends = ends} notes count n k s pending stat_sn seconds so = record {
+  events = Ending seconds ∷ [];
+  so = one_so resets ends (Ending seconds) so;
+  asked = omega arith;
+  talks = (k, s, asked_to_leave k stat_sn seconds, [], sym (append-nil (asked_to_leave k stat_sn seconds)), (stat_sn, refl, refl, refl), (refl, refl, refl));
+  takes = refl;
+}
+
+pub answers_went : {S : Type 0} {resets ends : ℕ → Type 0} (notes : S → DoneValue → S → Type 0) (count : S → ℕ) (n : Nexus) (times : ℕ) (k k' : TasksValue) (s t : S) (pending units : List ℕ) (said : List TargetPduValue)
+    → All resets units → GoesOn notes n times (without_units k units) s said k' t → Answers notes count resets ends 0 n k s pending said k' t pending
+answers_went {resets = resets} {ends = ends} notes count n times k k' s t pending units said told so = record {
   events = Told units ∷ [];
-  so = one_so resets (Told units) told;
+  so = one_so resets ends (Told units) told;
+  asked = omega arith;
   talks = (k', t, said, [], sym (append-nil said), (times, so), (refl, refl, refl));
   takes = refl;
 }
 
-answers_before : {S : Type 0} {resets : ℕ → Type 0} (notes : S → DoneValue → S → Type 0) (count : S → ℕ) (n : Nexus) (k k' : TasksValue) (s t : S) (pending rest piece : List ℕ) (said : List TargetPduValue)
-    → Answers notes count resets n k s pending said k' t rest → Answers notes count resets n k s (pending ++ piece) said k' t (rest ++ piece)
-answers_before {resets = resets} notes count n k k' s t pending rest piece said so = record {
+answers_before : {S : Type 0} {resets ends : ℕ → Type 0} {most : ℕ} (notes : S → DoneValue → S → Type 0) (count : S → ℕ) (n : Nexus) (k k' : TasksValue) (s t : S) (pending rest piece : List ℕ) (said : List TargetPduValue)
+    → Answers notes count resets ends most n k s pending said k' t rest → Answers notes count resets ends most n k s (pending ++ piece) said k' t (rest ++ piece)
+answers_before {resets = resets} {ends = ends} {most = most} notes count n k k' s t pending rest piece said so = record {
   events = so.events;
   so = so.so;
+  asked = so.asked;
   talks = so.talks;
   takes = takes_before (pdus_of so.events) pending rest piece so.takes;
 }
 
 -- ---- and what is read
 
-pub converses_none : {S : Type 0} {resets : ℕ → Type 0} (notes : S → DoneValue → S → Type 0) (count : S → ℕ) (n : Nexus) (k : TasksValue) (s : S) (pending : List ℕ) (left : Option (List ℕ))
-    → Converses notes count resets n k s pending left left [] k s pending
-converses_none {resets = resets} notes count n k s pending left = record {
+pub converses_none : {S : Type 0} {resets ends : ℕ → Type 0} {most : ℕ} (notes : S → DoneValue → S → Type 0) (count : S → ℕ) (n : Nexus) (k : TasksValue) (s : S) (pending : List ℕ) (left : Option (List ℕ))
+    → Converses notes count resets ends most n k s pending left left [] k s pending
+converses_none {resets = resets} {ends = ends} {most = most} notes count n k s pending left = record {
   read = [];
   consumed = consumes_none left;
-  answers = subst (λ (xs : List ℕ). Answers notes count resets n k s xs [] k s pending) (sym (append-nil pending)) (answers_none notes count n k s pending);
+  answers = subst (λ (xs : List ℕ). Answers notes count resets ends most n k s xs [] k s pending) (sym (append-nil pending)) (answers_none notes count n k s pending);
 }
 
-pub converses_then : {S : Type 0} {resets : ℕ → Type 0} (notes : S → DoneValue → S → Type 0) (count : S → ℕ) (n : Nexus) (k k1 k' : TasksValue) (s m t : S) (pending mid rest : List ℕ) (left left' : Option (List ℕ)) (a b : List TargetPduValue)
-    → Converses notes count resets n k s pending left left' a k1 m mid → Answers notes count resets n k1 m mid b k' t rest → Converses notes count resets n k s pending left left' (a ++ b) k' t rest
-converses_then {S} {resets = resets} notes count n k k1 k' s m t pending mid rest left left' a b one two = record {
+pub converses_then : {S : Type 0} {resets ends : ℕ → Type 0} {most : ℕ} (notes : S → DoneValue → S → Type 0) (count : S → ℕ) (n : Nexus) (k k1 k' : TasksValue) (s m t : S) (pending mid rest : List ℕ) (left left' : Option (List ℕ)) (a b : List TargetPduValue)
+    → Converses notes count resets ends most n k s pending left left' a k1 m mid → Answers notes count resets ends 0 n k1 m mid b k' t rest → Converses notes count resets ends most n k s pending left left' (a ++ b) k' t rest
+converses_then {S} {resets = resets} {ends = ends} {most = most} notes count n k k1 k' s m t pending mid rest left left' a b one two = record {
   read = one.read;
   consumed = one.consumed;
   answers = answers_then notes count n k k1 k' s m t (pending ++ one.read) mid rest a b one.answers two;
 }
 
-pub converses_read : {S : Type 0} {resets : ℕ → Type 0} (notes : S → DoneValue → S → Type 0) (count : S → ℕ) (n : Nexus) (k k' : TasksValue) (s t : S) (pending rest rest' : List ℕ) (left left1 left2 : Option (List ℕ)) (said : List TargetPduValue)
-    → Converses notes count resets n k s pending left left1 said k' t rest → Added rest rest' left1 left2 → Converses notes count resets n k s pending left left2 said k' t rest'
-converses_read {S} {resets = resets} notes count n k k' s t pending rest rest' left left1 left2 said so got = record {
+pub converses_read : {S : Type 0} {resets ends : ℕ → Type 0} {most : ℕ} (notes : S → DoneValue → S → Type 0) (count : S → ℕ) (n : Nexus) (k k' : TasksValue) (s t : S) (pending rest rest' : List ℕ) (left left1 left2 : Option (List ℕ)) (said : List TargetPduValue)
+    → Converses notes count resets ends most n k s pending left left1 said k' t rest → Added rest rest' left1 left2 → Converses notes count resets ends most n k s pending left left2 said k' t rest'
+converses_read {S} {resets = resets} {ends = ends} {most = most} notes count n k k' s t pending rest rest' left left1 left2 said so got = record {
   read = so.read ++ got.0;
   consumed = consumes_more left left1 left2 so.read got.0 so.consumed got.2;
-  answers = subst (λ (xs : List ℕ). Answers notes count resets n k s (pending ++ (so.read ++ got.0)) said k' t xs) (sym got.1)
-      (subst (λ (xs : List ℕ). Answers notes count resets n k s xs said k' t (rest ++ got.0)) (append_assoc pending so.read got.0)
+  answers = subst (λ (xs : List ℕ). Answers notes count resets ends most n k s (pending ++ (so.read ++ got.0)) said k' t xs) (sym got.1)
+      (subst (λ (xs : List ℕ). Answers notes count resets ends most n k s xs said k' t (rest ++ got.0)) (append_assoc pending so.read got.0)
       (answers_before notes count n k k' s t (pending ++ so.read) rest got.0 said so.answers));
+}
+
+-- a logout is asked for, the first time
+pub converses_asked : {S : Type 0} {resets ends : ℕ → Type 0} (notes : S → DoneValue → S → Type 0) (count : S → ℕ) (n : Nexus) (k k' : TasksValue) (s t : S) (pending rest : List ℕ) (left left' : Option (List ℕ)) (a : List TargetPduValue) (stat_sn : SerialNumber) (seconds : ℕ)
+    → Converses notes count resets ends 0 n k s pending left left' a k' t rest → ends seconds → Converses notes count resets ends 1 n k s pending left left' (a ++ asked_to_leave k' stat_sn seconds) k' t rest
+converses_asked {S} notes count n k k' s t pending rest left left' a stat_sn seconds one so = record {
+  read = one.read;
+  consumed = one.consumed;
+  answers = answers_and 0 1 1 notes count n k k' k' s t t (pending ++ one.read) rest rest a (asked_to_leave k' stat_sn seconds) (omega arith) one.answers (answers_asked notes count n k' t rest stat_sn seconds so);
+}
+
+pub converses_within : {S : Type 0} {resets ends : ℕ → Type 0} (i most : ℕ) (notes : S → DoneValue → S → Type 0) (count : S → ℕ) (n : Nexus) (k k' : TasksValue) (s t : S) (pending rest : List ℕ) (left left' : Option (List ℕ)) (said : List TargetPduValue)
+    → i ≤ most → Converses notes count resets ends i n k s pending left left' said k' t rest → Converses notes count resets ends most n k s pending left left' said k' t rest
+converses_within i most notes count n k k' s t pending rest left left' said few so = record {
+  read = so.read;
+  consumed = so.consumed;
+  answers = record {
+    events = so.answers.events;
+    so = so.answers.so;
+    asked = omega (arith, few, so.answers.asked);
+    talks = so.answers.talks;
+    takes = so.answers.takes;
+  };
 }
 
 -- ---- what is written

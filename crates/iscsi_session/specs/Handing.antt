@@ -9,7 +9,7 @@ use Rattle.iscsi_tasks.specs.Runs.{Act, Numbered, Commanded, DataCame, AskedNext
 use Rattle.iscsi_tasks.specs.Values.{TasksValue}
 use Rattle.session.specs.Answering.{Calls}
 use Rattle.iscsi_session.specs.Executing.{unit_number}
-use Rattle.iscsi_session.specs.Talking.{Came, Event, Told, Silence}
+use Rattle.iscsi_session.specs.Talking.{Came, Ending, Event, Told, Silence}
 
 -- the commands and data among the acts
 abbrev pub brought : List Act → List Act
@@ -38,6 +38,7 @@ brought_in [] = []
 brought_in (Came p ∷ es) = brought_by p.header p.payload ++ brought_in es
 brought_in (Silence ∷ es) = brought_in es
 brought_in (Told units ∷ es) = brought_in es
+brought_in (Ending seconds ∷ es) = brought_in es
 
 -- a command that a unit is handed: the number of the unit, the CDB and the data
 abbrev pub asked_command : (unit : ℕ) → EventValue → List (ℕ × EventValue)

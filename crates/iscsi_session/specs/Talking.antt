@@ -1,12 +1,12 @@
 -- The PDUs of a stream, one after another. `notes s d t` says that a call with the answer d makes t of the service s.
-use Rattle.std.specs.Prelude.{◌≡◌, ◌≤◌, ℕ, List, [], ◌∷◌, ◌++◌, length, drop, All, Option}
+use Rattle.std.specs.Prelude.{◌≡◌, ◌⊎◌, ◌≤◌, ℕ, suc, Bool, true, false, List, [], ◌∷◌, ◌++◌, length, drop, All, Option}
 use Rattle.std.specs.Io.KnownBytes.{Consumes, Appends}
 use Rattle.scsi_nexus.specs.declared.nexus.Nexus.{Nexus}
 use Rattle.kept_unit.specs.Answers.{DoneValue}
 use Rattle.iscsi_pdu.specs.declared.serial_number.SerialNumber.{SerialNumber}
 use Rattle.iscsi_pdu.specs.Pdus.{InitiatorPduValue, TargetPduValue, parsed_initiator}
 use Rattle.iscsi_pdu.specs.Segments.{Complete}
-use Rattle.iscsi_answers.specs.Single.{ping}
+use Rattle.iscsi_answers.specs.Single.{leave_request, ping}
 use Rattle.iscsi_answers.specs.Written.{bytes_of_all}
 use Rattle.iscsi_tasks.specs.Aborts.{without_unit}
 use Rattle.iscsi_tasks.specs.Next.{next_of}
@@ -26,17 +26,20 @@ abbrev pub Takes : (bytes : List ℕ) → List InitiatorPduValue → (rest : Lis
 Takes bytes [] rest = rest ≡ bytes
 Takes bytes (p ∷ ps) rest = (size : ℕ) × BeginsWith bytes p size × Takes (drop size bytes) ps rest
 
--- what happens to a session: a PDU comes, or nothing for a while; or it is told of units that other sessions have reset
+-- what happens to a session: a PDU comes, or nothing for a while; or it is told of units that other sessions have reset, or that all
+-- sessions are to end within so many seconds
 pub data Event : Type 0 where
   Came : InitiatorPduValue → Event
   Silence : Event
   Told : (units : List ℕ) → Event
+  Ending : (seconds : ℕ) → Event
 
--- what it is told is so, by `resets`
-abbrev pub IsSo : (resets : ℕ → Type 0) → Event → Type 0
-IsSo resets (Came p) = Unit {0}
-IsSo resets Silence = Unit {0}
-IsSo resets (Told units) = All resets units
+-- what it is told is so, by `resets` and `ends`
+abbrev pub IsSo : (resets ends : ℕ → Type 0) → Event → Type 0
+IsSo resets ends (Came p) = Unit {0}
+IsSo resets ends Silence = Unit {0}
+IsSo resets ends (Told units) = All resets units
+IsSo resets ends (Ending seconds) = ends seconds
 
 -- without the commands that wait at these units, the first of them last
 abbrev pub without_units : TasksValue → (units : List ℕ) → TasksValue
@@ -48,6 +51,15 @@ pdus_of [] = []
 pdus_of (Came p ∷ es) = p ∷ pdus_of es
 pdus_of (Silence ∷ es) = pdus_of es
 pdus_of (Told units ∷ es) = pdus_of es
+pdus_of (Ending seconds ∷ es) = pdus_of es
+
+-- how often a logout is asked for
+abbrev pub leave_requests : List Event → ℕ
+leave_requests [] = 0
+leave_requests (Came p ∷ es) = leave_requests es
+leave_requests (Silence ∷ es) = leave_requests es
+leave_requests (Told units ∷ es) = leave_requests es
+leave_requests (Ending seconds ∷ es) = suc (leave_requests es)
 
 -- a ping
 abbrev pub pinged : TasksValue → SerialNumber → List TargetPduValue
@@ -57,12 +69,23 @@ pinged k stat_sn = ping (numbers k stat_sn) 0 ∷ []
 abbrev pub IsPinged : TasksValue → (out out' : List ℕ) → Type 0
 IsPinged k out out' = (stat_sn : SerialNumber) × (out' ≡ out ++ bytes_of_all (pinged k stat_sn))
 
+-- a logout is asked for; that is added, where `ends` says so, and it may be, where it wasn't before
+abbrev pub asked_to_leave : TasksValue → SerialNumber → (seconds : ℕ) → List TargetPduValue
+asked_to_leave k stat_sn seconds = leave_request (numbers k stat_sn) seconds ∷ []
+
+abbrev pub IsAskedToLeave : (ends : ℕ → Type 0) → TasksValue → (out out' : List ℕ) → Type 0
+IsAskedToLeave ends k out out' = (stat_sn : SerialNumber) × (seconds : ℕ) × ends seconds × (out' ≡ out ++ bytes_of_all (asked_to_leave k stat_sn seconds))
+
+abbrev pub MayAsk : (ends : ℕ → Type 0) → TasksValue → (asked asked' : Bool) → (out out' : List ℕ) → Type 0
+MayAsk ends k asked asked' out out' = ((asked' ≡ asked) × (out' ≡ out)) ⊎ ((asked ≡ false) × (asked' ≡ true) × IsAskedToLeave ends k out out')
+
 -- a PDU is taken where nothing is left to be done with those before it; behind a silence the target pings; of units that others have reset the
--- commands that wait there go unexecuted, and those that waited behind them go on
+-- commands that wait there go unexecuted, and those that waited behind them go on; where all sessions are to end a logout is asked for
 abbrev pub Happens : {S : Type 0} → (S → DoneValue → S → Type 0) → (count : S → ℕ) → Nexus → Event → TasksValue → S → (said : List TargetPduValue) → TasksValue → S → Type 0
 Happens notes count n (Came p) k s said k' t = (next_of k ≡ Idle) × Says notes count n p k s said k' t
 Happens notes count n Silence k s said k' t = (stat_sn : SerialNumber) × (said ≡ pinged k stat_sn) × (k' ≡ k) × (t ≡ s)
 Happens notes count n (Told units) k s said k' t = (times : ℕ) × GoesOn notes n times (without_units k units) s said k' t
+Happens notes count n (Ending seconds) k s said k' t = (stat_sn : SerialNumber) × (said ≡ asked_to_leave k stat_sn seconds) × (k' ≡ k) × (t ≡ s)
 
 -- one after another, and what is said to them
 abbrev pub Talks : {S : Type 0} → (S → DoneValue → S → Type 0) → (count : S → ℕ) → Nexus → List Event → TasksValue → S → (said : List TargetPduValue) → TasksValue → S → Type 0
@@ -70,18 +93,19 @@ Talks notes count n [] k s said k' t = (said ≡ []) × (k' ≡ k) × (t ≡ s)
 Talks {S} notes count n (e ∷ es) k s said k' t =
     (k1 : TasksValue) × (m : S) × (first others : List TargetPduValue) × (said ≡ first ++ others) × Happens notes count n e k s first k1 m × Talks notes count n es k1 m others k' t
 
--- some of what is pending is answered, and this is the rest
-pub record Answers {S : Type 0} (notes : S → DoneValue → S → Type 0) (count : S → ℕ) (resets : ℕ → Type 0) (n : Nexus) (k : TasksValue) (s : S) (pending : List ℕ) (said : List TargetPduValue) (k' : TasksValue) (t : S) (rest : List ℕ) : Type 0 where
+-- some of what is pending is answered, a logout asked for so many times at most, and this is the rest
+pub record Answers {S : Type 0} (notes : S → DoneValue → S → Type 0) (count : S → ℕ) (resets ends : ℕ → Type 0) (most : ℕ) (n : Nexus) (k : TasksValue) (s : S) (pending : List ℕ) (said : List TargetPduValue) (k' : TasksValue) (t : S) (rest : List ℕ) : Type 0 where
   pub events : List Event
-  pub so : All (IsSo resets) events
+  pub so : All (IsSo resets ends) events
+  pub asked : leave_requests events ≤ most
   pub talks : Talks notes count n events k s said k' t
   pub takes : Takes pending (pdus_of events) rest
 
 -- and of what is read behind it
-pub record Converses {S : Type 0} (notes : S → DoneValue → S → Type 0) (count : S → ℕ) (resets : ℕ → Type 0) (n : Nexus) (k : TasksValue) (s : S) (pending : List ℕ) (left left' : Option (List ℕ)) (said : List TargetPduValue) (k' : TasksValue) (t : S) (rest : List ℕ) : Type 0 where
+pub record Converses {S : Type 0} (notes : S → DoneValue → S → Type 0) (count : S → ℕ) (resets ends : ℕ → Type 0) (most : ℕ) (n : Nexus) (k : TasksValue) (s : S) (pending : List ℕ) (left left' : Option (List ℕ)) (said : List TargetPduValue) (k' : TasksValue) (t : S) (rest : List ℕ) : Type 0 where
   pub read : List ℕ
   pub consumed : Consumes left left' read
-  pub answers : Answers notes count resets n k s (pending ++ read) said k' t rest
+  pub answers : Answers notes count resets ends most n k s (pending ++ read) said k' t rest
 
 -- what waited to be written and what was said are written, or wait
 abbrev pub Writes : (written written' : Option (List ℕ)) → (out out' : List ℕ) → (said : List TargetPduValue) → Type 0

@@ -21,10 +21,13 @@ pub struct SessionIdentity {
 
 /// Where the sessions that live are noted, those of all portals.
 pub trait SessionRegister {
-    ghost use Rattle.std.specs.Prelude.{ℕ, IsTrue};
+    ghost use Rattle.std.specs.Prelude.{ℕ, IsTrue, IfSome};
 
     // That another session has reset a unit, as far as whoever keeps the register says what that means.
     ghost resets: { Self → ℕ → Type 0 } = { λ _ _. Unit {0} };
+
+    // That all sessions are to end within so many seconds, in the same way.
+    ghost ends: { Self → ℕ → Type 0 } = { λ _ _. Unit {0} };
 
     /// The session that lives as a nexus, if it is one of iSCSI.
     fn living(&self, nexus: Nexus) -> Option<SessionIdentity>;
@@ -42,6 +45,10 @@ pub trait SessionRegister {
 
     /// Notes that a reset which the session's service has made of a unit is the session's own: the service has others know of it.
     fn note_reset(&self, unit: u8);
+
+    /// Within how many seconds all sessions are to end. `None`: they may go on. It is asked whenever a read has ended, until it says so.
+    fn ends_within(&self) -> Option<u16>
+        ensures { IfSome result (ends self.now) };
 }
 
 /// What a login asks for.

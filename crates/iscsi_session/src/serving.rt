@@ -43,7 +43,9 @@ use std::io::{Read, Write};
 /// ended in time, the login is refused.
 ///
 /// A reader that fails by `WouldBlock` or `TimedOut` says that nothing came for a while: in full feature the target pings once, and
-/// where nothing comes then either, or during login, the end is `Silent`.
+/// where nothing comes then either, or during login, the end is `Silent`. One that fails by `Interrupted` in full feature shows nothing.
+/// Behind a read of whatever kind a logout is asked for, once, where the register says that all sessions are to end (RFC 7143,
+/// "Asynchronous Message").
 #[tactic(auto, unfolding(crate::specs::Serving::Serves))]
 pub fn serve<S: Service, G: SessionRegister, R: Read, W: Write>(
     alloc: Global,
@@ -58,7 +60,7 @@ pub fn serve<S: Service, G: SessionRegister, R: Read, W: Write>(
 ) -> Result<IscsiEnd, IscsiFault>
     ensures service { Leaves S.notes S.count portal.now.group service.old service.new }
     ensures refused { IfErr result (λ fault. IsLater fault ⊎ (service.new ≡ service.old)) }
-    ensures session { Serves S.notes S.count (G.resets register.now) portal.now.target.now challenge portal.now.group service.old (R.remaining reader.old) (R.remaining reader.new) (W.contents writer.old) (W.contents writer.new) result service.new }
+    ensures session { Serves S.notes S.count (G.resets register.now) (G.ends register.now) portal.now.target.now challenge portal.now.group service.old (R.remaining reader.old) (R.remaining reader.new) (W.contents writer.old) (W.contents writer.new) result service.new }
 {
     let mut read_buffer = ReadBuffer::new(alloc)?;
     let mut out = Vec::with_capacity(alloc, ROOM)?;
@@ -202,7 +204,7 @@ fn hold<S: Service, G: SessionRegister, R: Read, W: Write>(
     requires { begun.now.session_type ≡ Normal }
     ensures service { Leaves S.notes S.count portal.now.group service.old service.new }
     ensures refused { IfErr result (λ fault. IsLater fault ⊎ (service.new ≡ service.old)) }
-    ensures session { (service.new ≡ service.old) ⊎ ((said : List TargetPduValue) × (all : Bool) × (held : Holds S.notes S.count (G.resets register.now) portal.now.group begun.now service.old read_buffer.old (R.remaining reader.old) (R.remaining reader.new) said all service.new) × OnOk result ((all ≡ true) × (next_of held.ended ≡ Idle) × WritesLast (W.contents writer.old) (W.contents writer.new) said)) }
+    ensures session { (service.new ≡ service.old) ⊎ ((said : List TargetPduValue) × (all : Bool) × (held : Holds S.notes S.count (G.resets register.now) (G.ends register.now) portal.now.group begun.now service.old read_buffer.old (R.remaining reader.old) (R.remaining reader.new) said all service.new) × OnOk result ((all ≡ true) × (next_of held.ended ≡ Idle) × WritesLast (W.contents writer.old) (W.contents writer.new) said)) }
 {
     let nexus = Nexus {
         sas: begun.admission.sas(),
@@ -274,7 +276,7 @@ fn greet_and_converse<S: Service, G: SessionRegister, R: Read, W: Write>(
     turns: u64,
 ) -> Result<IscsiEnd, IscsiFault>
     ensures fault { IfErr result IsLater }
-    ensures talks { begun.now.session_type ≡ Normal → (said : List TargetPduValue) × (ended : TasksValue) × (rest : List ℕ) × Converses S.notes S.count (G.resets register.now) nexus (first_tasks begun.now) service.old read_buffer.old (R.remaining reader.old) (R.remaining reader.new) said ended service.new rest × OnOk result ((next_of ended ≡ Idle) × WritesLast (W.contents writer.old) (W.contents writer.new) said) }
+    ensures talks { begun.now.session_type ≡ Normal → (said : List TargetPduValue) × (ended : TasksValue) × (rest : List ℕ) × Converses S.notes S.count (G.resets register.now) (G.ends register.now) 1 nexus (first_tasks begun.now) service.old read_buffer.old (R.remaining reader.old) (R.remaining reader.new) said ended service.new rest × OnOk result ((next_of ended ≡ Idle) × WritesLast (W.contents writer.old) (W.contents writer.new) said) }
 {
     exchange.accept(tsih, out)?;
     let mut connection = Connection::new(alloc, begun, exchange.next_stat_sn());

@@ -6,7 +6,7 @@ ghost use Rattle.iscsi_login.specs.declared.names.SessionType.TheVariants.{Norma
 ghost use Rattle.iscsi_tasks.specs.Next.{next_of};
 ghost use Rattle.iscsi_tasks.specs.declared.next_task.NextTask.TheVariants.{Idle};
 ghost use Rattle.iscsi_session.specs.Faults.{IsLater};
-ghost use Rattle.iscsi_session.specs.Talking.{Answers, Converses, IsPinged, Writes};
+ghost use Rattle.iscsi_session.specs.Talking.{Answers, Converses, IsPinged, MayAsk, Writes};
 ghost use Rattle.iscsi_session.specs.Reading.{Added};
 
 use crate::answering::answer;
@@ -18,14 +18,14 @@ use crate::login::{end_of, read_fault};
 use crate::portal::Portal;
 use crate::read_buffer::ReadBuffer;
 use crate::resets::drop_reset;
-use iscsi_answers::write_ping;
+use iscsi_answers::{write_leave_request, write_ping};
 use iscsi_keys::TARGET_MAX_RECV_DATA_SEGMENT_LENGTH;
 use iscsi_login::SessionType;
 use iscsi_pdu::{ParsedInitiatorPdu, parse_initiator_pdu};
 use scsi_nexus::Nexus;
 use session::Service;
 use std::alloc::Global;
-use std::io::{Read, Write};
+use std::io::{self, Read, Write};
 
 /// As many bytes as are written at once: past this the answers are written.
 const BATCH: usize = 65_536;
@@ -62,7 +62,7 @@ fn answer_some<S: Service, G: SessionRegister>(
     requires { next_of connection.old.tasks ≡ Idle }
     ensures fault { IfErr result IsLater }
     ensures full { result ≡ Ok Pause.FlushDue → length read_buffer.new < length read_buffer.old }
-    ensures talks { session_type ≡ Normal → (said : List TargetPduValue) × (rest : List ℕ) × Answers S.notes S.count (G.resets register.now) nexus connection.old.tasks service.old read_buffer.old said connection.new.tasks service.new rest × OnOk result ((rest ≡ read_buffer.new) × (out.new.items ≡ out.old.items ++ bytes_of_all said)) }
+    ensures talks { session_type ≡ Normal → (said : List TargetPduValue) × (rest : List ℕ) × Answers S.notes S.count (G.resets register.now) (G.ends register.now) 0 nexus connection.old.tasks service.old read_buffer.old said connection.new.tasks service.new rest × OnOk result ((rest ≡ read_buffer.new) × (out.new.items ≡ out.old.items ++ bytes_of_all said)) }
     ensures idle { OnOk result (next_of connection.new.tasks ≡ Idle) }
 {
     drop_reset(register, service.units(), &mut connection.tasks);
@@ -95,7 +95,7 @@ fn answer_pending<S: Service, G: SessionRegister>(
     requires { next_of connection.old.tasks ≡ Idle }
     ensures fault { IfErr result IsLater }
     ensures full { result ≡ Ok Pause.FlushDue → length read_buffer.new < length read_buffer.old }
-    ensures talks { session_type ≡ Normal → (said : List TargetPduValue) × (rest : List ℕ) × Answers S.notes S.count (G.resets register.now) nexus connection.old.tasks service.old read_buffer.old said connection.new.tasks service.new rest × OnOk result ((rest ≡ read_buffer.new) × (out.new.items ≡ out.old.items ++ bytes_of_all said)) }
+    ensures talks { session_type ≡ Normal → (said : List TargetPduValue) × (rest : List ℕ) × Answers S.notes S.count (G.resets register.now) (G.ends register.now) 0 nexus connection.old.tasks service.old read_buffer.old said connection.new.tasks service.new rest × OnOk result ((rest ≡ read_buffer.new) × (out.new.items ≡ out.old.items ++ bytes_of_all said)) }
     ensures idle { OnOk result (next_of connection.new.tasks ≡ Idle) }
 {
     'pdus: loop {
@@ -143,7 +143,7 @@ fn answer_all<S: Service, G: SessionRegister, W: Write>(
 ) -> Result<bool, IscsiFault>
     requires { next_of connection.old.tasks ≡ Idle }
     ensures fault { IfErr result IsLater }
-    ensures talks { session_type ≡ Normal → (said : List TargetPduValue) × (rest : List ℕ) × Answers S.notes S.count (G.resets register.now) nexus connection.old.tasks service.old read_buffer.old said connection.new.tasks service.new rest × OnOk result ((rest ≡ read_buffer.new) × Writes (W.contents writer.old) (W.contents writer.new) out.old.items out.new.items said) }
+    ensures talks { session_type ≡ Normal → (said : List TargetPduValue) × (rest : List ℕ) × Answers S.notes S.count (G.resets register.now) (G.ends register.now) 0 nexus connection.old.tasks service.old read_buffer.old said connection.new.tasks service.new rest × OnOk result ((rest ≡ read_buffer.new) × Writes (W.contents writer.old) (W.contents writer.new) out.old.items out.new.items said) }
     ensures idle { OnOk result (next_of connection.new.tasks ≡ Idle) }
     ensures empty { out.new.items ≡ [] }
 {
@@ -169,7 +169,7 @@ fn answer_all<S: Service, G: SessionRegister, W: Write>(
 }
 
 /// Reads once, and says whether that shows the end of input. Where nothing came for a while it adds a ping, once; where nothing came for
-/// another the connection ends.
+/// another the connection ends. A read that was interrupted shows nothing.
 fn read_on<R: Read>(
     connection: &Connection,
     read_buffer: &mut ReadBuffer,
@@ -187,6 +187,9 @@ fn read_on<R: Read>(
             Ok(count == 0)
         }
         Err(error) => {
+            if matches!(error.kind(), io::ErrorKind::Interrupted) {
+                return Ok(false);
+            }
             if read_fault(&error) != IscsiFault::Silent || *is_pinged {
                 return Err(read_fault(&error));
             }
@@ -197,7 +200,33 @@ fn read_on<R: Read>(
     }
 }
 
-/// Answers what is pending and what comes, until the connection ends, by at most `turns` reads.
+/// Asks for a logout where all sessions are to end, unless it was asked for before.
+fn ask_to_leave<G: SessionRegister>(
+    register: &G,
+    connection: &mut Connection,
+    out: &mut Vec<u8>,
+    is_asked: &mut bool,
+) -> Result<(), IscsiFault>
+    ensures fault { IfErr result IsLater }
+    ensures tasks { connection.new.tasks ≡ connection.old.tasks }
+    ensures asks { OnOk result (MayAsk (G.ends register.now) connection.old.tasks is_asked.old is_asked.new out.old.items out.new.items) }
+{
+    if *is_asked {
+        return Ok(());
+    }
+    match register.ends_within() {
+        Some(seconds) => {
+            write_leave_request(out, connection.numbers(), seconds)?;
+            connection.has_answered();
+            *is_asked = true;
+            Ok(())
+        }
+        None => Ok(()),
+    }
+}
+
+/// Answers what is pending and what comes, until the connection ends, by at most `turns` reads. Once all sessions are to end a logout is
+/// asked for, and what comes is answered as before.
 pub(crate) fn converse<S: Service, G: SessionRegister, R: Read, W: Write>(
     alloc: Global,
     service: &mut S,
@@ -214,10 +243,11 @@ pub(crate) fn converse<S: Service, G: SessionRegister, R: Read, W: Write>(
 ) -> Result<IscsiEnd, IscsiFault>
     requires { next_of connection.old.tasks ≡ Idle }
     ensures fault { IfErr result IsLater }
-    ensures talks { session_type ≡ Normal → (said : List TargetPduValue) × (rest : List ℕ) × Converses S.notes S.count (G.resets register.now) nexus connection.old.tasks service.old read_buffer.old (R.remaining reader.old) (R.remaining reader.new) said connection.new.tasks service.new rest × OnOk result (Writes (W.contents writer.old) (W.contents writer.new) out.old.items [] said) }
+    ensures talks { session_type ≡ Normal → (said : List TargetPduValue) × (rest : List ℕ) × Converses S.notes S.count (G.resets register.now) (G.ends register.now) 1 nexus connection.old.tasks service.old read_buffer.old (R.remaining reader.old) (R.remaining reader.new) said connection.new.tasks service.new rest × OnOk result (Writes (W.contents writer.old) (W.contents writer.new) out.old.items [] said) }
     ensures idle { OnOk result (next_of connection.new.tasks ≡ Idle) }
 {
     let mut is_pinged = false;
+    let mut is_asked = false;
     let mut left = turns;
     'turns: loop {
         if !answer_all(
@@ -241,5 +271,6 @@ pub(crate) fn converse<S: Service, G: SessionRegister, R: Read, W: Write>(
         if read_on(connection, read_buffer, out, reader, &mut is_pinged)? {
             return Ok(end_of(read_buffer.pending()));
         }
+        ask_to_leave(register, connection, out, &mut is_asked)?;
     }
 }

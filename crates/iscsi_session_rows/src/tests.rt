@@ -1,5 +1,6 @@
 mod claims;
 mod endings;
+mod leaving;
 mod numbers;
 mod resets;
 mod residuals;

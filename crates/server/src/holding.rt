@@ -23,7 +23,10 @@ use std::io::{Read, Write};
 use std::net::SocketAddr;
 use std::random::RandomSource;
 use std::sync::Wait;
-use std::time::Clock;
+use std::time::{Clock, Duration};
+
+/// After how many seconds at most a session of iSCSI looks whether all sessions are to end.
+const LOOK: u64 = 1;
 
 /// Serves a session of a connection, for no longer than its host may be silent, or take for a reply, and names its fault, if it
 /// had one.
@@ -73,13 +76,18 @@ pub(crate) fn hold<'a, S: SeatService, R: Clock + RandomSource + Wait, E: Write>
     }
 }
 
-/// How long the hosts of a door are waited for: nobody is pinged whose session is of frames.
+/// How long the hosts of a door are waited for: nobody is pinged whose session is of frames, and nobody there is told that sessions are
+/// to end.
 fn patience_at(door: &Door<'_>, times: WaitTimes) -> Patience {
     Patience {
         login: times.login,
         idle: times.idle,
         ping: match door.portal() {
             Some(_) => times.ping,
+            None => None,
+        },
+        look: match door.portal() {
+            Some(_) => Some(Duration::from_secs(LOOK)),
             None => None,
         },
     }

@@ -15,10 +15,13 @@ pub(crate) struct Patience {
     pub idle: Option<Duration>,
     /// The same, before a read is given up for once.
     pub ping: Option<Duration>,
+    /// The longest that a read waits at once, before its session may look around.
+    pub look: Option<Duration>,
 }
 
 /// Reads what a host sends, which has to log in by a time, and may later on be silent for so long. A read by which it is late
-/// fails, and so do all that follow. One that takes as long as until a ping fails by `TimedOut`, which no other does.
+/// fails, and so do all that follow. One by which nothing has come for as long as until a ping fails by `TimedOut`, which no other
+/// does, and one that is given up before, so that its session may look around, by `Interrupted`.
 #[derive(Drop)]
 pub(crate) struct TimedReader<'a, C: Clock> {
     clock: &'a C,
@@ -30,6 +33,8 @@ pub(crate) struct TimedReader<'a, C: Clock> {
     login_by: Option<Instant>,
     /// How long nothing has come since the host is logged in.
     silence: Duration,
+    /// How long of that since a read was given up for a ping.
+    unasked: Duration,
     /// How long a read of the stream waits now. `None`: nothing was said.
     wait: Option<Option<Duration>>,
     is_late: bool,
@@ -54,6 +59,7 @@ impl<'a, C: Clock> TimedReader<'a, C> {
             patience,
             login_by,
             silence: Duration::ZERO,
+            unasked: Duration::ZERO,
             wait: None,
             is_late: false,
         })
@@ -67,11 +73,11 @@ impl<'a, C: Clock> TimedReader<'a, C> {
     /// How long the next read may wait. `None`: for ever.
     fn next_wait(&self) -> io::Result<Option<Duration>> {
         if self.flags.is_in() {
-            let left = match self.patience.idle {
-                Some(idle) => Some(idle.saturating_sub(self.silence)),
-                None => None,
-            };
-            return Ok(shorter(self.patience.ping, left));
+            let left = shorter(
+                left_of(self.patience.idle, self.silence),
+                left_of(self.patience.ping, self.unasked),
+            );
+            return Ok(shorter(left, self.patience.look));
         }
         match self.login_by {
             Some(by) => Ok(Some(by.saturating_duration_since(Instant::now(self.clock)?))),
@@ -88,24 +94,44 @@ impl<'a, C: Clock> TimedReader<'a, C> {
         Ok(())
     }
 
-    /// Whether a host may not be silent for so long.
-    fn is_too_long(&self, silence: Duration) -> bool {
-        match self.patience.idle {
-            Some(idle) => silence >= idle,
-            None => false,
-        }
-    }
-
     /// Why a read failed for which nothing came in so long.
     fn kind_behind(&mut self, wait: Option<Duration>) -> ErrorKind {
         if self.flags.is_in() {
-            self.silence = self.silence.saturating_add(wait.unwrap_or(Duration::ZERO));
-            if !self.is_too_long(self.silence) {
-                return ErrorKind::TimedOut;
+            let waited = wait.unwrap_or(Duration::ZERO);
+            self.silence = self.silence.saturating_add(waited);
+            self.unasked = self.unasked.saturating_add(waited);
+            if !is_over(self.patience.idle, self.silence) {
+                return self.kind_within();
             }
         }
         self.is_late = true;
         ErrorKind::ConnectionAborted
+    }
+
+    /// The same of a host that may be silent for longer: it is to be pinged now, or its session looks around.
+    fn kind_within(&mut self) -> ErrorKind {
+        if is_over(self.patience.ping, self.unasked) {
+            self.unasked = Duration::ZERO;
+            ErrorKind::TimedOut
+        } else {
+            ErrorKind::Interrupted
+        }
+    }
+}
+
+/// What is left of a time, behind so much of it. `None`: it is for ever.
+fn left_of(time: Option<Duration>, gone: Duration) -> Option<Duration> {
+    match time {
+        Some(time) => Some(time.saturating_sub(gone)),
+        None => None,
+    }
+}
+
+/// Whether a time is over, behind so much of it.
+fn is_over(time: Option<Duration>, gone: Duration) -> bool {
+    match time {
+        Some(time) => gone >= time,
+        None => false,
     }
 }
 
@@ -131,6 +157,7 @@ impl<'a, C: Clock> Read for TimedReader<'a, C> {
             match stream.read(buffer) {
                 Ok(count) => {
                     self.silence = Duration::ZERO;
+                    self.unasked = Duration::ZERO;
                     return Ok(count);
                 }
                 Err(error) => match error.kind() {

@@ -543,7 +543,7 @@ struct Ending<'a, 'd> {
 impl<'a, 'd> Ending<'a, 'd> {
     /// Has no more sessions begin, and ends those that go on.
     fn end<R: Clock + Wait>(&self, rt: &R) {
-        self.sessions.close(rt);
+        self.sessions.close(rt, Duration::ZERO);
         for door in self.doors {
             door.shut_down();
         }

@@ -243,7 +243,7 @@ fn serve_until<
             ServeUntil::Sessions(_) => {}
             ServeUntil::InputEnds(_) => {
                 await_end_of_input(rt);
-                sessions.close(rt);
+                sessions.close(rt, times.grace);
                 places.shut_down();
                 sessions.end_after(rt, times.grace);
             }

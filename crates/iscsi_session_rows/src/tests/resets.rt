@@ -32,6 +32,10 @@ impl SessionRegister for Resetting {
     }
 
     fn note_reset(&self, _unit: u8) {}
+
+    fn ends_within(&self) -> Option<u16> {
+        None
+    }
 }
 
 /// What it shows, the unit, by which look its reset is seen, what is sent and answered behind the login, and the calls.

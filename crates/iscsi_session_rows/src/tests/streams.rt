@@ -92,6 +92,10 @@ impl SessionRegister for Beside {
     }
 
     fn note_reset(&self, _unit: u8) {}
+
+    fn ends_within(&self) -> Option<u16> {
+        None
+    }
 }
 
 /// Gives its bytes in pieces of a size, and then fails so many times by what says that nothing came.

@@ -10,7 +10,7 @@ abbrev pub invariant-batches : goal.invariant-batches
 invariant-batches g l =
     (next_of l.connection.tasks ≡ Idle)
     × (l.session_type ≡ Normal
-    → (said : List TargetPduValue) × Answers g.S.Service.notes g.S.Service.count (g.G.SessionRegister.resets l.register) l.nexus l.fn.connection.tasks l.fn.service l.fn.read_buffer said l.connection.tasks l.service l.read_buffer
+    → (said : List TargetPduValue) × Answers g.S.Service.notes g.S.Service.count (g.G.SessionRegister.resets l.register) (g.G.SessionRegister.ends l.register) 0 l.nexus l.fn.connection.tasks l.fn.service l.fn.read_buffer said l.connection.tasks l.service l.read_buffer
     × Writes (g.W.Write.contents l.fn.writer) (g.W.Write.contents l.writer) l.fn.out.items l.out.items said)
 
 abbrev pub decreases-batches : goal.decreases-batches

@@ -11,7 +11,7 @@ abbrev pub invariant-pdus : goal.invariant-pdus
 invariant-pdus g l =
     (length l.read_buffer ≤ length l.fn.read_buffer) × (next_of l.connection.tasks ≡ Idle)
     × (l.session_type ≡ Normal
-    → (said : List TargetPduValue) × Answers g.S.Service.notes g.S.Service.count (g.G.SessionRegister.resets l.register) l.nexus l.fn.connection.tasks l.fn.service l.fn.read_buffer said l.connection.tasks l.service l.read_buffer
+    → (said : List TargetPduValue) × Answers g.S.Service.notes g.S.Service.count (g.G.SessionRegister.resets l.register) (g.G.SessionRegister.ends l.register) 0 l.nexus l.fn.connection.tasks l.fn.service l.fn.read_buffer said l.connection.tasks l.service l.read_buffer
     × (l.out.items ≡ l.fn.out.items ++ bytes_of_all said))
 
 abbrev pub decreases-pdus : goal.decreases-pdus

@@ -1,0 +1,10 @@
+use Rattle.std.proofs.Common.{◌∙◌, ◌++◌, ap, inr, refl}
+use Rattle.iscsi_answers.specs.Single.{leave_request}
+use Rattle.iscsi_answers.specs.Written.{bytes_of}
+use Rattle.iscsi_session.proofs.Acted.{said_one}
+use Rattle.iscsi_session.proofs.talking.ask_to_leave.Goals as goal
+
+pub returns-in_ok-write_leave_request-in-Some-clause-asks : goal.returns-in_ok-write_leave_request-in-Some-clause-asks
+returns-in_ok-write_leave_request-in-Some-clause-asks g c =
+    let said = c.in_ok-write_leave_request-in-Some.ensures ∙ ap (λ n. c.args.out.now.items ++ bytes_of (leave_request n c.in-Some.seconds)) c.numbers.ensures in
+    inr (c.if-is_asked.false, refl, (c.args.connection.now.stat_sn, c.in-Some.seconds, c.in-Some.ensures, said_one _ _ _ said))
