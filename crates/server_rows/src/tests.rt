@@ -31,7 +31,7 @@ use std::str;
 use std::sync::{Condvar, Mutex, Wait};
 use std::test::Fail;
 use std::thread::{self, Threads};
-use std::time::{Clock, Duration};
+use std::time::{Clock, Duration, Instant};
 use tape_medium::{Tape, Volume, VolumeTag};
 use tape_server::TapeDrive;
 use target_core::TargetCore;
@@ -52,6 +52,11 @@ const ALREADY_CONNECTED: &[u8] = b"\0\0\0\x02\x81\x01";
 const LOGOUT: &[u8] = b"\0\0\0\x01\x04";
 
 const LOGGED_OUT: &[u8] = b"\0\0\0\x01\x84";
+
+/// RESET of the drive, and its reply.
+const DRIVE_RESET: &[u8] = b"\0\0\0\x02\x03\x01";
+
+const WAS_RESET: &[u8] = b"\0\0\0\x02\x83\0";
 
 /// TEST UNIT READY to the changer.
 const READY: &[u8] = b"\0\0\0\x09\x02\0\x06\0\0\0\0\0\0";
@@ -196,6 +201,7 @@ enum Frame {
     Prevent,
     Unload,
     InquiryAt9,
+    DriveReset,
     Logout,
 }
 
@@ -219,6 +225,7 @@ enum Answer {
     Accepted,
     AlreadyConnected,
     LoggedOut,
+    WasReset,
     /// GOOD without data, of the record of this number.
     Good(u8),
     /// CHECK CONDITION, of the record of this number, with a sense key, an additional sense code and its qualifier.
@@ -279,6 +286,7 @@ fn sent(frame: Frame) -> &'static [u8] {
         Frame::Prevent => PREVENT,
         Frame::Unload => UNLOAD,
         Frame::InquiryAt9 => INQUIRY_AT_9,
+        Frame::DriveReset => DRIVE_RESET,
         Frame::Logout => LOGOUT,
     }
 }
@@ -355,6 +363,7 @@ fn is_answered(
         Answer::Accepted => is_told(alloc, stream, frame, ACCEPTED),
         Answer::AlreadyConnected => is_told(alloc, stream, frame, ALREADY_CONNECTED),
         Answer::LoggedOut => is_told(alloc, stream, frame, LOGGED_OUT),
+        Answer::WasReset => is_told(alloc, stream, frame, WAS_RESET),
         Answer::Good(number) => is_told(alloc, stream, frame, &status_frame(0, number)),
         Answer::Check(number, key, asc, ascq) => {
             is_told(alloc, stream, frame, &check_frame(number, key, asc, ascq))
@@ -543,11 +552,23 @@ struct Ending<'a, 'd> {
 impl<'a, 'd> Ending<'a, 'd> {
     /// Has no more sessions begin, and ends those that go on.
     fn end<R: Clock + Wait>(&self, rt: &R) {
-        self.sessions.close(rt, Duration::ZERO);
+        self.close(rt, Duration::ZERO);
+        self.sessions.end_after(rt, Duration::ZERO);
+    }
+
+    /// Has no more sessions begin. Those that go on are to end within a time.
+    fn close<R: Wait>(&self, rt: &R, grace: Duration) {
+        self.sessions.close(rt, grace);
         for door in self.doors {
             door.shut_down();
         }
-        self.sessions.end_after(rt, Duration::ZERO);
+    }
+
+    /// Whether all sessions end in less than a time.
+    fn is_over_within<R: Clock + Wait>(&self, rt: &R, grace: Duration) -> io::Result<bool> {
+        let begun = Instant::now(rt)?;
+        self.sessions.end_after(rt, grace);
+        Ok(begun.elapsed(rt)? < grace)
     }
 }
 

@@ -24,8 +24,12 @@ use std::thread::{self, Threads};
 use std::time::{Clock, Duration};
 use tape_keeper::NoKeeper;
 
-/// The text of B's login.
+/// The text of B's login, and of C's.
 const LOGIN_TEXT: &[u8] = b"InitiatorName=iqn.2026-11.example:b\0\
+    TargetName=iqn.2026-11.localhost:vtl\0\
+    SessionType=Normal\0";
+
+const LOGIN_TEXT_OF_C: &[u8] = b"InitiatorName=iqn.2026-11.example:c\0\
     TargetName=iqn.2026-11.localhost:vtl\0\
     SessionType=Normal\0";
 
@@ -42,14 +46,30 @@ fn header(start: [u8; 4], lun: u8, tag: u8, rest: [u8; 28]) -> [u8; 48] {
 /// What an initiator sends.
 #[derive(Clone, Copy)]
 enum Request {
-    /// A Login Request to full feature.
+    /// A Login Request to full feature, B's or C's.
     Login,
+    LoginOfC,
     /// TEST UNIT READY to the drive.
     Ready,
     /// WRITE(6) of four bytes to the drive, with them as immediate data.
     Write,
+    /// The same without its data, which are awaited.
+    WriteLater,
+    /// A LOGICAL UNIT RESET of the drive.
+    Reset,
     /// A Logout Request.
     Logout,
+}
+
+/// What is written.
+const BLOCK: &[u8] = &[1, 2, 3, 4];
+
+/// The header of WRITE(6) of four bytes to the drive.
+fn header_of_write(cmd_sn: u8, mut rest: [u8; 28]) -> [u8; 48] {
+    rest[3] = 4;
+    rest[12] = 0x0a;
+    rest[16] = 4;
+    header([0x01, 0xa0, 0, 0], 1, cmd_sn, rest)
 }
 
 /// The header of a request with this CmdSN, and its data.
@@ -58,20 +78,23 @@ fn parts_of(request: Request, cmd_sn: u8) -> ([u8; 48], &'static [u8]) {
     rest[7] = cmd_sn;
     match request {
         Request::Login => (header([0x43, 0x87, 0, 0], 0, cmd_sn, rest), LOGIN_TEXT),
+        Request::LoginOfC => (header([0x43, 0x87, 0, 0], 0, cmd_sn, rest), LOGIN_TEXT_OF_C),
         Request::Ready => (header([0x01, 0x80, 0, 0], 1, cmd_sn, rest), &[]),
-        Request::Write => {
-            rest[3] = 4;
-            rest[12] = 0x0a;
-            rest[16] = 4;
-            (header([0x01, 0xa0, 0, 0], 1, cmd_sn, rest), &[1, 2, 3, 4])
-        }
+        Request::Write => (header_of_write(cmd_sn, rest), BLOCK),
+        Request::WriteLater => (header_of_write(cmd_sn, rest), &[]),
+        Request::Reset => (header([0x42, 0x85, 0, 0], 1, cmd_sn, rest), &[]),
         Request::Logout => (header([0x46, 0x80, 0, 0], 0, cmd_sn, rest), &[]),
     }
 }
 
-/// The bytes of a request: its header with the length of its data, and these, padded to words of four bytes.
+/// The bytes of a request.
 fn bytes_of(alloc: Global, request: Request, cmd_sn: u8) -> Result<Vec<u8>, AllocError> {
-    let (mut header, data) = parts_of(request, cmd_sn);
+    let (header, data) = parts_of(request, cmd_sn);
+    whole_pdu(alloc, header, data)
+}
+
+/// A header with the length of its data, and these, padded to words of four bytes.
+fn whole_pdu(alloc: Global, mut header: [u8; 48], data: &[u8]) -> Result<Vec<u8>, AllocError> {
     header[7] = u8::try_from(data.len()).unwrap_or(0);
     let mut bytes = Vec::from_slice(alloc, &header)?;
     bytes.extend_from_slice(data)?;
@@ -104,6 +127,12 @@ const CHECK: Start = [0x21, 0x80, 0, 2];
 /// RESERVATION CONFLICT.
 const CONFLICT: Start = [0x21, 0x80, 0, 0x18];
 
+/// An R2T.
+const ASKED: Start = [0x31, 0x80, 0, 0];
+
+/// A function that is complete.
+const COMPLETE: Start = [0x22, 0x80, 0, 0];
+
 /// A NOP-In.
 const PING: Start = [0x20, 0x80, 0, 0];
 
@@ -122,25 +151,50 @@ fn is_met(
     Ok(header.starts_with(&start))
 }
 
+/// Sends the data of the write with this CmdSN, by the tag of the first R2T. They have no answer of their own.
+fn send_data(alloc: Global, mut stream: &TcpStream, cmd_sn: u8) -> io::Result<()> {
+    let header = header([0x05, 0x80, 0, 0], 1, cmd_sn, [0; 28]);
+    stream.write_all(whole_pdu(alloc, header, BLOCK)?.as_slice())
+}
+
+/// Whether an initiator reads an Asynchronous Message that asks for a logout within so many seconds.
+fn is_asked_to_leave(alloc: Global, stream: &TcpStream, seconds: u8) -> io::Result<bool> {
+    let header = read_answer(alloc, stream)?;
+    Ok(
+        header.starts_with(&[0x32, 0x80, 0, 0])
+            && header.ends_with(&[1, 0, 0, 0, 0, 0, 0, seconds, 0, 0, 0, 0]),
+    )
+}
+
 /// Whether a connection has ended.
 fn has_ended(mut stream: &TcpStream) -> io::Result<bool> {
     let count = stream.read(&mut [0u8; 1])?;
     Ok(count == 0)
 }
 
-/// What A does at the socket, and B at the portal.
+/// What A does at the socket, and B and C at the portal.
 #[derive(Clone, Copy)]
 enum Step {
     /// A sends a frame, and reads its answer.
     Says(Frame, Answer),
     /// B sends a request of a CmdSN, and reads its answer, which begins so.
     Sends(Request, u8, Start),
+    /// B sends the data of the write with this CmdSN.
+    SendsData(u8),
+    /// C connects, logs in, resets the drive and logs out.
+    OtherResets,
     /// B reads a NOP-In.
     Pinged,
     /// B reads the end.
     IsLeft,
     /// B connects once more and logs in, which ends its first connection.
     ComesAgain,
+    /// There are to be no more sessions, and those that go on are to end within so many seconds.
+    Closes(u8),
+    /// B is asked to log out within so many seconds.
+    IsAskedToLeave(u8),
+    /// All sessions have ended before so many seconds are over.
+    IsOverWithin(u8),
     /// There are to be no more sessions, and those that go on end.
     Ends,
 }
@@ -155,6 +209,44 @@ fn comes_again<R: Net<Listener = TcpListener, Stream = TcpStream>>(
     Ok(is_met(alloc, &second, Request::Login, 1, ACCEPTED)? && has_ended(first)?)
 }
 
+/// Whether C is let in, resets the drive, and is let go.
+fn other_resets<R: Net<Listener = TcpListener, Stream = TcpStream>>(
+    rt: &R,
+    alloc: Global,
+    portal: &TcpStream,
+) -> io::Result<bool> {
+    let other = TcpStream::connect(rt, portal.peer_addr()?)?;
+    Ok(
+        is_met(alloc, &other, Request::LoginOfC, 1, ACCEPTED)?
+            && is_met(alloc, &other, Request::Reset, 1, COMPLETE)?
+            && is_met(alloc, &other, Request::Logout, 1, LOGGED_OUT)?,
+    )
+}
+
+fn seconds(count: u8) -> Duration {
+    Duration::from_secs(u64::from(count))
+}
+
+/// Takes a step at B's connection. Whether all is as it should be.
+fn is_taken_by_b(alloc: Global, portal: &TcpStream, step: Step) -> io::Result<bool> {
+    match step {
+        Step::Sends(request, cmd_sn, start) => is_met(alloc, portal, request, cmd_sn, start),
+        Step::SendsData(cmd_sn) => {
+            send_data(alloc, portal, cmd_sn)?;
+            Ok(true)
+        }
+        Step::Pinged => Ok(read_answer(alloc, portal)?.starts_with(&PING)),
+        Step::IsAskedToLeave(count) => is_asked_to_leave(alloc, portal, count),
+        Step::IsLeft => has_ended(portal),
+        Step::Says(_, _)
+        | Step::ComesAgain
+        | Step::OtherResets
+        | Step::Closes(_)
+        | Step::IsOverWithin(_)
+        | Step::Ends => Ok(true),
+    }
+}
+
 /// Takes a step. Whether all is as it should be.
 fn is_taken<R: Clock + Net<Listener = TcpListener, Stream = TcpStream> + Wait>(
     rt: &R,
@@ -166,14 +258,22 @@ fn is_taken<R: Clock + Net<Listener = TcpListener, Stream = TcpStream> + Wait>(
 ) -> io::Result<bool> {
     match step {
         Step::Says(frame, answer) => is_answered(alloc, socket, frame, answer),
-        Step::Sends(request, cmd_sn, start) => is_met(alloc, portal, request, cmd_sn, start),
-        Step::Pinged => Ok(read_answer(alloc, portal)?.starts_with(&PING)),
-        Step::IsLeft => has_ended(portal),
         Step::ComesAgain => comes_again(rt, alloc, portal),
+        Step::OtherResets => other_resets(rt, alloc, portal),
+        Step::Closes(count) => {
+            ending.close(rt, seconds(count));
+            Ok(true)
+        }
+        Step::IsOverWithin(count) => ending.is_over_within(rt, seconds(count)),
         Step::Ends => {
             ending.end(rt);
             Ok(true)
         }
+        Step::Sends(_, _, _)
+        | Step::SendsData(_)
+        | Step::Pinged
+        | Step::IsAskedToLeave(_)
+        | Step::IsLeft => is_taken_by_b(alloc, portal, step),
     }
 }
 
@@ -196,12 +296,16 @@ fn talk<R: Clock + Net<Listener = TcpListener, Stream = TcpStream> + Wait>(
     Ok(true)
 }
 
-/// A target that lets B in, by its name.
-fn target_of_b(alloc: Global) -> Result<LoginTarget, AllocError> {
+/// A target that lets B and C in, by their names.
+fn target_of_two(alloc: Global) -> Result<LoginTarget, AllocError> {
     let mut hosts = Vec::new(alloc);
     hosts.push(Host {
         name: Vec::from_slice(alloc, b"iqn.2026-11.example:b")?,
         sas: 0x5000_0000_0000_000B,
+    })?;
+    hosts.push(Host {
+        name: Vec::from_slice(alloc, b"iqn.2026-11.example:c")?,
+        sas: 0x5000_0000_0000_000C,
     })?;
     Ok(LoginTarget {
         name: Vec::from_slice(alloc, b"iqn.2026-11.localhost:vtl")?,
@@ -312,7 +416,7 @@ fn assert_met<
     let alloc = rt.alloc();
     let socket_name = format!(in alloc; "vtl-{name}-{id}")?;
     let address = net::SocketAddr::from_abstract_name(socket_name.as_bytes())?;
-    let target = target_of_b(alloc)?;
+    let target = target_of_two(alloc)?;
     let listener = TcpListener::bind(rt, "127.0.0.1:0")?;
     let portal = listener.local_addr()?;
     let doors = [
@@ -394,7 +498,54 @@ const LINES_OF_BOTH_SESSIONS: &[u8] = b"1 500000000000000b.1 TEST-UNIT-READY 2 -
     2 500000000000000b.1 LOSS 6 - - 00\n\
     3 500000000000000b.1 LOSS 6 - - 00\n";
 
-const ROWS: [Row; 5] = [
+/// A write of B's waits for its data, and C resets the drive: it goes unexecuted, and B is told of the reset.
+const RESET_BY_ANOTHER: [Step; 9] = [
+    Step::Sends(Request::Login, 1, ACCEPTED),
+    Step::Sends(Request::Ready, 1, CHECK),
+    Step::Sends(Request::WriteLater, 2, ASKED),
+    Step::OtherResets,
+    Step::SendsData(2),
+    Step::Sends(Request::Ready, 3, CHECK),
+    Step::Sends(Request::Logout, 4, LOGGED_OUT),
+    Step::IsLeft,
+    Step::Ends,
+];
+
+/// The same where A, at the socket, does.
+const RESET_AT_THE_SOCKET: [Step; 11] = [
+    Step::Says(Frame::LoginOfA, Answer::Accepted),
+    Step::Sends(Request::Login, 1, ACCEPTED),
+    Step::Sends(Request::Ready, 1, CHECK),
+    Step::Sends(Request::WriteLater, 2, ASKED),
+    Step::Says(Frame::DriveReset, Answer::WasReset),
+    Step::SendsData(2),
+    Step::Sends(Request::Ready, 3, CHECK),
+    Step::Sends(Request::Logout, 4, LOGGED_OUT),
+    Step::IsLeft,
+    Step::Says(Frame::Logout, Answer::LoggedOut),
+    Step::Ends,
+];
+
+/// There is no write among them.
+const LINES_OF_THE_RESET: &[u8] = b"1 500000000000000b.1 TEST-UNIT-READY 2 - - 02\n\
+    2 - RESET 6 - - 00\n\
+    3 500000000000000b.1 TEST-UNIT-READY 2 - - 02\n\
+    4 500000000000000b.1 LOSS 6 - - 00\n";
+
+/// A has left, and B is idle. B is asked to log out, does so, and all is over before the grace is.
+const ASKED_TO_LEAVE: [Step; 9] = [
+    Step::Says(Frame::LoginOfA, Answer::Accepted),
+    Step::Says(Frame::Logout, Answer::LoggedOut),
+    Step::Sends(Request::Login, 1, ACCEPTED),
+    Step::Sends(Request::Ready, 1, CHECK),
+    Step::Closes(20),
+    Step::IsAskedToLeave(20),
+    Step::Sends(Request::Logout, 2, LOGGED_OUT),
+    Step::IsLeft,
+    Step::IsOverWithin(20),
+];
+
+const ROWS: [Row; 8] = [
     (
         "two-doors",
         Short::None,
@@ -429,6 +580,27 @@ const ROWS: [Row; 5] = [
         &BACK_AGAIN,
         Some(LINES_OF_BOTH_SESSIONS),
         "of 500000000000000b.1: ended by the end of input after 1 commands",
+    ),
+    (
+        "reset-by-another",
+        Short::None,
+        &RESET_BY_ANOTHER,
+        Some(LINES_OF_THE_RESET),
+        "of 500000000000000b.1: ended by its LOGOUT after 2 commands",
+    ),
+    (
+        "reset-at-the-socket",
+        Short::None,
+        &RESET_AT_THE_SOCKET,
+        Some(LINES_OF_THE_RESET),
+        "of 500000000000000b.1: ended by its LOGOUT after 2 commands",
+    ),
+    (
+        "asked-to-leave",
+        Short::None,
+        &ASKED_TO_LEAVE,
+        Some(LINES_OF_B),
+        "of 500000000000000b.1: ended by its LOGOUT after 1 commands",
     ),
 ];
 
