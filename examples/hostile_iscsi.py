@@ -276,6 +276,18 @@ def drown(session):
             return
 
 
+def await_cut(session, seconds):
+    """Sends until the server has ended the session."""
+    end = time.monotonic() + seconds
+    while not session.is_cut:
+        assert time.monotonic() < end, f"a session that reads nothing is there after {seconds} seconds"
+        try:
+            session.send(b"x" * 48)
+        except TimeoutError:
+            pass
+        time.sleep(0.1)
+
+
 def run_floods(server, count):
     """Sessions that fill their window with data and never end a write, and then some that read nothing of what they ask for."""
     before = server.memory()
@@ -289,10 +301,10 @@ def run_floods(server, count):
     for session in sessions:
         drown(session)
     drowned = server.memory()
-    # Each is ended by the server, whose answer isn't taken; one that was taken in part is tried once more for as long.
-    time.sleep(2 * WRITE_TIMEOUT + 1)
+    # Each is ended by the server, whose answer isn't taken. One that was taken in part is tried for as long once more, and on a busy
+    # machine the system takes another part then.
     for session in sessions:
-        session.send(b"x" * 48)
+        await_cut(session, 5 * WRITE_TIMEOUT)
         session.reset()
     for what, memory in [("full of data", filled), ("that read nothing", drowned)]:
         assert memory <= before + count * PER_SESSION + SLACK, f"{count} sessions {what} took {memory - before} KiB"
