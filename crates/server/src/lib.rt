@@ -5,6 +5,7 @@ mod acceptor;
 mod batch;
 mod closing;
 mod door;
+mod end_notice;
 mod event;
 mod handed_out;
 mod holding;

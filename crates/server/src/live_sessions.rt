@@ -1,3 +1,4 @@
+use crate::end_notice::EndNotice;
 use crate::logged_in::{LoggedIn, shown_name};
 use crate::reset_counts::ResetCounts;
 use crate::teller::Teller;
@@ -8,7 +9,6 @@ use std::alloc::Global;
 use std::io::{self, Write};
 use std::net::Shutdown;
 use std::os::unix::net::UnixStream;
-use std::sync::atomic::{AtomicU64, Ordering};
 use std::sync::{Condvar, Mutex, Wait};
 use std::time::{Clock, Duration};
 
@@ -73,9 +73,8 @@ pub struct LiveSessions {
     ended: Condvar,
     /// The resets that sessions have made, those of frames and those of iSCSI.
     resets: ResetCounts,
-    /// One more than the seconds within which all are to end, once none may begin, and 0 before. Those that go on look at it, without
-    /// the lock.
-    end_notice: AtomicU64,
+    /// Given once none may begin.
+    end_notice: EndNotice,
 }
 
 impl LiveSessions {
@@ -88,7 +87,7 @@ impl LiveSessions {
             }),
             ended: Condvar::new(),
             resets: ResetCounts::new(),
-            end_notice: AtomicU64::new(0),
+            end_notice: EndNotice::new(),
         }
     }
 
@@ -105,15 +104,8 @@ impl LiveSessions {
     /// From now on no session begins, and those of iSCSI that go on ask for a logout within the grace, of which whole seconds are told.
     pub fn close<R: Wait>(&self, rt: &R, grace: Duration) {
         self.live.lock(rt).is_closed = true;
-        let seconds = u16::try_from(grace.as_secs()).unwrap_or(u16::MAX);
         self.end_notice
-            .store(u64::from(seconds) + 1, Ordering::SeqCst);
-    }
-
-    /// Within how many seconds all sessions are to end, once none may begin.
-    fn ends_within(&self) -> Option<u16> {
-        let seconds = self.end_notice.load(Ordering::SeqCst).checked_sub(1)?;
-        u16::try_from(seconds).ok()
+            .give(u16::try_from(grace.as_secs()).unwrap_or(u16::MAX));
     }
 
     /// Waits until all sessions have ended, and shuts the streams of those down that go on after so long: each then reads
@@ -219,6 +211,6 @@ impl<'a, R: Clock + Wait, E: Write> SessionRegister for SessionsBeside<'a, R, E>
     }
 
     fn ends_within(&self) -> Option<u16> {
-        self.sessions.ends_within()
+        self.sessions.end_notice.ends_within()
     }
 }
