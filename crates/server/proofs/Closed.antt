@@ -1,20 +1,17 @@
 -- A library that was closed, from what its parts say.
-use Rattle.std.proofs.Common.{◌≡◌, ◌∙◌, ℕ, refl, List, [], length, Option, Some, None, IfSome, Ok, Err, IsOk, OnOk, subst, sym}
-use Rattle.std.specs.Prelude.{All, IfNone, IsNone, Result}
+use Rattle.std.proofs.Common.{◌≡◌, ◌∙◌, ℕ, refl, List, [], length, Option, Some, None, IfSome, subst, sym}
+use Rattle.std.specs.Prelude.{All}
 use Rattle.logical_unit.specs.UnitView.{UnitView, last_number}
 use Rattle.lun_router.specs.Opening.{IsSince, LastIs}
 use Rattle.lun_router.specs.Seats.{SeatValue, IsUntold}
 use Rattle.output_lines.specs.declared.audit_lines.Audit.{Audit}
 use Rattle.server.specs.declared.serving.RecordOutput.{RecordOutput}
 use Rattle.server.specs.declared.serving.RecordOutput.TheVariants.{AtTheEnd, AsTheyCome}
-use Rattle.server.specs.declared.server_fault.ServerFault.{ServerFault}
 use Rattle.server.specs.Batches.{HandsOut}
-use Rattle.server.specs.Faults.{earlier}
 use Rattle.server.specs.Serving.{DrainsAndCloses, IsClosed, ServesLibrary}
 use Rattle.server.specs.Sessions.{IsOfSessions, SeatsCome}
 use Rattle.server.proofs.HandingOut.{hands_left, hands_more}
 use Rattle.server.proofs.Sessions.{of_sessions}
-use Rattle.server.proofs.Told.{none_first, where_none}
 use Rattle.std.specs.Io.KnownBytes.{Appends}
 use Rattle.std.specs.Option.{option_map}
 
@@ -36,18 +33,11 @@ pub last_is : (o : Option UnitView) → LastIs o (last_of o)
 last_is None = tt
 last_is (Some u) = refl
 
--- what held where one of two went well, where the other does only then
-pub through : {E : Type 0} {P : Type 0} {Q : Type 0} (r s : Result (Unit {0}) E) → (IsOk r → IsOk s) → (IsOk r → P → Q) → OnOk s P → OnOk r Q
-through (Err e) s so f p = tt
-through (Ok u) (Ok v) so f p = f refl p
-through (Ok u) (Err e) so f p = let never = so refl in absurd cc
-
--- of the seats that a library was opened with, where no fault is told of serving and keeping it
-pub seats_served : (core : List UnitView) (units count : ℕ) (opened seats : List SeatValue) (served kept : Option ServerFault) → units ≡ length core → length opened ≡ count → All IsUntold opened
-    → IfNone served (SeatsCome units opened seats) → IsNone (earlier served kept) → All (IsOfSessions (length core)) seats × (length seats ≡ count)
-seats_served core units count opened seats served kept size many untold came none =
-    let so = where_none served (none_first served kept none) came in
-    let both = of_sessions (length core) opened seats untold (subst (λ (u : ℕ). SeatsCome u opened seats) size so) in (both.0, both.1 ∙ many)
+-- of the seats that a library was opened with
+pub seats_served : (core : List UnitView) (units count : ℕ) (opened seats : List SeatValue) → units ≡ length core → length opened ≡ count → All IsUntold opened → SeatsCome units opened seats
+    → All (IsOfSessions (length core)) seats × (length seats ≡ count)
+seats_served core units count opened seats size many untold came =
+    let both = of_sessions (length core) opened seats untold (subst (λ (u : ℕ). SeatsCome u opened seats) size came) in (both.0, both.1 ∙ many)
 
 -- a library that was served, from its closing
 pub at_the_end : (core : List UnitView) (count : ℕ) (records : RecordOutput) (audit : Audit) (seats : List SeatValue) (zero one two three four : ℕ) (w w' : Option (List ℕ)) → records ≡ AtTheEnd audit

@@ -1,6 +1,6 @@
 -- What sessions make of a seat, one after another.
 use Rattle.std.proofs.Common.{◌≡◌, ◌<◌, ℕ, zero, suc, Bool, List, [], ◌∷◌, ◌++◌, length, map, take, Option, Some, None, inl, inr, refl, sym, ap, subst, ◌∙◌, arith}
-use Rattle.std.specs.Prelude.{slice_index_or, IfNone, All}
+use Rattle.std.specs.Prelude.{slice_index_or, All}
 use Rattle.std.specs.List.{AllZip}
 use Rattle.std.specs.Fork.{ChangesAt, ChangesEach}
 use Rattle.std.proofs.Math.Seq.{take-append_seam}
@@ -129,12 +129,11 @@ map_map : {A B C : Type 0} (f : A → B) (h : B → C) (xs : List A) → map (λ
 map_map f h [] = refl
 map_map {A} {B} {C} f h (x ∷ xs) = ap (λ (ys : List C). h (f x) ∷ ys) (map_map f h xs)
 
--- services were made for seats and given to workers, these had their sessions, and their seats are back where no fault is told
-pub served : {W F : Type 0} (service : W → LibraryServiceValue) (u : ℕ) (seats : List SeatValue) (services : List LibraryServiceValue) (before after : List W) (none back : List SeatValue) (told : Option F)
+-- services were made for seats and given to workers, these had their sessions, and their seats are back
+pub served : {W : Type 0} (service : W → LibraryServiceValue) (u : ℕ) (seats : List SeatValue) (services : List LibraryServiceValue) (before after : List W) (none back : List SeatValue)
     → services ≡ map (service_at u) seats → map service before ≡ services → AllZip (λ v w. ComesBySessions DoesToService SettlesService (λ x. x.units) (service v) (service w)) before after → none ≡ []
-    → IfNone told (back ≡ none ++ map (λ w. (service w).seat) after) → IfNone told (SeatsCome u seats back)
-served service u seats services before after none back (Some fault) made held came empty given = tt
-served {W} service u seats services before after none back None made held came empty given =
+    → back ≡ none ++ map (λ w. (service w).seat) after → SeatsCome u seats back
+served {W} service u seats services before after none back made held came empty given =
     let ends = map service after in
     let zipped = zip_map (ComesBySessions DoesToService SettlesService (λ x. x.units)) service before after came in
     let seats_are : back ≡ map (λ x. x.seat) ends =

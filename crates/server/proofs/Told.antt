@@ -1,43 +1,137 @@
--- Where no fault is told, and where one is.
-use Rattle.std.proofs.Common.{◌≡◌, ◌∙◌, ap, refl, sym, Bool, true, false, List, [], ◌∷◌, ◌++◌, map, append_assoc, Option, Some, None}
-use Rattle.std.proofs.lemmas.List.{map-append}
-use Rattle.std.specs.Prelude.{IfNone, IsNone, is_some, if◌then◌else◌}
+-- Which fault is told, and what holds of it.
+use Rattle.std.proofs.Common.{◌≡◌, ◌∙◌, ◌+◌, ◌≤◌, ◌<◌, ℕ, refl, sym, ap, subst, arith, Bool, true, false, List, [], ◌∷◌, ◌++◌, length, map, append_assoc, Option, Some, None, inl, inr, Ok, Err, OnOk}
+use Rattle.std.proofs.lemmas.List.{map-append, length-append, length-map}
+use Rattle.std.specs.Prelude.{◌⊎◌, IfErr, IfSome, Result, if◌then◌else◌}
+use Rattle.std.specs.Result.{result_err}
+use Rattle.lun_router.specs.declared.closing.CloseFault.TheVariants as close
+use Rattle.server.specs.declared.acceptor.ServeTerm.{ServeTerm}
+use Rattle.server.specs.declared.acceptor.ServeTerm.TheVariants as term
+use Rattle.server.specs.declared.server_fault.FaultySession.{FaultySession}
 use Rattle.server.specs.declared.server_fault.ServerFault.{ServerFault}
-use Rattle.server.specs.Faults.{earlier, is_before}
+use Rattle.server.specs.declared.server_fault.ServerFault.TheVariants as fault
+use Rattle.server.specs.Faults.{MayEndWith, MayTell, earlier, first_accepted, first_among, is_before, own_fault, told_of}
 
-some_of_two : {A : Type 0} (c : Bool) (a b : A) → is_some (if c then Some a else Some b) ≡ true
-some_of_two true a b = refl
-some_of_two false a b = refl
+-- how it went that ends without a fault, or with one
+abbrev End : Type 0
+End = Result (Unit {0}) ServerFault
 
--- of the first of two faults, where none of them is told
-pub none_first : (a b : Option ServerFault) → IsNone (earlier a b) → IsNone a
-none_first None b none = refl
-none_first (Some a) None none = none
-none_first (Some a) (Some b) none = let some = some_of_two (is_before b a) b a in absurd cc
+-- of one fault or another, whichever is told
+some_of : (P : ServerFault → Type 0) (c : Bool) (a b : ServerFault) → P a → P b → IfSome (if c then Some a else Some b) P
+some_of P true a b one other = one
+some_of P false a b one other = other
 
-pub where_none : {A : Type 0} {P : Type 0} (o : Option A) → IsNone o → IfNone o P → P
-where_none None none p = p
-where_none (Some a) none p = absurd cc
+earlier_keeps : (P : ServerFault → Type 0) (a b : Option ServerFault) → IfSome a P → IfSome b P → IfSome (earlier a b) P
+earlier_keeps P None b one other = other
+earlier_keeps P (Some a) None one other = one
+earlier_keeps P (Some a) (Some b) one other = some_of P (is_before b a) b a other one
 
-some_with : (a : Option ServerFault) (fault : ServerFault) → is_some (earlier a (Some fault)) ≡ true
-some_with None fault = refl
-some_with (Some a) fault = some_of_two (is_before fault a) fault a
+told_keeps : (P : ServerFault → Type 0) (o : Option ServerFault) → IfSome o P → IfErr (told_of o) P
+told_keeps P None holds = tt
+told_keeps P (Some f) holds = holds
 
-where_some : {A : Type 0} (P : Type 0) (o : Option A) → is_some o ≡ true → IfNone o P
-where_some P None some = absurd cc
-where_some P (Some a) some = tt
+err_keeps : (P : ServerFault → Type 0) (r : End) → IfErr r P → IfSome (result_err r) P
+err_keeps P (Ok u) holds = tt
+err_keeps P (Err f) holds = holds
 
--- with a fault one is told, so nothing is said of where none is
-pub told_with : (P : Type 0) (a told : Option ServerFault) (fault : ServerFault) → told ≡ earlier a (Some fault) → IfNone told P
-told_with P a told fault is = where_some P told (ap is_some is ∙ some_with a fault)
+-- what holds of each fault holds of the one that is told
+pub first_keeps : (P : ServerFault → Type 0) (served kept : Option ServerFault) (closed result : End) → result ≡ told_of (earlier (earlier served kept) (result_err closed))
+    → IfSome served P → IfSome kept P → IfErr closed P → IfErr result P
+first_keeps P served kept closed result is of_serving of_keeping of_closing =
+    let told = earlier_keeps P (earlier served kept) (result_err closed) (earlier_keeps P served kept of_serving of_keeping) (err_keeps P closed of_closing) in
+    subst (λ (r : End). IfErr r P) (sym is) (told_keeps P (earlier (earlier served kept) (result_err closed)) told)
 
--- one worker more has given its seat back
-pub back_more : {W A : Type 0} (seat : W → A) (told fault told' : Option ServerFault) (there seats seats' : List A) (workers : List W) (w : W) → told' ≡ earlier told fault
-    → IfNone told (seats ≡ there ++ map seat workers) → seats' ≡ seats ++ seat w ∷ [] → IfNone told' (seats' ≡ there ++ map seat (workers ++ w ∷ []))
-back_more seat told fault (Some f) there seats seats' workers w is before pushed = tt
-back_more {W} {A} seat told fault None there seats seats' workers w is before pushed =
-    let given = where_none told (none_first told fault (ap is_some (sym is))) before in
+one_told : (Q : Type 0) (c : Bool) (a b : ServerFault) → OnOk (told_of (if c then Some a else Some b)) Q
+one_told Q true a b = tt
+one_told Q false a b = tt
+
+told_with : (Q : Type 0) (a : Option ServerFault) (f : ServerFault) → OnOk (told_of (earlier a (Some f))) Q
+told_with Q None f = tt
+told_with Q (Some a) f = one_told Q (is_before f a) f a
+
+told_where : (Q : Type 0) (o : Option ServerFault) → Q → OnOk (told_of o) Q
+told_where Q None q = q
+told_where Q (Some f) q = tt
+
+closing_went : {P Q : Type 0} (served kept : Option ServerFault) (closed : End) → (P → Q) → OnOk closed P → OnOk (told_of (earlier (earlier served kept) (result_err closed))) Q
+closing_went {P} {Q} served kept (Ok u) so p = told_where Q (earlier (earlier served kept) None) (so p)
+closing_went {P} {Q} served kept (Err f) so p = told_with Q (earlier served kept) f
+
+-- where no fault is told, closing had none
+pub all_went : {P Q : Type 0} (served kept : Option ServerFault) (closed result : End) → result ≡ told_of (earlier (earlier served kept) (result_err closed)) → (P → Q) → OnOk closed P → OnOk result Q
+all_went {P} {Q} served kept closed result is so p = subst (λ (r : End). OnOk r Q) (sym is) (closing_went served kept closed so p)
+
+some_first : (Q : Type 0) (a : ServerFault) (b : Option ServerFault) → OnOk (told_of (earlier (Some a) b)) Q
+some_first Q a None = tt
+some_first Q a (Some b) = one_told Q (is_before b a) b a
+
+writing_went : {O P Q : Type 0} (written closed : End) → (O → P → Q) → OnOk written O → OnOk closed P → OnOk (told_of (earlier (earlier None (result_err written)) (result_err closed))) Q
+writing_went (Ok u) closed so o p = closing_went None None closed (so o) p
+writing_went {O} {P} {Q} (Err f) closed so o p = some_first Q f (result_err closed)
+
+-- nor had writing what was left before
+pub both_went : {O P Q : Type 0} (written closed result : End) → result ≡ told_of (earlier (earlier None (result_err written)) (result_err closed)) → (O → P → Q) → OnOk written O → OnOk closed P
+    → OnOk result Q
+both_went {O} {P} {Q} written closed result is so o p = subst (λ (r : End). OnOk r Q) (sym is) (writing_went written closed so o p)
+
+-- ---- which faults these may be
+
+pub own_may : (term : ServeTerm) (session : Option FaultySession) → IfSome (own_fault term session) (MayTell term)
+own_may term None = tt
+own_may (term.Sessions count) (Some s) = refl
+own_may term.UntilClosed (Some s) = tt
+
+pub media_may : (term : ServeTerm) (kept : Option ServerFault) → IfSome kept (λ f. f ≡ fault.Media) → IfSome kept (MayTell term)
+media_may term None is = tt
+media_may term (Some f) is = subst (λ (g : ServerFault). MayTell term g) (sym is) tt
+
+-- of writing what was left
+pub left_may : (made seats : ℕ) (written : End) → IfErr written (λ f. (f ≡ fault.Write) ⊎ (f ≡ fault.NoMemory)) → IfSome (result_err written) (MayEndWith made seats)
+left_may made seats (Ok u) is = tt
+left_may made seats (Err f) (inl is) = subst (λ (g : ServerFault). MayEndWith made seats g) (sym is) tt
+left_may made seats (Err f) (inr is) = subst (λ (g : ServerFault). MayEndWith made seats g) (sym is) tt
+
+none_missing : (term : ServeTerm) (made seats : ℕ) (f : ServerFault) → seats ≡ made → MayEndWith made seats f → MayTell term f
+none_missing term made seats (fault.Session s) same may = absurd may
+none_missing term made seats (fault.Close close.Mismatch) same may = tt
+none_missing term made seats (fault.Close close.SeatMissing) same may = absurd (may same)
+none_missing term made seats (fault.Close close.NoMemory) same may = tt
+none_missing term made seats fault.Write same may = tt
+none_missing term made seats fault.Media same may = tt
+none_missing term made seats fault.NoMemory same may = tt
+
+-- of closing a library with as many seats as were made
+pub closed_may : (term : ServeTerm) (made seats : ℕ) (closed : End) → seats ≡ made → IfErr closed (λ f. MayEndWith made seats f) → IfErr closed (MayTell term)
+closed_may term made seats (Ok u) same may = tt
+closed_may term made seats (Err f) same may = none_missing term made seats f same may
+
+-- ---- what workers give back
+
+among_more : (told : Option FaultySession) (faults : List (Option FaultySession)) (f : Option FaultySession) → first_among told (faults ++ f ∷ []) ≡ first_accepted (first_among told faults) f
+among_more told [] f = refl
+among_more told (g ∷ faults) f = among_more (first_accepted told g) faults f
+
+-- of one worker more the first fault is told
+pub told_more : {W : Type 0} (fault : W → Option FaultySession) (told told' : Option FaultySession) (workers : List W) (w : W) → told ≡ first_among None (map fault workers) → told' ≡ first_accepted told (fault w)
+    → told' ≡ first_among None (map fault (workers ++ w ∷ []))
+told_more fault told told' workers w before is =
+    is
+    ∙ ap (λ (t : Option FaultySession). first_accepted t (fault w)) before
+    ∙ sym (among_more None (map fault workers) (fault w))
+    ∙ ap (λ (fs : List (Option FaultySession)). first_among None fs) (sym (map-append fault workers (w ∷ [])))
+
+-- and its seat is back
+pub back_more : {W A : Type 0} (seat : W → A) (there seats seats' : List A) (workers : List W) (w : W) (s : A) → seats ≡ there ++ map seat workers → s ≡ seat w → seats' ≡ seats ++ s ∷ []
+    → seats' ≡ there ++ map seat (workers ++ w ∷ [])
+back_more {W} {A} seat there seats seats' workers w s before is pushed =
     pushed
-    ∙ ap (λ (xs : List A). xs ++ seat w ∷ []) given
+    ∙ ap (λ (x : A). seats ++ x ∷ []) is
+    ∙ ap (λ (xs : List A). xs ++ seat w ∷ []) before
     ∙ append_assoc there (map seat workers) (seat w ∷ [])
     ∙ ap (λ (xs : List A). there ++ xs) (sym (map-append seat workers (w ∷ [])))
+
+-- as long as one is left there is room for its seat
+pub room_for_one : {W A : Type 0} (seat : W → A) (there seats : List A) (given workers : List W) (room : ℕ) → seats ≡ there ++ map seat given → length there + length workers ≤ room → length given < length workers
+    → length seats < room
+room_for_one {A} seat there seats given workers room is most more =
+    let size : length seats ≡ length there + length given =
+    ap (λ (xs : List A). length xs) is ∙ length-append there (map seat given) ∙ ap (λ (n : ℕ). length there + n) (length-map given seat) in omega (arith, size, most, more)

@@ -1,7 +1,8 @@
 -- Records that a unit handed out, as long as not all of their lines are written.
-use Rattle.std.specs.Prelude.{◌≡◌, ◌⊎◌, ℕ, List, [], ◌++◌, ◌-◌, ◌==◌, length, drop, count_by, slice_get, All, Option, Some, None, string_bytes}
+use Rattle.std.specs.Prelude.{◌≡◌, ◌⊎◌, ℕ, List, [], ◌++◌, ◌-◌, ◌==◌, length, drop, count_by, slice_get, take, All, Option, Some, None, string_bytes}
 use Rattle.std.specs.Io.KnownBytes.{Appends}
 use Rattle.std.specs.List.{flat_map}
+use Rattle.std.specs.Option.{option_map}
 use Rattle.audit_log.specs.declared.record.Record.{Record}
 use Rattle.lun_router.specs.Answering.{IsSomeTrail}
 use Rattle.output_lines.specs.AuditLines.{lines_of_records}
@@ -29,6 +30,20 @@ unwritten_between lun count _ _ = None
 abbrev pub unwritten_records : (lun : ℕ) → List Record → Option UnwrittenRecords
 unwritten_records lun es = unwritten_between lun (length es) (slice_get es 0) (slice_get es (length es - 1))
 
+-- the number of the last of records, where there are any
+abbrev pub number_of_last : List Record → Option ℕ
+number_of_last es = option_map (λ (e : Record). e.number) (slice_get es (length es - 1))
+
+-- so many lines were written whole, and perhaps a part of the next
+pub record WritesWhole (written written' : Option (List ℕ)) (bytes : List ℕ) (lines : ℕ) : Type 0 where
+  pub count : ℕ
+  pub some : WritesSome written written' bytes count
+  pub whole : lines ≡ line_ends (take count bytes)
+
+-- how many lines of those are written whole of which some are
+abbrev pub whole_of : Lines → ℕ
+whole_of l = line_ends (take l.written (string_bytes l.text))
+
 -- what is left of lines of which so many bytes are written
 abbrev pub left_of : Lines → List ℕ
 left_of l = drop l.written (string_bytes l.text)
@@ -40,6 +55,14 @@ left_if (Some l) records = left_of l
 
 abbrev pub left_in : Batch → List ℕ
 left_in b = left_if b.lines b.records.items
+
+-- those of the records that are without a line
+abbrev pub whole_if : Option Lines → ℕ
+whole_if None = 0
+whole_if (Some l) = whole_of l
+
+abbrev pub unwritten_in : Batch → Option UnwrittenRecords
+unwritten_in b = unwritten_records b.lun (drop (whole_if b.lines) b.records.items)
 
 -- what was written is what is no longer left: no byte is lost, none written twice, and none out of its place
 pub record GoesOn (written written' : Option (List ℕ)) (left left' : List ℕ) : Type 0 where

@@ -1,5 +1,5 @@
 -- The faults of a server: which of several is told, its exit status, and its two lines (profile).
-use Rattle.std.specs.Prelude.{ℕ, nat_lt, Bool, if◌then◌else◌, List, ◌++◌, codes, Option, Some, None}
+use Rattle.std.specs.Prelude.{◌≢◌, ℕ, nat_lt, Bool, true, false, IsTrue, if◌then◌else◌, List, [], ◌∷◌, ◌++◌, codes, Option, Some, None, Result, Ok, Err, ⊤}
 use Rattle.std.specs.Fmt.{decimal}
 use Rattle.scsi_nexus.specs.declared.nexus.Nexus.{Nexus}
 use Rattle.scsi_nexus.specs.Text.{nexus_text}
@@ -8,6 +8,8 @@ use Rattle.session.specs.declared.fault.SessionFault.TheVariants as session
 use Rattle.iscsi_session.specs.declared.fault.IscsiFault.TheVariants as iscsi
 use Rattle.lun_router.specs.declared.closing.CloseFault.{CloseFault}
 use Rattle.lun_router.specs.declared.closing.CloseFault.TheVariants as close
+use Rattle.server.specs.declared.acceptor.ServeTerm.{ServeTerm}
+use Rattle.server.specs.declared.acceptor.ServeTerm.TheVariants as term
 use Rattle.server.specs.declared.server_fault.Cause.{Cause}
 use Rattle.server.specs.declared.server_fault.Cause.TheVariants.{Fault, Iscsi, Silence}
 use Rattle.server.specs.declared.server_fault.FaultySession.{FaultySession}
@@ -39,6 +41,53 @@ abbrev pub earlier : Option ServerFault → Option ServerFault → Option Server
 earlier None b = b
 earlier (Some a) None = Some a
 earlier (Some a) (Some b) = if is_before b a then Some b else Some a
+
+-- the fault of the session that was accepted first, of two and of those that workers have
+abbrev pub first_accepted : Option FaultySession → Option FaultySession → Option FaultySession
+first_accepted None b = b
+first_accepted (Some a) None = Some a
+first_accepted (Some a) (Some b) = if nat_lt b.number a.number then Some b else Some a
+
+abbrev pub first_among : Option FaultySession → List (Option FaultySession) → Option FaultySession
+first_among told [] = told
+first_among told (fault ∷ faults) = first_among (first_accepted told fault) faults
+
+-- whether the faults of its sessions are a server's own
+abbrev pub counts_faults : ServeTerm → Bool
+counts_faults (term.Sessions count) = true
+counts_faults term.UntilClosed = false
+
+-- what of a session's fault is the server's
+abbrev pub own_fault : ServeTerm → Option FaultySession → Option ServerFault
+own_fault term None = None
+own_fault (term.Sessions count) (Some s) = Some (fault.Session s)
+own_fault term.UntilClosed (Some s) = None
+
+-- which faults may come of closing a library that was made with so many seats, and of writing the lines of its records: a seat is missing only where
+-- there aren't as many
+abbrev pub MayEndWith : (made seats : ℕ) → ServerFault → Type 0
+MayEndWith made seats (fault.Session s) = ⊥
+MayEndWith made seats (fault.Close close.Mismatch) = ⊤
+MayEndWith made seats (fault.Close close.SeatMissing) = seats ≢ made
+MayEndWith made seats (fault.Close close.NoMemory) = ⊤
+MayEndWith made seats fault.Write = ⊤
+MayEndWith made seats fault.Media = ⊥
+MayEndWith made seats fault.NoMemory = ⊤
+
+-- which faults a server may have: a session's where these are its own, and never a missing seat
+abbrev pub MayTell : ServeTerm → ServerFault → Type 0
+MayTell term (fault.Session s) = IsTrue (counts_faults term)
+MayTell term (fault.Close close.Mismatch) = ⊤
+MayTell term (fault.Close close.SeatMissing) = ⊥
+MayTell term (fault.Close close.NoMemory) = ⊤
+MayTell term fault.Write = ⊤
+MayTell term fault.Media = ⊤
+MayTell term fault.NoMemory = ⊤
+
+-- how it went, where a fault may have happened
+abbrev pub told_of : Option ServerFault → Result (Unit {0}) ServerFault
+told_of None = Ok tt
+told_of (Some fault) = Err fault
 
 abbrev pub exit_status : ServerFault → ℕ
 exit_status (fault.Session s) = 4

@@ -1,12 +1,11 @@
 -- What sessions make of a seat, one after another. `notes s d t` says that a call with the answer d makes t of s, `settles drained s t` that settling
 -- it by these numbers does, and `count` how many units there are.
-use Rattle.std.specs.Prelude.{◌≡◌, ℕ, List, [], ◌∷◌, Option, Result, IfNone, IfOk}
+use Rattle.std.specs.Prelude.{◌≡◌, ℕ, List, [], ◌∷◌, Option}
 use Rattle.std.specs.List.{AllZip}
 use Rattle.scsi_nexus.specs.declared.nexus.Nexus.{Nexus}
 use Rattle.kept_unit.specs.Answers.{DoneValue}
 use Rattle.lun_router.specs.Seats.{SeatValue, IsUntold, Notes, Settles}
 use Rattle.session.specs.Leaving.{ComesBySession}
-use Rattle.server.specs.declared.server_fault.ServerFault.{ServerFault}
 use Rattle.server.specs.LibraryService.{DoesForWorker, MaySettle}
 
 -- one session after another, each of the nexus that was let in, or of nobody; behind each call and each session it may be settled
@@ -31,7 +30,3 @@ pub record IsOfSessions (units : ℕ) (seat : SeatValue) : Type 0 where
   pub opened : SeatValue
   pub untold : IsUntold opened
   pub comes : SeatComes units opened seat
-
--- where serving ended, and no fault is told of it
-abbrev pub WhereServed : Result (Option ServerFault) ServerFault → Type 0 → Type 0
-WhereServed result P = IfOk result (λ served. IfNone served P)

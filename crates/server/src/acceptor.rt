@@ -1,3 +1,6 @@
+ghost use Rattle.std.specs.Prelude.{◌≡◌};
+ghost use Rattle.server.specs.Faults.{own_fault};
+
 use crate::door::{Door, Visitor};
 use crate::event::Event;
 use crate::live_sessions::LiveSessions;
@@ -68,7 +71,9 @@ pub(crate) enum Connection {
 
 impl<'a> Acceptor<'a> {
     /// Nothing was accepted yet.
-    pub fn new(doors: &'a [Door<'a>], limits: ServeLimits<'a>) -> Acceptor<'a> {
+    pub fn new(doors: &'a [Door<'a>], limits: ServeLimits<'a>) -> Acceptor<'a>
+        ensures { result.limits.term ≡ limits.entry.term }
+    {
         Acceptor {
             doors,
             limits,
@@ -147,10 +152,12 @@ impl<'a> Acceptor<'a> {
     }
 
     /// What of a session's fault is the server's.
-    pub fn fault_of(&self, session: FaultySession) -> Option<ServerFault> {
-        match self.limits.term {
-            ServeTerm::Sessions(_) => Some(ServerFault::Session(session)),
-            ServeTerm::UntilClosed => None,
+    pub fn own_fault(&self, session: Option<FaultySession>) -> Option<ServerFault>
+        ensures { result ≡ own_fault self.now.limits.term session }
+    {
+        match (self.limits.term, session) {
+            (ServeTerm::Sessions(_), Some(session)) => Some(ServerFault::Session(session)),
+            (_, None) | (ServeTerm::UntilClosed, Some(_)) => None,
         }
     }
 }

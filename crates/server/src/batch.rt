@@ -1,7 +1,8 @@
 //! Records that a unit handed out, until all of their lines are written.
-ghost use Rattle.std.specs.Prelude.{◌≡◌, ◌≤◌, drop, length, IfOk, OnOk, OnErr, [], IsTrue};
+ghost use Rattle.std.specs.Prelude.{◌≡◌, ◌⊎◌, ◌≤◌, drop, length, IfErr, IfOk, OnOk, OnErr, [], IsTrue};
 ghost use Rattle.output_lines.specs.AuditLines.{lines_of_records};
-ghost use Rattle.server.specs.Batches.{AreDrained, GoesOn, WritesSome, left_in, left_of, line_ends, unwritten_records};
+ghost use Rattle.server.specs.Batches.{AreDrained, GoesOn, WritesSome, left_in, left_of, line_ends, number_of_last, unwritten_in, unwritten_records, whole_of};
+ghost use Rattle.server.specs.declared.server_fault.ServerFault.TheVariants as fault;
 
 use crate::event::UnwrittenRecords;
 use crate::record_source::RecordSource;
@@ -69,6 +70,18 @@ impl Lines {
         self.written += count;
         is_all && writer.flush().is_ok()
     }
+
+    /// How many of them are written whole.
+    fn whole(&self) -> usize
+        ensures { result ≡ whole_of self.now }
+    {
+        let bytes = self.text.as_bytes();
+        bytes
+            .iter()
+            .take(self.written)
+            .filter(|byte| **byte == b'\n')
+            .count()
+    }
 }
 
 /// Records that were taken out of a unit, as long as not all of their lines are written. It is without lines until these
@@ -111,6 +124,7 @@ impl Batch {
         ensures left { GoesOn (W.contents writer.old) (W.contents writer.new) (left_in self.old) (left_in self.new) }
         ensures all { OnOk result (left_in self.new ≡ []) }
         ensures none { OnOk result (self.new.records.items ≡ []) }
+        ensures fault { IfErr result (λ f. (f ≡ fault.Write) ⊎ (f ≡ fault.NoMemory)) }
     {
         let mut lines = self.take_lines(alloc)?;
         if !lines.write_left(writer) {
@@ -127,6 +141,7 @@ impl Batch {
         requires none { self.old.records.items ≡ [] }
         ensures drained { AreDrained self.new.records.items }
         ensures left { left_in self.new ≡ lines_of_records self.new.records.items }
+        ensures number { result ≡ number_of_last self.new.records.items }
     {
         self.lines = None;
         self.lun = lun;
@@ -137,9 +152,11 @@ impl Batch {
     }
 
     /// The records whose lines aren't written, if there are any.
-    pub fn unwritten(&self) -> Option<UnwrittenRecords> {
+    pub fn unwritten(&self) -> Option<UnwrittenRecords>
+        ensures { result ≡ unwritten_in self.now }
+    {
         let count = match &self.lines {
-            Some(lines) => whole_lines(lines.text.as_bytes().get(..lines.written)?),
+            Some(lines) => lines.whole(),
             None => 0,
         };
         records_behind(self.lun, &self.records, count)

@@ -1,9 +1,13 @@
-ghost use Rattle.std.specs.Prelude.{◌≡◌, ◌<◌, ◌≤◌, ◌+◌, ◌∷◌, ◌++◌, [], IfErr, IfOk, OnOk, vec_capacity, vec_len};
+ghost use Rattle.std.specs.Prelude.{◌≡◌, ◌≢◌, ◌⊎◌, ◌<◌, ◌≤◌, ◌+◌, ◌∷◌, ◌++◌, [], Err, IfErr, IfOk, OnOk, vec_capacity, vec_len};
 ghost use Rattle.std.specs.Io.KnownBytes.{Appends};
 ghost use Rattle.std.specs.Option.{option_map};
 ghost use Rattle.logical_unit.specs.UnitView.{units_of};
 ghost use Rattle.output_lines.specs.AuditLines.{audit_text};
+ghost use Rattle.lun_router.specs.declared.closing.CloseFault.TheVariants.{SeatMissing};
+ghost use Rattle.server.specs.Batches.{WritesWhole};
+ghost use Rattle.server.specs.Faults.{MayEndWith};
 ghost use Rattle.server.specs.Serving.{IsClosed, if_there};
+ghost use Rattle.server.specs.declared.server_fault.ServerFault.TheVariants as fault;
 
 use crate::batch::{records_behind, whole_lines, write_some};
 use crate::event::Event;
@@ -42,7 +46,10 @@ pub fn close_and_write<
     writer: &mut W,
     teller: &Teller<E>,
 ) -> Result<(), ServerFault>
-    ensures { OnOk result (IsClosed seats.items audit L0.since L1.since L2.since L3.since L4.since (W.contents writer.old) (W.contents writer.new)) }
+    ensures closed { OnOk result (IsClosed seats.items audit L0.since L1.since L2.since L3.since L4.since (W.contents writer.old) (W.contents writer.new)) }
+    ensures fault { IfErr result (λ f. MayEndWith library.seats (vec_len seats) f) }
+    ensures missing { vec_len seats ≢ library.seats → result ≡ Err (fault.Close SeatMissing) }
+    ensures none { IfErr result (λ f. (f ≡ fault.Write) ⊎ (W.contents writer.new ≡ W.contents writer.old)) }
 {
     let histories = match library.close(alloc, seats) {
         Ok(histories) => histories,
@@ -107,7 +114,8 @@ fn write_units<R: Wait, W: Write, E: Write>(
     writer: &mut W,
     teller: &Teller<E>,
 ) -> Result<(), ServerFault>
-    ensures { OnOk result (Appends (W.contents writer.old) (W.contents writer.new) (audit_text audit (units_of units.now))) }
+    ensures lines { OnOk result (Appends (W.contents writer.old) (W.contents writer.new) (audit_text audit (units_of units.now))) }
+    ensures fault { IfErr result (λ f. (f ≡ fault.Write) ⊎ ((f ≡ fault.NoMemory) × (W.contents writer.new ≡ W.contents writer.old))) }
 {
     let text = match audit_text(alloc, audit, units) {
         Ok(text) => text,
@@ -127,7 +135,8 @@ fn write_units<R: Wait, W: Write, E: Write>(
 
 /// Writes lines, and what the writer may still hold back of them. On an error: how many were written whole.
 fn write_lines<W: Write>(writer: &mut W, lines: &str) -> Result<(), usize>
-    ensures { OnOk result (Appends (W.contents writer.old) (W.contents writer.new) lines.now) }
+    ensures all { OnOk result (Appends (W.contents writer.old) (W.contents writer.new) lines.now) }
+    ensures whole { IfErr result (λ count. WritesWhole (W.contents writer.old) (W.contents writer.new) lines.now count) }
 {
     let bytes = lines.as_bytes();
     let count = write_some(writer, bytes);

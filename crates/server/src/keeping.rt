@@ -1,5 +1,8 @@
 //! The tapes of a library, kept while it is served and at its end.
 
+ghost use Rattle.std.specs.Prelude.{◌≡◌, IfSome};
+ghost use Rattle.server.specs.declared.server_fault.ServerFault.TheVariants.{Media};
+
 use crate::server_fault::ServerFault;
 use crate::teller::Teller;
 use library_device::Device;
@@ -48,7 +51,9 @@ pub(crate) fn keep_at_the_end<K: TapeKeeper<Device>, T: TapeSource<Device>, R: W
     keeper: &K,
     source: &T,
     teller: &Teller<E>,
-) -> Option<ServerFault> {
+) -> Option<ServerFault>
+    ensures { IfSome result (λ fault. fault ≡ Media) }
+{
     let listener = KeepTeller { rt, teller };
     if keeper.keep_all(rt, alloc, source, &listener) {
         None

@@ -36,7 +36,7 @@ pub use door::Door;
 pub use event::{EndedSession, Event, UnwrittenRecords};
 pub use library_service::LibraryService;
 pub use live_sessions::LiveSessions;
-pub use rows::session_rows;
+pub use rows::{fault_rows, session_rows};
 pub use server_fault::{Cause, FaultySession, ServerFault, earlier};
 pub use serving::{RecordOutput, serve_library};
 pub use teller::{Teller, Telling};

@@ -1,5 +1,5 @@
 ghost use Rattle.std.specs.Prelude.{◌≡◌};
-ghost use Rattle.server.specs.Faults.{cause_words, close_words, earlier, is_before, rank, session_words, silent};
+ghost use Rattle.server.specs.Faults.{cause_words, close_words, earlier, first_accepted, is_before, rank, session_words, silent};
 
 use crate::iscsi_words::iscsi_words;
 use iscsi_session::IscsiFault;
@@ -92,6 +92,26 @@ impl ServerFault {
             ServerFault::Write => 3,
             ServerFault::Media => 4,
             ServerFault::NoMemory => 5,
+        }
+    }
+}
+
+/// The fault of the session that was accepted first, of two that may have had one.
+pub(crate) fn first_accepted(
+    one: Option<FaultySession>,
+    other: Option<FaultySession>,
+) -> Option<FaultySession>
+    ensures { result ≡ first_accepted one other }
+{
+    match (one, other) {
+        (None, _) => other,
+        (_, None) => one,
+        (Some(this), Some(that)) => {
+            if that.number < this.number {
+                other
+            } else {
+                one
+            }
         }
     }
 }

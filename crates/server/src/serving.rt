@@ -1,9 +1,12 @@
-ghost use Rattle.std.specs.Prelude.{◌≡◌, ◌*◌, ◌<◌, ◌≤◌, length, IsNone, IsOk, OnOk};
+ghost use Rattle.std.specs.Prelude.{◌≡◌, ◌*◌, ◌<◌, ◌≤◌, length, vec_len, IfErr, IfSome, OnOk};
+ghost use Rattle.std.specs.Result.{result_err};
 ghost use Rattle.logical_unit.specs.UnitView.{units_of};
 ghost use Rattle.lun_router.specs.Opening.{IsSince};
 ghost use Rattle.server.specs.Batches.{HandsOut, left_in};
+ghost use Rattle.server.specs.Faults.{MayEndWith, MayTell, earlier, told_of};
 ghost use Rattle.server.specs.Serving.{DrainsAndCloses, ServesLibrary};
-ghost use Rattle.server.specs.Sessions.{SeatsCome, WhereServed};
+ghost use Rattle.server.specs.Sessions.{SeatsCome};
+ghost use Rattle.server.specs.declared.server_fault.ServerFault.TheVariants.{Media};
 
 use crate::acceptor::{Acceptor, ServeLimits};
 use crate::batch::Batch;
@@ -13,14 +16,14 @@ use crate::event::Event;
 use crate::keeping::keep_at_the_end;
 use crate::library_tapes::LibraryTapes;
 use crate::record_drain::RecordDrain;
-use crate::server_fault::{ServerFault, earlier};
+use crate::server_fault::{FaultySession, ServerFault, earlier};
 use crate::staffing::{serve_all, serve_and_end};
 use crate::teller::Teller;
 use kept_unit::UnitLedger;
 use library_device::Device;
 use lun_router::{Blanks, Library, Pass, Seat};
 use output_lines::Audit;
-use std::alloc::Global;
+use std::alloc::{AllocError, Global};
 use std::io::Write;
 use std::marker::Brand;
 use std::random::RandomSource;
@@ -45,7 +48,8 @@ pub enum RecordOutput {
 /// tells what happens. A keeper keeps its tapes meanwhile, and all of them once the last has ended. Then the library is closed, and what is wanted of the records is written, LUN 0 first, also
 /// where a session had a fault. Lines that can't be written are kept and tried again; those that never can be are told.
 ///
-/// Of the faults that happened the first in the order of `ServerFault` is told; no clause says which of them happened.
+/// Of the faults that happened the first in the order of `ServerFault` is told; no clause says which of them happened. No seat is missing
+/// at the end.
 pub fn serve_library<
     R: Clock + RandomSource + Threads + Wait + Sync,
     W: Write + Send,
@@ -64,7 +68,8 @@ pub fn serve_library<
 ) -> Result<(), ServerFault>
     requires some { 0 < limits.workers }
     requires doors { (0 < length doors.now) × (length doors.now ≤ 5) }
-    ensures { OnOk result (ServesLibrary (units_of core) (limits.entry.workers * length doors.now) records (W.contents writer.old) (W.contents writer.new)) }
+    ensures served { OnOk result (ServesLibrary (units_of core) (limits.entry.workers * length doors.now) records (W.contents writer.old) (W.contents writer.new)) }
+    ensures fault { IfErr result (λ fault. MayTell limits.entry.term fault) }
 {
     let seats = seats_at(limits.workers, doors.len());
     let parts = seats as u64;
@@ -122,7 +127,8 @@ fn serve_with_ledgers<
     requires three { (blanks.three.name ≡ L3.name) × (blanks.three.parts ≡ L3.parts) × (L3.parts ≡ workers) }
     requires four { (blanks.four.name ≡ L4.name) × (blanks.four.parts ≡ L4.parts) × (L4.parts ≡ workers) }
     requires since { IsSince (units_of core) L0.since L1.since L2.since L3.since L4.since }
-    ensures { OnOk result (ServesLibrary (units_of core) workers records (W.contents writer.old) (W.contents writer.new)) }
+    ensures served { OnOk result (ServesLibrary (units_of core) workers records (W.contents writer.old) (W.contents writer.new)) }
+    ensures fault { IfErr result (λ fault. MayTell acceptor.now.limits.term fault) }
 {
     let opened = Library::<L0, L1, L2, L3, L4, Device, Pass>::new(
         alloc, core, workers, blanks, Pass,
@@ -136,9 +142,9 @@ fn serve_with_ledgers<
             let served = serve_all(
                 rt, alloc, &library, &mut seats, acceptor, None, keeper, teller,
             )?;
-            let served = earlier(served, keep_library(rt, alloc, keeper, &library, teller));
+            let kept = keep_library(rt, alloc, keeper, &library, teller);
             let closed = close_and_write(rt, alloc, library, seats, audit, writer, teller);
-            first_of(served, closed)
+            first_of(acceptor.own_fault(served), kept, closed)
         }
         RecordOutput::AsTheyCome => {
             let drain = RecordDrain::new();
@@ -147,9 +153,9 @@ fn serve_with_ledgers<
                 rt, alloc, &library, &mut seats, acceptor, &drain, keeper, &mut batch, writer,
                 teller,
             )?;
-            let served = earlier(served, keep_library(rt, alloc, keeper, &library, teller));
+            let kept = keep_library(rt, alloc, keeper, &library, teller);
             let closed = write_and_close(rt, alloc, library, seats, batch, writer, teller);
-            first_of(served, closed)
+            first_of(acceptor.own_fault(served), kept, closed)
         }
     }
 }
@@ -170,17 +176,22 @@ fn keep_library<
     keeper: &K,
     library: &Library<L0, L1, L2, L3, L4, Device, Pass>,
     teller: &Teller<E>,
-) -> Option<ServerFault> {
+) -> Option<ServerFault>
+    ensures { IfSome result (λ fault. fault ≡ Media) }
+{
     let tapes = LibraryTapes { library };
     keep_at_the_end(rt, alloc, keeper, &tapes, teller)
 }
 
-/// The fault of serving, or of closing, whichever is told.
-fn first_of(served: Option<ServerFault>, closed: Result<(), ServerFault>) -> Result<(), ServerFault>
-    ensures closed { IsOk result → IsOk closed }
-    ensures served { IsOk result → IsNone served }
+/// How it went, by the faults of serving, of keeping and of closing: the first of them.
+fn first_of(
+    served: Option<ServerFault>,
+    kept: Option<ServerFault>,
+    closed: Result<(), ServerFault>,
+) -> Result<(), ServerFault>
+    ensures { result ≡ told_of (earlier (earlier served kept) (result_err closed)) }
 {
-    match earlier(served, closed.err()) {
+    match earlier(earlier(served, kept), closed.err()) {
         None => Ok(()),
         Some(fault) => Err(fault),
     }
@@ -205,17 +216,15 @@ fn write_and_close<
     writer: &mut W,
     teller: &Teller<E>,
 ) -> Result<(), ServerFault>
-    ensures { OnOk result (DrainsAndCloses (left_in batch) seats.items L0.since L1.since L2.since L3.since L4.since (W.contents writer.old) (W.contents writer.new)) }
+    ensures closed { OnOk result (DrainsAndCloses (left_in batch) seats.items L0.since L1.since L2.since L3.since L4.since (W.contents writer.old) (W.contents writer.new)) }
+    ensures fault { IfErr result (λ fault. MayEndWith library.seats (vec_len seats) fault) }
 {
     let written = batch.write_left(alloc, writer);
     if let Some(records) = batch.unwritten() {
         teller.tell(rt, &Event::Unwritten(records));
     }
     let closed = close_and_write(rt, alloc, library, seats, Audit::Lines, writer, teller);
-    match written {
-        Ok(()) => closed,
-        Err(fault) => Err(fault),
-    }
+    first_of(None, written.err(), closed)
 }
 
 /// Serves sessions with a worker at each seat, while a thread of its own hands their records out as they come.
@@ -241,9 +250,9 @@ fn serve_and_write<
     batch: &mut Batch,
     writer: &mut W,
     teller: &'x Teller<E>,
-) -> Result<Option<ServerFault>, ServerFault>
+) -> Result<Option<FaultySession>, AllocError>
     ensures lines { HandsOut (W.contents writer.old) (W.contents writer.new) (left_in batch.old) (left_in batch.new) }
-    ensures served { WhereServed result (SeatsCome library.now.units seats.old.items seats.new.items) }
+    ensures served { OnOk result (SeatsCome library.now.units seats.old.items seats.new.items) }
 {
     let alloc_of_workers = alloc;
     let ((), served) = thread::join_mut(

@@ -1,11 +1,12 @@
 //! The workers of a library, made over their services, and the seats that they give back.
 
-ghost use Rattle.std.specs.Prelude.{◌≡◌, ◌++◌, length, map, IfOk, IfNone, vec_len};
+ghost use Rattle.std.specs.Prelude.{◌≡◌, ◌++◌, ◌+◌, ◌≤◌, None, length, map, IfOk, vec_capacity, vec_len};
+ghost use Rattle.server.specs.Faults.{first_among};
 
 use crate::library_service::SeatService;
 use crate::record_drain::RecordDrain;
 use crate::reset_counts::ResetCounts;
-use crate::server_fault::{ServerFault, earlier};
+use crate::server_fault::{FaultySession, first_accepted};
 use crate::session_flags::SessionFlags;
 use crate::teller::Teller;
 use crate::worker::Worker;
@@ -75,21 +76,21 @@ pub(crate) fn workers_of<'a, S: SeatService, R: Wait, E: Write>(
     Ok(workers)
 }
 
-/// Puts the seats of workers behind those that are there, in their order, and answers the fault that is told of the sessions, if
-/// there was one.
+/// Puts the seats of workers behind those that are there, in their order, and answers the fault of the session that was accepted first
+/// of those that had one.
 pub(crate) fn give_back<'a, S: SeatService, R: Wait, E: Write>(
     workers: Vec<Worker<'a, S, R, E>>,
     seats: &mut Vec<S::Seat>,
-) -> Option<ServerFault>
-    ensures { IfNone result (seats.new.items ≡ seats.old.items ++ map (λ w. S.seat_of w.service) workers.entry.items) }
+) -> Option<FaultySession>
+    requires { vec_len seats.old + vec_len workers ≤ vec_capacity seats.old }
+    ensures seats { seats.new.items ≡ seats.old.items ++ map (λ w. S.seat_of w.service) workers.entry.items }
+    ensures fault { result ≡ first_among None (map (λ w. w.fault) workers.entry.items) }
 {
     let mut told = None;
     'workers: for worker in workers {
         let Worker { service, fault } = worker;
-        told = earlier(told, fault);
-        if seats.push(service.into_seat()).is_err() {
-            told = earlier(told, Some(ServerFault::NoMemory));
-        }
+        told = first_accepted(told, fault);
+        seats.push_reserved(service.into_seat());
     }
     told
 }

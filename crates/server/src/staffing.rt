@@ -1,16 +1,16 @@
 //! Sessions of a library, by a worker at each of its seats.
 
-ghost use Rattle.std.specs.Prelude.{◌≡◌, map, length, IfOk, vec_len};
+ghost use Rattle.std.specs.Prelude.{◌≡◌, map, length, IfOk, OnOk, vec_len};
 ghost use Rattle.std.specs.List.{AllZip};
 ghost use Rattle.server.specs.LibraryService.{DoesToService, SettlesService, service_at};
-ghost use Rattle.server.specs.Sessions.{ComesBySessions, SeatsCome, WhereServed};
+ghost use Rattle.server.specs.Sessions.{ComesBySessions, SeatsCome};
 
 use crate::acceptor::Acceptor;
 use crate::keeping::write_behind;
 use crate::library_service::LibraryService;
 use crate::library_tapes::LibraryTapes;
 use crate::record_drain::RecordDrain;
-use crate::server_fault::ServerFault;
+use crate::server_fault::FaultySession;
 use crate::staff::{flags_of, give_back, workers_of};
 use crate::teller::Teller;
 use crate::worker::Worker;
@@ -47,8 +47,8 @@ pub(crate) fn serve_and_end<
     drain: &'x RecordDrain,
     keeper: &'x K,
     teller: &'x Teller<E>,
-) -> Result<Option<ServerFault>, ServerFault>
-    ensures { WhereServed result (SeatsCome library.now.units seats.old.items seats.new.items) }
+) -> Result<Option<FaultySession>, AllocError>
+    ensures { OnOk result (SeatsCome library.now.units seats.old.items seats.new.items) }
 {
     let served = serve_all(
         rt,
@@ -84,8 +84,8 @@ pub(crate) fn serve_all<
     drain: Option<&'x RecordDrain>,
     keeper: &'x K,
     teller: &'x Teller<E>,
-) -> Result<Option<ServerFault>, ServerFault>
-    ensures { WhereServed result (SeatsCome library.now.units seats.old.items seats.new.items) }
+) -> Result<Option<FaultySession>, AllocError>
+    ensures { OnOk result (SeatsCome library.now.units seats.old.items seats.new.items) }
 {
     let alloc_of_workers = alloc;
     let ((), served) = thread::join_mut(
@@ -146,15 +146,16 @@ fn serve_and_stop<
     drain: Option<&'x RecordDrain>,
     keeper: &'x K,
     teller: &'x Teller<E>,
-) -> Result<Option<ServerFault>, ServerFault>
-    ensures { WhereServed result (SeatsCome library.now.units seats.old.items seats.new.items) }
+) -> Result<Option<FaultySession>, AllocError>
+    ensures { OnOk result (SeatsCome library.now.units seats.old.items seats.new.items) }
 {
     let served = serve_sessions(rt, alloc, library, seats, acceptor, drain, keeper, teller);
     keeper.end(rt);
     served
 }
 
-/// Serves sessions with a worker at each seat, to which the seats go and come back: the fault that is told of the sessions, if there was one.
+/// Serves sessions with a worker at each seat, to which the seats go and come back: the fault of the session that was accepted first of those
+/// that had one.
 fn serve_sessions<
     'x,
     L0: UnitLedger + Send + Sync,
@@ -174,8 +175,8 @@ fn serve_sessions<
     drain: Option<&'x RecordDrain>,
     keeper: &'x K,
     teller: &'x Teller<E>,
-) -> Result<Option<ServerFault>, ServerFault>
-    ensures { WhereServed result (SeatsCome library.now.units seats.old.items seats.new.items) }
+) -> Result<Option<FaultySession>, AllocError>
+    ensures { OnOk result (SeatsCome library.now.units seats.old.items seats.new.items) }
 {
     let directory = Mutex::new(Directory::new(alloc));
     let flags = flags_of(alloc, seats.len())?;

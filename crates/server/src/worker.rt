@@ -7,7 +7,7 @@ use crate::door::{Door, Visitor};
 use crate::event::{EndedSession, Event};
 use crate::holding::hold;
 use crate::library_service::SeatService;
-use crate::server_fault::{FaultySession, ServerFault, earlier};
+use crate::server_fault::{FaultySession, first_accepted};
 use crate::worker_service::WorkerService;
 use std::alloc::Global;
 use std::io::Write;
@@ -15,11 +15,11 @@ use std::random::RandomSource;
 use std::sync::Wait;
 use std::time::{Clock, Duration, Instant};
 
-/// A worker's service, and the fault that is told of the sessions that it served.
+/// A worker's service, and the fault of the session that was accepted first of those that it served.
 #[derive(Drop)]
 pub(crate) struct Worker<'a, S: SeatService, R: Wait, E: Write> {
     pub service: WorkerService<'a, S, R, E>,
-    pub fault: Option<ServerFault>,
+    pub fault: Option<FaultySession>,
 }
 
 /// A connection that has become a session.
@@ -79,9 +79,7 @@ impl<'a, S: SeatService, R: Clock + RandomSource + Wait, E: Write> Worker<'a, S,
                 };
                 let fault = self.serve_and_tell(alloc, acceptor, visit);
                 sessions.leave(rt, key);
-                if let Some(session) = fault {
-                    self.fault = earlier(self.fault, acceptor.fault_of(session));
-                }
+                self.fault = first_accepted(self.fault, fault);
             }
             Ok(None) => {}
             // There is no second descriptor, or no room for it.

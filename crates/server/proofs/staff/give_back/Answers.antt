@@ -1,22 +1,34 @@
-use Rattle.std.proofs.Common.{◌≡◌, ◌∙◌, ap, not, sym, true, map-id, rules}
-use Rattle.std.specs.Prelude.{is_ok}
-use Rattle.std.proofs.lemmas.Iterator.Consumers.{YieldsList-end}
+use Rattle.std.proofs.Common.{◌≡◌, ◌∙◌, ◌+◌, ◌≤◌, length, map-id, sym, subst, rules, arith}
+use Rattle.std.specs.Prelude.{vec_capacity}
+use Rattle.std.proofs.lemmas.Iterator.Consumers.{YieldsList-end, YieldsList-turn}
 use Rattle.std.proofs.lemmas.Iterator.Adapters.{YieldsList-from_vec}
-use Rattle.server.proofs.Told.{back_more, told_with}
+use Rattle.server.proofs.Told.{back_more, room_for_one, told_more}
 use Rattle.server.proofs.staff.give_back.Goals as goal
 
-pub workers-preserved-then-is_err : goal.workers-preserved-then-is_err
-workers-preserved-then-is_err g c = told_with _ c.earlier-told.result c.earlier-told-then-is_err.result _ c.earlier-told-then-is_err.ensures
+pub push_reserved-requires : goal.push_reserved-requires
+push_reserved-requires g c =
+    let turn = YieldsList-turn (YieldsList-from_vec {s = c.into_iter-worker-iterator.result} c.args.workers.items (search rules) (search rules))
+    c.workers.yielded c.workers.worker-iterator c.workers.yielded_by c.next.result c.next.new.self c.in-Some.worker c.in-Some.is c.next.ensures.steps in
+    let most : length c.args.seats.now.items + length c.args.workers.items ≤ vec_capacity c.args.seats.now = omega (arith, c.requires, c.args.seats.now.ok.0, c.args.workers.ok.0) in
+    let room = room_for_one (λ w. g.S.SeatService.seat_of w.service) c.args.seats.now.items c.workers.seats.items c.workers.yielded c.args.workers.items (vec_capacity c.args.seats.now) c.workers.invariant.0 most turn.0 in
+    omega (arith, room, c.workers.invariant.1, c.workers.seats.ok.0)
 
 pub workers-preserved : goal.workers-preserved
-workers-preserved g c =
-    let went : is_ok c.push.result ≡ true = c.is_err.ensures.negation ∙ ap not c.if-is_err.false in
-    let pushed = rw went at c.push.ensures.items in
-    back_more (λ w. g.S.SeatService.seat_of w.service) c.workers.told c.in-Some.worker.fault c.earlier-told.result c.args.seats.now.items c.workers.seats.items c.push.new.self.items
-    c.workers.yielded c.in-Some.worker c.earlier-told.ensures c.workers.invariant (rw c.into_seat.ensures at pushed)
+workers-preserved g c = (
+  back_more (λ w. g.S.SeatService.seat_of w.service) c.args.seats.now.items c.workers.seats.items c.push_reserved.new.self.items c.workers.yielded c.in-Some.worker c.into_seat.result
+      c.workers.invariant.0 c.into_seat.ensures c.push_reserved.ensures.items,
+  c.push_reserved.ensures.capacity ∙ c.workers.invariant.1,
+  told_more (λ w. w.fault) c.workers.told c.first_accepted-told.result c.workers.yielded c.in-Some.worker c.workers.invariant.2 c.first_accepted-told.ensures,
+)
 
-pub returns : goal.returns
-returns g c =
+pub returns-clause-seats : goal.returns-clause-seats
+returns-clause-seats g c =
     let end = YieldsList-end (YieldsList-from_vec {s = c.into_iter-worker-iterator.result} c.args.workers.items (search rules) (search rules))
     c.workers.yielded c.workers.worker-iterator c.workers.yielded_by c.next.result c.next.new.self c.in-None.is c.next.ensures.steps in
-    let all : c.workers.yielded ≡ c.args.workers.items = sym (map-id c.workers.yielded) ∙ end.0 in rw all at c.workers.invariant
+    let all : c.workers.yielded ≡ c.args.workers.items = sym (map-id c.workers.yielded) ∙ end.0 in rw all at c.workers.invariant.0
+
+pub returns-clause-fault : goal.returns-clause-fault
+returns-clause-fault g c =
+    let end = YieldsList-end (YieldsList-from_vec {s = c.into_iter-worker-iterator.result} c.args.workers.items (search rules) (search rules))
+    c.workers.yielded c.workers.worker-iterator c.workers.yielded_by c.next.result c.next.new.self c.in-None.is c.next.ensures.steps in
+    let all : c.workers.yielded ≡ c.args.workers.items = sym (map-id c.workers.yielded) ∙ end.0 in rw all at c.workers.invariant.2

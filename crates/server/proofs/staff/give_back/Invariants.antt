@@ -1,7 +1,9 @@
-use Rattle.std.proofs.Common.{◌≡◌, ◌++◌, map}
-use Rattle.std.specs.Prelude.{IfNone}
+use Rattle.std.proofs.Common.{◌≡◌, ◌++◌, None, map}
+use Rattle.std.specs.Prelude.{vec_capacity}
+use Rattle.server.specs.Faults.{first_among}
 use Rattle.server.proofs.staff.give_back.Given as goal
 
--- as long as no fault is told, the seats of those that the loop has passed are there
+-- the seats of those that the loop has passed are there, in the room that there was, and the first of their faults is told
 abbrev pub invariant-workers : goal.invariant-workers
-invariant-workers g l = IfNone l.told (l.seats.items ≡ l.initial.seats.items ++ map (λ w. g.S.SeatService.seat_of w.service) l.yielded)
+invariant-workers g l =
+    (l.seats.items ≡ l.initial.seats.items ++ map (λ w. g.S.SeatService.seat_of w.service) l.yielded) × (vec_capacity l.seats ≡ vec_capacity l.initial.seats) × (l.told ≡ first_among None (map (λ w. w.fault) l.yielded))

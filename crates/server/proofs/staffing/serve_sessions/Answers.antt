@@ -15,8 +15,8 @@ returns g c =
     let after = c.work_all.new.workers in
     let held = c.in_ok-workers.ensures in
     let came = rw c.as_mut_slice.ensures.value at c.work_all.ensures in
-    let given = c.give_back-served.ensures in
+    let given = c.give_back-served.ensures.seats in
     let size : length after ≡ before.len = omega (arith, c.work_all.auto.workers, c.as_mut_slice.ensures.len) in
     let went = rw (take_at after (drop (length after) before.items) before.len size) at given in
-    served (λ w. w.service) c.args.library.now.units c.args.seats.now.items c.in_ok-services.services.items before.items after c.reserve.new.self.items c.give_back-served.new.seats.items c.give_back-served.result
+    served (λ w. w.service) c.args.library.now.units c.args.seats.now.items c.in_ok-services.services.items before.items after c.reserve.new.self.items c.give_back-served.new.seats.items
     (made g c) held came (empty g c) went
