@@ -1,9 +1,9 @@
 //! Records that are handed out while a library is served, to writers that fail or stall.
 
-use super::{
-    Answer, Frame, Gate, Meeting, Met, POWER_ON_1, Step, assert_bytes, assert_same, assert_told,
-    holds, meet, meet_at_gate, sessions,
-};
+use super::clients::{Gate, Step};
+use super::exchanges::{Answer, Frame, POWER_ON_1};
+use super::meetings::{Meeting, Met, meet, meet_at_gate, sessions};
+use super::{assert_bytes, assert_same, assert_told, holds};
 use server::{RecordOutput, ServeTerm, ServerFault};
 use std::alloc::{AllocGlobal, Global};
 use std::fs::Files;

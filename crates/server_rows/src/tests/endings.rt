@@ -1,8 +1,9 @@
 //! Hosts that do nothing, and a server that is ended while they are there.
 
-use super::{
-    A, Answer, Frame, Meeting, PATIENT, POWER_ON_1, Step, assert_bytes, assert_same, meet, sessions,
-};
+use super::clients::Step;
+use super::exchanges::{Answer, Frame, POWER_ON_1};
+use super::meetings::{Meeting, PATIENT, meet, sessions};
+use super::{A, assert_bytes, assert_same};
 use server::{
     Cause, EndedSession, Event, FaultySession, ServeTerm, ServerFault, UnwrittenRecords, WaitTimes,
 };

@@ -1,5 +1,6 @@
 //! A host and a served library, over a socket.
 
+use super::meetings::PATIENT;
 use super::{assert_bytes, assert_same};
 use client_session::{ClientSessionFault, converse};
 use output_lines::{Audit, Explanations};
@@ -78,7 +79,7 @@ fn meet<R: AllocGlobal + Clock + Files + Net + RandomSource + Sync + Threads + W
             let limits = ServeLimits {
                 workers: 1,
                 term: ServeTerm::Sessions(1),
-                times: super::PATIENT,
+                times: PATIENT,
                 sessions: &sessions,
             };
             serve_library(

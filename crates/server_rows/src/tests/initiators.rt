@@ -1,10 +1,11 @@
 //! Initiators of iSCSI at a portal of a served library, beside a host at its socket.
 ghost use Rattle.std.specs.Prelude.{◌≤◌, length};
 
-use super::{
-    Answer, Ending, Frame, Gate, LINES_OF_BOTH, PATIENT, POWER_ON_1, assert_bytes, assert_same,
-    assert_told, is_answered, target,
-};
+use super::clients::{Ending, Gate};
+use super::exchanges::{Answer, Frame, POWER_ON_1, is_answered};
+use super::meetings::PATIENT;
+use super::sessions::LINES_OF_BOTH;
+use super::{assert_bytes, assert_same, assert_told, target};
 use iscsi_login::{Access, Authentication, Host, LoginTarget};
 use output_lines::Audit;
 use server::{
@@ -383,8 +384,9 @@ fn times_of(short: Short) -> WaitTimes {
             login: soon,
             ..PATIENT
         },
+        // Longer than a read of the server's waits at once.
         Short::Ping => WaitTimes {
-            ping: soon,
+            ping: Some(Duration::from_millis(1050)),
             ..PATIENT
         },
     }

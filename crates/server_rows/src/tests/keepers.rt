@@ -1,9 +1,9 @@
 //! A session whose reply would say to be kept what its keeper couldn't keep.
 
-use super::{
-    A, Answer, Data, Frame, Meeting, POWER_ON_1, POWER_ON_2, Step, assert_bytes, assert_same,
-    assert_told, meet, sessions,
-};
+use super::clients::Step;
+use super::exchanges::{Answer, Data, Frame, POWER_ON_1, POWER_ON_2};
+use super::meetings::{Meeting, meet, sessions};
+use super::{A, assert_bytes, assert_same, assert_told};
 use library_device::Device;
 use server::{Cause, FaultySession, ServeTerm, ServerFault};
 use session::SessionFault;

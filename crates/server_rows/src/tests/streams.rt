@@ -3,7 +3,8 @@ ghost use Rattle.std.specs.Prelude.{◌≡◌, ◌<◌};
 ghost use Rattle.logical_unit.specs.UnitView.{units_of};
 ghost use Rattle.lun_router.specs.Opening.{IsSince};
 
-use super::{LINES_OF_A, assert_bytes, assert_same, target};
+use super::sessions::LINES_OF_A;
+use super::{assert_bytes, assert_same, target};
 use kept_unit::UnitLedger;
 use library_device::Device;
 use lun_router::{Blanks, CloseFault, Library, Pass, Seat};

@@ -1,0 +1,181 @@
+//! A server that meets a client, and what comes of it.
+
+use super::clients::{Ending, Gate, Step, talk};
+use super::keepers::FailingKeeper;
+use super::{assert_bytes, assert_same, target};
+use library_device::Device;
+use output_lines::Audit;
+use server::{
+    Door, LiveSessions, RecordOutput, ServeLimits, ServeTerm, ServerFault, Teller, Telling,
+    WaitTimes, serve_library,
+};
+use std::fs::Files;
+use std::io::{self, Write};
+use std::net::Net;
+use std::os::unix::net::{SocketAddr, SocketAddrExt, UnixListener};
+use std::process::Abort;
+use std::random::RandomSource;
+use std::sync::Wait;
+use std::test::Fail;
+use std::thread::{self, Threads};
+use std::time::Clock;
+use target_core::TargetCore;
+
+/// How a server meets a client.
+#[derive(Clone, Copy)]
+pub(super) struct Meeting {
+    /// A part of the server's address.
+    pub(super) name: &'static str,
+    pub(super) workers: u8,
+    /// How many sessions there are in all, or until the client says that there are no more.
+    pub(super) term: ServeTerm,
+    pub(super) times: WaitTimes,
+    /// How many connections the client makes.
+    pub(super) connections: usize,
+    pub(super) records: RecordOutput,
+    /// At which of the commands that are GOOD keeping fails, from 1 on; at none where it is 0.
+    pub(super) keeping_fails_at: u64,
+}
+
+/// Hosts are waited for for ever.
+pub(super) const PATIENT: WaitTimes = WaitTimes {
+    login: None,
+    idle: None,
+    write: None,
+    ping: None,
+};
+
+/// A meeting of so many sessions, whose records are told at the end.
+pub(super) const fn sessions(name: &'static str, workers: u8) -> Meeting {
+    Meeting {
+        name,
+        workers,
+        term: ServeTerm::Sessions(workers as u64),
+        times: PATIENT,
+        connections: workers as usize,
+        records: RecordOutput::AtTheEnd(Audit::Lines),
+        keeping_fails_at: 0,
+    }
+}
+
+/// Serves a target to a client in a second thread. What the server answers, and whether the client was told what it should be.
+fn serve_and_talk<
+    R: AllocGlobal + Clock + Files + Net + RandomSource + Sync + Threads + Wait,
+    W: Write + Send,
+    E: Write + Send,
+>(
+    rt: &R,
+    core: TargetCore<Device>,
+    doors: &[Door<'_>; 1],
+    address: &SocketAddr,
+    meeting: Meeting,
+    steps: &[Step],
+    output: &mut W,
+    gate: &Gate,
+    teller: &Teller<E>,
+) -> (Result<(), ServerFault>, io::Result<bool>) {
+    let alloc = rt.alloc();
+    let sessions = LiveSessions::new(alloc);
+    let keeper = FailingKeeper::new(meeting.keeping_fails_at);
+    let ending = Ending {
+        sessions: &sessions,
+        gate,
+        doors,
+    };
+    thread::join(
+        rt,
+        || {
+            let limits = ServeLimits {
+                workers: meeting.workers.max(1),
+                term: meeting.term,
+                times: meeting.times,
+                sessions: &sessions,
+            };
+            serve_library(
+                rt,
+                alloc,
+                core,
+                doors,
+                limits,
+                meeting.records,
+                &keeper,
+                output,
+                &teller,
+            )
+        },
+        || talk(rt, alloc, address, meeting.connections, &ending, steps),
+    )
+}
+
+/// What came of a meeting.
+#[derive(Drop)]
+pub(super) struct Met {
+    pub(super) served: Result<(), ServerFault>,
+    /// The lines that were told.
+    pub(super) told: Vec<u8>,
+}
+
+/// Serves the target to a client, at an address that is no file. What the server answers, writes and tells, where the client was
+/// told what it should be.
+pub(super) fn meet<
+    R: AllocGlobal + Clock + Files + Net + RandomSource + Sync + Threads + Wait,
+    W: Write + Send,
+>(rt: &R, id: u32, meeting: Meeting, steps: &[Step], output: &mut W) -> Result<Met, Fail> {
+    meet_at_gate(rt, id, meeting, steps, output, &Gate::new())
+}
+
+/// The same, with a gate between the writer and the client.
+pub(super) fn meet_at_gate<
+    R: AllocGlobal + Clock + Files + Net + RandomSource + Sync + Threads + Wait,
+    W: Write + Send,
+>(
+    rt: &R,
+    id: u32,
+    meeting: Meeting,
+    steps: &[Step],
+    output: &mut W,
+    gate: &Gate,
+) -> Result<Met, Fail> {
+    let alloc = rt.alloc();
+    let name = format!(in alloc; "vtl-{}-{id}", meeting.name)?;
+    let address = SocketAddr::from_abstract_name(name.as_bytes())?;
+    let doors = [Door::of_socket(UnixListener::bind_addr(rt, &address)?)?];
+    let mut told = Vec::new(alloc);
+    let teller = Teller::new(Telling::Everything, &mut told);
+    let (served, talked) = serve_and_talk(
+        rt,
+        target(alloc)?,
+        &doors,
+        &address,
+        meeting,
+        steps,
+        output,
+        gate,
+        &teller,
+    );
+    drop(teller);
+    if !talked? {
+        return Err("another reply".into());
+    }
+    Ok(Met { served, told })
+}
+
+/// Serves a target to a client, and compares how the server ends and, where they are given, the lines that it writes.
+pub(super) fn assert_met<
+    R: Abort + AllocGlobal + Clock + Files + Net + RandomSource + Sync + Threads + Wait,
+>(
+    rt: &R,
+    id: u32,
+    meeting: Meeting,
+    steps: &[Step],
+    end: Result<(), ServerFault>,
+    lines: Option<&[u8]>,
+) -> Result<(), Fail> {
+    let mut written = Vec::new(rt.alloc());
+    let met = meet(rt, id, meeting, steps, &mut written)?;
+    assert_same(rt, met.served, end, meeting.name);
+    if let Some(lines) = lines {
+        assert_bytes(rt, written.as_slice(), lines, meeting.name);
+    }
+    Ok(())
+}
