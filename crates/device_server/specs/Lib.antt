@@ -17,3 +17,4 @@ pub mod VolumeRows
 pub mod SettledRows
 pub mod Failures
 pub mod FailureRows
+pub mod Attending

@@ -3,3 +3,4 @@ pub mod Wishes
 pub mod Sizes
 pub mod Starting
 pub mod StartRows
+pub mod Looking

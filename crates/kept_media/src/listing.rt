@@ -1,5 +1,6 @@
 //! Where the volumes of a library lie, as its changer notes it.
 
+ghost use Rattle.std.specs.Prelude.{◌≡◌};
 ghost use Rattle.device_server.specs.Settled.{SameButSettled};
 
 use device_server::{Attendant, DeviceServer};
@@ -39,6 +40,8 @@ impl Listing {
 }
 
 impl Attendant<Device> for Listing {
+    ghost looks_after = { λ _ before after _. after ≡ before };
+
     fn attend(&mut self, device: &mut Device) {
         let size = self.inventory.size();
         for number in 0..u16::from(size.drives) {

@@ -1,6 +1,9 @@
 //! What is done with a device while nobody else is at it: to see which volumes it has, and to take a part of one.
 
+ghost use Rattle.std.specs.Prelude.{◌≡◌};
 ghost use Rattle.device_server.specs.Settled.{SameButSettled};
+ghost use Rattle.library_device.specs.Devices.{shown_as};
+ghost use Rattle.kept_media.specs.Looking.{WasTaken, settled_by};
 
 use crate::kept_image::KeptImage;
 use crate::part_range::PartRange;
@@ -78,6 +81,8 @@ impl Places {
 }
 
 impl Attendant<Device> for Places {
+    ghost looks_after = { λ _ before after _. after ≡ before };
+
     fn attend(&mut self, device: &mut Device) {
         match device.kind() {
             Kind::Drive => self.note(device, 0),
@@ -101,7 +106,10 @@ pub(crate) struct PartLook<'a, S: ImageStore> {
 
 impl<'a, S: ImageStore> PartLook<'a, S> {
     /// Takes a part of the volume, if it is still at its place.
-    fn take(&mut self, device: &Device) -> Option<Result<PartRange, FlushFault>> {
+    fn take(&mut self, device: &Device) -> Option<Result<PartRange, FlushFault>>
+        ensures taken { WasTaken self.old.kept.now (shown_as device.now) self.old.at.place self.old.at.tag result self.new.part.now }
+        ensures at { self.new.at ≡ self.old.at }
+    {
         let volume = device.volume(self.at.place)?;
         if volume.tag == self.at.tag {
             Some(self.kept.take_part(&volume.tape, self.part))
@@ -112,6 +120,8 @@ impl<'a, S: ImageStore> PartLook<'a, S> {
 }
 
 impl<'a, S: ImageStore> Attendant<Device> for PartLook<'a, S> {
+    ghost looks_after = { λ old before after new. WasTaken old.kept.now before old.at.place old.at.tag new.taken new.part.now × (after ≡ settled_by new.taken old.at.place before) };
+
     fn attend(&mut self, device: &mut Device) {
         let taken = self.take(device);
         if let Some(Ok(range)) = taken {

@@ -159,6 +159,8 @@ impl<const LUN: u8, L: UnitLedger, D: DeviceServer> Kept<LUN, L, D> {
     /// unchanged.
     #[tactic(auto, using(device_server::proofs::SettledLemmas::same_settled))]
     pub fn attend<A: Attendant<D>>(&mut self, attendant: &mut A)
+        ensures asked { A.looks_after attendant.old self.old.unit.device self.new.unit.device attendant.new }
+        ensures kind { kind_of self.old.unit.device ≡ kind_at LUN }
         ensures same { SameButSettled self.old.unit.device self.new.unit.device }
         ensures rest { self.new ≡ record self.old { unit = record self.old.unit { device = self.new.unit.device } } }
     {

@@ -296,6 +296,7 @@ impl<D: DeviceServer> LogicalUnit<D> {
     /// Lets an attendant look after the volumes of the device: nothing changes but how many objects of a tape count as unchanged, and
     /// no record is left.
     pub fn attend<A: Attendant<D>>(&mut self, attendant: &mut A)
+        ensures asked { A.looks_after attendant.old self.old.unit.device self.new.unit.device attendant.new }
         ensures same { SameButSettled self.old.unit.device self.new.unit.device }
         ensures rest { self.new ≡ with_device self.old self.new.unit.device }
     {

@@ -3,6 +3,7 @@
 ghost use Rattle.std.specs.Prelude.{◌≡◌, ◌≢◌, ◌⊎◌, ◌<◌, ◌+◌, [], ◌∷◌, ℕ, true, false, Some, None, IsTrue, IsSome, IsNone, ◌↔◌};
 ghost use Rattle.scsi_cdb.specs.declared.kind.Kind.TheVariants.{Changer};
 ghost use Rattle.scsi_sense.specs.declared.condition.Condition.TheVariants.{LogicalUnitNotSupported};
+ghost use Rattle.device_server.specs.Attending.{WasAsked};
 ghost use Rattle.device_server.specs.View.{drives_of};
 ghost use Rattle.judgement.specs.Replies.{AnswersAbsent, busy, check};
 ghost use Rattle.judgement.specs.Commands.{act_of};
@@ -188,13 +189,15 @@ pub(crate) fn drain_if_there<const LUN: u8, L: UnitLedger, D: DeviceServer, R: W
     }
 }
 
-/// Lets an attendant look after the volumes of the unit under this lock. True, since the unit is there.
+/// Lets an attendant look after the volumes of the unit under this lock, of whose device nothing else is known outside the lock. True,
+/// since the unit is there.
 pub(crate) fn attend_at<const LUN: u8, L: UnitLedger, D: DeviceServer, A: Attendant<D>, R: Wait>(
     rt: &R,
     lock: &Locked<LUN, L, D>,
     attendant: &mut A,
 ) -> bool
-    ensures { result ≡ true }
+    ensures there { result ≡ true }
+    ensures asked { WasAsked A.looks_after (kind_at LUN) attendant.old attendant.new }
 {
     let mut kept = lock.mutex().lock(rt);
     kept.attend(attendant);
@@ -210,6 +213,7 @@ pub(crate) fn attend_if_there<
     R: Wait,
 >(rt: &R, lock: &Option<Locked<LUN, L, D>>, attendant: &mut A) -> bool
     ensures there { IsTrue result ↔ IsSome lock.now }
+    ensures asked { IsTrue result → WasAsked A.looks_after (kind_at LUN) attendant.old attendant.new }
     ensures absent { result ≡ false → attendant.new ≡ attendant.old }
 {
     match lock {

@@ -1,4 +1,5 @@
 ghost use Rattle.std.specs.Prelude.{◌≡◌, ◌<◌, ◌≤◌, [], true, false, Some, None, IsNone, IfSome, IsTrue, ◌↔◌};
+ghost use Rattle.device_server.specs.Attending.{WasAsked};
 ghost use Rattle.judgement.specs.Commands.{act_of};
 ghost use Rattle.kept_unit.specs.declared.act_kind.ActKind.TheVariants as kind;
 ghost use Rattle.kept_unit.specs.Answers as event;
@@ -202,6 +203,7 @@ impl<
     /// asked.
     pub fn attend<R: Wait, A: Attendant<D>>(&self, rt: &R, lun: u8, attendant: &mut A) -> bool
         ensures there { IsTrue result ↔ (lun < self.now.units) }
+        ensures asked { lun < self.now.units → WasAsked A.looks_after (kind_at lun) attendant.old attendant.new }
         ensures absent { result ≡ false → attendant.new ≡ attendant.old }
     {
         match lun {

@@ -1,5 +1,6 @@
 //! A drive's volume that is kept in an image: what is copied when, and what is told where the disk is full.
 
+ghost use Rattle.device_server.specs.Attending.{WasAsked};
 ghost use Rattle.device_server.specs.Settled.{SameButSettled};
 
 use crate::comparing::{assert_list, assert_same};
@@ -129,6 +130,9 @@ impl Bay {
 }
 
 impl TapeSource<Device> for Bay {
+    // of what lies under its lock nothing is known
+    ghost has_unit = { λ _ _ _. ⊥ };
+
     fn units(&self) -> u8 {
         2
     }

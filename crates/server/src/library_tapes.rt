@@ -1,3 +1,6 @@
+ghost use Rattle.std.specs.Prelude.{◌≡◌, ◌<◌};
+ghost use Rattle.kept_unit.specs.Keeping.{kind_at};
+
 use device_server::Attendant;
 use kept_unit::UnitLedger;
 use library_device::Device;
@@ -21,6 +24,8 @@ pub(crate) struct LibraryTapes<
 impl<'a, L0: UnitLedger, L1: UnitLedger, L2: UnitLedger, L3: UnitLedger, L4: UnitLedger> TapeSource<
     Device,
 > for LibraryTapes<'a, L0, L1, L2, L3, L4> {
+    ghost has_unit = { λ tapes lun kind. (lun < tapes.library.now.units) × (kind ≡ kind_at lun) };
+
     fn units(&self) -> u8 {
         self.library.units()
     }
