@@ -31,22 +31,28 @@ rank fault.Write = 3
 rank fault.Media = 4
 rank fault.NoMemory = 5
 
+-- one session was accepted before another
+abbrev pub is_accepted_before : FaultySession → FaultySession → Bool
+is_accepted_before a b = nat_lt a.number b.number
+
 -- one comes before another by its rank, and of two sessions the one that was accepted first
 abbrev pub is_before : ServerFault → ServerFault → Bool
-is_before (fault.Session a) (fault.Session b) = nat_lt a.number b.number
+is_before (fault.Session a) (fault.Session b) = is_accepted_before a b
 is_before a b = nat_lt (rank a) (rank b)
 
--- the first of two that may have happened
+-- the one of two that comes first in an order, where either may have happened
+abbrev pub first_by : {A : Type 0} → (is_before : A → A → Bool) → Option A → Option A → Option A
+first_by is_before None b = b
+first_by is_before (Some a) None = Some a
+first_by is_before (Some a) (Some b) = if is_before b a then Some b else Some a
+
+-- the fault that is told, of two
 abbrev pub earlier : Option ServerFault → Option ServerFault → Option ServerFault
-earlier None b = b
-earlier (Some a) None = Some a
-earlier (Some a) (Some b) = if is_before b a then Some b else Some a
+earlier = first_by is_before
 
 -- the fault of the session that was accepted first, of two and of those that workers have
 abbrev pub first_accepted : Option FaultySession → Option FaultySession → Option FaultySession
-first_accepted None b = b
-first_accepted (Some a) None = Some a
-first_accepted (Some a) (Some b) = if nat_lt b.number a.number then Some b else Some a
+first_accepted = first_by is_accepted_before
 
 abbrev pub first_among : Option FaultySession → List (Option FaultySession) → Option FaultySession
 first_among told [] = told

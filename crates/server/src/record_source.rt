@@ -1,4 +1,4 @@
-ghost use Rattle.std.specs.Prelude.{◌≡◌, [], IsTrue, false};
+ghost use Rattle.std.specs.Prelude.{◌≡◌, ◌<◌, ◌↔◌, [], IsTrue, false};
 ghost use Rattle.lun_router.specs.Answering.{IsSomeTrail};
 
 use audit_log::Record;
@@ -9,18 +9,26 @@ use std::sync::Wait;
 
 /// Units whose records are handed out: a library, whichever ledgers it has.
 pub(crate) trait RecordSource {
+    ghost use Rattle.std.specs.Prelude.{ℕ};
+
     /// How many units there are.
-    fn units(&self) -> u8;
+    ghost count: { Self → ℕ };
+
+    fn units(&self) -> u8
+        ensures { result ≡ count self.now };
 
     /// Takes a unit's records, as `Library::drain_into` does.
     fn drain_into<R: Wait>(&self, rt: &R, lun: u8, records: &mut Vec<Record>) -> bool
         requires { records.old.items ≡ [] }
+        ensures there { IsTrue result ↔ (lun < count self.now) }
         ensures trail { IsTrue result → IsSomeTrail records.new.items }
         ensures absent { result ≡ false → records.new ≡ records.old };
 }
 
 impl<L0: UnitLedger, L1: UnitLedger, L2: UnitLedger, L3: UnitLedger, L4: UnitLedger> RecordSource
     for Library<L0, L1, L2, L3, L4, Device, Pass> {
+    ghost count = { λ library. library.units };
+
     fn units(&self) -> u8 {
         Library::units(self)
     }

@@ -8,7 +8,8 @@ ghost use Rattle.server.specs.declared.acceptor.ServeTerm.TheVariants.{Sessions,
 ghost use Rattle.server.specs.declared.server_fault.FaultySession.{FaultySession};
 ghost use Rattle.server.specs.declared.server_fault.ServerFault.TheVariants.{Close, Media, NoMemory, Session, Write};
 
-/// Worked rows: what sessions leave of two nexuses, and of nobody; and that a session makes no call of another nexus, and ends with the loss of its own.
+/// Worked rows: what sessions leave of two nexuses, and of nobody; and that a session makes no call of another nexus, and ends with the
+/// loss of its own.
 pub fn session_rows()
     ensures nobody { Gives (None ∷ []) [] }
     ensures one { (d l : DoneValue) → IsCommandOf a d → IsLossOf a l → Gives (Some a ∷ []) (d ∷ (l ∷ [])) }

@@ -1,5 +1,5 @@
 ghost use Rattle.std.specs.Prelude.{◌≡◌};
-ghost use Rattle.server.specs.Faults.{cause_words, close_words, earlier, first_accepted, is_before, rank, session_words, silent};
+ghost use Rattle.server.specs.Faults.{cause_words, close_words, earlier, first_accepted, first_by, is_accepted_before, is_before, rank, session_words, silent};
 
 use crate::iscsi_words::iscsi_words;
 use iscsi_session::IscsiFault;
@@ -72,16 +72,6 @@ impl ServerFault {
         }
     }
 
-    /// Whether it is told in place of another.
-    fn is_before(&self, other: &ServerFault) -> bool
-        ensures { result ≡ is_before self.now other.now }
-    {
-        match (self, other) {
-            (ServerFault::Session(this), ServerFault::Session(that)) => this.number < that.number,
-            _ => self.rank() < other.rank(),
-        }
-    }
-
     /// Its place in the list.
     fn rank(&self) -> u8
         ensures { result ≡ rank self.now }
@@ -96,6 +86,47 @@ impl ServerFault {
     }
 }
 
+/// What stands in an order, by which one of several is told.
+trait InOrder: Copy {
+    ghost use Rattle.std.specs.Prelude.{◌≡◌, Bool};
+
+    ghost comes_before: { Self → Self → Bool };
+
+    /// Whether it is told in place of another.
+    fn is_before(&self, other: &Self) -> bool
+        ensures { result ≡ comes_before self.now other.now };
+}
+
+impl InOrder for FaultySession {
+    ghost comes_before = { is_accepted_before };
+
+    fn is_before(&self, other: &FaultySession) -> bool {
+        self.number < other.number
+    }
+}
+
+impl InOrder for ServerFault {
+    ghost comes_before = { is_before };
+
+    fn is_before(&self, other: &ServerFault) -> bool {
+        match (self, other) {
+            (ServerFault::Session(this), ServerFault::Session(that)) => this.is_before(that),
+            _ => self.rank() < other.rank(),
+        }
+    }
+}
+
+/// The one of two that is told, where either may have happened.
+fn first_by<T: InOrder>(one: Option<T>, other: Option<T>) -> Option<T>
+    ensures { result ≡ first_by T.comes_before one other }
+{
+    match (one, other) {
+        (None, _) => other,
+        (_, None) => one,
+        (Some(this), Some(that)) => { if that.is_before(&this) { other } else { one } }
+    }
+}
+
 /// The fault of the session that was accepted first, of two that may have had one.
 pub(crate) fn first_accepted(
     one: Option<FaultySession>,
@@ -103,28 +134,14 @@ pub(crate) fn first_accepted(
 ) -> Option<FaultySession>
     ensures { result ≡ first_accepted one other }
 {
-    match (one, other) {
-        (None, _) => other,
-        (_, None) => one,
-        (Some(this), Some(that)) => {
-            if that.number < this.number {
-                other
-            } else {
-                one
-            }
-        }
-    }
+    first_by(one, other)
 }
 
 /// The one of two faults that is told, where either has happened.
 pub fn earlier(first: Option<ServerFault>, second: Option<ServerFault>) -> Option<ServerFault>
     ensures { result ≡ earlier first second }
 {
-    match (first, second) {
-        (None, _) => second,
-        (_, None) => first,
-        (Some(this), Some(that)) => { if that.is_before(&this) { second } else { first } }
-    }
+    first_by(first, second)
 }
 
 impl fmt::Display for ServerFault {

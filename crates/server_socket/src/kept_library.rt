@@ -44,7 +44,8 @@ pub(crate) struct KeptLibrary<'a> {
     pub keeper: MediaKeeper<FileStore, FolderInventory<'a>>,
 }
 
-/// Reads a library from its folder, whose volumes take no more memory together than the limit says, and writes where they lie from now on. What is lost or left there is told on `errors`.
+/// Reads a library from its folder, whose volumes take no more memory together than the limit says, and writes where they lie from now
+/// on. What is lost or left there is told on `errors`.
 pub(crate) fn kept_library<'a, E: Write>(
     alloc: Global,
     files: &'a HostRuntime,
