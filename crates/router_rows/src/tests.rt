@@ -1,6 +1,7 @@
 //! Threads over a library of a changer and drives: each test opens one, plays a scene in it, and closes it.
 
 mod asking;
+mod attending;
 mod days;
 mod gates;
 mod opened;
@@ -93,4 +94,9 @@ fn settle_makes_drained_entries_into_ranges(rt: HostRuntime) -> Result<(), Fail>
 #[test]
 fn settle_of_a_move_waits_for_the_drain_of_both_units(rt: HostRuntime) -> Result<(), Fail> {
     play(&rt, &rt, Scene::SettledMoves)
+}
+
+#[test]
+fn attend_asks_the_attendant_once_at_each_unit(rt: HostRuntime) -> Result<(), Fail> {
+    play(&rt, &rt, Scene::Attended)
 }

@@ -7,6 +7,7 @@ mod hosts;
 mod initiators;
 mod keepers;
 mod listeners;
+mod looks;
 mod meetings;
 mod portals;
 mod sessions;

@@ -6,7 +6,7 @@ ghost use Rattle.lun_router.specs.Opening.{IsSince};
 use super::gates::{Flags, TestGate};
 use super::opened::Opened;
 use super::targets::two_drives;
-use super::{rows, scenes, settling};
+use super::{attending, rows, scenes, settling};
 use kept_unit::UnitLedger;
 use library_device::Device;
 use lun_router::{Blanks, Library};
@@ -33,6 +33,7 @@ pub(super) enum Scene {
     FullSlots,
     Settling,
     SettledMoves,
+    Attended,
 }
 
 /// How many seats the libraries have.
@@ -60,6 +61,7 @@ where
         Scene::FullSlots => rows::fill_the_slots(rt, alloc, library, seats),
         Scene::Settling => settling::settle_between(rt, alloc, library, seats),
         Scene::SettledMoves => settling::settle_moves(rt, alloc, library, seats),
+        Scene::Attended => attending::attend_units(rt, alloc, library, seats),
     }
 }
 

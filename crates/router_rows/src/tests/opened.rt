@@ -1,5 +1,6 @@
 //! An open library as scenes see it: by what comes back alone. The contracts of its calls, which no row needs, stay behind the trait.
 
+use super::attending::Looks;
 use super::gates::TestGate;
 use kept_unit::{Done, EventKind, NumberRange, UnitLedger};
 use library_device::Device;
@@ -28,6 +29,9 @@ pub(super) trait Opened: Sized + Drop {
     ) -> Done<'static>;
 
     fn has_room<R: Wait>(&self, rt: &R, nexus: Nexus, lun: u8) -> bool;
+
+    /// Lets an attendant at a unit: whether there is such a unit.
+    fn attend<R: Wait>(&self, rt: &R, lun: u8, looks: &mut Looks) -> bool;
 
     /// The numbers of the records that a unit hands out, if it is there.
     fn drained<R: Wait>(
@@ -75,6 +79,10 @@ impl<'a, L0: UnitLedger, L1: UnitLedger, L2: UnitLedger, L3: UnitLedger, L4: Uni
 
     fn has_room<R: Wait>(&self, rt: &R, nexus: Nexus, lun: u8) -> bool {
         Library::has_room(self, rt, nexus, lun)
+    }
+
+    fn attend<R: Wait>(&self, rt: &R, lun: u8, looks: &mut Looks) -> bool {
+        Library::attend(self, rt, lun, looks)
     }
 
     fn drained<R: Wait>(

@@ -2,7 +2,7 @@
 ghost use Rattle.std.specs.Prelude.{◌≤◌, length};
 
 use super::clients::{Ending, Gate};
-use super::exchanges::{Answer, Frame, POWER_ON_1, is_answered};
+use super::exchanges::{Answer, Frame, POWER_ON_1, POWER_ON_2, is_answered};
 use super::meetings::PATIENT;
 use super::sessions::LINES_OF_BOTH;
 use super::{assert_bytes, assert_same, assert_told, target};
@@ -125,6 +125,8 @@ const ACCEPTED: Start = [0x23, 0x87, 0, 0];
 /// CHECK CONDITION, as for a unit's power on.
 const CHECK: Start = [0x21, 0x80, 0, 2];
 
+const GOOD: Start = [0x21, 0x80, 0, 0];
+
 /// RESERVATION CONFLICT.
 const CONFLICT: Start = [0x21, 0x80, 0, 0x18];
 
@@ -184,8 +186,8 @@ enum Step {
     SendsData(u8),
     /// C connects, logs in, resets the drive and logs out.
     OtherResets,
-    /// B reads a NOP-In.
-    Pinged,
+    /// B reads an answer, which begins so.
+    Reads(Start),
     /// B reads the end.
     IsLeft,
     /// B connects once more and logs in, which ends its first connection.
@@ -236,7 +238,7 @@ fn is_taken_by_b(alloc: Global, portal: &TcpStream, step: Step) -> io::Result<bo
             send_data(alloc, portal, cmd_sn)?;
             Ok(true)
         }
-        Step::Pinged => Ok(read_answer(alloc, portal)?.starts_with(&PING)),
+        Step::Reads(start) => Ok(read_answer(alloc, portal)?.starts_with(&start)),
         Step::IsAskedToLeave(count) => is_asked_to_leave(alloc, portal, count),
         Step::IsLeft => has_ended(portal),
         Step::Says(_, _)
@@ -272,7 +274,7 @@ fn is_taken<R: Clock + Net<Listener = TcpListener, Stream = TcpStream> + Wait>(
         }
         Step::Sends(_, _, _)
         | Step::SendsData(_)
-        | Step::Pinged
+        | Step::Reads(_)
         | Step::IsAskedToLeave(_)
         | Step::IsLeft => is_taken_by_b(alloc, portal, step),
     }
@@ -470,7 +472,7 @@ const NO_LOGIN: [Step; 2] = [Step::IsLeft, Step::Ends];
 /// B answers no ping.
 const NO_PONG: [Step; 4] = [
     Step::Sends(Request::Login, 1, ACCEPTED),
-    Step::Pinged,
+    Step::Reads(PING),
     Step::IsLeft,
     Step::Ends,
 ];
@@ -534,6 +536,37 @@ const LINES_OF_THE_RESET: &[u8] = b"1 500000000000000b.1 TEST-UNIT-READY 2 - - 0
     3 500000000000000b.1 TEST-UNIT-READY 2 - - 02\n\
     4 500000000000000b.1 LOSS 6 - - 00\n";
 
+/// A write of B's waits for its data, and A registers at the drive: it goes through.
+const REGISTER_AT_THE_SOCKET: [Step; 14] = [
+    Step::Says(Frame::LoginOfA, Answer::Accepted),
+    Step::Says(Frame::Ready, POWER_ON_1),
+    Step::Says(Frame::ToDrive, Answer::Good(2)),
+    // A volume has come in, which is the drive's record 1.
+    Step::Says(Frame::DriveReady, POWER_ON_2),
+    Step::Sends(Request::Login, 1, ACCEPTED),
+    Step::Sends(Request::Ready, 1, CHECK),
+    Step::Sends(Request::WriteLater, 2, ASKED),
+    Step::Says(Frame::Register, Answer::Good(4)),
+    Step::SendsData(2),
+    Step::Reads(GOOD),
+    Step::Sends(Request::Logout, 3, LOGGED_OUT),
+    Step::IsLeft,
+    Step::Says(Frame::Logout, Answer::LoggedOut),
+    Step::Ends,
+];
+
+/// The changer's and then the drive's.
+const LINES_OF_THE_REGISTER: &[u8] = b"1 500000000000000a.1 TEST-UNIT-READY 2 - - 02\n\
+    2 500000000000000a.1 MOVE-MEDIUM 6 MOVE-MEDIUM/NONE/OTHER - 00\n\
+    3 500000000000000a.1 LOSS 6 - - 00\n\
+    1 - MEDIUM-IN 6 - - 00\n\
+    2 500000000000000a.1 TEST-UNIT-READY 2 - - 02\n\
+    3 500000000000000b.1 TEST-UNIT-READY 2 - - 02\n\
+    4 500000000000000a.1 REGISTER 6 REGISTER/NONE/OTHER - 00\n\
+    5 500000000000000b.1 WRITE(6) 6 WRITE(6)/NONE/OTHER - 00\n\
+    6 500000000000000b.1 LOSS 6 - - 00\n\
+    7 500000000000000a.1 LOSS 6 - - 00\n";
+
 /// A has left, and B is idle. B is asked to log out, does so, and all is over before the grace is.
 const ASKED_TO_LEAVE: [Step; 9] = [
     Step::Says(Frame::LoginOfA, Answer::Accepted),
@@ -547,7 +580,7 @@ const ASKED_TO_LEAVE: [Step; 9] = [
     Step::IsOverWithin(20),
 ];
 
-const ROWS: [Row; 8] = [
+const ROWS: [Row; 9] = [
     (
         "two-doors",
         Short::None,
@@ -595,6 +628,13 @@ const ROWS: [Row; 8] = [
         Short::None,
         &RESET_AT_THE_SOCKET,
         Some(LINES_OF_THE_RESET),
+        "of 500000000000000b.1: ended by its LOGOUT after 2 commands",
+    ),
+    (
+        "register-at-the-socket",
+        Short::None,
+        &REGISTER_AT_THE_SOCKET,
+        Some(LINES_OF_THE_REGISTER),
         "of 500000000000000b.1: ended by its LOGOUT after 2 commands",
     ),
     (

@@ -19,6 +19,7 @@ use std::sync::Wait;
 use std::test::Fail;
 use std::thread::{self, Threads};
 use std::time::Clock;
+use tape_keeper::TapeKeeper;
 use target_core::TargetCore;
 
 /// How a server meets a client.
@@ -63,6 +64,7 @@ fn serve_and_talk<
     R: AllocGlobal + Clock + Files + Net + RandomSource + Sync + Threads + Wait,
     W: Write + Send,
     E: Write + Send,
+    K: TapeKeeper<Device> + Sync,
 >(
     rt: &R,
     core: TargetCore<Device>,
@@ -72,11 +74,11 @@ fn serve_and_talk<
     steps: &[Step],
     output: &mut W,
     gate: &Gate,
+    keeper: &K,
     teller: &Teller<E>,
 ) -> (Result<(), ServerFault>, io::Result<bool>) {
     let alloc = rt.alloc();
     let sessions = LiveSessions::new(alloc);
-    let keeper = FailingKeeper::new(meeting.keeping_fails_at);
     let ending = Ending {
         sessions: &sessions,
         gate,
@@ -98,7 +100,7 @@ fn serve_and_talk<
                 doors,
                 limits,
                 meeting.records,
-                &keeper,
+                keeper,
                 output,
                 &teller,
             )
@@ -136,6 +138,24 @@ pub(super) fn meet_at_gate<
     output: &mut W,
     gate: &Gate,
 ) -> Result<Met, Fail> {
+    let keeper = FailingKeeper::new(meeting.keeping_fails_at);
+    meet_keeper(rt, id, meeting, steps, output, gate, &keeper)
+}
+
+/// The same, with another keeper than the one that fails where the meeting says so.
+pub(super) fn meet_keeper<
+    R: AllocGlobal + Clock + Files + Net + RandomSource + Sync + Threads + Wait,
+    W: Write + Send,
+    K: TapeKeeper<Device> + Sync,
+>(
+    rt: &R,
+    id: u32,
+    meeting: Meeting,
+    steps: &[Step],
+    output: &mut W,
+    gate: &Gate,
+    keeper: &K,
+) -> Result<Met, Fail> {
     let alloc = rt.alloc();
     let name = format!(in alloc; "vtl-{}-{id}", meeting.name)?;
     let address = SocketAddr::from_abstract_name(name.as_bytes())?;
@@ -151,6 +171,7 @@ pub(super) fn meet_at_gate<
         steps,
         output,
         gate,
+        keeper,
         &teller,
     );
     drop(teller);
