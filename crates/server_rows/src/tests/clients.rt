@@ -165,6 +165,18 @@ impl<'a, 'd> Ending<'a, 'd> {
         self.sessions.end_after(rt, Duration::ZERO);
     }
 
+    /// Ends the server where a client wasn't told what it should be: it would wait for what doesn't come any more.
+    pub(super) fn unless_right<R: Clock + Wait>(
+        &self,
+        rt: &R,
+        talked: io::Result<bool>,
+    ) -> io::Result<bool> {
+        if !matches!(talked, Ok(true)) {
+            self.end(rt);
+        }
+        talked
+    }
+
     /// Has no more sessions begin. Those that go on are to end within a time.
     pub(super) fn close<R: Wait>(&self, rt: &R, grace: Duration) {
         self.sessions.close(rt, grace);

@@ -280,7 +280,7 @@ fn is_taken<R: Clock + Net<Listener = TcpListener, Stream = TcpStream> + Wait>(
     }
 }
 
-/// Connects as A and as B, takes the steps, and says whether all that was read is as it should be.
+/// Connects as A and as B, takes the steps, and says whether all that was read, in time, is as it should be.
 fn talk<R: Clock + Net<Listener = TcpListener, Stream = TcpStream> + Wait>(
     rt: &R,
     alloc: Global,
@@ -291,6 +291,8 @@ fn talk<R: Clock + Net<Listener = TcpListener, Stream = TcpStream> + Wait>(
 ) -> io::Result<bool> {
     let socket = UnixStream::connect_addr(rt, address)?;
     let portal = TcpStream::connect(rt, portal)?;
+    socket.set_read_timeout(Some(seconds(20)))?;
+    portal.set_read_timeout(Some(seconds(20)))?;
     for step in steps {
         if !is_taken(rt, alloc, &socket, &portal, ending, *step)? {
             return Ok(false);
@@ -366,7 +368,7 @@ fn serve_and_talk<
                 rt, alloc, core, doors, limits, records, &NoKeeper, output, teller,
             )
         },
-        || talk(rt, alloc, address, portal, &ending, steps),
+        || ending.unless_right(rt, talk(rt, alloc, address, portal, &ending, steps)),
     ))
 }
 

@@ -105,7 +105,10 @@ fn serve_and_talk<
                 &teller,
             )
         },
-        || talk(rt, alloc, address, meeting.connections, &ending, steps),
+        || {
+            let talked = talk(rt, alloc, address, meeting.connections, &ending, steps);
+            ending.unless_right(rt, talked)
+        },
     )
 }
 
