@@ -39,6 +39,12 @@ pub seats_served : (core : List UnitView) (units count : ℕ) (opened seats : Li
 seats_served core units count opened seats size many untold came =
     let both = of_sessions (length core) opened seats untold (subst (λ (u : ℕ). SeatsCome u opened seats) size came) in (both.0, both.1 ∙ many)
 
+-- the seats that serving gave back of those that a library was opened with, in vectors of these lengths: none is missing
+pub seats_back : (core : List UnitView) (units count made : ℕ) (opened back : List SeatValue) (opened_len back_len : ℕ) → units ≡ length core → All IsUntold opened → SeatsCome units opened back
+    → (made ≡ count) × (opened_len ≡ count) → opened_len ≡ length opened → back_len ≡ length back → (All (IsOfSessions (length core)) back × (length back ≡ count)) × (back_len ≡ made)
+seats_back core units count made opened back opened_len back_len size untold came many opened_is back_is =
+    let served = seats_served core units count opened back size (sym opened_is ∙ many.1) untold came in (served, back_is ∙ served.1 ∙ sym many.0)
+
 -- a library that was served, from its closing
 pub at_the_end : (core : List UnitView) (count : ℕ) (records : RecordOutput) (audit : Audit) (seats : List SeatValue) (zero one two three four : ℕ) (w w' : Option (List ℕ)) → records ≡ AtTheEnd audit
     → All (IsOfSessions (length core)) seats × (length seats ≡ count) → IsSince core zero one two three four → IsClosed seats audit zero one two three four w w' → ServesLibrary core count records w w'

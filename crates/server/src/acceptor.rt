@@ -72,7 +72,8 @@ pub(crate) enum Connection {
 impl<'a> Acceptor<'a> {
     /// Nothing was accepted yet.
     pub fn new(doors: &'a [Door<'a>], limits: ServeLimits<'a>) -> Acceptor<'a>
-        ensures { result.limits.term ≡ limits.entry.term }
+        ensures limits { result.limits ≡ limits.entry }
+        ensures doors { result.doors ≡ doors.entry }
     {
         Acceptor {
             doors,
@@ -81,7 +82,9 @@ impl<'a> Acceptor<'a> {
         }
     }
 
-    pub fn doors(&self) -> &'a [Door<'a>] {
+    pub fn doors(&self) -> &'a [Door<'a>]
+        ensures { result ≡ self.now.doors }
+    {
         self.doors
     }
 

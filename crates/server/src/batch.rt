@@ -109,6 +109,7 @@ impl Batch {
     fn take_lines(&mut self, alloc: Global) -> Result<Lines, AllocError>
         ensures ok { IfOk result (λ lines. left_of lines ≡ left_in self.old) }
         ensures err { OnErr result (left_in self.new ≡ left_in self.old) }
+        ensures records { (self.new.lun ≡ self.old.lun) × (self.new.records ≡ self.old.records) }
     {
         match self.lines.take() {
             Some(lines) => Ok(lines),
@@ -124,6 +125,8 @@ impl Batch {
         ensures left { GoesOn (W.contents writer.old) (W.contents writer.new) (left_in self.old) (left_in self.new) }
         ensures all { OnOk result (left_in self.new ≡ []) }
         ensures none { OnOk result (self.new.records.items ≡ []) }
+        ensures unit { self.new.lun ≡ self.old.lun }
+        ensures kept { OnErr result (self.new.records ≡ self.old.records) }
         ensures fault { IfErr result (λ f. (f ≡ fault.Write) ⊎ (f ≡ fault.NoMemory)) }
     {
         let mut lines = self.take_lines(alloc)?;
@@ -139,6 +142,8 @@ impl Batch {
     /// Takes the records of a unit, and says which number the last has.
     pub fn take<D: RecordSource, R: Wait>(&mut self, rt: &R, library: &D, lun: u8) -> Option<u64>
         requires none { self.old.records.items ≡ [] }
+        ensures unit { self.new.lun ≡ lun }
+        ensures whose { (self.new.records.items ≡ []) ⊎ D.hands_out library.now lun self.new.records.items }
         ensures drained { AreDrained self.new.records.items }
         ensures left { left_in self.new ≡ lines_of_records self.new.records.items }
         ensures number { result ≡ number_of_last self.new.records.items }

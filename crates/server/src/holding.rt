@@ -66,7 +66,7 @@ pub(crate) fn hold<'a, S: SeatService, R: Clock + RandomSource + Wait, E: Write>
         Ok(end) => Ok(end),
         Err(cause) => Err(FaultySession {
             number: visit.number,
-            nexus: service.nexus,
+            nexus: service.session.nexus,
             cause: if reader.is_late() {
                 cause.silent()
             } else {

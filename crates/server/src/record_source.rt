@@ -9,10 +9,14 @@ use std::sync::Wait;
 
 /// Units whose records are handed out: a library, whichever ledgers it has.
 pub(crate) trait RecordSource {
-    ghost use Rattle.std.specs.Prelude.{ℕ};
+    ghost use Rattle.std.specs.Prelude.{ℕ, List};
+    ghost use Rattle.audit_log.specs.declared.record.Record.{Record};
 
     /// How many units there are.
     ghost count: { Self → ℕ };
+
+    /// What the unit with a number hands out at once.
+    ghost hands_out: { Self → (lun : ℕ) → List Record → Type 0 };
 
     fn units(&self) -> u8
         ensures { result ≡ count self.now };
@@ -22,12 +26,15 @@ pub(crate) trait RecordSource {
         requires { records.old.items ≡ [] }
         ensures there { IsTrue result ↔ (lun < count self.now) }
         ensures trail { IsTrue result → IsSomeTrail records.new.items }
+        ensures whose { IsTrue result → hands_out self.now lun records.new.items }
         ensures absent { result ≡ false → records.new ≡ records.old };
 }
 
 impl<L0: UnitLedger, L1: UnitLedger, L2: UnitLedger, L3: UnitLedger, L4: UnitLedger> RecordSource
     for Library<L0, L1, L2, L3, L4, Device, Pass> {
     ghost count = { λ library. library.units };
+
+    ghost hands_out = { λ _ _ records. IsSomeTrail records };
 
     fn units(&self) -> u8 {
         Library::units(self)

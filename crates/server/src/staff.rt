@@ -10,7 +10,7 @@ use crate::server_fault::{FaultySession, first_accepted};
 use crate::session_flags::SessionFlags;
 use crate::teller::Teller;
 use crate::worker::Worker;
-use crate::worker_service::WorkerService;
+use crate::worker_service::{SessionSoFar, WorkerService};
 use std::alloc::{AllocError, Global};
 use std::io::Write;
 use std::sync::Wait;
@@ -44,9 +44,7 @@ fn worker_for<'a, S: SeatService, R: Wait, E: Write>(
         teller,
         flags,
         resets,
-        number: 0,
-        nexus: None,
-        commands: 0,
+        session: SessionSoFar::new(),
     };
     Worker {
         service,

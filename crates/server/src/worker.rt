@@ -8,7 +8,7 @@ use crate::event::{EndedSession, Event};
 use crate::holding::hold;
 use crate::library_service::SeatService;
 use crate::server_fault::{FaultySession, first_accepted};
-use crate::worker_service::WorkerService;
+use crate::worker_service::{SessionSoFar, WorkerService};
 use std::alloc::Global;
 use std::io::Write;
 use std::random::RandomSource;
@@ -99,7 +99,8 @@ impl<'a, S: SeatService, R: Clock + RandomSource + Wait, E: Write> Worker<'a, S,
         let rt = self.service.rt;
         let teller = self.service.teller;
         let number = visit.number;
-        self.service.begin(number);
+        self.service.session = SessionSoFar::new();
+        self.service.flags.begin();
         teller.tell(rt, &Event::Begins(number));
         let begun = Instant::now(rt);
         let ended = hold(alloc, rt, &mut self.service, acceptor, visit);
@@ -112,9 +113,9 @@ impl<'a, S: SeatService, R: Clock + RandomSource + Wait, E: Write> Worker<'a, S,
         }
         let ended_session = EndedSession {
             number,
-            nexus: self.service.nexus,
+            nexus: self.service.session.nexus,
             end: ended.ok(),
-            commands: self.service.commands,
+            commands: self.service.session.commands,
             seconds,
         };
         teller.tell(rt, &Event::Ends(ended_session));

@@ -53,6 +53,30 @@ fn settle_with<S: SeatService>(service: &mut S, drain: &RecordDrain)
     };
 }
 
+/// What is known of a session that goes on.
+#[derive(Clone, Copy, Debug)]
+pub(crate) struct SessionSoFar {
+    /// Who asked last to be let in.
+    pub nexus: Option<Nexus>,
+    /// How many commands it has sent.
+    pub commands: u64,
+}
+
+impl SessionSoFar {
+    ghost use Rattle.std.specs.Prelude.{◌≡◌, None};
+
+    /// One whose host isn't logged in yet.
+    pub fn new() -> SessionSoFar
+        ensures nobody { result.nexus ≡ None }
+        ensures none { result.commands ≡ 0 }
+    {
+        SessionSoFar {
+            nexus: None,
+            commands: 0,
+        }
+    }
+}
+
 /// What a worker serves its sessions by, one after another: a library's service, beside which it asks that records be handed out
 /// where a unit has many of them, settles its seat, tells of commands that were BUSY, and counts resets.
 #[derive(Drop)]
@@ -65,12 +89,7 @@ pub(crate) struct WorkerService<'a, S: SeatService, R: Wait, E: Write> {
     pub flags: &'a SessionFlags,
     /// The resets of all sessions, which end the tasks that wait in those of iSCSI.
     pub resets: &'a ResetCounts,
-    /// The session's place in the order of accepting, from 1 on.
-    pub number: u64,
-    /// Who asked last for a session.
-    pub nexus: Option<Nexus>,
-    /// How many commands the session has sent.
-    pub commands: u64,
+    pub session: SessionSoFar,
 }
 
 impl<'a, S: SeatService, R: Wait, E: Write> Model for WorkerService<'a, S, R, E> {
@@ -81,16 +100,6 @@ impl<'a, S: SeatService, R: Wait, E: Write> Model for WorkerService<'a, S, R, E>
 
 impl<'a, S: SeatService, R: Wait, E: Write> WorkerService<'a, S, R, E> {
     ghost use Rattle.std.specs.Prelude.{◌≡◌};
-
-    /// Another session begins, whose host isn't logged in yet.
-    pub fn begin(&mut self, number: u64)
-        ensures { self.new ≡ self.old }
-    {
-        self.number = number;
-        self.flags.begin();
-        self.nexus = None;
-        self.commands = 0;
-    }
 
     /// Tells of a command that was BUSY, and whether for want of a slot.
     fn tell_busy(&self, nexus: Nexus, lun: u8) {
@@ -159,7 +168,7 @@ impl<'a, S: SeatService, R: Wait, E: Write> Service for WorkerService<'a, S, R, 
         bytes: &'b [u8],
     ) -> Done<'b> {
         let done = self.seat_service.submit(alloc, nexus, lun, cdb, bytes);
-        self.commands = self.commands.saturating_add(1);
+        self.session.commands = self.session.commands.saturating_add(1);
         let reply = &done.receipt().reply;
         match reply.status {
             Status::Busy => self.tell_busy(nexus, lun),
@@ -195,7 +204,7 @@ impl<'a, S: SeatService, R: Wait, E: Write> Service for WorkerService<'a, S, R, 
     }
 
     fn login(&mut self, nexus: Nexus) -> Result<usize, SessionFault> {
-        self.nexus = Some(nexus);
+        self.session.nexus = Some(nexus);
         let entered = self.seat_service.login(nexus);
         if entered.is_ok() {
             self.flags.come_in();
