@@ -4,3 +4,4 @@ pub mod Sizes
 pub mod Starting
 pub mod StartRows
 pub mod Looking
+pub mod LookRows

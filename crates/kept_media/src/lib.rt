@@ -19,6 +19,6 @@ pub use keeper::{MediaKeeper, VolumeImage};
 pub use kept_image::KeptImage;
 pub use laws::images_follow_tapes;
 pub use part_range::PartRange;
-pub use rows::worked_rows;
+pub use rows::{asked_rows, look_rows, worked_rows};
 pub use start::{LibraryFault, StartedVolume, library_of_volumes};
 pub use store::InventoryStore;

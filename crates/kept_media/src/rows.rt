@@ -1,7 +1,16 @@
-ghost use Rattle.std.specs.Prelude.{[], ◌∷◌};
-ghost use Rattle.device_server.specs.View.{Drive, Changer};
+ghost use Rattle.std.specs.Prelude.{◌≡◌, ◌≢◌, [], ◌∷◌, Err, None, Ok, Some};
+ghost use Rattle.device_server.specs.Attending.{WasAsked};
+ghost use Rattle.device_server.specs.Drive.{empty_drive};
+ghost use Rattle.device_server.specs.View.{DeviceView, Drive, Changer};
 ghost use Rattle.library_inventory.specs.declared.element.Element.TheVariants.{DataTransfer, Storage};
 ghost use Rattle.logical_unit.specs.Step.{made};
+ghost use Rattle.scsi_cdb.specs.declared.kind.Kind.TheVariants as kind;
+ghost use Rattle.tape_flush.specs.Images.{TapePartValue};
+ghost use Rattle.tape_flush.specs.declared.fault.FlushFault.{FlushFault};
+ghost use Rattle.kept_media.specs.Kept.{KeptImageValue};
+ghost use Rattle.kept_media.specs.LookRows.{Notes, no_image, part_of_two_marks, settled_drive, up_to};
+ghost use Rattle.kept_media.specs.Looking.{WasTaken, settled_by};
+ghost use Rattle.kept_media.specs.declared.part_range.PartRange.{PartRange};
 ghost use Rattle.kept_media.specs.Starting.{ShelvesView, empty_shelves, IsShelved, IsLibraryOf};
 ghost use Rattle.kept_media.specs.StartRows.{two_marks, one_drive, in_slot_and_drive, with_one, loaded_drive, with_both};
 
@@ -17,4 +26,26 @@ pub fn worked_rows(a: VolumeTag, b: VolumeTag)
     ensures no_drive { (t : ShelvesView) → ¬ IsShelved (with_one a) (DataTransfer 1) (two_marks b 2) t }
     ensures library { IsLibraryOf one_drive (in_slot_and_drive a b)
         (made (Changer (with_both a b).elements) 0 2 0 ∷ made (Drive (loaded_drive b)) 1 2 0 ∷ []) }
+{}
+
+/// Worked rows: what a look for a volume takes at a drive that has it, that has another, and that has none; and what it settles.
+pub fn look_rows(a: VolumeTag, b: VolumeTag)
+    ensures part { WasTaken no_image (Drive (loaded_drive b)) 0 b (Some (Ok (up_to 2))) part_of_two_marks }
+    ensures longer_part { (part : TapePartValue) → ¬ WasTaken no_image (Drive (loaded_drive b)) 0 b (Some (Ok (up_to 3))) part }
+    ensures passed_over { (kept : KeptImageValue) → (part : TapePartValue) → ¬ WasTaken kept (Drive (loaded_drive b)) 0 b None part }
+    ensures another { (kept : KeptImageValue) → (part : TapePartValue) → a ≢ b → WasTaken kept (Drive (loaded_drive b)) 0 a None part }
+    ensures part_of_another { (kept : KeptImageValue) → (range : PartRange) → (part : TapePartValue) → a ≢ b → ¬ WasTaken kept (Drive (loaded_drive b)) 0 a (Some (Ok range)) part }
+    ensures none { (kept : KeptImageValue) → (part : TapePartValue) → WasTaken kept (Drive empty_drive) 0 b None part }
+    ensures part_of_none { (kept : KeptImageValue) → (range : PartRange) → (part : TapePartValue) → ¬ WasTaken kept (Drive empty_drive) 0 b (Some (Ok range)) part }
+    ensures fault_of_none { (kept : KeptImageValue) → (fault : FlushFault) → (part : TapePartValue) → ¬ WasTaken kept (Drive empty_drive) 0 b (Some (Err fault)) part }
+    ensures settled { settled_by (Some (Ok (up_to 1))) 0 (Drive (loaded_drive b)) ≡ Drive (settled_drive b) }
+    ensures unsettled { (fault : FlushFault) → (settled_by (Some (Err fault)) 0 (Drive (loaded_drive b)) ≡ Drive (loaded_drive b)) × (settled_by None 0 (Drive (loaded_drive b)) ≡ Drive (loaded_drive b)) }
+{}
+
+/// Worked rows: an attendant that notes each device which it is let at was asked once, and at a drive.
+pub fn asked_rows()
+    ensures once { WasAsked Notes kind.Drive [] (Drive empty_drive ∷ []) }
+    ensures never { ¬ WasAsked Notes kind.Drive [] [] }
+    ensures twice { (first second : DeviceView) → ¬ WasAsked Notes kind.Drive [] (first ∷ second ∷ []) }
+    ensures another_kind { ¬ WasAsked Notes kind.Changer [] (Drive empty_drive ∷ []) }
 {}

@@ -1,0 +1,33 @@
+-- Values of worked rows: a volume of two filemarks in a drive, the part of its image, and an attendant that notes what it sees.
+use Rattle.std.specs.Prelude.{◌≡◌, ℕ, true, false, List, [], ◌∷◌, ◌++◌, Some}
+use Rattle.tape_medium.specs.Object.{Mark}
+use Rattle.tape_medium.specs.declared.volume.VolumeTag.{VolumeTag}
+use Rattle.device_server.specs.Drive.{DriveView}
+use Rattle.device_server.specs.View.{DeviceView}
+use Rattle.tape_flush.specs.Images.{TapePartValue}
+use Rattle.kept_media.specs.declared.part_range.PartRange.{PartRange}
+use Rattle.kept_media.specs.Kept.{KeptImageValue}
+
+-- an image of no object, in a file without a byte
+abbrev pub no_image : KeptImageValue
+no_image = record { image = record { ends = []; contents = Some []; synced = Some [] }; is_whole = true; is_synced = true }
+
+-- so many objects of two, from the first on
+abbrev pub up_to : (end : ℕ) → PartRange
+up_to end = record { stay = 0; end = end; count = 2 }
+
+-- two filemarks in an image
+abbrev pub part_of_two_marks : TapePartValue
+part_of_two_marks = record { bytes = 0 ∷ 0 ∷ 0 ∷ 0 ∷ 0 ∷ 0 ∷ 0 ∷ 0 ∷ []; ends = 4 ∷ 8 ∷ [] }
+
+-- a drive with them, of which the first counts as unchanged
+abbrev pub settled_drive : VolumeTag → DriveView
+settled_drive tag = record {
+  bay = Some (record { tag = tag; protected = false; tape = record { objects = Mark ∷ Mark ∷ []; position = 0; capacity = 10; unchanged = 1 } });
+  loaded = true;
+  block_length = 0;
+}
+
+-- notes each device behind those before, and leaves it as it is
+abbrev pub Notes : List DeviceView → (before after : DeviceView) → List DeviceView → Type 0
+Notes old before after new = (after ≡ before) × (new ≡ old ++ before ∷ [])
