@@ -15,7 +15,8 @@ const NEEDED: u16 = 0x0200;
 
 const NO_METHOD: u16 = 0x0201;
 
-const OFFERS: [Offer; 97] = [
+/// Of the initiator, the digests and the connections.
+const LOGIN_OFFERS: [Offer; 23] = [
     ("InitiatorAlias=host", "", 0),
     ("InitiatorAlias=", "", 0),
     ("AuthMethod=None", "AuthMethod=None", 0),
@@ -39,6 +40,10 @@ const OFFERS: [Offer; 97] = [
     ("MaxConnections=0", "MaxConnections=Reject", 0),
     ("MaxConnections=65536", "MaxConnections=Reject", 0),
     ("MaxConnections=one", "MaxConnections=Reject", 0),
+];
+
+/// How data go: when, and how much.
+const DATA_OFFERS: [Offer; 34] = [
     ("InitialR2T=Yes", "InitialR2T=Yes", 0),
     ("InitialR2T=No", "InitialR2T=No", 0),
     ("InitialR2T=yes", "", NEEDED),
@@ -89,6 +94,10 @@ const OFFERS: [Offer; 97] = [
     ("FirstBurstLength=511", "", NEEDED),
     ("FirstBurstLength=16777216", "", NEEDED),
     ("FirstBurstLength=0x", "", NEEDED),
+];
+
+/// Times, what is outstanding, order and recovery.
+const RECOVERY_OFFERS: [Offer; 27] = [
     ("DefaultTime2Wait=0", "DefaultTime2Wait=0", 0),
     ("DefaultTime2Wait=2", "DefaultTime2Wait=2", 0),
     ("DefaultTime2Wait=3600", "DefaultTime2Wait=3600", 0),
@@ -116,6 +125,10 @@ const OFFERS: [Offer; 97] = [
     ("ErrorRecoveryLevel=2", "ErrorRecoveryLevel=0", 0),
     ("ErrorRecoveryLevel=3", "ErrorRecoveryLevel=Reject", 0),
     ("ErrorRecoveryLevel=-1", "ErrorRecoveryLevel=Reject", 0),
+];
+
+/// Of task reporting, of markers, and of nothing that is known.
+const OTHER_OFFERS: [Offer; 13] = [
     ("TaskReporting=RFC3720", "TaskReporting=RFC3720", 0),
     (
         "TaskReporting=ResponseFence,FastAbort,RFC3720",
@@ -213,18 +226,41 @@ fn assert_offer(
     Ok(())
 }
 
-#[test]
-fn each_key_is_answered_by_its_range(rt: HostRuntime) -> Result<(), Fail> {
-    for offer in &OFFERS {
-        assert_offer(&rt, rt.alloc(), NAMES, GROUP, offer)?;
+/// Compares the responses to logins whose first texts have one of these offers more each.
+fn assert_offers(
+    rt: &impl Abort,
+    alloc: Global,
+    names: &[u8],
+    first: &[u8],
+    offers: &[Offer],
+) -> Result<(), Fail> {
+    for offer in offers {
+        assert_offer(rt, alloc, names, first, offer)?;
     }
     Ok(())
 }
 
 #[test]
+fn keys_of_the_login_are_answered_by_their_ranges(rt: HostRuntime) -> Result<(), Fail> {
+    assert_offers(&rt, rt.alloc(), NAMES, GROUP, &LOGIN_OFFERS)
+}
+
+#[test]
+fn keys_of_data_are_answered_by_their_ranges(rt: HostRuntime) -> Result<(), Fail> {
+    assert_offers(&rt, rt.alloc(), NAMES, GROUP, &DATA_OFFERS)
+}
+
+#[test]
+fn keys_of_recovery_are_answered_by_their_ranges(rt: HostRuntime) -> Result<(), Fail> {
+    assert_offers(&rt, rt.alloc(), NAMES, GROUP, &RECOVERY_OFFERS)
+}
+
+#[test]
+fn other_keys_are_answered_by_their_ranges(rt: HostRuntime) -> Result<(), Fail> {
+    assert_offers(&rt, rt.alloc(), NAMES, GROUP, &OTHER_OFFERS)
+}
+
+#[test]
 fn a_discovery_session_has_no_use_for_keys_of_data(rt: HostRuntime) -> Result<(), Fail> {
-    for offer in &OFFERS_IN_DISCOVERY {
-        assert_offer(&rt, rt.alloc(), DISCOVERY, b"", offer)?;
-    }
-    Ok(())
+    assert_offers(&rt, rt.alloc(), DISCOVERY, b"", &OFFERS_IN_DISCOVERY)
 }

@@ -67,21 +67,34 @@ const MARKS: [Mark; 3] = [
     ("a storage element", 0x400, None, Err(BadPlace)),
 ];
 
+/// Marks drives, and compares what comes of it.
+fn assert_marks(rt: &impl Abort, changer: &mut Changer) {
+    for (shows, place, tag, expected) in MARKS {
+        assert_same(rt, changer.mark(place, tag), expected, shows);
+    }
+}
+
+fn unmark(changer: &mut Changer, place: u16) -> Result<(), BadPlace> {
+    changer.mark(place, None)
+}
+
+fn held(changer: &Changer, place: u16) -> Option<VolumeTag> {
+    changer.held(place)
+}
+
 /// What goes into a drive or out of it is the target's to move, not the changer's.
 #[test]
 fn move_medium_goes_by_the_marks_of_drives(rt: HostRuntime) -> Result<(), Fail> {
     let alloc = rt.alloc();
     let mut changer = changer(alloc)?;
     assert_refused(&rt, alloc, &mut changer, 0x400, 0x100, INTERNAL_FAILURE)?;
-    for (shows, place, tag, expected) in MARKS {
-        assert_same(&rt, changer.mark(place, tag), expected, shows);
-    }
-    assert_same(&rt, changer.held(0x100), Some(OTHER), "the mark");
+    assert_marks(&rt, &mut changer);
+    assert_same(&rt, held(&changer, 0x100), Some(OTHER), "the mark");
     assert_refused(&rt, alloc, &mut changer, 0x400, 0x100, FULL)?;
     assert_refused(&rt, alloc, &mut changer, 0x100, 0x401, INTERNAL_FAILURE)?;
-    assert_same(&rt, changer.mark(0x100, None), Ok(()), "no mark");
+    assert_same(&rt, unmark(&mut changer, 0x100), Ok(()), "no mark");
     assert_refused(&rt, alloc, &mut changer, 0x100, 0x401, EMPTY)?;
-    assert_same(&rt, changer.held(0x400), Some(TAG), "the volume is there");
+    assert_same(&rt, held(&changer, 0x400), Some(TAG), "the volume is there");
     Ok(())
 }
 
