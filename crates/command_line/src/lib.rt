@@ -2,13 +2,10 @@
 #![tactic(auto)]
 
 mod commands;
-mod fault;
-mod laws;
 mod options;
 mod reading;
 mod task;
 
-pub use fault::CommandLineFault;
-pub use laws::worked_rows;
+pub use program_options::CommandLineFault;
 pub use reading::task_of;
 pub use task::{ClientOptions, IscsiOptions, MediaOptions, ServeOptions, Task};

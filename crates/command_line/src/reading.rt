@@ -3,7 +3,6 @@ ghost use Rattle.program_options.specs.Options.{AreGivenInRange, AreInRange, IsW
 ghost use Rattle.command_line.specs.Tasks.{IsClientOptions, IsDoable, IsIscsiOptions, IsMediaOptions, IsServeOptions, MakesLibrary, MakesServed};
 
 use crate::commands::program;
-use crate::fault::CommandLineFault;
 use crate::task::{ClientOptions, IscsiOptions, MediaOptions, ServeOptions, Task};
 use clap::ArgMatches;
 use clap::parser::ValueSource;
@@ -11,8 +10,8 @@ use output_lines::{Audit, Explanations};
 use permission_chart::class_named;
 use permit_tables::Class;
 use program_options::{
-    GivenLibrary, LibraryOptions, NamedHost, OptionFault, ServeTimes, ServeUntil, host_beside,
-    is_iscsi_name, memory_size_of, nexus_of, portal_of, volume_size_of,
+    CommandLineFault, GivenLibrary, LibraryOptions, NamedHost, OptionFault, ServeTimes, ServeUntil,
+    host_beside, is_iscsi_name, memory_size_of, nexus_of, portal_of, volume_size_of,
 };
 use scsi_nexus::TARGET_PORTS;
 use std::alloc::{AllocError, Global};

@@ -1,3 +1,4 @@
+pub mod CommandLineFaults
 pub mod Faults
 pub mod Hosts
 pub mod HostsLetIn

@@ -1,7 +1,10 @@
--- Worked rows: addresses and names of hosts, who is let in, what is said of each fault, who serves, how long hosts are waited for, and
--- what libraries and volumes are made of.
+-- Worked rows: addresses and names of hosts, who is let in, what is said of each fault, how the program ends where its command line names no
+-- task, who serves, how long hosts are waited for, and what libraries and volumes are made of.
 use Rattle.std.specs.Prelude.{◌≡◌, ◌++◌, true, false, [], replicate, Some, None, Ok, Err, codes}
-use Rattle.program_options.specs.declared.option_fault.OptionFault.TheVariants.{MoreVolumes, BadMemorySize, BadVolumeSize, BadNexus, BadHost, BadName, BadSas}
+use Rattle.clap.specs.declared.error.kind.ErrorKind.TheVariants.{DisplayHelp, DisplayVersion, UnknownArgument, ValueValidation, MissingSubcommand}
+use Rattle.program_options.specs.CommandLineFaults.{refusal_status, command_line_status, command_line_text}
+use Rattle.program_options.specs.declared.command_line_fault.CommandLineFault.TheVariants.{NotText, Options, NoMemory}
+use Rattle.program_options.specs.declared.option_fault.OptionFault.TheVariants.{MoreVolumes, BadMemorySize, BadVolumeSize, BadNexus, BadHost, BadName, BadSas, NoPlace}
 use Rattle.program_options.specs.Faults.{option_fault_text, option_status}
 use Rattle.program_options.specs.Hosts.{nexus_by, sas_in}
 use Rattle.program_options.specs.HostsLetIn.{host_in, judged}
@@ -27,6 +30,23 @@ pub record FaultsTold : Type 0 where
   pub bad_nexus : option_fault_text BadNexus ≡ codes "vtl: bad nexus"
   pub status_of_volumes : option_status MoreVolumes ≡ 2
   pub status_of_nexus : option_status BadNexus ≡ 2
+
+pub record StatusesOfRefusals : Type 0 where
+  pub help : refusal_status DisplayHelp ≡ 0
+  pub version : refusal_status DisplayVersion ≡ 0
+  pub unknown_argument : refusal_status UnknownArgument ≡ 2
+  pub out_of_range : refusal_status ValueValidation ≡ 2
+  pub no_subcommand : refusal_status MissingSubcommand ≡ 2
+  pub not_text : command_line_status NotText ≡ 2
+  pub more_volumes : command_line_status (Options MoreVolumes) ≡ 2
+  pub no_memory : command_line_status NoMemory ≡ 3
+
+pub record LinesOfRefusals : Type 0 where
+  pub not_text : command_line_text NotText ≡ Some (codes "vtl: arguments that are not text")
+  pub more_volumes : command_line_text (Options MoreVolumes) ≡ Some (codes "vtl: more volumes than slots")
+  pub bad_nexus : command_line_text (Options BadNexus) ≡ Some (codes "vtl: bad nexus")
+  pub nowhere : command_line_text (Options NoPlace) ≡ Some (codes "vtl: nowhere to serve: say --socket <PATH> or --iscsi <ADDRESS:PORT>")
+  pub no_memory : command_line_text NoMemory ≡ Some (codes "vtl: want of memory")
 
 pub record SessionsServed : Type 0 where
   pub workers_of_sessions : workers_of (Sessions 3) ≡ 3

@@ -1,7 +1,8 @@
 //! What the options of the program's commands mean: what a library is made of, where and how long it is served and waits for its hosts,
-//! whom it lets in, and which host a client is.
+//! whom it lets in, and which host a client is; and why a command line names nothing to do.
 #![tactic(auto)]
 
+mod command_line_fault;
 mod given_library;
 mod host;
 mod iscsi_name;
@@ -14,6 +15,7 @@ mod serve_times;
 mod serve_until;
 mod sizes;
 
+pub use command_line_fault::CommandLineFault;
 pub use given_library::GivenLibrary;
 pub use host::nexus_of;
 pub use iscsi_name::is_iscsi_name;

@@ -1,7 +1,7 @@
 -- The exit status of each fault of the program, and what it writes on standard error (profile).
 use Rattle.std.specs.Prelude.{ℕ, List, [], ◌∷◌, ◌++◌, Option, Some, Result, Ok, Err, codes, string_bytes}
 use Rattle.std.specs.Option.{option_map}
-use Rattle.command_line.specs.Faults.{command_line_status, command_line_text}
+use Rattle.program_options.specs.CommandLineFaults.{command_line_status, command_line_text}
 use Rattle.client_session.specs.Faults as session
 use Rattle.server_socket.specs.Faults.{socket_status, socket_text}
 use Rattle.replay.specs.Faults as replay

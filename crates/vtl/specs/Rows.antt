@@ -1,6 +1,6 @@
 -- Worked rows: how the program ends.
 use Rattle.std.specs.Prelude.{◌≡◌, [], ◌∷◌, ◌++◌, Some, Ok, Err, codes}
-use Rattle.command_line.specs.declared.fault.CommandLineFault.TheVariants.{NotText, Options, NoMemory}
+use Rattle.program_options.specs.declared.command_line_fault.CommandLineFault.TheVariants.{NotText, Options, NoMemory}
 use Rattle.client_session.specs.declared.client_session_fault.ClientSessionFault.TheVariants as session
 use Rattle.program_options.specs.declared.option_fault.OptionFault.TheVariants.{MoreVolumes, BadNexus}
 use Rattle.replay.specs.declared.replay_fault.ReplayFault.TheVariants as replay

@@ -4,8 +4,8 @@ use Rattle.clap.specs.Values.{kind_of}
 use Rattle.clap.specs.declared.error.kind.ErrorKind.{ErrorKind}
 use Rattle.clap.specs.declared.error.kind.ErrorKind.TheVariants.{DisplayHelp, DisplayVersion}
 use Rattle.program_options.specs.Faults.{option_fault_text, option_status}
-use Rattle.command_line.specs.declared.fault.CommandLineFault.{CommandLineFault}
-use Rattle.command_line.specs.declared.fault.CommandLineFault.TheVariants.{Refused, NotText, NoClass, Options, Word, NoMemory}
+use Rattle.program_options.specs.declared.command_line_fault.CommandLineFault.{CommandLineFault}
+use Rattle.program_options.specs.declared.command_line_fault.CommandLineFault.TheVariants.{Refused, NotText, NoClass, Options, Word, NoMemory}
 
 -- help and the version are what was asked for
 abbrev pub refusal_status : ErrorKind → ℕ

@@ -1,5 +1,5 @@
+use crate::option_fault::OptionFault;
 use clap::error::ErrorKind;
-use program_options::OptionFault;
 use std::alloc::AllocError;
 use std::fmt;
 use thiserror::Error;
@@ -20,7 +20,7 @@ pub enum CommandLineFault {
 }
 
 impl fmt::Display for CommandLineFault {
-    ghost use Rattle.command_line.specs.Faults.{command_line_text};
+    ghost use Rattle.program_options.specs.CommandLineFaults.{command_line_text};
 
     ghost output = { command_line_text };
 
@@ -40,7 +40,7 @@ impl fmt::Display for CommandLineFault {
 
 impl CommandLineFault {
     ghost use Rattle.std.specs.Prelude.{◌≡◌};
-    ghost use Rattle.command_line.specs.Faults.{command_line_status};
+    ghost use Rattle.program_options.specs.CommandLineFaults.{command_line_status};
 
     /// The exit status of a program that ends by it: 0 after help and the version, 3 for want of memory, else 2 (profile).
     pub fn status(&self) -> u8
