@@ -6,16 +6,12 @@ use std::fmt::Debug;
 use std::process::Abort;
 use tape_medium::VolumeTag;
 
-mod changers;
-mod drives;
-mod elements;
-mod numbers;
-mod prevention;
+mod bays;
+mod drawn;
 mod replays;
 mod tapes;
 mod targets;
 mod units;
-mod volumes;
 mod want_of_memory;
 
 const A: Nexus = Nexus {
@@ -29,12 +25,6 @@ const B: Nexus = Nexus {
 };
 
 const TAG: VolumeTag = VolumeTag([b'T'; 32]);
-
-const ALLOW: &[u8] = &[0x1e, 0, 0, 0, 0, 0];
-
-const PREVENT: &[u8] = &[0x1e, 0, 0, 0, 1, 0];
-
-const TEST_UNIT_READY: &[u8] = &[0; 6];
 
 /// Compares what was found with what is expected. Each `assert_eq!` costs the proof of the function that it stands in some
 /// ten times this call.

@@ -1,12 +1,14 @@
 //! Replays that no case of `script_cases` can say: what fails beside the script, what stands between two replays, and scripts
 //! that are too long or generated.
 
+use super::assert_same;
 use library_device::Device;
 use output_lines::{Audit, Explanations};
 use program_options::LibraryOptions;
 use replay::{ReplayFault, replay};
 use std::alloc::{AllocError, Global};
 use std::io::{Read, Write};
+use std::process::Abort;
 use std::test::Fail;
 use stocked_library::library;
 use target_core::TargetCore;
@@ -37,8 +39,23 @@ fn replayed(
 ) -> Result<Vec<u8>, Fail> {
     let mut reader = script.as_bytes();
     let mut output = Vec::new(alloc);
-    replay_in(alloc, core, &mut reader, &mut output, audit, 9)?;
+    replay_in(alloc, core, &mut reader, &mut output, audit, u64::MAX)?;
     Ok(output)
+}
+
+/// Replays a script, and compares all that is written.
+fn assert_replayed(
+    rt: &impl Abort,
+    alloc: Global,
+    core: &mut TargetCore<Device>,
+    audit: Audit,
+    script: &str,
+    expected: &str,
+    shows: &'static str,
+) -> Result<(), Fail> {
+    let output = replayed(alloc, core, audit, script)?;
+    assert_same(rt, output.as_slice(), expected.as_bytes(), shows);
+    Ok(())
 }
 
 /// The library that is made where no option says another size.

@@ -1,16 +1,16 @@
 //! Targets and drives for the tests, a volume for them, and units that make no target.
 
-use super::{TAG, assert_same, empty_changer};
-use changer_server::Changer;
+use super::{A, TAG, assert_same, empty_changer};
+use arrayvec::ArrayVec;
 use device_server::DeviceServer;
-use element_map::Elements;
-use library_device::{Device, unit_at};
+use library_device::Device;
 use logical_unit::{LogicalUnit, named};
+use scsi_sense::Status;
 use std::alloc::{AllocError, Global};
 use std::test::Fail;
 use tape_medium::{Tape, Volume, VolumeTag};
 use tape_server::TapeDrive;
-use target_core::{CoreFault, TargetCore};
+use target_core::{CoreFault, Event, TargetCore};
 
 /// How many bytes of blocks a volume takes.
 const CAPACITY: u64 = 16_777_216;
@@ -24,36 +24,45 @@ pub(super) fn volume(alloc: Global, tag: VolumeTag) -> Volume {
     }
 }
 
-/// An empty drive as logical unit 1, whose first record will be numbered after `last`.
-pub(super) fn empty_drive(alloc: Global, last: u64) -> Result<LogicalUnit<Device>, AllocError> {
-    let server = Box::new(alloc, Device::Tape(TapeDrive::new()))?;
-    match LogicalUnit::new_after(alloc, 1, 2, server, last) {
+/// A device as a unit of two, whose first record will be numbered after `last`.
+fn unit_after(
+    alloc: Global,
+    lun: u8,
+    device: Device,
+    last: u64,
+) -> Result<LogicalUnit<Device>, AllocError> {
+    match LogicalUnit::new_after(alloc, lun, 2, Box::new(alloc, device)?, last) {
         Ok(unit) => Ok(unit),
         Err((refused, _)) => Err(refused),
     }
 }
 
-/// A drive with a volume in it, of which record 1 tells.
-pub(super) fn loaded_drive(alloc: Global, tag: VolumeTag) -> Result<LogicalUnit<Device>, Fail> {
-    let mut unit = empty_drive(alloc, 0)?;
-    match unit.medium_in(volume(alloc, tag)) {
-        Ok(1) => Ok(unit),
-        _ => Err("no volume went in".into()),
-    }
+/// An empty drive as logical unit 1.
+pub(super) fn drive_after(alloc: Global, last: u64) -> Result<LogicalUnit<Device>, AllocError> {
+    unit_after(alloc, 1, Device::Tape(TapeDrive::new()), last)
 }
 
-pub(super) fn changer(alloc: Global) -> Result<LogicalUnit<Device>, AllocError> {
-    unit_at(alloc, 0, 2, Device::Changer(empty_changer(alloc)?))
+/// A changer over one drive, with one storage element and no volume.
+pub(super) fn changer_after(alloc: Global, last: u64) -> Result<LogicalUnit<Device>, AllocError> {
+    unit_after(alloc, 0, Device::Changer(empty_changer(alloc)?), last)
+}
+
+/// A drive with a volume in it.
+fn loaded_drive(alloc: Global) -> Result<LogicalUnit<Device>, Fail> {
+    let mut unit = drive_after(alloc, 0)?;
+    match unit.medium_in(volume(alloc, TAG)) {
+        Ok(_) => Ok(unit),
+        Err(_) => Err("no volume went in".into()),
+    }
 }
 
 /// A changer whose data transfer element has the mark of a volume.
-pub(super) fn changer_marked(alloc: Global, tag: VolumeTag) -> Result<LogicalUnit<Device>, Fail> {
-    let mut elements = Elements::new(alloc, 1, 1, 0)?;
-    if elements.mark(0x0100, Some(tag)).is_err() {
-        return Err("no mark".into());
+fn changer_marked(alloc: Global) -> Result<LogicalUnit<Device>, Fail> {
+    let mut device = Device::Changer(empty_changer(alloc)?);
+    match device.mark(0x0100, Some(TAG)) {
+        Ok(()) => Ok(unit_after(alloc, 0, device, 0)?),
+        Err(_) => Err("no mark".into()),
     }
-    let device = Device::Changer(Changer::new(elements));
-    Ok(unit_at(alloc, 0, 2, device)?)
 }
 
 pub(super) fn target<D: DeviceServer>(
@@ -70,71 +79,77 @@ pub(super) fn target<D: DeviceServer>(
     }
 }
 
-/// Of which units a target is to be made.
-#[derive(Clone, Copy, Debug, PartialEq, Eq)]
-enum Units {
+/// A unit that a target is to be made of.
+#[derive(Clone, Copy)]
+enum Unit {
     Changer,
-    Drives,
-    /// A changer without a mark, and a drive with a volume.
-    Unmarked,
-    /// A changer with the mark of the volume in its drive.
-    Marked,
-    /// A changer with a mark, and an empty drive.
-    MarkedInVain,
+    /// Its data transfer element has the mark of the volume.
+    MarkedChanger,
+    EmptyDrive,
+    /// With the volume.
+    LoadedDrive,
 }
 
-fn first(alloc: Global, units: Units) -> Result<LogicalUnit<Device>, Fail> {
-    match units {
-        Units::Changer | Units::Unmarked => Ok(changer(alloc)?),
-        Units::Drives => Ok(empty_drive(alloc, 0)?),
-        Units::Marked | Units::MarkedInVain => changer_marked(alloc, TAG),
+fn unit_of(alloc: Global, unit: Unit) -> Result<LogicalUnit<Device>, Fail> {
+    match unit {
+        Unit::Changer => Ok(changer_after(alloc, 0)?),
+        Unit::MarkedChanger => changer_marked(alloc),
+        Unit::EmptyDrive => Ok(drive_after(alloc, 0)?),
+        Unit::LoadedDrive => loaded_drive(alloc),
     }
 }
 
-fn second(alloc: Global, units: Units) -> Result<Option<LogicalUnit<Device>>, Fail> {
-    match units {
-        Units::Changer => Ok(None),
-        Units::Drives | Units::MarkedInVain => Ok(Some(empty_drive(alloc, 0)?)),
-        Units::Unmarked | Units::Marked => Ok(Some(loaded_drive(alloc, TAG)?)),
+fn units_of(alloc: Global, kinds: &[Unit]) -> Result<Vec<LogicalUnit<Device>>, Fail> {
+    let mut units = Vec::new(alloc);
+    for kind in kinds {
+        units.push(unit_of(alloc, *kind)?)?;
     }
+    Ok(units)
 }
 
 /// Why units make no target, and how many were handed back.
-fn refusal(alloc: Global, units: Units) -> Result<Option<(CoreFault, usize)>, Fail> {
-    let mut made = Vec::new(alloc);
-    made.push(first(alloc, units)?)?;
-    if let Some(drive) = second(alloc, units)? {
-        made.push(drive)?;
-    }
-    match TargetCore::new(made) {
-        Ok(_) => Ok(None),
-        Err((fault, units)) => Ok(Some((fault, units.len()))),
+fn refusal(units: Vec<LogicalUnit<Device>>) -> Option<(CoreFault, usize)> {
+    match TargetCore::new(units) {
+        Ok(_) => None,
+        Err((fault, units)) => Some((fault, units.len())),
     }
 }
 
 /// What it shows, the units, and how they are refused.
-type Refusal = (&'static str, Units, Option<(CoreFault, usize)>);
+type Refusal = (&'static str, &'static [Unit], Option<(CoreFault, usize)>);
+
+const COUNT: Option<(CoreFault, usize)> = Some((CoreFault::Count, 1));
+
+const ORDER: Option<(CoreFault, usize)> = Some((CoreFault::Order, 2));
+
+const DISAGREE: Option<(CoreFault, usize)> = Some((CoreFault::Disagree, 2));
 
 const REFUSALS: [Refusal; 5] = [
-    ("one unit", Units::Changer, Some((CoreFault::Count, 1))),
-    ("no changer", Units::Drives, Some((CoreFault::Order, 2))),
+    ("one unit", &[Unit::Changer], COUNT),
+    ("no changer", &[Unit::EmptyDrive, Unit::EmptyDrive], ORDER),
     (
         "a volume without a mark",
-        Units::Unmarked,
-        Some((CoreFault::Disagree, 2)),
+        &[Unit::Changer, Unit::LoadedDrive],
+        DISAGREE,
     ),
-    ("a volume with its mark", Units::Marked, None),
+    (
+        "a volume with its mark",
+        &[Unit::MarkedChanger, Unit::LoadedDrive],
+        None,
+    ),
     (
         "a mark without a volume",
-        Units::MarkedInVain,
-        Some((CoreFault::Disagree, 2)),
+        &[Unit::MarkedChanger, Unit::EmptyDrive],
+        DISAGREE,
     ),
 ];
 
 #[test]
 fn new_hands_back_units_that_make_no_target(rt: HostRuntime) -> Result<(), Fail> {
-    for (shows, units, refused) in &REFUSALS {
-        assert_same(&rt, refusal(rt.alloc(), *units)?, *refused, shows);
+    for row in &REFUSALS {
+        let (shows, kinds, refused) = *row;
+        let units = units_of(rt.alloc(), kinds)?;
+        assert_same(&rt, refusal(units), refused, shows);
     }
     Ok(())
 }
@@ -158,8 +173,45 @@ const NAMING: [Naming; 5] = [
 
 #[test]
 fn move_medium_names_its_drives(rt: HostRuntime) {
-    for (shows, drives, cdb, expected) in NAMING {
+    for row in &NAMING {
+        let (shows, drives, cdb, expected) = *row;
         let drives = named(drives, cdb);
         assert_same(&rt, drives.as_slice(), expected, shows);
     }
+}
+
+/// TEST UNIT READY of A.
+pub(super) fn ready_at(alloc: Global, lun: u8) -> Result<Event, Fail> {
+    Ok(Event::Command {
+        nexus: A,
+        lun,
+        cdb: ArrayVec::try_from([0; 6].as_slice())?,
+        bytes: Vec::new(alloc),
+    })
+}
+
+/// How many records the units of a target have.
+pub(super) fn records_of<D: DeviceServer>(core: &TargetCore<D>) -> usize {
+    let mut count: usize = 0;
+    for unit in core.all() {
+        count = count.saturating_add(unit.records().len());
+    }
+    count
+}
+
+/// The status and the number of the answer of a unit that isn't there.
+fn absent(alloc: Global, core: &mut TargetCore<Device>) -> Result<(Status, u64), Fail> {
+    let event = ready_at(alloc, 9)?;
+    let reply = core.step(alloc, &event);
+    Ok((reply.status, reply.number))
+}
+
+#[test]
+fn test_unit_ready_to_an_absent_unit_has_no_number(rt: HostRuntime) -> Result<(), Fail> {
+    let alloc = rt.alloc();
+    let mut core = target(alloc, changer_after(alloc, 0)?, drive_after(alloc, 0)?)?;
+    let answer = absent(alloc, &mut core)?;
+    assert_same(&rt, answer, (Status::CheckCondition, 0), "the answer");
+    assert_same(&rt, records_of(&core), 0, "records");
+    Ok(())
 }

@@ -1,117 +1,371 @@
-//! What a unit keeps or hands back of a command beside its reply.
+//! Units that commands and volumes come to, one after another: what each is answered, and what the unit keeps.
 
-use super::targets::{changer, empty_drive, loaded_drive, target};
-use super::{A, B, TAG, TEST_UNIT_READY, assert_same};
-use arrayvec::ArrayVec;
+use super::targets::{changer_after, drive_after, volume};
+use super::{A, B, TAG, assert_same};
 use library_device::Device;
-use logical_unit::LogicalUnit;
+use logical_unit::{Busy, LogicalUnit, MediumFault, Reply};
 use scsi_nexus::Nexus;
-use scsi_sense::Status;
+use scsi_sense::{Sense, Status};
 use std::alloc::Global;
 use std::process::Abort;
 use std::test::Fail;
 use tape_medium::{Volume, VolumeTag};
-use target_core::Event;
 
-const MODE_SELECT: &[u8] = &[0x15, 0x10, 0, 0, 0x0c, 0];
+const OTHER: VolumeTag = VolumeTag([b'O'; 32]);
 
-const MODE_SENSE: &[u8] = &[0x1a, 0, 0, 0, 0xff, 0];
-
-/// A parameter list for blocks of 512 bytes.
-const BLOCKS_OF_512: &[u8] = b"\0\0\0\x08\0\0\0\0\0\0\x02\0";
-
-const WRITE_2: &[u8] = &[0x0a, 1, 0, 0, 2, 0];
-
-const REWIND: &[u8] = &[1, 0, 0, 0, 0, 0];
-
-const READ_2: &[u8] = &[0x08, 1, 0, 0, 2, 0];
-
-/// A drive with a volume, of which record 1 tells, that A and B made contact with.
-fn drive(alloc: Global) -> Result<LogicalUnit<Device>, Fail> {
-    let mut unit = loaded_drive(alloc, TAG)?;
-    for nexus in [A, B] {
-        let _ = unit.execute(alloc, nexus, TEST_UNIT_READY, &[]);
-    }
-    Ok(unit)
+/// What comes to a unit, or is looked at.
+#[derive(Clone, Copy)]
+enum Act {
+    /// TEST UNIT READY.
+    Ready,
+    Prevent,
+    Allow,
+    /// MODE SELECT of blocks of 512 bytes.
+    ModeSelect,
+    ModeSense,
+    /// WRITE(6) of two such blocks.
+    Write,
+    Rewind,
+    Read,
+    Loss,
+    Reset,
+    /// A volume with TAG is put in, and one with OTHER.
+    In,
+    OtherIn,
+    /// The volume is taken out.
+    Out,
+    Drain,
+    /// Which volume is in the bay, and how many records there are.
+    Look,
+    /// Whether removal is prevented.
+    Prevention,
+    /// Which record is of a change of parameters, and whether it alone is.
+    Changes,
 }
 
-/// What it shows, who sends a command, the command with its data, and the status that it is answered with.
-type Row = (&'static str, Nexus, &'static [u8], &'static [u8], Status);
+/// A command with its data.
+const fn command_of(act: Act) -> (&'static [u8], &'static [u8]) {
+    match act {
+        Act::Prevent => (&[0x1e, 0, 0, 0, 1, 0], &[]),
+        Act::Allow => (&[0x1e, 0, 0, 0, 0, 0], &[]),
+        Act::ModeSelect => (
+            &[0x15, 0x10, 0, 0, 0x0c, 0],
+            b"\0\0\0\x08\0\0\0\0\0\0\x02\0",
+        ),
+        Act::ModeSense => (&[0x1a, 0, 0, 0, 0xff, 0], &[]),
+        Act::Write => (&[0x0a, 1, 0, 0, 2, 0], &[5; 1024]),
+        Act::Rewind => (&[1, 0, 0, 0, 0, 0], &[]),
+        Act::Read => (&[0x08, 1, 0, 0, 2, 0], &[]),
+        _ => (&[0; 6], &[]),
+    }
+}
 
-fn assert_statuses(rt: &impl Abort, alloc: Global, unit: &mut LogicalUnit<Device>, rows: &[Row]) {
+/// A word for what came of it, and a number: that of the record, 0 where there is none, or how many there are.
+type Found = (&'static str, u64);
+
+/// What it shows, who sends it, what comes to the unit, and what must come of it.
+type Row = (&'static str, Nexus, Act, &'static str, u64);
+
+fn word_of_sense(sense: &Sense) -> &'static str {
+    match (sense.key, sense.asc, sense.ascq) {
+        (6, 0x28, 0) => "medium changed",
+        (6, 0x29, 0) => "power on",
+        (6, 0x2a, 1) => "mode parameters changed",
+        _ => "other sense data",
+    }
+}
+
+fn word_of_reply(reply: &Reply) -> &'static str {
+    match (reply.status, &reply.sense) {
+        (Status::Good, None) => "GOOD",
+        (Status::Busy, None) => "BUSY",
+        (Status::CheckCondition, Some(sense)) => word_of_sense(sense),
+        _ => "another status",
+    }
+}
+
+fn word_of_fault(fault: MediumFault) -> &'static str {
+    match fault {
+        MediumFault::NotADrive => "not a drive",
+        MediumFault::Prevented => "prevented",
+        MediumFault::Empty => "empty",
+        MediumFault::Full => "full",
+        MediumFault::Busy => "busy",
+    }
+}
+
+fn word_of_tag(tag: Option<VolumeTag>) -> &'static str {
+    match tag {
+        None => "no volume",
+        Some(tag) if tag == TAG => "TAG",
+        Some(_) => "another volume",
+    }
+}
+
+/// A volume by its tag, how many objects there are, and where the tape stands.
+fn word_of_volume(volume: &Volume) -> &'static str {
+    let tape = &volume.tape;
+    match (volume.tag == TAG, tape.object_count(), tape.position()) {
+        (true, 0, 0) => "TAG",
+        (true, 2, 0) => "TAG with two objects",
+        _ => "another volume",
+    }
+}
+
+fn sent(alloc: Global, unit: &mut LogicalUnit<Device>, nexus: Nexus, act: Act) -> Found {
+    let (cdb, bytes) = command_of(act);
+    let reply = unit.execute(alloc, nexus, cdb, bytes);
+    (word_of_reply(&reply), reply.number)
+}
+
+fn put_in(alloc: Global, unit: &mut LogicalUnit<Device>, tag: VolumeTag) -> Found {
+    match unit.medium_in(volume(alloc, tag)) {
+        Ok(number) => ("in", number),
+        Err((back, fault)) if back.tag == tag => (word_of_fault(fault), 0),
+        Err(_) => ("another volume comes back", 0),
+    }
+}
+
+fn taken_out(unit: &mut LogicalUnit<Device>) -> Found {
+    match unit.medium_out() {
+        Ok((volume, number)) => (word_of_volume(&volume), number),
+        Err(fault) => (word_of_fault(fault), 0),
+    }
+}
+
+fn lost(unit: &mut LogicalUnit<Device>, nexus: Nexus) -> Found {
+    match unit.lose(nexus) {
+        Ok(number) => ("lost", number.unwrap_or(0)),
+        Err(Busy) => ("BUSY", 0),
+    }
+}
+
+fn reset(unit: &mut LogicalUnit<Device>) -> Found {
+    match unit.reset() {
+        Ok(number) => ("reset", number),
+        Err(Busy) => ("BUSY", 0),
+    }
+}
+
+fn drained(alloc: Global, unit: &mut LogicalUnit<Device>) -> Found {
+    ("drained", unit.drain(alloc).len() as u64)
+}
+
+fn looked_at(unit: &LogicalUnit<Device>) -> Found {
+    (word_of_tag(unit.held(0)), unit.records().len() as u64)
+}
+
+fn prevention(unit: &LogicalUnit<Device>) -> Found {
+    let word = if unit.prevented() {
+        "prevented"
+    } else {
+        "allowed"
+    };
+    (word, 0)
+}
+
+fn changes(unit: &LogicalUnit<Device>) -> Found {
+    let mut found = ("no record", 0);
+    for entry in unit.records() {
+        if entry.mode_changed {
+            found = match found {
+                (_, 0) => ("alone", entry.number),
+                _ => ("one of many", entry.number),
+            };
+        }
+    }
+    found
+}
+
+fn done(alloc: Global, unit: &mut LogicalUnit<Device>, nexus: Nexus, act: Act) -> Found {
+    match act {
+        Act::Loss => lost(unit, nexus),
+        Act::Reset => reset(unit),
+        Act::In => put_in(alloc, unit, TAG),
+        Act::OtherIn => put_in(alloc, unit, OTHER),
+        Act::Out => taken_out(unit),
+        Act::Drain => drained(alloc, unit),
+        Act::Look => looked_at(unit),
+        Act::Prevention => prevention(unit),
+        Act::Changes => changes(unit),
+        _ => sent(alloc, unit, nexus, act),
+    }
+}
+
+fn assert_rows(rt: &impl Abort, alloc: Global, unit: &mut LogicalUnit<Device>, rows: &[Row]) {
     for row in rows {
-        let (shows, nexus, cdb, bytes, expected) = *row;
-        let status = unit.execute(alloc, nexus, cdb, bytes).status;
-        assert_same(rt, status, expected, shows);
+        let (shows, nexus, act, word, number) = *row;
+        assert_same(rt, done(alloc, unit, nexus, act), (word, number), shows);
     }
 }
 
-const GOOD: Status = Status::Good;
+/// Rows of an empty drive, whose first record is numbered after `last`.
+fn assert_at_a_drive(rt: &impl Abort, alloc: Global, last: u64, rows: &[Row]) -> Result<(), Fail> {
+    assert_rows(rt, alloc, &mut drive_after(alloc, last)?, rows);
+    Ok(())
+}
 
-const TOLD: Status = Status::CheckCondition;
+/// Rows of a changer.
+fn assert_at_a_changer(
+    rt: &impl Abort,
+    alloc: Global,
+    last: u64,
+    rows: &[Row],
+) -> Result<(), Fail> {
+    assert_rows(rt, alloc, &mut changer_after(alloc, last)?, rows);
+    Ok(())
+}
 
-const CHANGES: [Row; 6] = [
-    ("A's change", A, MODE_SELECT, BLOCKS_OF_512, GOOD),
-    ("B is told of it", B, TEST_UNIT_READY, &[], TOLD),
-    ("A is not", A, TEST_UNIT_READY, &[], GOOD),
-    ("B looks", B, MODE_SENSE, &[], GOOD),
-    ("B changes nothing", B, MODE_SELECT, BLOCKS_OF_512, GOOD),
-    ("A is told of nothing", A, TEST_UNIT_READY, &[], GOOD),
+const CHANGES: [Row; 11] = [
+    ("a volume", A, Act::In, "in", 1),
+    ("A makes contact", A, Act::Ready, "power on", 2),
+    ("B makes contact", B, Act::Ready, "power on", 3),
+    ("A's change", A, Act::ModeSelect, "GOOD", 4),
+    (
+        "B is told of it",
+        B,
+        Act::Ready,
+        "mode parameters changed",
+        5,
+    ),
+    ("A is not", A, Act::Ready, "GOOD", 6),
+    ("B looks", B, Act::ModeSense, "GOOD", 7),
+    ("B changes nothing", B, Act::ModeSelect, "GOOD", 8),
+    ("A is told of nothing", A, Act::Ready, "GOOD", 9),
+    ("the fourth alone", A, Act::Changes, "alone", 4),
+    ("records", A, Act::Look, "TAG", 9),
 ];
 
 #[test]
 fn mode_select_is_recorded_as_a_change_only_where_it_is_one(rt: HostRuntime) -> Result<(), Fail> {
-    let mut unit = drive(rt.alloc())?;
-    assert_statuses(&rt, rt.alloc(), &mut unit, &CHANGES);
-    for entry in unit.records() {
-        let expected = entry.number == 4;
-        assert_same(&rt, entry.mode_changed, expected, "the fourth alone");
-    }
-    assert_same(&rt, unit.records().len(), 9, "records");
-    Ok(())
+    assert_at_a_drive(&rt, rt.alloc(), 0, &CHANGES)
 }
 
-const WRITING: [Row; 4] = [
-    ("blocks of 512 bytes", A, MODE_SELECT, BLOCKS_OF_512, GOOD),
-    ("two of them", A, WRITE_2, &[5; 1024], GOOD),
-    ("rewound", A, REWIND, &[], GOOD),
-    ("read", A, READ_2, &[], GOOD),
+const WRITING: [Row; 9] = [
+    ("a volume", A, Act::In, "in", 1),
+    ("A makes contact", A, Act::Ready, "power on", 2),
+    ("B makes contact", B, Act::Ready, "power on", 3),
+    ("blocks of 512 bytes", A, Act::ModeSelect, "GOOD", 4),
+    ("two of them", A, Act::Write, "GOOD", 5),
+    ("rewound", A, Act::Rewind, "GOOD", 6),
+    ("read", A, Act::Read, "GOOD", 7),
+    ("the volume", A, Act::Out, "TAG with two objects", 8),
+    ("the drive is empty", A, Act::Look, "no volume", 8),
 ];
-
-/// What is compared of a volume that came out: its tag, how many objects there are, and where the tape stands.
-fn shown_of(volume: &Volume) -> (VolumeTag, u32, u32) {
-    let tape = &volume.tape;
-    (volume.tag, tape.object_count(), tape.position())
-}
 
 #[test]
 fn medium_out_gives_the_volume_as_it_was_written(rt: HostRuntime) -> Result<(), Fail> {
-    let mut unit = drive(rt.alloc())?;
-    assert_statuses(&rt, rt.alloc(), &mut unit, &WRITING);
-    let Ok((volume, number)) = unit.medium_out() else {
-        return Err("no volume came out".into());
-    };
-    assert_same(&rt, number, 8, "the number of the record");
-    assert_same(&rt, shown_of(&volume), (TAG, 2, 0), "the volume");
-    assert_same(&rt, unit.held(0), None, "the drive is empty");
-    Ok(())
+    assert_at_a_drive(&rt, rt.alloc(), 0, &WRITING)
 }
 
+const FULL: [Row; 3] = [
+    ("a volume", A, Act::In, "in", 1),
+    ("on another", A, Act::OtherIn, "full", 0),
+    ("the drive is as it was", A, Act::Look, "TAG", 1),
+];
+
+const NOT_A_DRIVE: [Row; 3] = [
+    ("into a changer", A, Act::OtherIn, "not a drive", 0),
+    ("out of a changer", A, Act::Out, "not a drive", 0),
+    ("records of the changer", A, Act::Look, "no volume", 0),
+];
+
 #[test]
-fn test_unit_ready_to_an_absent_unit_has_no_number(rt: HostRuntime) -> Result<(), Fail> {
-    let alloc = rt.alloc();
-    let mut core = target(alloc, changer(alloc)?, empty_drive(alloc, 0)?)?;
-    let event = Event::Command {
-        nexus: A,
-        lun: 9,
-        cdb: ArrayVec::try_from([0; 6].as_slice())?,
-        bytes: Vec::new(alloc),
-    };
-    let reply = core.step(alloc, &event);
-    let answer = (reply.status, reply.number);
-    assert_same(&rt, answer, (Status::CheckCondition, 0), "the answer");
-    for unit in core.all() {
-        assert_same(&rt, unit.records().len(), 0, "records");
-    }
-    Ok(())
+fn medium_in_hands_back_what_it_refuses(rt: HostRuntime) -> Result<(), Fail> {
+    assert_at_a_drive(&rt, rt.alloc(), 0, &FULL)?;
+    assert_at_a_changer(&rt, rt.alloc(), 0, &NOT_A_DRIVE)
+}
+
+const PREVENTED: [Row; 12] = [
+    ("of an empty drive", A, Act::Out, "empty", 0),
+    ("B makes contact", B, Act::Ready, "power on", 1),
+    ("B prevents removal", B, Act::Prevent, "GOOD", 2),
+    ("of it again", A, Act::Out, "prevented", 0),
+    ("a volume goes in", A, Act::In, "in", 3),
+    ("it doesn't come out", A, Act::Out, "prevented", 0),
+    ("it is there", A, Act::Look, "TAG", 3),
+    ("B is told of it", B, Act::Ready, "medium changed", 4),
+    ("B allows removal", B, Act::Allow, "GOOD", 5),
+    ("it comes out", A, Act::Out, "TAG", 6),
+    ("it is gone", A, Act::Out, "empty", 0),
+    ("the drive is empty", A, Act::Look, "no volume", 6),
+];
+
+#[test]
+fn medium_out_is_refused_while_removal_is_prevented(rt: HostRuntime) -> Result<(), Fail> {
+    assert_at_a_drive(&rt, rt.alloc(), 0, &PREVENTED)
+}
+
+const NO_NUMBER_FOR_IN: [Row; 4] = [
+    (
+        "the last number",
+        A,
+        Act::Ready,
+        "power on",
+        18_446_744_073_709_551_615,
+    ),
+    ("no number is left", A, Act::In, "busy", 0),
+    ("nothing went in", A, Act::Out, "empty", 0),
+    ("the drive is empty", A, Act::Look, "no volume", 1),
+];
+
+#[test]
+fn medium_in_is_busy_behind_the_last_number(rt: HostRuntime) -> Result<(), Fail> {
+    assert_at_a_drive(&rt, rt.alloc(), BEFORE_THE_LAST, &NO_NUMBER_FOR_IN)
+}
+
+const NO_NUMBER_FOR_OUT: [Row; 3] = [
+    (
+        "by the last number",
+        A,
+        Act::In,
+        "in",
+        18_446_744_073_709_551_615,
+    ),
+    ("no number is left", A, Act::Out, "busy", 0),
+    ("the volume is there", A, Act::Look, "TAG", 1),
+];
+
+#[test]
+fn medium_out_is_busy_behind_the_last_number(rt: HostRuntime) -> Result<(), Fail> {
+    assert_at_a_drive(&rt, rt.alloc(), BEFORE_THE_LAST, &NO_NUMBER_FOR_OUT)
+}
+
+/// The next record has the last number that there is.
+const BEFORE_THE_LAST: u64 = 18_446_744_073_709_551_614;
+
+const NO_NUMBER: [Row; 5] = [
+    (
+        "the last",
+        A,
+        Act::Ready,
+        "power on",
+        18_446_744_073_709_551_615,
+    ),
+    ("behind it", A, Act::Ready, "BUSY", 0),
+    ("a loss", A, Act::Loss, "BUSY", 0),
+    ("a reset", A, Act::Reset, "BUSY", 0),
+    ("records", A, Act::Look, "no volume", 1),
+];
+
+#[test]
+fn test_unit_ready_is_busy_behind_the_last_number(rt: HostRuntime) -> Result<(), Fail> {
+    assert_at_a_changer(&rt, rt.alloc(), BEFORE_THE_LAST, &NO_NUMBER)
+}
+
+const DRAINED: [Row; 8] = [
+    ("A makes contact", A, Act::Ready, "power on", 1),
+    ("B makes contact", B, Act::Ready, "power on", 2),
+    ("at first", A, Act::Prevention, "allowed", 0),
+    ("B prevents removal", B, Act::Prevent, "GOOD", 3),
+    ("records", A, Act::Drain, "drained", 3),
+    ("behind the drain", A, Act::Prevention, "prevented", 0),
+    ("B allows removal", B, Act::Allow, "GOOD", 4),
+    ("allowed again", A, Act::Prevention, "allowed", 0),
+];
+
+/// A prevention of medium removal stands beside the records.
+#[test]
+fn prevention_outlasts_a_drain(rt: HostRuntime) -> Result<(), Fail> {
+    assert_at_a_changer(&rt, rt.alloc(), 0, &DRAINED)
 }

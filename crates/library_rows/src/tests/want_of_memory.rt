@@ -1,20 +1,21 @@
 //! A device that wants memory at chosen calls: BUSY, nothing has changed, and the numbers of records
 //! go on.
 
-use super::targets::target;
-use super::{A, assert_same, empty_changer};
-use arrayvec::ArrayVec;
+use super::targets::{ready_at, records_of, target};
+use super::{assert_same, empty_changer};
 use device_server::{BadPlace, DeviceServer, Outcome, PutFault, TakeFault};
 use library_device::{Device, unit_at};
+use logical_unit::{LogicalUnit, Reply};
 use output_lines::{Audit, Explanations};
 use replay::replay;
 use scsi_cdb::{Kind, Request};
 use scsi_sense::Status;
 use std::alloc::{AllocError, Global};
+use std::process::Abort;
 use std::test::Fail;
 use tape_medium::{Volume, VolumeTag};
 use tape_server::TapeDrive;
-use target_core::{Event, TargetCore};
+use target_core::TargetCore;
 
 /// A device that wants memory at its calls of these numbers, from 1 on, but of a MOVE MEDIUM, which takes none.
 #[derive(Drop)]
@@ -75,65 +76,80 @@ impl DeviceServer for WantingDevice {
     }
 }
 
+/// A device as a unit of two that wants memory at its calls of these numbers.
+fn wanting(
+    alloc: Global,
+    lun: u8,
+    device: Device,
+    first: u64,
+    last: u64,
+) -> Result<LogicalUnit<WantingDevice>, AllocError> {
+    let device = WantingDevice {
+        device,
+        calls: 0,
+        first,
+        last,
+    };
+    unit_at(alloc, lun, 2, device)
+}
+
 /// A target whose changer wants memory at its second call, and whose empty drive at every call.
 fn wanting_target(alloc: Global) -> Result<TargetCore<WantingDevice>, Fail> {
-    let changer = WantingDevice {
-        device: Device::Changer(empty_changer(alloc)?),
-        calls: 0,
-        first: 2,
-        last: 2,
-    };
-    let drive = WantingDevice {
-        device: Device::Tape(TapeDrive::new()),
-        calls: 0,
-        first: 1,
-        last: u64::MAX,
-    };
-    target(
-        alloc,
-        unit_at(alloc, 0, 2, changer)?,
-        unit_at(alloc, 1, 2, drive)?,
-    )
+    let changer = wanting(alloc, 0, Device::Changer(empty_changer(alloc)?), 2, 2)?;
+    let drive = wanting(alloc, 1, Device::Tape(TapeDrive::new()), 1, u64::MAX)?;
+    target(alloc, changer, drive)
 }
 
-/// So many TEST UNIT READYs of A at the changer.
-fn ready_again(alloc: Global, count: u8) -> Result<Vec<Event>, Fail> {
+/// Sends the changer so many TEST UNIT READYs of A.
+fn run_ready(
+    alloc: Global,
+    core: &mut TargetCore<WantingDevice>,
+    count: u8,
+    replies: &mut Vec<Reply>,
+) -> Result<(), Fail> {
     let mut events = Vec::new(alloc);
     for _ in 0..count {
-        events.push(Event::Command {
-            nexus: A,
-            lun: 0,
-            cdb: ArrayVec::try_from([0; 6].as_slice())?,
-            bytes: Vec::new(alloc),
-        })?;
+        events.push(ready_at(alloc, 0)?)?;
     }
-    Ok(events)
+    core.run(alloc, &events, replies)?;
+    Ok(())
 }
 
-/// What the five are answered, and the numbers of their records.
-const ANSWERS: [(Status, u64); 5] = [
-    (Status::CheckCondition, 1),
-    (Status::Good, 2),
-    (Status::Busy, 0),
-    (Status::Good, 3),
-    (Status::Good, 4),
+/// The status of a reply, and the number of its record.
+fn answer_at(replies: &[Reply], place: usize) -> Option<(Status, u64)> {
+    match replies.get(place) {
+        Some(reply) => Some((reply.status, reply.number)),
+        None => None,
+    }
+}
+
+/// The place of a reply, its status, and the number of its record.
+const ANSWERS: [(usize, Status, u64); 5] = [
+    (0, Status::CheckCondition, 1),
+    (1, Status::Good, 2),
+    (2, Status::Busy, 0),
+    (3, Status::Good, 3),
+    (4, Status::Good, 4),
 ];
+
+fn assert_replies(rt: &impl Abort, replies: &[Reply]) {
+    for row in &ANSWERS {
+        let (place, status, number) = *row;
+        let answer = answer_at(replies, place);
+        assert_same(rt, answer, Some((status, number)), "a reply");
+    }
+    assert_same(rt, replies.len(), 5, "replies");
+}
 
 #[test]
 fn execute_is_busy_for_want_of_memory(rt: HostRuntime) -> Result<(), Fail> {
-    let alloc = rt.alloc();
-    let mut core = wanting_target(alloc)?;
-    let events = ready_again(alloc, 5)?;
-    let mut replies = Vec::new(alloc);
-    core.run(alloc, &events, &mut replies)?;
-    for (reply, expected) in replies.iter().zip(ANSWERS) {
-        assert_same(&rt, (reply.status, reply.number), expected, "a reply");
-    }
+    let mut core = wanting_target(rt.alloc())?;
+    let mut replies = Vec::new(rt.alloc());
+    run_ready(rt.alloc(), &mut core, 5, &mut replies)?;
     // No events have no replies, and change nothing.
-    core.run(alloc, &[], &mut replies)?;
-    assert_same(&rt, replies.len(), 5, "replies");
-    let changer = core.all().first().ok_or("no unit")?;
-    assert_same(&rt, changer.records().len(), 4, "records");
+    run_ready(rt.alloc(), &mut core, 0, &mut replies)?;
+    assert_replies(&rt, &replies);
+    assert_same(&rt, records_of(&core), 4, "records");
     Ok(())
 }
 

@@ -2,16 +2,13 @@
 
 use super::opened::Opened;
 use kept_unit::EventKind;
-use library_device::Device;
 use logical_unit::{Receipt, Reply};
-use lun_router::Histories;
 use scsi_nexus::Nexus;
 use scsi_sense::Status;
 use std::alloc::Global;
 use std::fmt::Debug;
 use std::process::Abort;
 use std::sync::Wait;
-use std::test::Fail;
 
 pub(super) const A: Nexus = Nexus {
     sas: 0x5000_0000_0000_000A,
@@ -136,11 +133,6 @@ pub(super) const DONE: Answer = Answer::Good(Data::None);
 /// must leave, where that is looked at.
 pub(super) type Row = (&'static str, Nexus, u8, Ask, Answer, Option<usize>);
 
-/// The one of the two nexuses that a thread or a seat has, by its place.
-pub(super) fn nexus_at(place: usize) -> Nexus {
-    if place == 0 { A } else { B }
-}
-
 /// Compares what was found with what is expected. Each `assert_eq!` costs the proof of the function that it stands in some
 /// ten times this call.
 pub(super) fn assert_same<T: Copy + PartialEq + Debug>(
@@ -212,17 +204,5 @@ pub(super) fn ask_all<T: Opened, R: Abort + Wait>(
 ) {
     for row in rows {
         ask_one(rt, alloc, library, seat, row);
-    }
-}
-
-/// Closes a library, which has to be closed.
-pub(super) fn close<T: Opened>(
-    alloc: Global,
-    library: T,
-    seats: Vec<T::Seat>,
-) -> Result<Histories<Device>, Fail> {
-    match library.close(alloc, seats) {
-        Ok(histories) => Ok(histories),
-        Err(_) => Err("the library is not closed".into()),
     }
 }

@@ -4,9 +4,9 @@ ghost use Rattle.logical_unit.specs.UnitView.{units_of};
 ghost use Rattle.lun_router.specs.Opening.{IsSince};
 
 use super::gates::{Flags, TestGate};
-use super::opened::Opened;
+use super::playing::play;
+use super::scenes::Scene;
 use super::targets::two_drives;
-use super::{attending, rows, scenes, settling};
 use kept_unit::UnitLedger;
 use library_device::Device;
 use lun_router::{Blanks, Library};
@@ -20,50 +20,8 @@ use std::thread::Threads;
 use std::time::Clock;
 use target_core::TargetCore;
 
-/// What is done with an open library and its seats.
-#[derive(Clone, Copy, Debug, PartialEq, Eq)]
-pub(super) enum Scene {
-    TwoDrives,
-    Drains,
-    HeldUnit,
-    EverySeat,
-    Moving,
-    LossAndReset,
-    SharedDrive,
-    FullSlots,
-    Settling,
-    SettledMoves,
-    Attended,
-}
-
 /// How many seats the libraries have.
 const SEATS: usize = 2;
-
-fn play<T: Opened + Sync, R: Abort + Clock + Threads + Wait + Sync>(
-    rt: &R,
-    alloc: Global,
-    library: T,
-    seats: Vec<T::Seat>,
-    flags: &Flags,
-    scene: Scene,
-) -> Result<(), Fail>
-where
-    T::Seat: Send,
-{
-    match scene {
-        Scene::TwoDrives => scenes::ready_at_two_drives(rt, alloc, library, seats),
-        Scene::Drains => scenes::drain_between(rt, alloc, library, seats),
-        Scene::HeldUnit => scenes::hold_one_unit(rt, alloc, library, seats, flags),
-        Scene::EverySeat => scenes::close_with_a_seat_missing(rt, alloc, library, seats),
-        Scene::Moving => scenes::move_volumes(rt, alloc, library, seats),
-        Scene::LossAndReset => rows::lose_and_reset(rt, alloc, library, seats),
-        Scene::SharedDrive => rows::share_a_drive(rt, alloc, library, seats),
-        Scene::FullSlots => rows::fill_the_slots(rt, alloc, library, seats),
-        Scene::Settling => settling::settle_between(rt, alloc, library, seats),
-        Scene::SettledMoves => settling::settle_moves(rt, alloc, library, seats),
-        Scene::Attended => attending::attend_units(rt, alloc, library, seats),
-    }
-}
 
 fn day<
     L0: UnitLedger + Send + Sync,

@@ -2,11 +2,13 @@
 
 use super::attending::Looks;
 use super::gates::TestGate;
+use super::numbers::with_number;
 use kept_unit::{Done, EventKind, NumberRange, UnitLedger};
 use library_device::Device;
 use lun_router::{CloseFault, Histories, Library, Seat};
 use scsi_nexus::Nexus;
 use std::alloc::{AllocError, Global};
+use std::process::Abort;
 use std::sync::Wait;
 
 /// What a library ends as: its histories, or itself and its seats again.
@@ -34,12 +36,7 @@ pub(super) trait Opened: Sized + Drop {
     fn attend<R: Wait>(&self, rt: &R, lun: u8, looks: &mut Looks) -> bool;
 
     /// The numbers of the records that a unit hands out, if it is there.
-    fn drained<R: Wait>(
-        &self,
-        rt: &R,
-        alloc: Global,
-        lun: u8,
-    ) -> Result<Option<Vec<u64>>, AllocError>;
+    fn drained<R: Abort + Wait>(&self, rt: &R, alloc: Global, lun: u8) -> Option<u128>;
 
     fn close(self, alloc: Global, seats: Vec<Self::Seat>) -> Closed<Self, Self::Seat>;
 
@@ -85,20 +82,13 @@ impl<'a, L0: UnitLedger, L1: UnitLedger, L2: UnitLedger, L3: UnitLedger, L4: Uni
         Library::attend(self, rt, lun, looks)
     }
 
-    fn drained<R: Wait>(
-        &self,
-        rt: &R,
-        alloc: Global,
-        lun: u8,
-    ) -> Result<Option<Vec<u64>>, AllocError> {
-        let Some(records) = self.drain(rt, alloc, lun) else {
-            return Ok(None);
-        };
-        let mut numbers = Vec::new(alloc);
+    fn drained<R: Abort + Wait>(&self, rt: &R, alloc: Global, lun: u8) -> Option<u128> {
+        let records = self.drain(rt, alloc, lun)?;
+        let mut numbers = 0;
         for entry in &records {
-            numbers.push(entry.number)?;
+            numbers = with_number(rt, numbers, entry.number);
         }
-        Ok(Some(numbers))
+        Some(numbers)
     }
 
     fn close(

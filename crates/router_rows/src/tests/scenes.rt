@@ -1,339 +1,360 @@
-//! Scenes of two threads, each with a seat of its own.
+//! Scenes, with what they must be answered and what they must leave.
 
-use super::asking::{
-    A, Ask, B, DONE, NO_MEDIUM, POWER_ON, Row, ask_all, ask_one, assert_same, close, nexus_at,
+use super::asking::{A, Answer, Ask, B, DONE, Data, NO_MEDIUM, POWER_ON, Row};
+use super::attending::{Asked, NOTHING};
+use super::parts::Part;
+use super::playing::{Closing, Plan, Room};
+use super::settling::{NONE, Settled};
+
+/// The numbers of so many records.
+const UP_TO_16: u128 = 0xFFFF;
+
+const UP_TO_17: u128 = 0x1_FFFF;
+
+const UP_TO_100: u128 = 0xF_FFFF_FFFF_FFFF_FFFF_FFFF_FFFF;
+
+const UP_TO_128: u128 = u128::MAX;
+
+/// A scene in which nothing is done, which leaves no record.
+const QUIET: Plan = Plan {
+    ports: 0,
+    acts: &[],
+    rooms: &[],
+    sights: &[],
+    part: None,
+    closing: Closing::AtOnce,
+    records: (0, 0, 0),
 };
-use super::gates::Flags;
-use super::opened::Opened;
-use library_device::Device;
-use logical_unit::LogicalUnit;
-use lun_router::{CloseFault, Histories};
-use scsi_nexus::Nexus;
-use std::alloc::{AllocError, Global};
-use std::process::Abort;
-use std::sync::atomic::Ordering;
-use std::sync::{Mutex, Wait};
-use std::test::Fail;
-use std::thread;
-use std::thread::Threads;
-use std::time::Clock;
 
-/// What each of two threads does with its seat.
-#[derive(Clone, Copy)]
-enum Part<'a> {
-    /// It asks both drives, and drains them halfway if there is somewhere to note the numbers.
-    Asks(Option<&'a Drained>),
-    /// It waits for its turn.
-    Waits(&'a Flags),
-    /// It moves a volume.
-    Moves,
-}
+/// A volume came into the drive.
+const MEDIUM_CHANGED: Answer = Answer::Check(0x28, 0x00);
 
-/// One hundred TEST UNIT READYs, to drive 1 and drive 2 by turns, with a drain of both after the fiftieth, and what
-/// was drained settled, if there is somewhere to note the numbers that it hands out.
-fn ask_100_times<T: Opened, R: Abort + Wait>(
-    rt: &R,
-    alloc: Global,
-    library: &T,
-    seat: &mut T::Seat,
-    nexus: Nexus,
-    drained: Option<&Drained>,
-) {
-    for turn in 0..100u8 {
-        let lun = 1 + turn % 2;
-        let (shows, answer) = if turn < 2 {
-            ("the first command at a drive", POWER_ON)
-        } else {
-            ("a later command at a drive", NO_MEDIUM)
-        };
-        let row = (shows, nexus, lun, Ask::Ready, answer, None);
-        ask_one(rt, alloc, library, seat, &row);
-        if turn == 49
-            && let Some(drained) = drained
-        {
-            let first = note_drained(rt, alloc, library, 1, &drained.first);
-            let second = note_drained(rt, alloc, library, 2, &drained.second);
-            T::settle(seat, &[0, first, second, 0, 0]).expect(rt, "memory");
-        }
-    }
-}
+const LOST: Answer = Answer::Check(0x29, 0x07);
 
-/// The numbers of the records that were handed out of the two drives.
-#[derive(Drop)]
-struct Drained {
-    first: Mutex<Vec<u64>>,
-    second: Mutex<Vec<u64>>,
-}
+const WAS_RESET: Answer = Answer::Check(0x29, 0x03);
 
-/// Drains a unit, and notes the numbers. The last of them, 0 where there is none: all up to it were handed out.
-fn note_drained<T: Opened, R: Abort + Wait>(
-    rt: &R,
-    alloc: Global,
-    library: &T,
-    lun: u8,
-    numbers: &Mutex<Vec<u64>>,
-) -> u64 {
-    let drained = library.drained(rt, alloc, lun).expect(rt, "memory");
-    let mut noted = numbers.lock(rt);
-    let mut last = 0;
-    for number in &drained.expect(rt, "a drive is drained") {
-        noted.push(*number).expect(rt, "memory");
-        last = *number;
-    }
-    last
-}
+/// Another host holds the drive.
+const CONFLICT: Answer = Answer::Conflict;
 
-/// How many records a unit has, if it is there.
-fn count_of(unit: &Option<LogicalUnit<Device>>) -> usize {
-    match unit {
-        Some(unit) => unit.records().len(),
-        None => 0,
-    }
-}
+const NO_UNIT: Answer = Answer::Check(0x25, 0x00);
 
-/// One command of each thread: that of the first to drive 1, whose gate waits for the answer of the second at drive 2,
-/// which is asked once the first is at its gate.
-fn ask_in_turn<T: Opened, R: Abort + Clock + Wait>(
-    rt: &R,
-    alloc: Global,
-    library: &T,
-    seat: &mut T::Seat,
-    place: usize,
-    flags: &Flags,
-) {
-    if place == 0 {
-        ask_one(rt, alloc, library, seat, &HELD);
-    } else {
-        flags.wait_until_entered(rt);
-        ask_one(rt, alloc, library, seat, &NOT_HELD);
-        flags.answered.store(true, Ordering::SeqCst);
-    }
-}
+const END_OF_DATA: Answer = Answer::Check(0x00, 0x05);
 
-const HELD: Row = (
-    "the first waits at its gate",
-    A,
-    1,
-    Ask::Ready,
-    POWER_ON,
-    None,
-);
+const BLOCK: Answer = Answer::Good(Data::BlockOfA);
 
-const NOT_HELD: Row = ("the second doesn't", B, 2, Ask::Ready, POWER_ON, None);
+const BEHIND_ONE: Answer = Answer::Good(Data::BehindOne);
 
-const FIRST_MOVES: [Row; 2] = [
-    ("into drive 1", A, 0, Ask::ToDrive1, DONE, Some(2)),
-    ("out of drive 1", A, 0, Ask::FromDrive1, DONE, Some(2)),
+const TWO_KEYS: Answer = Answer::Good(Data::TwoKeys);
+
+const NO_INQUIRY: Answer = Answer::Good(Data::NoInquiry);
+
+/// The two nexuses at drive 1, at the first seat and at the second.
+const FIRST_CONTACTS: [Row; 2] = [
+    ("A's first command", A, 1, Ask::Ready, POWER_ON, None),
+    ("B's first command", B, 1, Ask::Ready, POWER_ON, None),
 ];
 
-const SECOND_MOVES: [Row; 2] = [
-    ("into drive 2", B, 0, Ask::ToDrive2, DONE, Some(2)),
-    ("out of drive 2", B, 0, Ask::FromDrive2, DONE, Some(2)),
+const SECOND_CONTACTS: [Row; 2] = [
+    ("A at the second seat", A, 1, Ask::Ready, NO_MEDIUM, None),
+    ("B at the second seat", B, 1, Ask::Ready, NO_MEDIUM, None),
 ];
 
-/// Moves a volume into a drive and back, fifty times: thread 0 that of 0400h by drive 1, thread 1 that of 0401h by
-/// drive 2.
-fn move_back_and_forth<T: Opened, R: Abort + Wait>(
-    rt: &R,
-    alloc: Global,
-    library: &T,
-    seat: &mut T::Seat,
-    place: usize,
-) {
-    let nexus = nexus_at(place);
-    let contact = ("at the changer", nexus, 0, Ask::Ready, POWER_ON, None);
-    ask_one(rt, alloc, library, seat, &contact);
-    let moves = if place == 0 {
-        FIRST_MOVES
-    } else {
-        SECOND_MOVES
-    };
-    for _turn in 0..50u8 {
-        ask_all(rt, alloc, library, seat, &moves);
-    }
-}
+const LOST_AND_RESET: [Row; 9] = [
+    ("nothing is lost yet", A, 1, Ask::Ready, NO_MEDIUM, None),
+    ("A is lost at drive 1", A, 1, Ask::Loss, DONE, Some(1)),
+    ("A is told of its loss", A, 1, Ask::Ready, LOST, None),
+    ("a loss where A never was", A, 2, Ask::Loss, DONE, Some(0)),
+    ("a reset of drive 1", A, 1, Ask::Reset, DONE, None),
+    ("A is told of the reset", A, 1, Ask::Ready, WAS_RESET, None),
+    ("B is told of the reset", B, 1, Ask::Ready, WAS_RESET, None),
+    ("a loss at no unit", A, 9, Ask::Loss, NO_UNIT, None),
+    ("a reset of no unit", A, 3, Ask::Reset, NO_UNIT, None),
+];
 
-/// What a thread does with the seat at a place.
-fn play_part<T: Opened, R: Abort + Clock + Wait>(
-    rt: &R,
-    alloc: Global,
-    library: &T,
-    seat: &mut T::Seat,
-    place: usize,
-    part: Part<'_>,
-) {
-    match part {
-        Part::Asks(drained) => {
-            ask_100_times(rt, alloc, library, seat, nexus_at(place), drained);
-        }
-        Part::Waits(flags) => ask_in_turn(rt, alloc, library, seat, place, flags),
-        Part::Moves => move_back_and_forth(rt, alloc, library, seat, place),
-    }
-}
+const SHARING: [Row; 20] = [
+    ("A at the changer", A, 0, Ask::Ready, POWER_ON, None),
+    ("A at the drive", A, 1, Ask::Ready, POWER_ON, None),
+    ("B at the drive", B, 1, Ask::Ready, POWER_ON, None),
+    ("a volume comes in", A, 0, Ask::ToDrive1, DONE, None),
+    ("A is told of it", A, 1, Ask::Ready, MEDIUM_CHANGED, None),
+    ("B is told of it", B, 1, Ask::Ready, MEDIUM_CHANGED, None),
+    ("A writes", A, 1, Ask::WriteOfA, DONE, None),
+    ("A rewinds", A, 1, Ask::Rewind, DONE, None),
+    ("A registers", A, 1, Ask::Register1, DONE, None),
+    ("B registers", B, 1, Ask::Register2, DONE, None),
+    ("B is shown both keys", B, 1, Ask::ReadKeys, TWO_KEYS, None),
+    ("A reserves", A, 1, Ask::Reserve, DONE, None),
+    ("B reads", B, 1, Ask::Read, BLOCK, None),
+    ("B must not write", B, 1, Ask::WriteOfB, CONFLICT, Some(1)),
+    (
+        "where B has read",
+        A,
+        1,
+        Ask::ReadPosition,
+        BEHIND_ONE,
+        None,
+    ),
+    ("B has written nothing", A, 1, Ask::Read, END_OF_DATA, None),
+    ("A rewinds again", A, 1, Ask::Rewind, DONE, None),
+    ("A's block is as it was", A, 1, Ask::Read, BLOCK, None),
+    ("no unit is ready", A, 9, Ask::Ready, NO_UNIT, None),
+    ("no unit is here", A, 9, Ask::Inquiry, NO_INQUIRY, Some(0)),
+];
 
-/// Two threads play their part, each with a seat.
-fn play_in_threads<T: Opened + Sync, R: Abort + Clock + Threads + Wait + Sync>(
-    rt: &R,
-    alloc: Global,
-    library: &T,
-    seats: &mut [T::Seat],
-    part: Part<'_>,
-)
-where
-    T::Seat: Send,
-{
-    thread::for_each_mut(
-        rt,
-        seats,
-        2,
-        &|place, seat| play_part(rt, alloc, library, seat, place, part),
-    );
-}
+const NO_SLOT: [Row; 1] = [("B finds no slot", B, 1, Ask::Ready, Answer::Busy, Some(0))];
 
-/// Compares how many records the changer and the two drives have.
-fn assert_counts(rt: &impl Abort, histories: &Histories<Device>, counts: [usize; 3]) {
-    let found = [
-        histories.changer.records().len(),
-        histories.first.records().len(),
-        count_of(&histories.second),
-    ];
-    assert_same(
-        rt,
-        found,
-        counts,
-        "records of the changer and of the drives",
-    );
-}
-
-/// Both threads ask both drives. The trails have a record for each command, and agree.
-pub(super) fn ready_at_two_drives<T: Opened + Sync, R: Abort + Clock + Threads + Wait + Sync>(
-    rt: &R,
-    alloc: Global,
-    library: T,
-    mut seats: Vec<T::Seat>,
-) -> Result<(), Fail>
-where
-    T::Seat: Send,
-{
-    play_in_threads(rt, alloc, &library, seats.as_mut_slice(), Part::Asks(None));
-    assert_same(rt, library.units(), 3, "units");
-    let histories = close(alloc, library, seats)?;
-    assert_same(rt, histories.third.is_none(), true, "no third drive");
-    assert_counts(rt, &histories, [0, 100, 100]);
-    Ok(())
-}
-
-/// The numbers that were handed out, and then those that are left, are 1 to 100.
-fn assert_all_numbers<R: Abort>(
-    rt: &R,
-    mut drained: Vec<u64>,
-    left: &LogicalUnit<Device>,
-) -> Result<(), AllocError> {
-    assert_same(rt, drained.is_empty(), false, "nothing was drained");
-    drained.sort()?;
-    for entry in left.records() {
-        drained.push(entry.number)?;
-    }
-    assert_same(rt, drained.len(), 100, "numbers");
-    for (number, expected) in drained.iter().zip(1..) {
-        assert_same(rt, *number, expected, "a number");
-    }
-    Ok(())
-}
-
-/// The same with drains of both drives in each thread.
-pub(super) fn drain_between<T: Opened + Sync, R: Abort + Clock + Threads + Wait + Sync>(
-    rt: &R,
-    alloc: Global,
-    library: T,
-    mut seats: Vec<T::Seat>,
-) -> Result<(), Fail>
-where
-    T::Seat: Send,
-{
-    let drained = Drained {
-        first: Mutex::new(Vec::new(alloc)),
-        second: Mutex::new(Vec::new(alloc)),
-    };
-    let part = Part::Asks(Some(&drained));
-    play_in_threads(rt, alloc, &library, seats.as_mut_slice(), part);
-    let nothing = library.drained(rt, alloc, 9)?;
-    assert_same(rt, nothing.is_none(), true, "no unit 9");
-    let histories = close(alloc, library, seats)?;
-    let Drained { first, second } = drained;
-    assert_all_numbers(rt, first.into_inner(), &histories.first)?;
-    match &histories.second {
-        Some(drive) => assert_all_numbers(rt, second.into_inner(), drive)?,
-        None => return Err("no second drive".into()),
-    }
-    Ok(())
-}
-
-pub(super) fn hold_one_unit<T: Opened + Sync, R: Abort + Clock + Threads + Wait + Sync>(
-    rt: &R,
-    alloc: Global,
-    library: T,
-    mut seats: Vec<T::Seat>,
-    flags: &Flags,
-) -> Result<(), Fail>
-where
-    T::Seat: Send,
-{
-    play_in_threads(
-        rt,
-        alloc,
-        &library,
-        seats.as_mut_slice(),
-        Part::Waits(flags),
-    );
-    close(alloc, library, seats)?;
-    Ok(())
-}
+/// Whether a nexus has a slot at a unit, or finds one, where A's 128 ports have all of drive 1's.
+const ROOMS: [Room; 4] = [
+    ("A has a slot", A, 1, true),
+    ("B has none", B, 1, false),
+    ("B finds one at the changer", B, 0, true),
+    ("no unit wants no slot", B, 9, true),
+];
 
 /// One command at each seat.
-const AT_EACH_SEAT: [Row; 2] = [
-    ("at the first seat", A, 0, Ask::Ready, POWER_ON, Some(1)),
-    ("at the second seat", A, 0, Ask::Ready, DONE, Some(1)),
+const AT_THE_FIRST: [Row; 1] = [("at the first seat", A, 0, Ask::Ready, POWER_ON, Some(1))];
+
+const AT_THE_SECOND: [Row; 1] = [("at the second seat", A, 0, Ask::Ready, DONE, Some(1))];
+
+/// Records 1 to 4 of drive 1: B's is the second of them.
+const A_FIRST: [Row; 1] = [("A's first command", A, 1, Ask::Ready, POWER_ON, None)];
+
+const B_ONCE: [Row; 1] = [("B's first command", B, 1, Ask::Ready, POWER_ON, None)];
+
+const A_TWICE: [Row; 2] = [
+    ("A again", A, 1, Ask::Ready, NO_MEDIUM, Some(1)),
+    ("and again", A, 1, Ask::Ready, NO_MEDIUM, Some(1)),
 ];
 
-/// A command at each seat; then the library is closed with one seat, which is refused, and with both.
-pub(super) fn close_with_a_seat_missing<T: Opened, R: Abort + Wait>(
-    rt: &R,
-    alloc: Global,
-    library: T,
-    mut seats: Vec<T::Seat>,
-) -> Result<(), Fail> {
-    for (seat, row) in seats.iter_mut().zip(&AT_EACH_SEAT) {
-        ask_one(rt, alloc, &library, seat, row);
-    }
-    let Some(last) = seats.pop() else {
-        return Err("no seat".into());
-    };
-    let Err((fault, library, mut seats)) = library.close(alloc, seats) else {
-        return Err("the library is closed with one seat of two".into());
-    };
-    assert_same(rt, fault, CloseFault::SeatMissing, "one seat of two");
-    assert_same(rt, seats.len(), 1, "seats that come back");
-    assert_same(rt, T::entries(&last), 1, "entries of the other seat");
-    seats.push(last)?;
-    let histories = close(alloc, library, seats)?;
-    let count = histories.changer.records().len();
-    assert_same(rt, count, 2, "records of the changer");
-    Ok(())
-}
+const A_TWICE_AND_NO_RECORD: [Row; 3] = [
+    ("A again", A, 1, Ask::Ready, NO_MEDIUM, Some(1)),
+    ("and again", A, 1, Ask::Ready, NO_MEDIUM, Some(1)),
+    ("a loss where A never was", A, 2, Ask::Loss, DONE, Some(0)),
+];
+
+const FOUR_SETTLED: [Settled; 2] = [
+    (
+        None,
+        [0; 5],
+        4,
+        [(1, NONE), (2, NONE)],
+        "nothing was drained",
+    ),
+    (
+        Some(1),
+        [0, 4, 0, 0, 0],
+        0,
+        [(1, (2, (1, 1), (3, 4))), (2, NONE)],
+        "A's, and of no other unit",
+    ),
+];
+
+const OF_B: [Settled; 1] = [(
+    None,
+    [0, 4, 0, 0, 0],
+    0,
+    [(1, (1, (2, 2), (0, 0))), (2, NONE)],
+    "B's",
+)];
+
+const ONE_JOINED: [Settled; 1] = [(
+    None,
+    [0, 5, 0, 0, 0],
+    1,
+    [(1, (2, (1, 1), (3, 5))), (2, NONE)],
+    "one is joined, and record 6 isn't drained",
+)];
+
+/// Records 1 and 2 of the changer, of which the second is also record 1 of drive 1.
+const A_MOVES: [Row; 2] = [
+    ("A at the changer", A, 0, Ask::Ready, POWER_ON, Some(1)),
+    ("into drive 1", A, 0, Ask::ToDrive1, DONE, Some(2)),
+];
+
+const MOVES_SETTLED: [Settled; 2] = [
+    (
+        Some(0),
+        [2, 0, 0, 0, 0],
+        1,
+        [(0, (1, (1, 1), (0, 0))), (1, NONE)],
+        "before the move: the drive isn't drained",
+    ),
+    (
+        Some(1),
+        [2, 1, 0, 0, 0],
+        0,
+        [(0, (1, (1, 2), (0, 0))), (1, (1, (1, 1), (0, 0)))],
+        "of the changer and of the drive: both are drained",
+    ),
+];
+
+/// The volume of 0400h goes into drive 1.
+const INTO_DRIVE_1: [Row; 2] = [
+    ("at the changer", A, 0, Ask::Ready, POWER_ON, None),
+    ("into drive 1", A, 0, Ask::ToDrive1, DONE, None),
+];
+
+const ASKED: [Asked; 6] = [
+    (0, true, "a changer", 1, "the changer"),
+    (
+        1,
+        true,
+        "a drive with a volume",
+        1,
+        "the drive with a volume",
+    ),
+    (2, true, "an empty drive", 1, "the drive without one"),
+    (3, false, NOTHING, 0, "no third drive"),
+    (4, false, NOTHING, 0, "no fourth drive"),
+    (9, false, NOTHING, 0, "no unit"),
+];
+
+/// Both threads ask both drives. The trails have a record for each command, and agree.
+const TWO_DRIVES: Plan = Plan {
+    part: Some(Part::Asks),
+    records: (0, UP_TO_100, UP_TO_100),
+    ..QUIET
+};
+
+/// The same with drains of both drives in each thread.
+const DRAINS: Plan = Plan {
+    part: Some(Part::Drains),
+    records: (0, UP_TO_100, UP_TO_100),
+    ..QUIET
+};
+
+/// A command at each drive, of which one is held at its gate.
+const HELD_UNIT: Plan = Plan {
+    part: Some(Part::Waits),
+    records: (0, 1, 1),
+    ..QUIET
+};
 
 /// Both threads move a volume. The changer has a record of each command, each drive one of each move.
-pub(super) fn move_volumes<T: Opened + Sync, R: Abort + Clock + Threads + Wait + Sync>(
-    rt: &R,
-    alloc: Global,
-    library: T,
-    mut seats: Vec<T::Seat>,
-) -> Result<(), Fail>
-where
-    T::Seat: Send,
-{
-    play_in_threads(rt, alloc, &library, seats.as_mut_slice(), Part::Moves);
-    let histories = close(alloc, library, seats)?;
-    assert_counts(rt, &histories, [202, 100, 100]);
-    Ok(())
+const MOVING: Plan = Plan {
+    part: Some(Part::Moves),
+    records: (202, UP_TO_100, UP_TO_100),
+    ..QUIET
+};
+
+/// A loss is told to the nexus, a reset to both, and neither reaches a unit that isn't there.
+const LOSS_AND_RESET: Plan = Plan {
+    acts: &[
+        (0, &FIRST_CONTACTS, &[]),
+        (0, &LOST_AND_RESET, &[]),
+        (1, &SECOND_CONTACTS, &[]),
+        (1, &LOST_AND_RESET, &[]),
+    ],
+    records: (0, UP_TO_16, 0),
+    ..QUIET
+};
+
+/// Two hosts of one drive: what one wrote stays as it is while the other's WRITE is denied by the reservation.
+const SHARED_DRIVE: Plan = Plan {
+    acts: &[(0, &SHARING, &[])],
+    records: (2, UP_TO_17, 0),
+    ..QUIET
+};
+
+/// 128 nexuses have all slots of the drive. Another finds none there, and one at the changer.
+const FULL_SLOTS: Plan = Plan {
+    ports: 128,
+    acts: &[(0, &NO_SLOT, &[])],
+    rooms: &ROOMS,
+    records: (0, UP_TO_128, 0),
+    ..QUIET
+};
+
+/// A command at each seat; then the library is closed with one seat, which is refused, and with both.
+const EVERY_SEAT: Plan = Plan {
+    acts: &[(0, &AT_THE_FIRST, &[]), (1, &AT_THE_SECOND, &[])],
+    closing: Closing::SeatMissing,
+    records: (2, 0, 0),
+    ..QUIET
+};
+
+/// What each of two seats asks at one drive between its drains is settled, and what is settled has to be drained before the
+/// library is closed.
+const SETTLING: Plan = Plan {
+    acts: &[
+        (0, &A_FIRST, &[]),
+        (1, &B_ONCE, &[]),
+        (0, &A_TWICE_AND_NO_RECORD, &FOUR_SETTLED),
+        (1, &[], &OF_B),
+        (0, &A_TWICE, &ONE_JOINED),
+    ],
+    closing: Closing::Undrained,
+    ..QUIET
+};
+
+/// A move is settled once both its units are drained.
+const SETTLED_MOVES: Plan = Plan {
+    acts: &[(0, &A_MOVES, &MOVES_SETTLED)],
+    ..QUIET
+};
+
+/// A volume is moved into one of the two drives, and an attendant is let at each unit.
+const ATTENDED: Plan = Plan {
+    acts: &[(0, &INTO_DRIVE_1, &[])],
+    sights: &ASKED,
+    records: (2, 1, 0),
+    ..QUIET
+};
+
+#[derive(Clone, Copy)]
+pub(super) enum Scene {
+    TwoDrives,
+    Drains,
+    HeldUnit,
+    EverySeat,
+    Moving,
+    LossAndReset,
+    SharedDrive,
+    FullSlots,
+    Settling,
+    SettledMoves,
+    Attended,
+}
+
+// A function that names all tables costs the proof more than these, each with its own.
+const fn loss_and_reset() -> Plan {
+    LOSS_AND_RESET
+}
+
+const fn shared_drive() -> Plan {
+    SHARED_DRIVE
+}
+
+const fn settling() -> Plan {
+    SETTLING
+}
+
+const fn settled_moves() -> Plan {
+    SETTLED_MOVES
+}
+
+const fn attended() -> Plan {
+    ATTENDED
+}
+
+const fn seats_and_slots(scene: Scene) -> Plan {
+    match scene {
+        Scene::EverySeat => EVERY_SEAT,
+        _ => FULL_SLOTS,
+    }
+}
+
+pub(super) const fn plan_of(scene: Scene) -> Plan {
+    match scene {
+        Scene::TwoDrives => TWO_DRIVES,
+        Scene::Drains => DRAINS,
+        Scene::HeldUnit => HELD_UNIT,
+        Scene::Moving => MOVING,
+        Scene::LossAndReset => loss_and_reset(),
+        Scene::SharedDrive => shared_drive(),
+        Scene::Settling => settling(),
+        Scene::SettledMoves => settled_moves(),
+        Scene::Attended => attended(),
+        Scene::EverySeat | Scene::FullSlots => seats_and_slots(scene),
+    }
 }

@@ -1,10 +1,10 @@
 //! Replays in one library, with its records handed out in between.
 
 use super::super::assert_same;
-use super::{replayed, usual};
+use super::{assert_replayed, usual};
 use library_device::Device;
 use output_lines::Audit;
-use std::alloc::{AllocError, Global};
+use std::alloc::Global;
 use std::process::Abort;
 use std::test::Fail;
 use target_core::TargetCore;
@@ -22,51 +22,78 @@ const BEHIND_THE_DRAIN: &str = "500000000000000a.1 0 000000000000\n";
 const REPLIES_BEHIND_THE_DRAIN: &str = "00 - -\n\
     3 500000000000000a.1 TEST-UNIT-READY 6 TEST-UNIT-READY/NONE/OTHER - 00\n";
 
-/// The numbers of the records that a unit hands out, if it is there.
-fn drained(
+/// Adds the numbers of the records that a unit hands out; whether it is there.
+fn push_drained(
     alloc: Global,
     core: &mut TargetCore<Device>,
     lun: u8,
-) -> Result<Option<Vec<u64>>, AllocError> {
+    numbers: &mut Vec<u64>,
+) -> Result<bool, Fail> {
     let Some(records) = core.drain(alloc, lun) else {
-        return Ok(None);
+        return Ok(false);
     };
-    let mut numbers = Vec::new(alloc);
     for entry in &records {
         numbers.push(entry.number)?;
     }
-    Ok(Some(numbers))
+    Ok(true)
 }
 
-/// Compares the numbers of the records that a unit hands out.
+/// A unit, whether it is there, and the numbers of the records that it hands out.
+type Drained = (u8, bool, &'static [u64]);
+
 fn assert_drained(
     rt: &impl Abort,
     alloc: Global,
     core: &mut TargetCore<Device>,
-    lun: u8,
-    expected: Option<&'static [u64]>,
+    row: &Drained,
 ) -> Result<(), Fail> {
-    let numbers = drained(alloc, core, lun)?;
-    let found = match &numbers {
-        Some(numbers) => Some(numbers.as_slice()),
-        None => None,
-    };
+    let (lun, is_there, expected) = *row;
+    let mut numbers = Vec::new(alloc);
+    let found = push_drained(alloc, core, lun, &mut numbers)?;
+    assert_same(rt, found, is_there, "whether there is a unit");
+    let found = numbers.as_slice();
     assert_same(rt, found, expected, "the numbers that are handed out");
+    Ok(())
+}
+
+/// What it shows, a script, all that it writes with the records, and what the units hand out then.
+type Part = (&'static str, &'static str, &'static str, &'static [Drained]);
+
+const PARTS: [Part; 2] = [
+    (
+        "before the drain",
+        BEFORE_THE_DRAIN,
+        REPLIES_BEFORE_THE_DRAIN,
+        &[(0, true, &[1, 2]), (1, true, &[]), (2, false, &[])],
+    ),
+    (
+        "behind the drain",
+        BEHIND_THE_DRAIN,
+        REPLIES_BEHIND_THE_DRAIN,
+        &[(0, true, &[3])],
+    ),
+];
+
+fn assert_all_drained(
+    rt: &impl Abort,
+    alloc: Global,
+    core: &mut TargetCore<Device>,
+    rows: &[Drained],
+) -> Result<(), Fail> {
+    for row in rows {
+        assert_drained(rt, alloc, core, row)?;
+    }
     Ok(())
 }
 
 #[test]
 fn drain_leaves_the_numbers_going_on(rt: HostRuntime) -> Result<(), Fail> {
-    let alloc = rt.alloc();
-    let mut core = usual(alloc)?;
-    let output = replayed(alloc, &mut core, Audit::Lines, BEFORE_THE_DRAIN)?;
-    let expected = REPLIES_BEFORE_THE_DRAIN.as_bytes();
-    assert_same(&rt, output.as_slice(), expected, "before the drain");
-    assert_drained(&rt, alloc, &mut core, 0, Some(&[1, 2]))?;
-    assert_drained(&rt, alloc, &mut core, 1, Some(&[]))?;
-    assert_drained(&rt, alloc, &mut core, 2, None)?;
-    let output = replayed(alloc, &mut core, Audit::Lines, BEHIND_THE_DRAIN)?;
-    let expected = REPLIES_BEHIND_THE_DRAIN.as_bytes();
-    assert_same(&rt, output.as_slice(), expected, "behind the drain");
-    assert_drained(&rt, alloc, &mut core, 0, Some(&[3]))
+    let mut core = usual(rt.alloc())?;
+    for part in &PARTS {
+        let (shows, script, expected, drained) = *part;
+        let (alloc, audit) = (rt.alloc(), Audit::Lines);
+        assert_replayed(&rt, alloc, &mut core, audit, script, expected, shows)?;
+        assert_all_drained(&rt, alloc, &mut core, drained)?;
+    }
+    Ok(())
 }

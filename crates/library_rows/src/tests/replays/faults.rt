@@ -50,69 +50,72 @@ impl Write for Closed {
     }
 }
 
-/// Replays in the usual library what a reader gives, by at most so many reads.
-fn replayed_usual<R: Read, W: Write>(
+fn word_of(ended: Result<(), ReplayFault>) -> &'static str {
+    match ended {
+        Ok(()) => "to its end",
+        Err(ReplayFault::Read) => "by a read",
+        Err(ReplayFault::Write) => "by a write",
+        Err(_) => "by another fault",
+    }
+}
+
+/// How a replay ends in the usual library of what a reader gives, by at most so many reads.
+fn ended<R: Read, W: Write>(
     alloc: Global,
     reader: &mut R,
     writer: &mut W,
     turns: u64,
-) -> Result<Result<(), ReplayFault>, Fail> {
+) -> Result<&'static str, Fail> {
     let mut core = usual(alloc)?;
-    Ok(replay_in(alloc, &mut core, reader, writer, Audit::Off, turns))
+    let ended = replay_in(alloc, &mut core, reader, writer, Audit::Off, turns);
+    Ok(word_of(ended))
 }
 
 /// Replays a comment of three bytes, which may be read so often, and of which a read fails: how that ends, and how often it
 /// was read.
-fn trickled(
-    alloc: Global,
-    turns: u64,
-    fails_at: u64,
-) -> Result<(Result<(), ReplayFault>, u64), Fail> {
+fn trickled(alloc: Global, turns: u64, fails_at: u64) -> Result<(&'static str, u64), Fail> {
     let mut reader = Trickle {
         bytes: 3,
         reads: 0,
         fails_at,
     };
-    let mut writer = Vec::new(alloc);
-    let result = replayed_usual(alloc, &mut reader, &mut writer, turns)?;
-    Ok((result, reader.reads))
+    let ended = ended(alloc, &mut reader, &mut Vec::new(alloc), turns)?;
+    Ok((ended, reader.reads))
 }
 
-const UNREAD: Result<(), ReplayFault> = Err(ReplayFault::Read);
-
-/// How often the comment may be read, which read fails, how often it is read, and how that ends. Its end is a read of its
+/// How often the comment may be read, which read fails, how that ends, and how often it is read. Its end is a read of its
 /// own.
-const TURNS: [(u64, u64, u64, Result<(), ReplayFault>); 5] = [
-    (4, 0, 4, Ok(())),
-    (5, 0, 4, Ok(())),
-    (3, 0, 3, UNREAD),
-    (0, 0, 0, UNREAD),
-    (9, 2, 2, UNREAD),
+const TURNS: [(u64, u64, &'static str, u64); 5] = [
+    (4, 0, "to its end", 4),
+    (5, 0, "to its end", 4),
+    (3, 0, "by a read", 3),
+    (0, 0, "by a read", 0),
+    (9, 2, "by a read", 2),
 ];
 
 #[test]
 fn replay_reads_no_more_often_than_it_may(rt: HostRuntime) -> Result<(), Fail> {
     for row in &TURNS {
-        let (turns, fails_at, reads, outcome) = *row;
+        let (turns, fails_at, end, reads) = *row;
         let found = trickled(rt.alloc(), turns, fails_at)?;
-        assert_same(&rt, found, (outcome, reads), "the end, and the reads");
+        assert_same(&rt, found, (end, reads), "the end, and the reads");
     }
     Ok(())
 }
 
 #[test]
 fn replay_ends_by_a_write_that_fails(rt: HostRuntime) -> Result<(), Fail> {
-    let mut reader = b"".as_slice();
-    let result = replayed_usual(rt.alloc(), &mut reader, &mut Closed, 9)?;
-    assert_same(&rt, result, Err(ReplayFault::Write), "a write fails");
+    let ended = ended(rt.alloc(), &mut b"".as_slice(), &mut Closed, 9)?;
+    assert_same(&rt, ended, "by a write", "a write fails");
     Ok(())
 }
 
 /// The fault of a script whose first line has a bad nexus.
 fn fault_of_a_line(alloc: Global) -> Result<ReplayFault, Fail> {
     let mut reader = b"x 0 000000000000\n".as_slice();
+    let mut core = usual(alloc)?;
     let mut writer = Vec::new(alloc);
-    match replayed_usual(alloc, &mut reader, &mut writer, 9)? {
+    match replay_in(alloc, &mut core, &mut reader, &mut writer, Audit::Off, 9) {
         Ok(()) => Err("no fault".into()),
         Err(fault) => Ok(fault),
     }

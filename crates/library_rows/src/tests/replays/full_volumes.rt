@@ -1,10 +1,9 @@
 //! A volume of the library that takes no more.
 
 use super::super::assert_same;
-use super::{replay_in, usual};
+use super::{replayed, usual};
 use output_lines::Audit;
-use std::alloc::Global;
-use std::fmt::Write;
+use std::alloc::{AllocError, Global};
 use std::test::Fail;
 
 /// The volume goes into the drive, and A makes contact there; then a million filemarks, one more, and the position.
@@ -34,44 +33,35 @@ const FULL: &str = "500000000000000a.1 1 0a0000000100 00\n\
 const FULL_REPLIES: &str = "02 f0004d000000010a00000000000200000000 -\n\
     00 - 0000000000000100000001000000000000000000\n";
 
-/// Adds to a script as many blocks as a volume takes, and their replies to what is expected.
-fn push_blocks(alloc: Global, script: &mut String, expected: &mut String) -> Result<(), Fail> {
-    let mut block = String::new(alloc);
-    for _ in 0..4096 {
-        block.push_str("00112233445566778899aabbccddeeff")?;
-    }
-    for _ in 0..BLOCKS {
-        write!(script, "500000000000000a.1 1 0a0001000000 {block}\n")?;
-        expected.push_str("00 - -\n")?;
+fn push_times(text: &mut String, part: &str, count: u32) -> Result<(), AllocError> {
+    for _ in 0..count {
+        text.push_str(part)?;
     }
     Ok(())
 }
 
-/// The script, and the replies that it must have.
-fn script_and_replies(alloc: Global) -> Result<(String, String), Fail> {
-    let mut script = String::from_str(alloc, FILEMARKS)?;
-    let mut expected = String::from_str(alloc, FILEMARKS_REPLIES)?;
-    push_blocks(alloc, &mut script, &mut expected)?;
-    script.push_str(FULL)?;
-    expected.push_str(FULL_REPLIES)?;
-    Ok((script, expected))
+/// A WRITE of a block.
+fn line_of_a_block(alloc: Global) -> Result<String, AllocError> {
+    let mut line = String::from_str(alloc, "500000000000000a.1 1 0a0001000000 ")?;
+    push_times(&mut line, "00112233445566778899aabbccddeeff", 4096)?;
+    line.push_str("\n")?;
+    Ok(line)
+}
+
+/// The filemarks, as many blocks as a volume takes, and what comes behind them.
+fn text_of(alloc: Global, start: &str, block: &str, end: &str) -> Result<String, AllocError> {
+    let mut text = String::from_str(alloc, start)?;
+    push_times(&mut text, block, BLOCKS)?;
+    text.push_str(end)?;
+    Ok(text)
 }
 
 #[test]
 fn write_filemarks_takes_a_million_and_write_256_blocks(rt: HostRuntime) -> Result<(), Fail> {
     let alloc = rt.alloc();
-    let (script, expected) = script_and_replies(alloc)?;
-    let mut reader = script.as_bytes();
-    let mut output = Vec::new(alloc);
-    let mut core = usual(alloc)?;
-    replay_in(
-        alloc,
-        &mut core,
-        &mut reader,
-        &mut output,
-        Audit::Off,
-        u64::MAX,
-    )?;
+    let script = text_of(alloc, FILEMARKS, &line_of_a_block(alloc)?, FULL)?;
+    let expected = text_of(alloc, FILEMARKS_REPLIES, "00 - -\n", FULL_REPLIES)?;
+    let output = replayed(alloc, &mut usual(alloc)?, Audit::Off, &script)?;
     assert_same(&rt, output.as_slice(), expected.as_bytes(), "the replies");
     Ok(())
 }

@@ -1,14 +1,12 @@
 //! Spans over generated scripts: with the commands of all others to the unit struck out, those inside are
 //! answered the same.
 
-ghost use Rattle.std.specs.Prelude.{◌<◌};
-
 use super::super::assert_same;
+use super::super::drawn::Numbers;
 use super::replayed;
 use output_lines::Audit;
 use program_options::LibraryOptions;
-use std::alloc::Global;
-use std::fmt::Write;
+use std::alloc::{AllocError, Global};
 use std::process::Abort;
 use std::test::Fail;
 use stocked_library::library;
@@ -21,34 +19,8 @@ const OPTIONS: LibraryOptions = LibraryOptions {
     volume_size: LibraryOptions::DEFAULT.volume_size,
 };
 
-/// Numbers that follow from a seed, by Knuth's linear congruence.
-#[derive(Drop)]
-struct Numbers(u64);
-
-impl Numbers {
-    /// The next number below a bound.
-    fn below(&mut self, bound: u64) -> u64
-        requires { 0 < bound }
-        ensures { result < bound }
-    {
-        let multiplied = self.0.wrapping_mul(6_364_136_223_846_793_005);
-        self.0 = multiplied.wrapping_add(1_442_695_040_888_963_407);
-        (self.0 >> 33) % bound
-    }
-
-    /// One of some words; none of none.
-    fn one_of(&mut self, words: &[&'static str]) -> &'static str {
-        let count = words.len() as u64;
-        if count == 0 {
-            return "";
-        }
-        let place = self.below(count) as usize;
-        words.get(place).copied().unwrap_or("")
-    }
-}
-
 /// What becomes of a line where the others' commands to the unit are struck out.
-#[derive(Clone, Copy, PartialEq, Eq)]
+#[derive(Clone, Copy)]
 enum Fate {
     Struck,
     /// It is answered the same.
@@ -58,7 +30,7 @@ enum Fate {
 }
 
 /// Who has the unit.
-#[derive(Clone, Copy, PartialEq, Eq)]
+#[derive(Clone, Copy)]
 enum Span {
     /// A holds Exclusive Access.
     Holder,
@@ -66,36 +38,16 @@ enum Span {
     Group,
 }
 
-/// A script, the same without the struck lines, and the fate of each of its lines.
-#[derive(Drop)]
-struct Scripts {
-    whole: String,
-    rest: String,
-    fates: Vec<Fate>,
-}
-
-impl Scripts {
-    fn new(alloc: Global) -> Scripts {
-        Scripts {
-            whole: String::new(alloc),
-            rest: String::new(alloc),
-            fates: Vec::new(alloc),
-        }
-    }
-
-    fn add(&mut self, line: &str, fate: Fate) -> Result<(), Fail> {
-        write!(&mut self.whole, "{line}\n")?;
-        if fate != Fate::Struck {
-            write!(&mut self.rest, "{line}\n")?;
-        }
-        self.fates.push(fate)?;
-        Ok(())
-    }
-}
+/// The parts of a line, one behind the other, and the line's fate.
+type Line = ([&'static str; 3], Fate);
 
 const A: &str = "500000000000000a.1";
 
 const D: &str = "500000000000000d.2";
+
+const AT_CHANGER: &str = " 0 ";
+
+const AT_DRIVE: &str = " 1 ";
 
 const OTHERS: [&'static str; 3] = [
     "500000000000000b.1",
@@ -194,14 +146,14 @@ const AT_DRIVE_BESIDE: [&'static str; 5] = [
 ];
 
 /// Contact, and a volume in the drive, of which both are told.
-const CONTACTS: [&'static str; 7] = [
-    "500000000000000a.1 0 000000000000",
-    "500000000000000a.1 1 000000000000",
-    "500000000000000d.2 0 000000000000",
-    "500000000000000d.2 1 000000000000",
-    "500000000000000a.1 0 a50000000400010000000000",
-    "500000000000000a.1 1 000000000000",
-    "500000000000000d.2 1 000000000000",
+const CONTACTS: [Line; 7] = [
+    ([A, AT_CHANGER, "000000000000"], Fate::Same),
+    ([A, AT_DRIVE, "000000000000"], Fate::Same),
+    ([D, AT_CHANGER, "000000000000"], Fate::Same),
+    ([D, AT_DRIVE, "000000000000"], Fate::Same),
+    ([A, AT_CHANGER, "a50000000400010000000000"], Fate::Same),
+    ([A, AT_DRIVE, "000000000000"], Fate::Same),
+    ([D, AT_DRIVE, "000000000000"], Fate::Same),
 ];
 
 const KEY_OF_A: &str = "5f000000000000001800 000000000000000000000000000000010000000000000000";
@@ -213,106 +165,130 @@ const EXCLUSIVE: &str = "5f010300000000001800 0000000000000001000000000000000000
 const EXCLUSIVE_OF_ALL: &str =
     "5f010800000000001800 000000000000000100000000000000000000000000000000";
 
-/// A command of somebody inside to the unit, which stays.
-fn add_command(
-    alloc: Global,
-    scripts: &mut Scripts,
-    sender: &str,
-    unit: u8,
-    command: &str,
-) -> Result<(), Fail> {
-    let line = format!(in alloc; "{sender} {unit} {command}")?;
-    scripts.add(&line, Fate::Same)
+/// What stands between a line's sender and its command to a unit.
+fn at(unit: u8) -> &'static str {
+    if unit == 0 { AT_CHANGER } else { AT_DRIVE }
 }
 
 /// Contact, a volume in the drive, and the reservation at the unit.
-fn begin(alloc: Global, scripts: &mut Scripts, span: Span, unit: u8) -> Result<(), Fail> {
-    for line in CONTACTS {
-        scripts.add(line, Fate::Same)?;
+fn begun(alloc: Global, span: Span, unit: u8) -> Result<Vec<Line>, AllocError> {
+    let mut lines = Vec::from_slice(alloc, &CONTACTS)?;
+    lines.push(([A, at(unit), KEY_OF_A], Fate::Same))?;
+    if matches!(span, Span::Group) {
+        lines.push(([D, at(unit), KEY_OF_D], Fate::Same))?;
     }
-    add_command(alloc, scripts, A, unit, KEY_OF_A)?;
+    let reserve = match span {
+        Span::Holder => EXCLUSIVE,
+        Span::Group => EXCLUSIVE_OF_ALL,
+    };
+    lines.push(([A, at(unit), reserve], Fate::Same))?;
+    Ok(lines)
+}
+
+/// Who of those inside sends the next command.
+fn sender_inside(numbers: &mut Numbers, span: Span) -> &'static str {
     match span {
-        Span::Holder => add_command(alloc, scripts, A, unit, EXCLUSIVE),
-        Span::Group => {
-            add_command(alloc, scripts, D, unit, KEY_OF_D)?;
-            add_command(alloc, scripts, A, unit, EXCLUSIVE_OF_ALL)
-        }
+        Span::Group if numbers.below(2) == 0 => D,
+        _ => A,
     }
 }
 
 /// A line of somebody inside.
-fn add_inside(
-    alloc: Global,
-    scripts: &mut Scripts,
-    numbers: &mut Numbers,
-    span: Span,
-    unit: u8,
-) -> Result<(), Fail> {
-    let sender = if span == Span::Group && numbers.below(2) == 0 {
-        D
-    } else {
-        A
-    };
-    let (command, fate) = if numbers.below(8) == 0 {
+fn inside(numbers: &mut Numbers, span: Span, unit: u8) -> Line {
+    let sender = sender_inside(numbers, span);
+    if numbers.below(8) == 0 {
+        let command = numbers.one_of(&STATUS);
         let fate = match span {
             Span::Holder => Fate::SameSense,
             Span::Group => Fate::Same,
         };
-        (numbers.one_of(STATUS.as_slice()), fate)
-    } else if unit == 0 {
-        (numbers.one_of(INSIDE_AT_CHANGER.as_slice()), Fate::Same)
+        return ([sender, at(unit), command], fate);
+    }
+    let command = if unit == 0 {
+        numbers.one_of(&INSIDE_AT_CHANGER)
     } else {
-        (numbers.one_of(INSIDE_AT_DRIVE.as_slice()), Fate::Same)
+        numbers.one_of(&INSIDE_AT_DRIVE)
     };
-    let line = format!(in alloc; "{sender} {unit} {command}")?;
-    scripts.add(&line, fate)
+    ([sender, at(unit), command], Fate::Same)
 }
 
 /// A line of another to the unit, which is struck out. In a group's span nobody else registers.
-fn add_outside(
-    alloc: Global,
-    scripts: &mut Scripts,
-    numbers: &mut Numbers,
-    span: Span,
-    unit: u8,
-) -> Result<(), Fail> {
-    let sender = numbers.one_of(OTHERS.as_slice());
-    let command = if span == Span::Holder && numbers.below(3) == 0 {
-        numbers.one_of(OUTSIDE_KEYS.as_slice())
-    } else {
-        numbers.one_of(OUTSIDE.as_slice())
+fn outside(numbers: &mut Numbers, span: Span, unit: u8) -> Line {
+    let sender = numbers.one_of(&OTHERS);
+    let command = match span {
+        Span::Holder if numbers.below(3) == 0 => numbers.one_of(&OUTSIDE_KEYS),
+        _ => numbers.one_of(&OUTSIDE),
     };
-    let line = format!(in alloc; "{sender} {unit} {command}")?;
-    scripts.add(&line, Fate::Struck)
+    ([sender, at(unit), command], Fate::Struck)
 }
 
 /// A line that stays: of anybody to the other unit, or a loss or a reset.
-fn add_beside(
-    alloc: Global,
-    scripts: &mut Scripts,
-    numbers: &mut Numbers,
-    unit: u8,
-) -> Result<(), Fail> {
-    let sender = numbers.one_of(OTHERS.as_slice());
-    let line = match numbers.below(8) {
-        0 => format!(in alloc; "loss {sender} {unit}")?,
-        1 => format!(in alloc; "loss {A} {unit}")?,
-        2 => format!(in alloc; "reset {unit}")?,
-        _ if unit == 0 => {
-            let command = numbers.one_of(AT_DRIVE_BESIDE.as_slice());
-            format!(in alloc; "{sender} 1 {command}")?
-        }
-        _ => {
-            let command = numbers.one_of(AT_CHANGER_BESIDE.as_slice());
-            format!(in alloc; "{sender} 0 {command}")?
-        }
+fn beside(numbers: &mut Numbers, unit: u8) -> Line {
+    let sender = numbers.one_of(&OTHERS);
+    let (there, reset) = if unit == 0 {
+        (" 0", "reset 0")
+    } else {
+        (" 1", "reset 1")
     };
-    scripts.add(&line, Fate::Same)
+    let parts = match numbers.below(8) {
+        0 => ["loss ", sender, there],
+        1 => ["loss ", A, there],
+        2 => [reset, "", ""],
+        _ if unit == 0 => [sender, AT_DRIVE, numbers.one_of(&AT_DRIVE_BESIDE)],
+        _ => [sender, AT_CHANGER, numbers.one_of(&AT_CHANGER_BESIDE)],
+    };
+    (parts, Fate::Same)
 }
 
-/// What a script is answered, line by line.
-fn replies(alloc: Global, script: &str) -> Result<String, Fail> {
-    let output = replayed(alloc, &mut library(alloc, &OPTIONS)?, Audit::Off, script)?;
+fn next_line(numbers: &mut Numbers, span: Span, unit: u8) -> Line {
+    match numbers.below(10) {
+        0..=3 => inside(numbers, span, unit),
+        4..=7 => outside(numbers, span, unit),
+        _ => beside(numbers, unit),
+    }
+}
+
+/// Some sixty lines by a seed.
+fn generated(alloc: Global, seed: u64) -> Result<Vec<Line>, AllocError> {
+    let mut numbers = Numbers { state: seed };
+    let span = if numbers.below(2) == 0 {
+        Span::Holder
+    } else {
+        Span::Group
+    };
+    let unit = if numbers.below(3) == 0 { 0 } else { 1 };
+    let mut lines = begun(alloc, span, unit)?;
+    for _ in 0..50 {
+        lines.push(next_line(&mut numbers, span, unit))?;
+    }
+    Ok(lines)
+}
+
+/// Adds a line to a script, unless it is to be struck out and this is one.
+fn push_line(script: &mut String, line: &Line, strikes: bool) -> Result<(), AllocError> {
+    let (parts, fate) = *line;
+    if strikes && matches!(fate, Fate::Struck) {
+        return Ok(());
+    }
+    for part in &parts {
+        script.push_str(part)?;
+    }
+    script.push_str("\n")
+}
+
+/// The script of some lines, with those that may be struck out or without them.
+fn script_of(alloc: Global, lines: &[Line], strikes: bool) -> Result<String, AllocError> {
+    let mut script = String::new(alloc);
+    for line in lines {
+        push_line(&mut script, line, strikes)?;
+    }
+    Ok(script)
+}
+
+/// What some lines are answered, reply by reply.
+fn replies(alloc: Global, lines: &[Line], strikes: bool) -> Result<String, Fail> {
+    let script = script_of(alloc, lines, strikes)?;
+    let output = replayed(alloc, &mut library(alloc, &OPTIONS)?, Audit::Off, &script)?;
     match String::from_utf8(output) {
         Ok(text) => Ok(text),
         Err(_) => Err("no text".into()),
@@ -328,99 +304,71 @@ fn without_data(line: &str) -> &str {
 }
 
 /// How many lines were struck out, and how many of them ended GOOD.
-#[derive(Clone, Copy, Debug, PartialEq, Eq)]
-struct Struck {
-    lines: u64,
-    good: u64,
-}
+type Struck = (u64, u64);
 
-impl Struck {
-    const NONE: Struck = Struck { lines: 0, good: 0 };
-
-    /// Counts a reply.
-    fn count(&mut self, line: &str) {
-        self.lines = self.lines.saturating_add(1);
-        if line.starts_with("00") {
-            self.good = self.good.saturating_add(1);
-        }
-    }
-
-    fn add(&mut self, other: Struck) {
-        self.lines = self.lines.saturating_add(other.lines);
-        self.good = self.good.saturating_add(other.good);
-    }
+/// Counts a reply to a line that was struck out.
+fn with_reply(struck: Struck, line: &str) -> Struck {
+    let good = u64::from(line.starts_with("00"));
+    (struck.0.saturating_add(1), struck.1.saturating_add(good))
 }
 
 /// Compares a reply that stays with the one without the others.
 fn assert_stays(rt: &impl Abort, fate: Fate, line: &str, alone: Option<&str>) -> Result<(), Fail> {
-    let other = alone.ok_or("no reply")?;
+    let alone = alone.ok_or("no reply")?;
     match fate {
         Fate::SameSense => {
-            assert_same(rt, without_data(other), without_data(line), "but for data");
+            let (alone, line) = (without_data(alone), without_data(line));
+            assert_same(rt, alone, line, "but for data");
         }
-        _ => assert_same(rt, other, line, "a reply"),
+        _ => assert_same(rt, alone, line, "a reply"),
     }
     Ok(())
 }
 
-/// The replies of the lines that aren't struck out are the same with the others and without.
-fn compare(rt: &impl Abort, alloc: Global, scripts: &Scripts) -> Result<Struck, Fail> {
-    let whole = replies(alloc, &scripts.whole)?;
-    let rest = replies(alloc, &scripts.rest)?;
+/// The replies to the lines that aren't struck out are the same with the others and without.
+fn compare(rt: &impl Abort, lines: &[Line], whole: &str, rest: &str) -> Result<Struck, Fail> {
     let mut told = whole.lines();
     let mut alone = rest.lines();
-    let mut struck = Struck::NONE;
-    for fate in &scripts.fates {
-        let line = told.next().ok_or("no reply")?;
-        if *fate == Fate::Struck {
-            struck.count(line);
-        } else {
-            assert_stays(rt, *fate, line, alone.next())?;
+    let mut struck = (0, 0);
+    for (_, fate) in lines {
+        let Some(reply) = told.next() else {
+            return Err("no reply".into());
+        };
+        match *fate {
+            Fate::Struck => struck = with_reply(struck, reply),
+            fate => assert_stays(rt, fate, reply, alone.next())?,
         }
     }
-    assert_same(rt, told.next().is_none(), true, "no more replies");
-    assert_same(rt, alone.next().is_none(), true, "none without them");
+    let ended = (told.next().is_none(), alone.next().is_none());
+    assert_same(rt, ended, (true, true), "no more replies");
     Ok(struck)
 }
 
-/// A script of some sixty lines by a seed.
-fn generated(alloc: Global, seed: u64) -> Result<Scripts, Fail> {
-    let mut numbers = Numbers(seed);
-    let span = if numbers.below(2) == 0 {
-        Span::Holder
-    } else {
-        Span::Group
-    };
-    let unit = if numbers.below(3) == 0 { 0 } else { 1 };
-    let mut scripts = Scripts::new(alloc);
-    begin(alloc, &mut scripts, span, unit)?;
-    for _ in 0..50 {
-        match numbers.below(10) {
-            0 | 1 | 2 | 3 => add_inside(alloc, &mut scripts, &mut numbers, span, unit)?,
-            4 | 5 | 6 | 7 => add_outside(alloc, &mut scripts, &mut numbers, span, unit)?,
-            _ => add_beside(alloc, &mut scripts, &mut numbers, unit)?,
-        }
-    }
-    Ok(scripts)
+/// Replays lines with those that may be struck out and without them, and compares the replies.
+fn assert_replayed(rt: &impl Abort, alloc: Global, lines: &[Line]) -> Result<Struck, Fail> {
+    let whole = replies(alloc, lines, false)?;
+    let rest = replies(alloc, lines, true)?;
+    compare(rt, lines, &whole, &rest)
 }
 
 /// The sum over the scripts of many seeds.
 fn struck_of_seeds(rt: &impl Abort, alloc: Global) -> Result<Struck, Fail> {
-    let mut struck = Struck::NONE;
+    let mut sum: Struck = (0, 0);
     for seed in 0..300 {
-        let scripts = generated(alloc, seed)?;
-        struck.add(compare(rt, alloc, &scripts)?);
+        let lines = generated(alloc, seed)?;
+        let (count, good) = assert_replayed(rt, alloc, &lines)?;
+        sum = (sum.0.saturating_add(count), sum.1.saturating_add(good));
     }
-    Ok(struck)
+    Ok(sum)
 }
 
 #[test]
 fn holder_and_group_see_no_difference_without_outsiders(rt: HostRuntime) -> Result<(), Fail> {
-    let struck = struck_of_seeds(&rt, rt.alloc())?;
+    let (count, good) = struck_of_seeds(&rt, rt.alloc())?;
     // Among those struck out some conflict, and many are GOOD.
-    let are_many = struck.lines > 4_000 && struck.good > 500;
+    let are_many = count > 4_000 && good > 500;
     assert_same(&rt, are_many, true, "enough lines are struck out");
-    assert_same(&rt, struck.good < struck.lines, true, "some conflict");
+    assert_same(&rt, good < count, true, "some conflict");
     Ok(())
 }
 
@@ -428,39 +376,36 @@ const KEY_2: &str = "5f000000000000001800 00000000000000000000000000000002000000
 
 /// D writes, registers, and prevents and allows removal, while A holds the drive. D's WRITE and PREVENT conflict, its
 /// REGISTER and ALLOW are GOOD; A writes one block, sees where it stands, and reads it.
-const LINES: [(&'static str, &'static str, Fate); 8] = [
-    (D, "0a0000000100 09", Fate::Struck),
-    (A, "0a0000000400 01020304", Fate::Same),
-    (D, KEY_2, Fate::Struck),
-    (D, "1e0000000100", Fate::Struck),
-    (A, "34000000000000000000", Fate::Same),
-    (D, "1e0000000000", Fate::Struck),
-    (A, "010000000000", Fate::Same),
-    (A, "080000000400", Fate::Same),
+const LINES: [Line; 8] = [
+    ([D, AT_DRIVE, "0a0000000100 09"], Fate::Struck),
+    ([A, AT_DRIVE, "0a0000000400 01020304"], Fate::Same),
+    ([D, AT_DRIVE, KEY_2], Fate::Struck),
+    ([D, AT_DRIVE, "1e0000000100"], Fate::Struck),
+    ([A, AT_DRIVE, "34000000000000000000"], Fate::Same),
+    ([D, AT_DRIVE, "1e0000000000"], Fate::Struck),
+    ([A, AT_DRIVE, "010000000000"], Fate::Same),
+    ([A, AT_DRIVE, "080000000400"], Fate::Same),
 ];
 
 const REPLIES: &str = "18 - -\n00 - -\n00 - -\n18 - -\n\
     00 - 0000000000000001000000010000000000000000\n\
     00 - -\n00 - -\n00 - 01020304\n";
 
-/// The script of these lines behind the reservation.
-fn scripts_of_lines(alloc: Global) -> Result<Scripts, Fail> {
-    let mut scripts = Scripts::new(alloc);
-    begin(alloc, &mut scripts, Span::Holder, 1)?;
-    for (sender, command, fate) in LINES {
-        let line = format!(in alloc; "{sender} 1 {command}")?;
-        scripts.add(&line, fate)?;
+/// These lines behind the reservation.
+fn reserved_lines(alloc: Global) -> Result<Vec<Line>, AllocError> {
+    let mut lines = begun(alloc, Span::Holder, 1)?;
+    for line in &LINES {
+        lines.push(*line)?;
     }
-    Ok(scripts)
+    Ok(lines)
 }
 
 #[test]
 fn replies_are_the_same_with_outsiders_struck_out(rt: HostRuntime) -> Result<(), Fail> {
-    let alloc = rt.alloc();
-    let scripts = scripts_of_lines(alloc)?;
-    let struck = compare(&rt, alloc, &scripts)?;
-    assert_same(&rt, struck, Struck { lines: 4, good: 2 }, "struck out");
-    let told = replies(alloc, &scripts.whole)?;
+    let lines = reserved_lines(rt.alloc())?;
+    let struck = assert_replayed(&rt, rt.alloc(), &lines)?;
+    assert_same(&rt, struck, (4, 2), "struck out");
+    let told = replies(rt.alloc(), &lines, false)?;
     assert_same(&rt, told.ends_with(REPLIES), true, "the replies");
     Ok(())
 }

@@ -1,0 +1,236 @@
+//! How a scene is played in an open library, to its end.
+
+use super::asking::{A, Ask, POWER_ON, Row, ask_all, ask_one, assert_same};
+use super::attending::{Asked, assert_all_asked};
+use super::gates::Flags;
+use super::numbers::with_numbers_left;
+use super::opened::Opened;
+use super::parts::{Part, play_in_threads};
+use super::scenes::{Scene, plan_of};
+use super::settling::{Settled, assert_settled};
+use library_device::Device;
+use lun_router::{CloseFault, Histories};
+use scsi_nexus::Nexus;
+use std::alloc::Global;
+use std::process::Abort;
+use std::sync::Wait;
+use std::test::Fail;
+use std::thread::Threads;
+use std::time::Clock;
+
+/// The place of a seat, what is asked there, and how that is settled then.
+pub(super) type Act = (usize, &'static [Row], &'static [Settled]);
+
+/// What it shows, and whether a nexus has a slot at a unit, or finds one.
+pub(super) type Room = (&'static str, Nexus, u8, bool);
+
+/// How a library is closed.
+#[derive(Clone, Copy)]
+pub(super) enum Closing {
+    AtOnce,
+    /// With one seat of two, which is refused, and then with both.
+    SeatMissing,
+    /// With a record of a settled number at drive 1, which is refused, and then without it.
+    Undrained,
+}
+
+/// What is done with an open library and its seats, in this order.
+#[derive(Clone, Copy)]
+pub(super) struct Plan {
+    /// How many ports of A ask drive 1 first, each a nexus of its own.
+    pub(super) ports: u16,
+    pub(super) acts: &'static [Act],
+    pub(super) rooms: &'static [Room],
+    pub(super) sights: &'static [Asked],
+    /// What each of two threads does.
+    pub(super) part: Option<Part>,
+    pub(super) closing: Closing,
+    /// How many records the changer has at the end, and the numbers of those that were noted as handed out of each drive or that it
+    /// still has.
+    pub(super) records: (usize, u128, u128),
+}
+
+/// A first command of so many ports of A, each of which gets a slot at drive 1.
+fn fill_slots<T: Opened, R: Abort + Wait>(
+    rt: &R,
+    alloc: Global,
+    library: &T,
+    seats: &mut [T::Seat],
+    ports: u16,
+) -> Result<(), Fail> {
+    let Some(seat) = seats.first_mut() else {
+        return Err("no seat".into());
+    };
+    for port in 1..=ports {
+        let nexus = Nexus { sas: A.sas, port };
+        let row = ("a slot more", nexus, 1, Ask::Ready, POWER_ON, None);
+        ask_one(rt, alloc, library, seat, &row);
+    }
+    Ok(())
+}
+
+fn assert_all_settled<T: Opened, R: Abort + Wait>(
+    rt: &R,
+    alloc: Global,
+    library: &T,
+    seat: &mut T::Seat,
+    rows: &[Settled],
+) -> Result<(), Fail> {
+    for row in rows {
+        assert_settled(rt, alloc, library, seat, row)?;
+    }
+    Ok(())
+}
+
+fn play_acts<T: Opened, R: Abort + Wait>(
+    rt: &R,
+    alloc: Global,
+    library: &T,
+    seats: &mut [T::Seat],
+    acts: &[Act],
+) -> Result<(), Fail> {
+    for act in acts {
+        let (place, asked, settled) = *act;
+        let Some(seat) = seats.get_mut(place) else {
+            return Err("no such seat".into());
+        };
+        ask_all(rt, alloc, library, seat, asked);
+        assert_all_settled(rt, alloc, library, seat, settled)?;
+    }
+    Ok(())
+}
+
+fn assert_rooms<T: Opened, R: Abort + Wait>(rt: &R, library: &T, rows: &[Room]) {
+    for row in rows {
+        let (shows, nexus, lun, expected) = *row;
+        assert_same(rt, library.has_room(rt, nexus, lun), expected, shows);
+    }
+}
+
+/// Plays all but the end.
+fn play_open<T: Opened + Sync, R: Abort + Clock + Threads + Wait + Sync>(
+    rt: &R,
+    alloc: Global,
+    library: &T,
+    seats: &mut [T::Seat],
+    flags: &Flags,
+    plan: &Plan,
+) -> Result<(), Fail>
+where
+    T::Seat: Send,
+{
+    assert_same(rt, library.units(), 3, "units");
+    fill_slots(rt, alloc, library, seats, plan.ports)?;
+    play_acts(rt, alloc, library, seats, plan.acts)?;
+    assert_rooms(rt, library, plan.rooms);
+    assert_all_asked(rt, library, plan.sights);
+    if let Some(part) = plan.part {
+        play_in_threads(rt, alloc, library, seats, flags, part);
+    }
+    let is_there = library.drained(rt, alloc, 9).is_some();
+    assert_same(rt, is_there, false, "no unit 9");
+    Ok(())
+}
+
+/// Closes a library, which has to be refused, and gives what comes back.
+fn refused<T: Opened>(
+    rt: &impl Abort,
+    alloc: Global,
+    library: T,
+    seats: Vec<T::Seat>,
+    expected: CloseFault,
+) -> Result<(T, Vec<T::Seat>), Fail> {
+    match library.close(alloc, seats) {
+        Ok(_) => Err("the library is closed".into()),
+        Err((fault, library, seats)) => {
+            assert_same(rt, fault, expected, "why it isn't closed");
+            Ok((library, seats))
+        }
+    }
+}
+
+/// Closes a library, which has to be closed.
+fn closed<T: Opened>(
+    alloc: Global,
+    library: T,
+    seats: Vec<T::Seat>,
+) -> Result<Histories<Device>, Fail> {
+    match library.close(alloc, seats) {
+        Ok(histories) => Ok(histories),
+        Err(_) => Err("the library is not closed".into()),
+    }
+}
+
+fn closed_with_a_seat_missing<T: Opened>(
+    rt: &impl Abort,
+    alloc: Global,
+    library: T,
+    mut seats: Vec<T::Seat>,
+) -> Result<Histories<Device>, Fail> {
+    let Some(last) = seats.pop() else {
+        return Err("no seat".into());
+    };
+    let (library, mut seats) = refused(rt, alloc, library, seats, CloseFault::SeatMissing)?;
+    assert_same(rt, seats.len(), 1, "seats that come back");
+    assert_same(rt, T::entries(&last), 1, "entries of the other seat");
+    seats.push(last)?;
+    closed(alloc, library, seats)
+}
+
+fn closed_undrained<T: Opened, R: Abort + Wait>(
+    rt: &R,
+    alloc: Global,
+    library: T,
+    seats: Vec<T::Seat>,
+) -> Result<Histories<Device>, Fail> {
+    let (library, seats) = refused(rt, alloc, library, seats, CloseFault::Mismatch)?;
+    let _handed_out = library.drained(rt, alloc, 1);
+    closed(alloc, library, seats)
+}
+
+/// Compares what the changer and the drives have at the end with what must be left.
+fn assert_histories<R: Abort + Wait>(
+    rt: &R,
+    histories: &Histories<Device>,
+    flags: &Flags,
+    plan: &Plan,
+) {
+    let (count, first, second) = plan.records;
+    let found = histories.changer.records().len();
+    assert_same(rt, found, count, "records of the changer");
+    let noted = (*flags.first.lock(rt), *flags.second.lock(rt));
+    let is_noted = (noted.0 != 0, noted.1 != 0);
+    let drains = matches!(plan.part, Some(Part::Drains));
+    assert_same(rt, is_noted, (drains, drains), "numbers that were noted");
+    let found = with_numbers_left(rt, noted.0, &histories.first);
+    assert_same(rt, found, first, "numbers of drive 1");
+    if let Some(drive) = &histories.second {
+        let found = with_numbers_left(rt, noted.1, drive);
+        assert_same(rt, found, second, "numbers of drive 2");
+    }
+    let others = (histories.second.is_some(), histories.third.is_some());
+    assert_same(rt, others, (true, false), "a second drive, and no third");
+}
+
+/// Plays a scene, closes the library, and compares what it leaves.
+pub(super) fn play<T: Opened + Sync, R: Abort + Clock + Threads + Wait + Sync>(
+    rt: &R,
+    alloc: Global,
+    library: T,
+    mut seats: Vec<T::Seat>,
+    flags: &Flags,
+    scene: Scene,
+) -> Result<(), Fail>
+where
+    T::Seat: Send,
+{
+    let plan = plan_of(scene);
+    play_open(rt, alloc, &library, seats.as_mut_slice(), flags, &plan)?;
+    let histories = match plan.closing {
+        Closing::AtOnce => closed(alloc, library, seats)?,
+        Closing::SeatMissing => closed_with_a_seat_missing(rt, alloc, library, seats)?,
+        Closing::Undrained => closed_undrained(rt, alloc, library, seats)?,
+    };
+    assert_histories(rt, &histories, flags, &plan);
+    Ok(())
+}
