@@ -1,5 +1,9 @@
-//! Worked rows of PDUs and keys of iSCSI that run: a login that is read and answered, and what its offers come to.
+//! Worked rows of iSCSI that run: PDUs and keys, logins that are read and answered, what their offers come to, and sessions, byte for byte.
 #![tactic(auto)]
 
+#[cfg(test)]
+mod comparing;
+#[cfg(test)]
+mod sessions;
 #[cfg(test)]
 mod tests;

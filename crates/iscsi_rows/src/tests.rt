@@ -9,16 +9,4 @@ mod serial_numbers;
 mod stages;
 mod statuses;
 
-use std::fmt::Debug;
-use std::process::Abort;
-
-/// Compares what was found with what is expected. Each `assert_eq!` costs the proof of the function that it stands in some
-/// ten times this call.
-fn assert_same<T: Copy + PartialEq + Debug>(
-    rt: &impl Abort,
-    found: T,
-    expected: T,
-    shows: &'static str,
-) {
-    assert!(rt; found == expected, "{shows}: {found:?}, not {expected:?}");
-}
+use crate::comparing::assert_same;

@@ -167,21 +167,25 @@ const WRONG: [Wrong; 10] = [
 ];
 
 /// What is wrong with a text, if something is.
-fn fault_in(alloc: Global, row: Wrong) -> Result<Option<ReadFault>, Fail> {
-    let (first, second, third, _) = row;
-    let mut text = String::from_str(alloc, first)?;
-    text.push_str(second)?;
-    text.push_str(third)?;
+fn fault_in(alloc: Global, parts: [&str; 3]) -> Result<Option<ReadFault>, Fail> {
+    let mut text = String::new(alloc);
+    for part in &parts {
+        text.push_str(part)?;
+    }
     Ok(read_inventory(alloc, text.as_str()).err())
+}
+
+fn assert_wrong(rt: &impl Abort, alloc: Global, rows: &[Wrong]) -> Result<(), Fail> {
+    for (first, second, third, fault) in rows {
+        let told = fault_in(alloc, [*first, *second, *third])?;
+        assert_same(rt, told, Some(*fault), *first);
+    }
+    Ok(())
 }
 
 #[test]
 fn a_text_that_is_wrong_is_refused_with_what_is_wrong(rt: HostRuntime) -> Result<(), Fail> {
-    for row in WRONG {
-        let told = fault_in(rt.alloc(), row)?;
-        assert_same(&rt, told, Some(row.3), "what is wrong with a text");
-    }
-    Ok(())
+    assert_wrong(&rt, rt.alloc(), &WRONG)
 }
 
 #[test]

@@ -1,4 +1,4 @@
-//! A drive's volume that is kept in an image: what is copied when, and what is told where the disk is full.
+//! A drive's volume that is kept in an image: what is copied when, also while a host writes on, and what is told where the disk is full.
 
 ghost use Rattle.device_server.specs.Attending.{WasAsked};
 ghost use Rattle.device_server.specs.Settled.{SameButSettled};
@@ -21,39 +21,54 @@ use tape_keeper::{
 use tape_medium::{Tape, Volume, VolumeTag};
 use tape_server::TapeDrive;
 
-pub(crate) const TAG: VolumeTag = VolumeTag([b'A'; 32]);
+const TAG: VolumeTag = VolumeTag([b'A'; 32]);
 
 /// A library of one drive.
-pub(crate) const SIZE: LibrarySize = LibrarySize {
+const SIZE: LibrarySize = LibrarySize {
     drives: 1,
     slots: 1,
     portals: 0,
 };
 
-pub(crate) const WRITE: &[u8] = &[0x0a, 0, 0, 0, 2, 0];
+const WRITE: &[u8] = &[0x0a, 0, 0, 0, 2, 0];
 
 const WRITE_FILEMARKS: &[u8] = &[0x10, 0, 0, 0, 1, 0];
 
 const REWIND: &[u8] = &[0x01, 0, 0, 0, 0, 0];
 
 /// The image of "hi", and of "hi" and a filemark.
-pub(crate) const BLOCK: &[u8] = &[2, 0, 0, 0, b'h', b'i', 2, 0, 0, 0];
+const BLOCK: &[u8] = &[2, 0, 0, 0, b'h', b'i', 2, 0, 0, 0];
 
-pub(crate) const BLOCK_AND_MARK: &[u8] = &[2, 0, 0, 0, b'h', b'i', 2, 0, 0, 0, 0, 0, 0, 0];
+const BLOCK_AND_MARK: &[u8] = &[2, 0, 0, 0, b'h', b'i', 2, 0, 0, 0, 0, 0, 0, 0];
 
 /// A file that others look at, too.
 #[derive(Drop)]
-pub(crate) struct SharedFile {
-    pub(crate) bytes: Vec<u8>,
+struct SharedFile {
+    bytes: Vec<u8>,
     /// How many bytes were brought to the disk.
     synced: usize,
     is_full: bool,
+    /// Whether a host writes a filemark on the volume before the next part goes into the file: that would wait for ever if the drive
+    /// were held meanwhile.
+    is_written_on: bool,
 }
 
+/// The file of the volume in a drive.
 #[derive(Drop)]
-pub(crate) struct SharedStore<'a, R: Wait> {
-    pub(crate) rt: &'a R,
-    pub(crate) file: &'a Mutex<SharedFile>,
+struct SharedStore<'a, R: Wait> {
+    rt: &'a R,
+    alloc: Global,
+    bay: &'a Bay,
+    file: &'a Mutex<SharedFile>,
+}
+
+impl<'a, R: Wait> SharedStore<'a, R> {
+    fn is_written_on(&self) -> bool {
+        let mut file = self.file.lock(self.rt);
+        let is_written_on = file.is_written_on;
+        file.is_written_on = false;
+        is_written_on
+    }
 }
 
 impl<'a, R: Wait> ImageStore for SharedStore<'a, R> {
@@ -63,6 +78,9 @@ impl<'a, R: Wait> ImageStore for SharedStore<'a, R> {
     }
 
     fn append(&mut self, bytes: &[u8]) -> Result<(), StoreFault> {
+        if self.is_written_on() {
+            let _ = self.bay.write_mark(self.rt, self.alloc);
+        }
         let mut file = self.file.lock(self.rt);
         if file.is_full {
             return Err(StoreFault::Full);
@@ -82,7 +100,7 @@ impl<'a, R: Wait> ImageStore for SharedStore<'a, R> {
 
 /// Keeps no inventory.
 #[derive(Drop)]
-pub(crate) struct NoStore;
+struct NoStore;
 
 impl InventoryStore for NoStore {
     fn write(&mut self, _inventory: &Inventory) -> Result<(), StoreFault> {
@@ -92,7 +110,7 @@ impl InventoryStore for NoStore {
 
 /// A drive as logical unit 1.
 #[derive(Drop)]
-pub(crate) struct Bay {
+struct Bay {
     device: Mutex<Device>,
 }
 
@@ -111,7 +129,7 @@ impl Bay {
     }
 
     /// Writes "hi".
-    pub(crate) fn write<R: Wait>(&self, rt: &R, alloc: Global) -> Result<(), AllocError> {
+    fn write<R: Wait>(&self, rt: &R, alloc: Global) -> Result<(), AllocError> {
         let request = Request::Write {
             fixed: false,
             transfer_length: 2,
@@ -120,7 +138,7 @@ impl Bay {
     }
 
     /// Writes a filemark.
-    pub(crate) fn write_mark<R: Wait>(&self, rt: &R, alloc: Global) -> Result<(), AllocError> {
+    fn write_mark<R: Wait>(&self, rt: &R, alloc: Global) -> Result<(), AllocError> {
         let request = Request::WriteFilemarks {
             write_setmarks: false,
             filemark_count: 1,
@@ -147,13 +165,13 @@ impl TapeSource<Device> for Bay {
 
 /// Notes what is told.
 #[derive(Drop)]
-pub(crate) struct Notes<'a, R: Wait> {
+struct Notes<'a, R: Wait> {
     rt: &'a R,
     events: Mutex<Vec<KeepEvent>>,
 }
 
 impl<'a, R: Wait> Notes<'a, R> {
-    pub(crate) fn new(rt: &'a R, alloc: Global) -> Notes<'a, R> {
+    fn new(rt: &'a R, alloc: Global) -> Notes<'a, R> {
         Notes {
             rt,
             events: Mutex::new(Vec::new(alloc)),
@@ -168,7 +186,7 @@ impl<'a, R: Wait> KeepListener for Notes<'a, R> {
 }
 
 /// A drive with an empty volume.
-pub(crate) fn drive_with_volume(alloc: Global) -> Bay {
+fn drive_with_volume(alloc: Global) -> Bay {
     let mut drive = TapeDrive::new();
     let volume = Volume {
         tag: TAG,
@@ -185,21 +203,29 @@ pub(crate) fn drive_with_volume(alloc: Global) -> Bay {
 fn keeper<'a, R: Wait>(
     rt: &'a R,
     alloc: Global,
+    bay: &'a Bay,
     file: &'a Mutex<SharedFile>,
 ) -> Result<MediaKeeper<SharedStore<'a, R>, NoStore>, Fail> {
     let mut nothing: &[u8] = &[];
     let index = index_image(alloc, &mut nothing)?;
-    let opened = open_image(alloc, SharedStore { rt, file }, &index)?;
+    let store = SharedStore {
+        rt,
+        alloc,
+        bay,
+        file,
+    };
+    let opened = open_image(alloc, store, &index)?;
     let mut images = Vec::new(alloc);
     images.push(VolumeImage::new(TAG, KeptImage::new(opened.image)))?;
     Ok(MediaKeeper::new(SIZE, images, NoStore))
 }
 
-pub(crate) fn empty_file(alloc: Global) -> Mutex<SharedFile> {
+fn empty_file(alloc: Global) -> Mutex<SharedFile> {
     Mutex::new(SharedFile {
         bytes: Vec::new(alloc),
         synced: 0,
         is_full: false,
+        is_written_on: false,
     })
 }
 
@@ -210,12 +236,16 @@ enum Act {
     Write,
     /// A filemark is written.
     WriteMark,
-    /// What a command left is kept that was GOOD, by its CDB and how many bytes were sent with it.
-    Keep(&'static [u8], usize),
+    /// What a command left is kept that was GOOD: a WRITE of "hi", a WRITE FILEMARKS or a REWIND.
+    KeepWrite,
+    KeepMark,
+    KeepRewind,
     WriteBehind,
     KeepAll,
     /// The disk is full from now on, or no longer.
     Fill(bool),
+    /// A host is to write a filemark while the next part is written.
+    WriteOn,
 }
 
 /// A drive whose volume is kept in a file.
@@ -224,19 +254,24 @@ struct Scene<'a, R: Wait> {
     rt: &'a R,
     alloc: Global,
     file: &'a Mutex<SharedFile>,
+    bay: &'a Bay,
     keeper: MediaKeeper<SharedStore<'a, R>, NoStore>,
-    bay: Bay,
     notes: Notes<'a, R>,
 }
 
 impl<'a, R: Wait> Scene<'a, R> {
-    fn new(rt: &'a R, alloc: Global, file: &'a Mutex<SharedFile>) -> Result<Scene<'a, R>, Fail> {
+    fn new(
+        rt: &'a R,
+        alloc: Global,
+        bay: &'a Bay,
+        file: &'a Mutex<SharedFile>,
+    ) -> Result<Scene<'a, R>, Fail> {
         Ok(Scene {
             rt,
             alloc,
             file,
-            keeper: keeper(rt, alloc, file)?,
-            bay: drive_with_volume(alloc),
+            bay,
+            keeper: keeper(rt, alloc, bay, file)?,
             notes: Notes::new(rt, alloc),
         })
     }
@@ -248,18 +283,18 @@ impl<'a, R: Wait> Scene<'a, R> {
             length,
         };
         self.keeper
-            .keep(self.rt, self.alloc, &self.bay, &self.notes, command)
+            .keep(self.rt, self.alloc, self.bay, &self.notes, command)
     }
 
     fn write_behind(&self) -> bool {
         self.keeper
-            .write_behind(self.rt, self.alloc, &self.bay, &self.notes, 1);
+            .write_behind(self.rt, self.alloc, self.bay, &self.notes, 1);
         true
     }
 
     fn keep_all(&self) -> bool {
         self.keeper
-            .keep_all(self.rt, self.alloc, &self.bay, &self.notes)
+            .keep_all(self.rt, self.alloc, self.bay, &self.notes)
     }
 
     fn fill(&self, is_full: bool) -> bool {
@@ -267,15 +302,23 @@ impl<'a, R: Wait> Scene<'a, R> {
         true
     }
 
+    fn write_on(&self) -> bool {
+        self.file.lock(self.rt).is_written_on = true;
+        true
+    }
+
     /// Does what is to be done, and says whether it was kept, where that is asked.
-    fn act(&self, act: Act) -> Result<bool, Fail> {
+    fn act(&self, act: Act) -> bool {
         match act {
-            Act::Write => Ok(self.bay.write(self.rt, self.alloc).is_ok()),
-            Act::WriteMark => Ok(self.bay.write_mark(self.rt, self.alloc).is_ok()),
-            Act::Keep(cdb, length) => Ok(self.keep(cdb, length)),
-            Act::WriteBehind => Ok(self.write_behind()),
-            Act::KeepAll => Ok(self.keep_all()),
-            Act::Fill(is_full) => Ok(self.fill(is_full)),
+            Act::Write => self.bay.write(self.rt, self.alloc).is_ok(),
+            Act::WriteMark => self.bay.write_mark(self.rt, self.alloc).is_ok(),
+            Act::KeepWrite => self.keep(WRITE, 2),
+            Act::KeepMark => self.keep(WRITE_FILEMARKS, 0),
+            Act::KeepRewind => self.keep(REWIND, 0),
+            Act::WriteBehind => self.write_behind(),
+            Act::KeepAll => self.keep_all(),
+            Act::Fill(is_full) => self.fill(is_full),
+            Act::WriteOn => self.write_on(),
         }
     }
 
@@ -290,12 +333,11 @@ impl<'a, R: Wait> Scene<'a, R> {
         assert_list(rt, &self.notes.events.lock(self.rt), events, shows);
     }
 
-    fn go_on(&self, rt: &impl Abort, row: Row) -> Result<(), Fail> {
+    fn go_on(&self, rt: &impl Abort, row: Row) {
         let (shows, act, is_kept, events, bytes, synced) = row;
-        assert_same(rt, self.act(act)?, is_kept, shows);
+        assert_same(rt, self.act(act), is_kept, shows);
         self.assert_told(rt, events, shows);
         self.assert_file(rt, bytes, synced, shows);
-        Ok(())
     }
 }
 
@@ -322,19 +364,12 @@ const GOES_ON: KeepEvent = KeepEvent {
 
 const OF_A_FILEMARK: [Row; 6] = [
     ("a block is written", Act::Write, true, &[], &[], 0),
-    (
-        "it isn't copied at once",
-        Act::Keep(WRITE, 2),
-        true,
-        &[],
-        &[],
-        0,
-    ),
+    ("it isn't copied at once", Act::KeepWrite, true, &[], &[], 0),
     ("it is copied behind", Act::WriteBehind, true, &[], BLOCK, 0),
     ("a filemark is written", Act::WriteMark, true, &[], BLOCK, 0),
     (
         "a REWIND brings nothing to the disk",
-        Act::Keep(REWIND, 0),
+        Act::KeepRewind,
         true,
         &[],
         BLOCK,
@@ -342,7 +377,7 @@ const OF_A_FILEMARK: [Row; 6] = [
     ),
     (
         "a filemark does",
-        Act::Keep(WRITE_FILEMARKS, 0),
+        Act::KeepMark,
         true,
         &[],
         BLOCK_AND_MARK,
@@ -354,22 +389,8 @@ const OF_A_FULL_DISK: [Row; 7] = [
     ("the disk is full", Act::Fill(true), true, &[], &[], 0),
     ("a block is written", Act::Write, true, &[], &[], 0),
     ("a filemark is written", Act::WriteMark, true, &[], &[], 0),
-    (
-        "it isn't kept",
-        Act::Keep(WRITE_FILEMARKS, 0),
-        false,
-        &[FULL],
-        &[],
-        0,
-    ),
-    (
-        "that is told once",
-        Act::Keep(WRITE_FILEMARKS, 0),
-        false,
-        &[FULL],
-        &[],
-        0,
-    ),
+    ("it isn't kept", Act::KeepMark, false, &[FULL], &[], 0),
+    ("that is told once", Act::KeepMark, false, &[FULL], &[], 0),
     (
         "there is room again",
         Act::Fill(false),
@@ -388,22 +409,72 @@ const OF_A_FULL_DISK: [Row; 7] = [
     ),
 ];
 
-#[test]
-fn a_filemark_is_on_the_disk_before_it_is_answered(rt: HostRuntime) -> Result<(), Fail> {
-    let file = empty_file(rt.alloc());
-    let scene = Scene::new(&rt, rt.alloc(), &file)?;
-    for row in OF_A_FILEMARK {
-        scene.go_on(&rt, row)?;
+const OF_A_HOST_THAT_WRITES_ON: [Row; 6] = [
+    ("a block is written", Act::Write, true, &[], &[], 0),
+    (
+        "a host is to write on meanwhile",
+        Act::WriteOn,
+        true,
+        &[],
+        &[],
+        0,
+    ),
+    (
+        "nothing is copied at once",
+        Act::KeepWrite,
+        true,
+        &[],
+        &[],
+        0,
+    ),
+    (
+        "what there was when the copy began",
+        Act::WriteBehind,
+        true,
+        &[],
+        BLOCK,
+        0,
+    ),
+    (
+        "what came meanwhile is not copied at once",
+        Act::KeepWrite,
+        true,
+        &[],
+        BLOCK,
+        0,
+    ),
+    (
+        "the filemark that came meanwhile is copied next",
+        Act::WriteBehind,
+        true,
+        &[],
+        BLOCK_AND_MARK,
+        0,
+    ),
+];
+
+/// Has a drive with an empty volume, which is kept in an empty file, go through all rows.
+fn play<R: Abort + Wait>(rt: &R, alloc: Global, rows: &[Row]) -> Result<(), Fail> {
+    let file = empty_file(alloc);
+    let bay = drive_with_volume(alloc);
+    let scene = Scene::new(rt, alloc, &bay, &file)?;
+    for row in rows {
+        scene.go_on(rt, *row);
     }
     Ok(())
 }
 
 #[test]
+fn a_filemark_is_on_the_disk_before_it_is_answered(rt: HostRuntime) -> Result<(), Fail> {
+    play(&rt, rt.alloc(), &OF_A_FILEMARK)
+}
+
+#[test]
 fn a_full_disk_is_told_once_and_tried_again(rt: HostRuntime) -> Result<(), Fail> {
-    let file = empty_file(rt.alloc());
-    let scene = Scene::new(&rt, rt.alloc(), &file)?;
-    for row in OF_A_FULL_DISK {
-        scene.go_on(&rt, row)?;
-    }
-    Ok(())
+    play(&rt, rt.alloc(), &OF_A_FULL_DISK)
+}
+
+#[test]
+fn a_host_writes_on_while_a_part_is_written(rt: HostRuntime) -> Result<(), Fail> {
+    play(&rt, rt.alloc(), &OF_A_HOST_THAT_WRITES_ON)
 }

@@ -1,13 +1,13 @@
-//! Worked rows of lasting media that run: tapes that are lent and written over, images that are flushed to files of which each call
-//! fails in turn and read back, and inventories.
+//! Worked rows of lasting media that run: images that are written and read, byte by byte, whole and cut, tapes that are lent and written
+//! over, images that are flushed to files of which each call fails in turn and read back, and inventories.
 #![tactic(auto)]
 
-#[cfg(test)]
-mod busy;
 #[cfg(test)]
 mod comparing;
 #[cfg(test)]
 mod failing_store;
+#[cfg(test)]
+mod image_bytes;
 #[cfg(test)]
 mod images;
 #[cfg(test)]

@@ -7,16 +7,41 @@ use tape_medium::{Tape, TapeObject};
 /// How many bytes a block has: 167 of them fill a piece of the tape's memory, but for some.
 const SIZE: usize = 50_001;
 
-/// Places of blocks, and the numbers that they have.
-const FIRST: [(u32, u8); 5] = [(0, 0), (100, 100), (166, 166), (167, 167), (199, 199)];
+/// How long a block is, and its first and last byte; a filemark has none.
+type Ends = (usize, u8, u8);
 
-const SECOND: [(u32, u8); 6] = [
-    (0, 0),
-    (99, 99),
-    (100, 50),
-    (166, 116),
-    (167, 117),
-    (199, 149),
+/// What is shown of an object, its place, and its ends.
+type Row = (&'static str, u32, Option<Ends>);
+
+const FIRST: [Row; 7] = [
+    ("the first block", 0, Some((SIZE, 0, 0))),
+    ("block 100", 100, Some((SIZE, 100, 100))),
+    ("the last block of a piece", 166, Some((SIZE, 166, 166))),
+    ("the first block of the next", 167, Some((SIZE, 167, 167))),
+    ("the last block", 199, Some((SIZE, 199, 199))),
+    ("the filemark", 200, Some((0, 0, 0))),
+    ("nothing is behind it", 201, None),
+];
+
+const SECOND: [Row; 6] = [
+    ("the first block stays", 0, Some((SIZE, 0, 0))),
+    ("the last block that stays", 99, Some((SIZE, 99, 99))),
+    ("the first that was written over", 100, Some((SIZE, 50, 50))),
+    (
+        "the last block of a piece, written over",
+        166,
+        Some((SIZE, 116, 116)),
+    ),
+    (
+        "the first block of the next, written over",
+        167,
+        Some((SIZE, 117, 117)),
+    ),
+    (
+        "the last that was written over",
+        199,
+        Some((SIZE, 149, 149)),
+    ),
 ];
 
 /// Writes blocks, each of its number.
@@ -28,25 +53,26 @@ fn write_numbered(alloc: Global, tape: &mut Tape, first: u8, count: u8) -> Resul
     Ok(())
 }
 
-/// How long the block is that is lent, and its first and last byte.
-fn ends_of(tape: &Tape, at: u32) -> Option<(usize, u8, u8)> {
+/// The ends of an object that is lent.
+fn ends_of(tape: &Tape, at: u32) -> Option<Ends> {
     match tape.object(at)? {
         TapeObject::Block(bytes) => Some((bytes.len(), *bytes.first()?, *bytes.last()?)),
         TapeObject::Mark => Some((0, 0, 0)),
     }
 }
 
-/// Whether blocks at some places have their numbers.
-fn assert_numbered(rt: &impl Abort, tape: &Tape, numbered: &[(u32, u8)]) {
-    for (at, number) in numbered {
-        let ends = Some((SIZE, *number, *number));
-        assert_same(rt, ends_of(tape, *at), ends, "a block at its place");
+/// How many objects a tape has, how many of them count as unchanged, and some of them.
+fn assert_tape(rt: &impl Abort, tape: &Tape, counts: (u32, u32), rows: &[Row]) {
+    let found = (tape.object_count(), tape.unchanged());
+    assert_same(
+        rt,
+        found,
+        counts,
+        "how many objects, and how many are unchanged",
+    );
+    for (shows, at, ends) in rows {
+        assert_same(rt, ends_of(tape, *at), *ends, *shows);
     }
-}
-
-/// How many objects a tape has, and how many of them count as unchanged.
-fn counts(tape: &Tape) -> (u32, u32) {
-    (tape.object_count(), tape.unchanged())
 }
 
 /// A tape of 200 blocks and a filemark.
@@ -67,12 +93,8 @@ fn write_over(alloc: Global, tape: &mut Tape) -> Result<(), Fail> {
 #[test]
 fn a_tape_of_more_than_a_piece_is_lent_and_written_over(rt: HostRuntime) -> Result<(), Fail> {
     let mut tape = large_tape(rt.alloc())?;
-    assert_same(&rt, counts(&tape), (201, 0), "200 blocks and a filemark");
-    assert_numbered(&rt, &tape, &FIRST);
-    assert_same(&rt, ends_of(&tape, 200), Some((0, 0, 0)), "the filemark");
-    assert_same(&rt, ends_of(&tape, 201), None, "nothing is behind it");
+    assert_tape(&rt, &tape, (201, 0), &FIRST);
     write_over(rt.alloc(), &mut tape)?;
-    assert_same(&rt, counts(&tape), (200, 100), "the second half is new");
-    assert_numbered(&rt, &tape, &SECOND);
+    assert_tape(&rt, &tape, (200, 100), &SECOND);
     Ok(())
 }

@@ -26,8 +26,7 @@ const FAULTY: [(&[u8], LineFault); 6] = [
 
 /// The fault of a text that ends with the line.
 fn fault_of(alloc: Global, line: &[u8]) -> Result<SecretsFault, Fail> {
-    let mut text = Vec::from_slice(alloc, b"# none\n\n")?;
-    text.extend_from_slice(line)?;
+    let text = [b"# none\n\n".as_slice(), line].concat(alloc)?;
     match ChapSecrets::parse(alloc, text.as_slice()) {
         Ok(_) => Err("no fault".into()),
         Err(fault) => Ok(fault),
@@ -155,6 +154,11 @@ fn binary_values_are_hexadecimal_or_base64(rt: HostRuntime) -> Result<(), Fail> 
         let bytes = bytes_in(rt.alloc(), value)?;
         assert_same(&rt, bytes.as_slice(), &[0xA1, 0xB2], "a binary value");
     }
+    Ok(())
+}
+
+#[test]
+fn other_values_are_not_binary(rt: HostRuntime) -> Result<(), Fail> {
     for value in &NO_BINARY {
         let is_binary = is_binary(rt.alloc(), value)?;
         assert_same(&rt, is_binary, false, "no binary value");
@@ -175,9 +179,18 @@ fn bytes_are_compared_whole(rt: HostRuntime) {
     for (left, right, same) in &COMPARED {
         assert_same(&rt, are_same(left, right), *same, "bytes");
     }
-    let both = chosen_algorithm(b"5,0x7");
-    assert_same(&rt, both, Some(ChapAlgorithm::Sha256), "SHA-256 first");
-    let md5 = chosen_algorithm(b"5,6");
-    assert_same(&rt, md5, Some(ChapAlgorithm::Md5), "MD5 alone");
-    assert_same(&rt, chosen_algorithm(b"55,8"), None, "neither");
+}
+
+/// What it shows, a list of algorithms, and the one that is chosen.
+const CHOSEN: [(&'static str, &'static [u8], Option<ChapAlgorithm>); 3] = [
+    ("SHA-256 first", b"5,0x7", Some(ChapAlgorithm::Sha256)),
+    ("MD5 alone", b"5,6", Some(ChapAlgorithm::Md5)),
+    ("neither", b"55,8", None),
+];
+
+#[test]
+fn an_algorithm_is_chosen_from_a_list(rt: HostRuntime) {
+    for (shows, list, expected) in CHOSEN {
+        assert_same(&rt, chosen_algorithm(list), expected, shows);
+    }
 }

@@ -1,8 +1,5 @@
 //! Each key: offered in its range, at its ends, out of it and malformed.
-use super::assert_same;
-use super::exchanges::{GROUP, NAMES, add_response, take};
-use super::logins::target;
-use iscsi_login::LoginExchange;
+use super::exchanges::{GROUP, NAMES, PLAIN, Turn, assert_exchange};
 use std::alloc::Global;
 use std::process::Abort;
 use std::test::Fail;
@@ -182,36 +179,13 @@ const OFFERS_IN_DISCOVERY: [Offer; 20] = [
     ("IFMarker=Yes", "IFMarker=No", 0),
 ];
 
-/// The response to a login whose first text has one more key.
-fn found(alloc: Global, names: &[u8], offered: &str) -> Result<Vec<u8>, Fail> {
-    let target = target(alloc, false)?;
-    let text = text_of(alloc, names, offered)?;
-    let mut exchange = LoginExchange::new(alloc, 1, None);
-    let mut out = Vec::new(alloc);
-    take(&mut exchange, &target, 0x04, text.as_slice(), &mut out)?;
-    Ok(out)
-}
-
-/// The response that is expected, where the answers to the names come first.
-fn expected(alloc: Global, first: &[u8], answer: &str, status: u16) -> Result<Vec<u8>, Fail> {
-    let mut out = Vec::new(alloc);
-    let told = if status == 0 { first } else { b"" };
-    let text = text_of(alloc, told, answer)?;
-    add_response(&mut out, 0, (0x04, status, text.as_slice()))?;
-    Ok(out)
-}
-
 /// A text, and behind it an item, if there is one.
 fn text_of(alloc: Global, first: &[u8], item: &str) -> Result<Vec<u8>, Fail> {
-    let mut text = Vec::from_slice(alloc, first)?;
-    if !item.is_empty() {
-        text.extend_from_slice(item.as_bytes())?;
-        text.push(0)?;
-    }
-    Ok(text)
+    let end: &[u8] = if item.is_empty() { b"" } else { b"\0" };
+    Ok([first, item.as_bytes(), end].concat(alloc)?)
 }
 
-/// Compares the response to an offer with the one that is expected.
+/// Compares the response to an offer with the one that is expected, where the answers to the names come first.
 fn assert_offer(
     rt: &impl Abort,
     alloc: Global,
@@ -220,10 +194,11 @@ fn assert_offer(
     offer: &Offer,
 ) -> Result<(), Fail> {
     let (offered, answer, status) = *offer;
-    let found = found(alloc, names, offered)?;
-    let expected = expected(alloc, first, answer, status)?;
-    assert_same(rt, found.as_slice(), expected.as_slice(), offered);
-    Ok(())
+    let text = text_of(alloc, names, offered)?;
+    let told = if status == 0 { first } else { b"" };
+    let told = text_of(alloc, told, answer)?;
+    let turn = Turn(0x04, text.as_slice(), 0x04, status, told.as_slice());
+    assert_exchange(rt, alloc, &PLAIN, offered, &[turn])
 }
 
 /// Compares the responses to logins whose first texts have one of these offers more each.

@@ -1,8 +1,8 @@
 use super::assert_same;
 use iscsi_pdu::{
-    InitiatorHeader, InitiatorPdu, LoginRequest, LoginResponse, LoginStatus, ParsedInitiatorPdu,
-    ParsedTargetPdu, SerialNumber, Stage, TargetHeader, TargetPdu, parse_initiator_pdu,
-    parse_target_pdu, write_initiator_pdu, write_target_pdu,
+    InitiatorHeader, LoginResponse, LoginStatus, ParsedInitiatorPdu, ParsedTargetPdu, SerialNumber,
+    Stage, TargetHeader, TargetPdu, parse_initiator_pdu, parse_target_pdu, write_initiator_pdu,
+    write_target_pdu,
 };
 use std::alloc::Global;
 use std::test::Fail;
@@ -19,41 +19,42 @@ const LET_IN: &[u8] = &[
     0, 0, 1, 0, 0, 0, 0x20, 0, 0, 0, 0, 0, 0, 0, 0, 0, 0, 0, 0,
 ];
 
-/// The PDU that a stream of an initiator begins with.
-fn parsed(bytes: &[u8]) -> Result<(InitiatorPdu<'_>, usize), Fail> {
+/// A login as it is compared: the next stage, ISID and CID, the text, and how many bytes the PDU has.
+type Told<'a> = (Stage, u64, u16, &'a [u8], usize);
+
+/// The login that a stream of an initiator begins with.
+fn login_in(bytes: &[u8]) -> Option<Told<'_>> {
     match parse_initiator_pdu(8192, bytes) {
-        ParsedInitiatorPdu::Complete(pdu, count) => Ok((pdu, count)),
-        _ => Err("no PDU".into()),
+        ParsedInitiatorPdu::Complete(pdu, count) => match pdu.header {
+            InitiatorHeader::LoginRequest(login) => {
+                Some((login.next_stage, login.isid, login.cid, pdu.payload, count))
+            }
+            _ => None,
+        },
+        _ => None,
     }
 }
 
-fn login_of(pdu: &InitiatorPdu<'_>) -> Result<LoginRequest, Fail> {
-    match pdu.header {
-        InitiatorHeader::LoginRequest(login) => Ok(login),
-        _ => Err("no login".into()),
-    }
-}
-
-/// The bytes of a PDU that was parsed.
-fn written(alloc: Global, pdu: &InitiatorPdu<'_>) -> Result<Vec<u8>, Fail> {
+/// The bytes of the PDU that a stream begins with, which is parsed and written.
+fn rewritten(alloc: Global, bytes: &[u8]) -> Result<Vec<u8>, Fail> {
+    let ParsedInitiatorPdu::Complete(pdu, _) = parse_initiator_pdu(8192, bytes) else {
+        return Err("no PDU".into());
+    };
     if pdu.payload.len() >= 8192 || !pdu.extended_cdb.is_empty() {
         return Err("too long".into());
     }
     let mut out = Vec::new(alloc);
-    write_initiator_pdu(&mut out, pdu)?;
+    write_initiator_pdu(&mut out, &pdu)?;
     Ok(out)
 }
 
+const TOLD: Told<'static> = (Stage::FullFeaturePhase, 0x0002_3D00_0001, 2, b"A=b\0", 52);
+
 #[test]
 fn a_login_is_parsed_and_written(rt: HostRuntime) -> Result<(), Fail> {
-    let (pdu, count) = parsed(LOGIN)?;
-    assert_same(&rt, count, 52, "how many bytes");
-    assert_same(&rt, pdu.payload, b"A=b\0".as_slice(), "the text");
-    let login = login_of(&pdu)?;
-    let found = (login.next_stage, login.isid, login.cid);
-    let expected = (Stage::FullFeaturePhase, 0x0002_3D00_0001, 2);
-    assert_same(&rt, found, expected, "next stage, ISID and CID");
-    let bytes = written(rt.alloc(), &pdu)?;
+    let shows = "next stage, ISID, CID, text and length";
+    assert_same(&rt, login_in(LOGIN), Some(TOLD), shows);
+    let bytes = rewritten(rt.alloc(), LOGIN)?;
     assert_same(&rt, bytes.as_slice(), LOGIN, "the bytes again");
     Ok(())
 }
@@ -79,10 +80,10 @@ const RESPONSE: TargetPdu<'static> = TargetPdu {
 
 /// What a PDU of a target says, and how many bytes it takes.
 fn shown(alloc: Global, bytes: &[u8]) -> Result<(String, usize), Fail> {
-    match parse_target_pdu(0, bytes) {
-        ParsedTargetPdu::Complete(pdu, count) => Ok((format!(in alloc; "{pdu:?}")?, count)),
-        _ => Err("no PDU".into()),
-    }
+    let ParsedTargetPdu::Complete(pdu, count) = parse_target_pdu(0, bytes) else {
+        return Err("no PDU".into());
+    };
+    Ok((format!(in alloc; "{pdu:?}")?, count))
 }
 
 #[test]

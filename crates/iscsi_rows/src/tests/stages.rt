@@ -1,98 +1,85 @@
 //! The stages of a login, and texts in pieces.
-use super::assert_same;
 use super::exchanges::{
-    Exchange, GROUP, NAMES, Response, Turn, add_response, assert_exchanges, take,
+    Exchange, GROUP, NAMES, PLAIN, Setting, Turn, assert_exchange, assert_exchanges,
 };
-use super::logins::target;
-use iscsi_login::LoginExchange;
-use std::alloc::Global;
-use std::process::Abort;
 use std::test::Fail;
 
-/// A refusal in each stage.
-const REFUSED_IN_SECURITY: Response = (0x00, 0x0200, b"");
-
-const REFUSED_IN_OPERATIONAL: Response = (0x04, 0x0200, b"");
-
 /// Security negotiation is left for operational negotiation.
-const TO_OPERATIONAL: Turn = ((0x81, NAMES), (0x81, 0, GROUP));
+const TO_OPERATIONAL: Turn<'static> = Turn(0x81, NAMES, 0x81, 0, GROUP);
 
 /// The last request and its response, from operational negotiation.
-const LAST: Turn = ((0x87, b""), (0x87, 0, b""));
+const LAST: Turn<'static> = Turn(0x87, b"", 0x87, 0, b"");
 
-const STAGES: [Exchange; 17] = [
+const STAGES: [Exchange; 6] = [
     ("one stage after the other", &[TO_OPERATIONAL, LAST]),
     (
         "operational negotiation is skipped",
-        &[((0x83, NAMES), (0x83, 0, GROUP))],
+        &[Turn(0x83, NAMES, 0x83, 0, GROUP)],
     ),
     (
         "security negotiation is skipped",
-        &[((0x87, NAMES), (0x87, 0, GROUP))],
+        &[Turn(0x87, NAMES, 0x87, 0, GROUP)],
     ),
     (
         "several requests of a stage",
         &[
-            ((0x00, NAMES), (0x00, 0, GROUP)),
-            (
-                (0x00, b"AuthMethod=None\0"),
-                (0x00, 0, b"AuthMethod=None\0"),
-            ),
-            ((0x81, b""), (0x81, 0, b"")),
-            (
-                (0x04, b"MaxConnections=1\0"),
-                (0x04, 0, b"MaxConnections=1\0"),
-            ),
+            Turn(0x00, NAMES, 0x00, 0, GROUP),
+            Turn(0x00, b"AuthMethod=None\0", 0x00, 0, b"AuthMethod=None\0"),
+            Turn(0x81, b"", 0x81, 0, b""),
+            Turn(0x04, b"MaxConnections=1\0", 0x04, 0, b"MaxConnections=1\0"),
             LAST,
         ],
     ),
     (
         "full feature after several requests of security negotiation",
         &[
-            ((0x00, NAMES), (0x00, 0, GROUP)),
-            ((0x83, b""), (0x83, 0, b"")),
+            Turn(0x00, NAMES, 0x00, 0, GROUP),
+            Turn(0x83, b"", 0x83, 0, b""),
         ],
     ),
     (
         "without T a next stage says nothing",
-        &[((0x07, NAMES), (0x04, 0, GROUP)), LAST],
+        &[Turn(0x07, NAMES, 0x04, 0, GROUP), LAST],
     ),
-    ("back", &[((0x84, NAMES), REFUSED_IN_OPERATIONAL)]),
+];
+
+const OTHER_STAGES: [Exchange; 11] = [
+    ("back", &[Turn(0x84, NAMES, 0x04, 0x0200, b"")]),
     (
         "to the stage itself",
-        &[((0x80, NAMES), REFUSED_IN_SECURITY)],
+        &[Turn(0x80, NAMES, 0x00, 0x0200, b"")],
     ),
     (
         "to the later stage itself",
-        &[((0x85, NAMES), REFUSED_IN_OPERATIONAL)],
+        &[Turn(0x85, NAMES, 0x04, 0x0200, b"")],
     ),
-    ("to no stage", &[((0x82, NAMES), REFUSED_IN_SECURITY)]),
-    ("of no stage", &[((0x8B, NAMES), (0x08, 0x0200, b""))]),
-    ("of full feature", &[((0x0C, NAMES), (0x0C, 0x0200, b""))]),
+    ("to no stage", &[Turn(0x82, NAMES, 0x00, 0x0200, b"")]),
+    ("of no stage", &[Turn(0x8B, NAMES, 0x08, 0x0200, b"")]),
+    ("of full feature", &[Turn(0x0C, NAMES, 0x0C, 0x0200, b"")]),
     (
         "security negotiation again",
-        &[TO_OPERATIONAL, ((0x00, b""), REFUSED_IN_SECURITY)],
+        &[TO_OPERATIONAL, Turn(0x00, b"", 0x00, 0x0200, b"")],
     ),
     (
         "operational negotiation before security negotiation was left",
         &[
-            ((0x00, NAMES), (0x00, 0, GROUP)),
-            ((0x87, b""), REFUSED_IN_OPERATIONAL),
+            Turn(0x00, NAMES, 0x00, 0, GROUP),
+            Turn(0x87, b"", 0x04, 0x0200, b""),
         ],
     ),
-    ("T with C", &[((0xC1, NAMES), REFUSED_IN_SECURITY)]),
+    ("T with C", &[Turn(0xC1, NAMES, 0x00, 0x0200, b"")]),
     (
         "a text without its last NUL",
         &[
-            ((0x40, NAMES), (0x00, 0, b"")),
-            ((0x81, b"AuthMethod=None"), REFUSED_IN_SECURITY),
+            Turn(0x40, NAMES, 0x00, 0, b""),
+            Turn(0x81, b"AuthMethod=None", 0x00, 0x0200, b""),
         ],
     ),
     (
         "a text that begins anew",
         &[
-            ((0x40, NAMES), (0x00, 0, b"")),
-            ((0x81, NAMES), REFUSED_IN_SECURITY),
+            Turn(0x40, NAMES, 0x00, 0, b""),
+            Turn(0x81, NAMES, 0x00, 0x0200, b""),
         ],
     ),
 ];
@@ -102,19 +89,22 @@ const PIECES: [Exchange; 3] = [
     (
         "the first text in pieces",
         &[
-            ((0x40, b"InitiatorNa"), (0x00, 0, b"")),
-            ((0x40, b"me=iqn.1993-08.org.debian"), (0x00, 0, b"")),
-            (
-                (
-                    0x40,
-                    b":01:abc\0TargetName=iqn.2026-11.localhost:vtl\0SessionType=Normal",
-                ),
-                (0x00, 0, b""),
+            Turn(0x40, b"InitiatorNa", 0x00, 0, b""),
+            Turn(0x40, b"me=iqn.1993-08.org.debian", 0x00, 0, b""),
+            Turn(
+                0x40,
+                b":01:abc\0TargetName=iqn.2026-11.localhost:vtl\0SessionType=Normal",
+                0x00,
+                0,
+                b"",
             ),
-            ((0x40, b""), (0x00, 0, b"")),
-            (
-                (0x81, b"\0AuthMethod=None\0"),
-                (0x81, 0, b"TargetPortalGroupTag=1\0AuthMethod=None\0"),
+            Turn(0x40, b"", 0x00, 0, b""),
+            Turn(
+                0x81,
+                b"\0AuthMethod=None\0",
+                0x81,
+                0,
+                b"TargetPortalGroupTag=1\0AuthMethod=None\0",
             ),
             LAST,
         ],
@@ -123,23 +113,23 @@ const PIECES: [Exchange; 3] = [
         "a later text in pieces",
         &[
             TO_OPERATIONAL,
-            ((0x44, b"MaxBurst"), (0x04, 0, b"")),
-            ((0x44, b"Length=512\0MaxConnections="), (0x04, 0, b"")),
-            (
-                (0x87, b"1\0"),
-                (0x87, 0, b"MaxBurstLength=512\0MaxConnections=1\0"),
+            Turn(0x44, b"MaxBurst", 0x04, 0, b""),
+            Turn(0x44, b"Length=512\0MaxConnections=", 0x04, 0, b""),
+            Turn(
+                0x87,
+                b"1\0",
+                0x87,
+                0,
+                b"MaxBurstLength=512\0MaxConnections=1\0",
             ),
         ],
     ),
     (
         "a key twice, in two texts",
         &[
-            ((0x81, NAMES), (0x81, 0, GROUP)),
-            (
-                (0x04, b"MaxConnections=1\0"),
-                (0x04, 0, b"MaxConnections=1\0"),
-            ),
-            ((0x87, b"MaxConnections=1\0"), REFUSED_IN_OPERATIONAL),
+            Turn(0x81, NAMES, 0x81, 0, GROUP),
+            Turn(0x04, b"MaxConnections=1\0", 0x04, 0, b"MaxConnections=1\0"),
+            Turn(0x87, b"MaxConnections=1\0", 0x04, 0x0200, b""),
         ],
     ),
 ];
@@ -155,164 +145,171 @@ const DISCOVERY_OF_ALL: &[u8] =
 const GROUPS: [Exchange; 5] = [
     (
         "a discovery session that names the target",
-        &[((0x87, DISCOVERY), (0x87, 0, GROUP))],
+        &[Turn(0x87, DISCOVERY, 0x87, 0, GROUP)],
     ),
     (
         "a discovery session that names none",
-        &[((0x87, DISCOVERY_OF_ALL), (0x87, 0, b""))],
+        &[Turn(0x87, DISCOVERY_OF_ALL, 0x87, 0, b"")],
     ),
     (
         "the target is named in pieces",
         &[
-            (
-                (
-                    0x44,
-                    b"InitiatorName=iqn.1993-08.org.debian:01:abc\0TargetN",
-                ),
-                (0x04, 0, b""),
+            Turn(
+                0x44,
+                b"InitiatorName=iqn.1993-08.org.debian:01:abc\0TargetN",
+                0x04,
+                0,
+                b"",
             ),
-            (
-                (
-                    0x87,
-                    b"ame=iqn.2026-11.localhost:vtl\0SessionType=Discovery\0",
-                ),
-                (0x87, 0, GROUP),
+            Turn(
+                0x87,
+                b"ame=iqn.2026-11.localhost:vtl\0SessionType=Discovery\0",
+                0x87,
+                0,
+                GROUP,
             ),
         ],
     ),
     (
         "a discovery session that names the target again",
         &[
-            ((0x81, DISCOVERY), (0x81, 0, GROUP)),
-            ((0x87, DISCOVERY), (0x87, 0, b"")),
+            Turn(0x81, DISCOVERY, 0x81, 0, GROUP),
+            Turn(0x87, DISCOVERY, 0x87, 0, b""),
         ],
     ),
     (
         "a discovery session that names another target",
-        &[(
-            (
-                0x87,
-                b"InitiatorName=iqn.1993-08.org.debian:01:abc\0TargetName=iqn.2026-11.localhost:other\0SessionType=Discovery\0",
-            ),
-            (0x04, 0x0203, b""),
+        &[Turn(
+            0x87,
+            b"InitiatorName=iqn.1993-08.org.debian:01:abc\0TargetName=iqn.2026-11.localhost:other\0SessionType=Discovery\0",
+            0x04,
+            0x0203,
+            b"",
         )],
     ),
 ];
 
 /// FirstBurstLength is told as no more than the burst that is agreed before it, and MaxBurstLength as it is offered.
-const BURSTS: [Exchange; 9] = [
+const BURSTS: [Exchange; 8] = [
     (
         "a burst, and behind it a longer first burst in the same text",
-        &[
-            TO_OPERATIONAL,
-            (
-                (0x87, b"MaxBurstLength=8192\0FirstBurstLength=65536\0"),
-                (0x87, 0, b"MaxBurstLength=8192\0FirstBurstLength=8192\0"),
-            ),
-        ],
+        &[Turn(
+            0x87,
+            b"MaxBurstLength=8192\0FirstBurstLength=65536\0",
+            0x87,
+            0,
+            b"MaxBurstLength=8192\0FirstBurstLength=8192\0",
+        )],
     ),
     (
         "a burst, and a first burst as long",
-        &[
-            TO_OPERATIONAL,
-            (
-                (0x87, b"MaxBurstLength=8192\0FirstBurstLength=8192\0"),
-                (0x87, 0, b"MaxBurstLength=8192\0FirstBurstLength=8192\0"),
-            ),
-        ],
+        &[Turn(
+            0x87,
+            b"MaxBurstLength=8192\0FirstBurstLength=8192\0",
+            0x87,
+            0,
+            b"MaxBurstLength=8192\0FirstBurstLength=8192\0",
+        )],
     ),
     (
         "a burst, and a longer first burst in a later text",
         &[
-            TO_OPERATIONAL,
-            (
-                (0x04, b"MaxBurstLength=8192\0"),
-                (0x04, 0, b"MaxBurstLength=8192\0"),
+            Turn(
+                0x04,
+                b"MaxBurstLength=8192\0",
+                0x04,
+                0,
+                b"MaxBurstLength=8192\0",
             ),
-            (
-                (0x87, b"FirstBurstLength=65536\0"),
-                (0x87, 0, b"FirstBurstLength=8192\0"),
+            Turn(
+                0x87,
+                b"FirstBurstLength=65536\0",
+                0x87,
+                0,
+                b"FirstBurstLength=8192\0",
             ),
         ],
     ),
     (
         "a first burst, and behind it a shorter burst in the same text",
-        &[
-            TO_OPERATIONAL,
-            (
-                (0x87, b"FirstBurstLength=65536\0MaxBurstLength=8192\0"),
-                (0x87, 0, b"FirstBurstLength=65536\0MaxBurstLength=8192\0"),
-            ),
-        ],
+        &[Turn(
+            0x87,
+            b"FirstBurstLength=65536\0MaxBurstLength=8192\0",
+            0x87,
+            0,
+            b"FirstBurstLength=65536\0MaxBurstLength=8192\0",
+        )],
     ),
     (
         "a first burst, and a shorter burst in a later text",
         &[
-            TO_OPERATIONAL,
-            (
-                (0x04, b"FirstBurstLength=65536\0"),
-                (0x04, 0, b"FirstBurstLength=65536\0"),
+            Turn(
+                0x04,
+                b"FirstBurstLength=65536\0",
+                0x04,
+                0,
+                b"FirstBurstLength=65536\0",
             ),
-            (
-                (0x87, b"MaxBurstLength=8192\0"),
-                (0x87, 0, b"MaxBurstLength=8192\0"),
+            Turn(
+                0x87,
+                b"MaxBurstLength=8192\0",
+                0x87,
+                0,
+                b"MaxBurstLength=8192\0",
             ),
         ],
     ),
     (
         "a longer burst than the target's, and a first burst as long",
-        &[
-            TO_OPERATIONAL,
-            (
-                (
-                    0x87,
-                    b"MaxBurstLength=16776192\0FirstBurstLength=16776192\0",
-                ),
-                (
-                    0x87,
-                    0,
-                    b"MaxBurstLength=1048576\0FirstBurstLength=262144\0",
-                ),
-            ),
-        ],
+        &[Turn(
+            0x87,
+            b"MaxBurstLength=16776192\0FirstBurstLength=16776192\0",
+            0x87,
+            0,
+            b"MaxBurstLength=1048576\0FirstBurstLength=262144\0",
+        )],
     ),
     (
         "a first burst alone, no longer than the burst of the default",
-        &[
-            TO_OPERATIONAL,
-            (
-                (0x87, b"FirstBurstLength=16777215\0"),
-                (0x87, 0, b"FirstBurstLength=262144\0"),
-            ),
-        ],
+        &[Turn(
+            0x87,
+            b"FirstBurstLength=16777215\0",
+            0x87,
+            0,
+            b"FirstBurstLength=262144\0",
+        )],
     ),
     (
         "a burst alone",
-        &[
-            TO_OPERATIONAL,
-            (
-                (0x87, b"MaxBurstLength=512\0"),
-                (0x87, 0, b"MaxBurstLength=512\0"),
-            ),
-        ],
-    ),
-    (
-        "a burst in security negotiation, and a longer first burst behind it",
-        &[
-            (
-                (
-                    0x81,
-                    b"InitiatorName=iqn.1993-08.org.debian:01:abc\0TargetName=iqn.2026-11.localhost:vtl\0MaxBurstLength=1024\0",
-                ),
-                (0x81, 0, b"TargetPortalGroupTag=1\0MaxBurstLength=1024\0"),
-            ),
-            (
-                (0x87, b"FirstBurstLength=0x400000\0"),
-                (0x87, 0, b"FirstBurstLength=1024\0"),
-            ),
-        ],
+        &[Turn(
+            0x87,
+            b"MaxBurstLength=512\0",
+            0x87,
+            0,
+            b"MaxBurstLength=512\0",
+        )],
     ),
 ];
+
+const EARLY_BURST: [Exchange; 1] = [(
+    "a burst in security negotiation, and a longer first burst behind it",
+    &[
+        Turn(
+            0x81,
+            b"InitiatorName=iqn.1993-08.org.debian:01:abc\0TargetName=iqn.2026-11.localhost:vtl\0MaxBurstLength=1024\0",
+            0x81,
+            0,
+            b"TargetPortalGroupTag=1\0MaxBurstLength=1024\0",
+        ),
+        Turn(
+            0x87,
+            b"FirstBurstLength=0x400000\0",
+            0x87,
+            0,
+            b"FirstBurstLength=1024\0",
+        ),
+    ],
+)];
 
 /// The initiator takes 512 bytes, and its keys are answered by 602.
 const KEYS: &[u8] = b"MaxRecvDataSegmentLength=512\0\
@@ -336,81 +333,78 @@ const LONG_ANSWERS: [Exchange; 3] = [
     (
         "an answer in pieces holds T back",
         &[
-            TO_OPERATIONAL,
-            ((0x87, KEYS), (0x44, 0, FIRST_PIECE)),
-            ((0x87, b""), (0x87, 0, LAST_PIECE)),
+            Turn(0x87, KEYS, 0x44, 0, FIRST_PIECE),
+            Turn(0x87, b"", 0x87, 0, LAST_PIECE),
         ],
     ),
     (
         "the last piece goes without T where none is asked for",
         &[
-            TO_OPERATIONAL,
-            ((0x04, KEYS), (0x44, 0, FIRST_PIECE)),
-            ((0x04, b""), (0x04, 0, LAST_PIECE)),
+            Turn(0x04, KEYS, 0x44, 0, FIRST_PIECE),
+            Turn(0x04, b"", 0x04, 0, LAST_PIECE),
             LAST,
         ],
     ),
     (
         "a text while a piece is to be asked for",
         &[
-            TO_OPERATIONAL,
-            ((0x87, KEYS), (0x44, 0, FIRST_PIECE)),
-            ((0x87, b"MaxConnections=1\0"), REFUSED_IN_OPERATIONAL),
+            Turn(0x87, KEYS, 0x44, 0, FIRST_PIECE),
+            Turn(0x87, b"MaxConnections=1\0", 0x04, 0x0200, b""),
         ],
     ),
 ];
 
-fn assert_all(rt: &impl Abort, alloc: Global, rows: &[Exchange]) -> Result<(), Fail> {
-    let target = target(alloc, false)?;
-    assert_exchanges(rt, alloc, &target, None, rows)
-}
+/// Operational negotiation has begun.
+const AFTER_NAMES: Setting = Setting {
+    first: &[TO_OPERATIONAL],
+    ..PLAIN
+};
 
 #[test]
 fn stages_lead_on_and_never_back(rt: HostRuntime) -> Result<(), Fail> {
-    assert_all(&rt, rt.alloc(), &STAGES)
+    assert_exchanges(&rt, rt.alloc(), &PLAIN, &STAGES)
+}
+
+#[test]
+fn no_other_way_leads_from_a_stage(rt: HostRuntime) -> Result<(), Fail> {
+    assert_exchanges(&rt, rt.alloc(), &PLAIN, &OTHER_STAGES)
 }
 
 #[test]
 fn a_text_may_be_cut_anywhere(rt: HostRuntime) -> Result<(), Fail> {
-    assert_all(&rt, rt.alloc(), &PIECES)
+    assert_exchanges(&rt, rt.alloc(), &PLAIN, &PIECES)
 }
 
 #[test]
 fn the_portal_group_is_told_who_names_the_target(rt: HostRuntime) -> Result<(), Fail> {
-    assert_all(&rt, rt.alloc(), &GROUPS)
+    assert_exchanges(&rt, rt.alloc(), &PLAIN, &GROUPS)
 }
 
 #[test]
 fn a_first_burst_is_no_longer_than_a_burst(rt: HostRuntime) -> Result<(), Fail> {
-    assert_all(&rt, rt.alloc(), &BURSTS)
+    assert_exchanges(&rt, rt.alloc(), &AFTER_NAMES, &BURSTS)
+}
+
+#[test]
+fn nor_than_one_that_was_agreed_early(rt: HostRuntime) -> Result<(), Fail> {
+    assert_exchanges(&rt, rt.alloc(), &PLAIN, &EARLY_BURST)
 }
 
 #[test]
 fn a_long_answer_goes_out_in_pieces(rt: HostRuntime) -> Result<(), Fail> {
-    assert_all(&rt, rt.alloc(), &LONG_ANSWERS)
+    assert_exchanges(&rt, rt.alloc(), &AFTER_NAMES, &LONG_ANSWERS)
 }
 
 /// The most bytes of a text.
 const LONGEST: usize = 65_536;
 
-/// The responses to a text of that many bytes, and one more.
-fn found(alloc: Global) -> Result<Vec<u8>, Fail> {
-    let target = target(alloc, false)?;
-    let mut exchange = LoginExchange::new(alloc, 1, None);
-    let mut out = Vec::new(alloc);
-    let longest = vec![in alloc; b'X'; LONGEST]?;
-    take(&mut exchange, &target, 0x40, longest.as_slice(), &mut out)?;
-    take(&mut exchange, &target, 0x40, b"X", &mut out)?;
-    Ok(out)
-}
-
 #[test]
 fn a_text_has_an_end(rt: HostRuntime) -> Result<(), Fail> {
-    let found = found(rt.alloc())?;
-    let mut expected = Vec::new(rt.alloc());
-    add_response(&mut expected, 0, (0x00, 0, b""))?;
-    add_response(&mut expected, 1, REFUSED_IN_SECURITY)?;
+    let longest = vec![in rt.alloc(); b'X'; LONGEST]?;
+    let turns = [
+        Turn(0x40, longest.as_slice(), 0x00, 0, b""),
+        Turn(0x40, b"X", 0x00, 0x0200, b""),
+    ];
     let shows = "a text of 65,537 bytes";
-    assert_same(&rt, found.as_slice(), expected.as_slice(), shows);
-    Ok(())
+    assert_exchange(&rt, rt.alloc(), &PLAIN, shows, &turns)
 }

@@ -1,8 +1,5 @@
 //! Each login status as it is told.
-use super::assert_same;
-use super::exchanges::{NAMES, add_response, request_of};
-use super::logins::target;
-use iscsi_login::{LoginExchange, LoginTarget};
+use super::exchanges::{NAMES, PLAIN, Setting, Turn, assert_exchange};
 use iscsi_pdu::LoginStatus;
 use std::alloc::Global;
 use std::process::Abort;
@@ -29,27 +26,19 @@ const STATUSES: [(LoginStatus, u16); 17] = [
     (LoginStatus::OutOfResources, 0x0302),
 ];
 
-/// The response to a login that was to be the session's beginning, and is refused.
-fn refusal(alloc: Global, target: &LoginTarget, status: LoginStatus) -> Result<Vec<u8>, Fail> {
-    let mut exchange = LoginExchange::new(alloc, 1, None);
-    let mut out = Vec::new(alloc);
-    exchange.take(target, &request_of(0x87), NAMES, &mut out)?;
-    exchange.refuse(status, &mut out)?;
-    Ok(out)
-}
-
+/// Compares the response to a login that was to be the session's beginning, and is refused.
 fn assert_refusal(
     rt: &impl Abort,
     alloc: Global,
     (status, code): (LoginStatus, u16),
 ) -> Result<(), Fail> {
-    let target = target(alloc, false)?;
-    let found = refusal(alloc, &target, status)?;
-    let mut expected = Vec::new(alloc);
-    add_response(&mut expected, 0, (0x04, code, b""))?;
+    let setting = Setting {
+        refused: Some(status),
+        ..PLAIN
+    };
+    let turns = [Turn(0x87, NAMES, 0x04, code, b"")];
     let shows = "the status of a refusal";
-    assert_same(rt, found.as_slice(), expected.as_slice(), shows);
-    Ok(())
+    assert_exchange(rt, alloc, &setting, shows, &turns)
 }
 
 #[test]

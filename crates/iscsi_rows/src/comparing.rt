@@ -1,23 +1,9 @@
-mod claims;
-mod endings;
-mod leaving;
-mod numbers;
-mod resets;
-mod residuals;
-mod sessions;
-mod statuses;
-mod streams;
-mod tasks;
-mod texts;
-mod words;
-mod writes;
-
 use std::fmt::Debug;
 use std::process::Abort;
 
 /// Compares what was found with what is expected. Each `assert_eq!` costs the proof of the function that it stands in some
 /// ten times this call.
-fn assert_same<T: Copy + PartialEq + Debug>(
+pub(crate) fn assert_same<T: Copy + PartialEq + Debug>(
     rt: &impl Abort,
     found: T,
     expected: T,

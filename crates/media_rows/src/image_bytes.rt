@@ -1,6 +1,6 @@
+use crate::comparing::{assert_list, assert_same};
 use std::alloc::Global;
-use std::io;
-use std::io::Read;
+use std::io::{self, Read};
 use std::test::Fail;
 use tape_image::{
     ImageEnd, ImageFault, ImagePart, ImageReader, IndexFault, IndexedObject, index_image,
@@ -65,8 +65,8 @@ fn an_image_is_written_as_simh_keeps_it(rt: HostRuntime) -> Result<(), Fail> {
     write_block(&mut image, b"hi")?;
     write_mark(&mut image)?;
     write_block(&mut image, b"odd")?;
-    assert_eq!(rt; image.as_slice(), IMAGE);
-    assert_eq!(rt; image.capacity(), room);
+    assert_list(&rt, image.as_slice(), IMAGE, "as SIMH keeps it");
+    assert_same(&rt, image.capacity(), room, "in the room for it");
     Ok(())
 }
 
@@ -75,8 +75,9 @@ fn an_image_is_read_object_by_object_though_reads_are_interrupted(
     rt: HostRuntime,
 ) -> Result<(), Fail> {
     let (objects, end) = told(rt.alloc(), IMAGE)?;
-    assert_eq!(rt; objects.as_slice(), [(0, 2), (10, 0), (14, 3)].as_slice());
-    assert_eq!(rt; end, Some(ImageEnd::WholeEnd { whole: 26 }));
+    assert_list(&rt, &objects, &[(0, 2), (10, 0), (14, 3)], "three objects");
+    let whole = Some(ImageEnd::WholeEnd { whole: 26 });
+    assert_same(&rt, end, whole, "and the end");
     Ok(())
 }
 
@@ -85,11 +86,21 @@ fn a_tail_that_was_cut_is_told_at_each_place(rt: HostRuntime) -> Result<(), Fail
     for length in 15..26usize {
         let (objects, end) = told(rt.alloc(), &IMAGE[..length])?;
         let lost = length as u64 - 14;
-        assert_eq!(rt; objects.as_slice(), [(0, 2), (10, 0)].as_slice());
-        assert_eq!(rt; end, Some(ImageEnd::CutTail { whole: 14, lost }));
+        assert_list(&rt, &objects, &[(0, 2), (10, 0)], "what is whole");
+        let cut = Some(ImageEnd::CutTail { whole: 14, lost });
+        assert_same(&rt, end, cut, "and what is lost");
     }
     Ok(())
 }
+
+const BEFORE_A_FAULT: [IndexedObject; 3] = [
+    IndexedObject::Block { offset: 4, size: 2 },
+    IndexedObject::Mark { offset: 14 },
+    IndexedObject::Block {
+        offset: 18,
+        size: 3,
+    },
+];
 
 #[test]
 fn an_index_has_each_object_before_a_fault(rt: HostRuntime) -> Result<(), Fail> {
@@ -99,27 +110,13 @@ fn an_index_has_each_object_before_a_fault(rt: HostRuntime) -> Result<(), Fail> 
     bytes.extend_from_slice(&[2, 0, 0, 0x80, b'h', b'i'])?;
     let mut reader = bytes.as_slice();
     let index = index_image(rt.alloc(), &mut reader)?;
-    assert_eq!(rt;
-        index.objects.as_slice(),
-        [
-            IndexedObject::Block { offset: 4, size: 2 },
-            IndexedObject::Mark { offset: 14 },
-            IndexedObject::Block {
-                offset: 18,
-                size: 3
-            },
-        ]
-        .as_slice()
-    );
-    let fault = ImageFault::UnknownClass;
-    assert_eq!(rt;
-        index.end,
-        ImageEnd::Faulty {
-            fault,
-            objects: 3,
-            whole: 30
-        }
-    );
+    assert_list(&rt, &index.objects, &BEFORE_A_FAULT, "behind a gap");
+    let end = ImageEnd::Faulty {
+        fault: ImageFault::UnknownClass,
+        objects: 3,
+        whole: 30,
+    };
+    assert_same(&rt, index.end, end, "the fault");
     Ok(())
 }
 

@@ -1,5 +1,0 @@
-//! Worked rows of iSCSI sessions, byte for byte.
-#![tactic(auto)]
-
-#[cfg(test)]
-mod tests;
