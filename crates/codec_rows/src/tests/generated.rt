@@ -16,6 +16,9 @@ use std::process::Abort;
 use std::test::Fail;
 use unit_attention::Queues;
 
+/// Bytes of scope and type, of which one is unknown.
+const SCOPE_TYPES: [u8; 8] = [0x01, 0x03, 0x05, 0x06, 0x07, 0x08, 0x07, 0x12];
+
 /// Numbers that follow from a seed, by Knuth's linear congruence.
 #[derive(Drop)]
 struct Numbers(u64);
@@ -53,16 +56,7 @@ impl Numbers {
 
     /// A byte of scope and type, seldom an unknown one.
     fn scope_type(&mut self) -> u8 {
-        match self.below(8) {
-            0 => 0x01,
-            1 => 0x03,
-            2 => 0x05,
-            3 => 0x06,
-            4 => 0x07,
-            5 => 0x08,
-            6 => 0x07,
-            _ => 0x12,
-        }
+        SCOPE_TYPES[self.below(8) as usize]
     }
 
     /// A command, mostly with its sender's key and mostly with the type that is held.
@@ -104,6 +98,19 @@ impl Numbers {
 
 type Shown<'a> = (&'a [(Nexus, u64)], Option<(ResType, Nexus)>, u32);
 
+/// Walks on by the act of a command, if it has one.
+fn walk_on(
+    alloc: Global,
+    walked: &mut WalkedState,
+    sender: Nexus,
+    act: Option<ReservationAct<'_>>,
+) -> Result<(), Fail> {
+    if let Some(act) = act {
+        *walked = walked.after(alloc, sender, act)?;
+    }
+    Ok(())
+}
+
 /// Sends a command, and walks on where its act was accepted. Whether it was carried out.
 fn sent(
     alloc: Global,
@@ -113,20 +120,17 @@ fn sent(
     params: &OutParams,
 ) -> Result<bool, Fail> {
     match state.judge(sender, params) {
-        Verdict::Allowed => {
-            let mut named = ArrayVec::new();
-            list_targets(&mut named, sender, params);
-            let act = state.act_of(sender, params, named.as_slice());
-            if state.apply(sender, params, &mut Queues::new()).is_err() {
-                return Ok(false);
-            }
-            if let Some(act) = act {
-                *walked = walked.after(alloc, sender, act)?;
-            }
-            Ok(true)
-        }
-        Verdict::Denied(_) | Verdict::Rule(_) => Ok(false),
+        Verdict::Allowed => {}
+        Verdict::Denied(_) | Verdict::Rule(_) => return Ok(false),
     }
+    let mut named = ArrayVec::new();
+    list_targets(&mut named, sender, params);
+    let act = state.act_of(sender, params, named.as_slice());
+    if state.apply(sender, params, &mut Queues::new()).is_err() {
+        return Ok(false);
+    }
+    walk_on(alloc, walked, sender, act)?;
+    Ok(true)
 }
 
 /// What a walk shows: the registrations, the reservation and the generation.
@@ -177,21 +181,30 @@ fn reservations_agree_with_a_plain_program_over_generated_commands(
     Ok(())
 }
 
+const FIRST: Nexus = Nexus { sas: 10, port: 1 };
+
+const SECOND: Nexus = Nexus { sas: 11, port: 1 };
+
+/// The walk over what two do with one key.
+fn walked_with_a_shared_key(alloc: Global) -> Result<WalkedState, Fail> {
+    let alone = [FIRST];
+    let both = [SECOND, FIRST];
+    let acts = [
+        (FIRST, ReservationAct::Register(7, &alone)),
+        (SECOND, ReservationAct::Register(7, &both)),
+        (FIRST, ReservationAct::Reserve(ResType::Ea)),
+        (SECOND, ReservationAct::Preempt(7, 0x05)),
+    ];
+    Ok(WalkedState::after_all(alloc, &acts)?)
+}
+
+const REGISTERED: &[(Nexus, u64)] = &[(SECOND, 7)];
+
+const SHOWN: Shown<'static> = (REGISTERED, Some((ResType::Wero, SECOND)), 3);
+
 #[test]
 fn reservations_agree_with_a_plain_program_over_a_shared_key(rt: HostRuntime) -> Result<(), Fail> {
-    let first = Nexus { sas: 10, port: 1 };
-    let second = Nexus { sas: 11, port: 1 };
-    let alone = [first];
-    let both = [second, first];
-    let acts = [
-        (first, ReservationAct::Register(7, &alone)),
-        (second, ReservationAct::Register(7, &both)),
-        (first, ReservationAct::Reserve(ResType::Ea)),
-        (second, ReservationAct::Preempt(7, 0x05)),
-    ];
-    let walked = WalkedState::after_all(rt.alloc(), &acts)?;
-    let registrations = [(second, 7)];
-    let expected = (registrations.as_slice(), Some((ResType::Wero, second)), 3);
-    assert_same(&rt, shown_of(&walked), expected, "what is shown");
+    let walked = walked_with_a_shared_key(rt.alloc())?;
+    assert_same(&rt, shown_of(&walked), SHOWN, "what is shown");
     Ok(())
 }

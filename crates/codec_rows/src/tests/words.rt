@@ -17,13 +17,22 @@ const COMMANDS: [&'static [u8]; 9] = [
     b"\xb8\0\0\0\xff\xff\0\0\xff\xff\0\0",
 ];
 
+fn line_feeds_of(text: &[u8]) -> u32 {
+    let mut count = 0u32;
+    for byte in text {
+        if *byte == b'\n' {
+            count = count.saturating_add(1);
+        }
+    }
+    count
+}
+
 /// Explains what a command was answered: that it is GOOD, in one line.
 fn assert_explained(rt: &impl Abort, alloc: Global, cdb: &[u8], bytes: &[u8]) -> Result<(), Fail> {
     let mut text = Vec::new(alloc);
     explain(&mut text, cdb, Status::Good, &None, bytes)?;
-    let line_feeds = text.iter().filter(|it| **it == b'\n').count();
     assert_same(rt, text.starts_with(b"# GOOD"), true, "it is GOOD");
-    assert_same(rt, line_feeds, 1, "line feeds");
+    assert_same(rt, line_feeds_of(text.as_slice()), 1, "line feeds");
     Ok(())
 }
 
