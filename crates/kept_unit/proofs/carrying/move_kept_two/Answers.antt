@@ -1,4 +1,4 @@
-use Rattle.std.proofs.Common.{◌≡◌, ◌+◌, ◌∷◌, [], ℕ, List, sym, ap, ◌∙◌, subst}
+use Rattle.std.proofs.Common.{◌≡◌, ◌+◌, ◌∷◌, [], ℕ, List, sym, ap, ◌∙◌, subst, rules}
 use Rattle.audit_log.specs.declared.record.Record.{Record}
 use Rattle.device_server.specs.View.{drives_of}
 use Rattle.logical_unit.specs.Route.{named}
@@ -61,3 +61,9 @@ returns-clause-unnumbered g c = λ none.
     (let names = subst (λ (v : KeptValue). named (drives_of v.unit.device) c.args.cdb.now ≡ g.row.LOW ∷ g.row.HIGH ∷ []) (sym c.changer.view_is) c.requires.named in
     let m = two_move c.changer.inside.unit.unit c.move_two-receipt.new.changer.unit (record { low = c.low.inside.unit.unit; high = c.high.inside.unit.unit }) (record { low = c.move_two-receipt.new.low.unit; high = c.move_two-receipt.new.high.unit }) g.row.LOW g.row.HIGH c.args.nexus c.args.cdb.now c.args.bytes.now c.move_two-receipt.result.reply c.move_two-receipt.result.numbers.items names c.move_two-receipt.ensures.units c.move_two-receipt.ensures.numbers c.changer.invariant.kind c.changer.invariant.place c.low.invariant.place c.high.invariant.place c.requires.drives.0 c.requires.drives.1 in
     c.done_with.ensures.reply ∙ m.unnumbered (sym c.done_with.ensures.numbers ∙ none))
+
+pub returns-clause-high_book : goal.returns-clause-high_book
+returns-clause-high_book g c = search rules
+
+pub returns-clause-high_part : goal.returns-clause-high_part
+returns-clause-high_part g c = search rules

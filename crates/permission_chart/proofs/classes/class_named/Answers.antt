@@ -15,3 +15,6 @@ loop-class-preserved c =
 
 pub returns : goal.returns
 returns c = λ k. All-contains (λ x. ¬ IsNameOf c.args.name.now x) every_class k (rw (take_all c.loop-class.class-index every_class c.loop-class-test.false) at c.loop-class.invariant) (every_class_has k)
+
+pub returns-then-eq_ignore_ascii_case : goal.returns-then-eq_ignore_ascii_case
+returns-then-eq_ignore_ascii_case c = search rules

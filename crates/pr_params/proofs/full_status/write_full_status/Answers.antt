@@ -1,4 +1,4 @@
-use Rattle.std.proofs.Common.{◌+◌, ◌*◌, ◌/◌, length, take, ap, ◌∙◌, arith}
+use Rattle.std.proofs.Common.{◌+◌, ◌*◌, ◌/◌, length, take, ap, ◌∙◌, arith, rules}
 use Rattle.pr_params.specs.Status.{full_status_of, header}
 use Rattle.pr_params.proofs.DescriptorLaws.{written, cut_at, length-full_status}
 use Rattle.pr_params.proofs.full_status.write_full_status.Goals as goal
@@ -15,3 +15,6 @@ returns c =
     ∙ cut_at (full_status_of c.args.reservation) 48 (length-full_status c.args.reservation) c.args.pairs.now c.shown-first.result.now
     (c.args.allocation_length / 48 + 1) c.loop-nexus.nexus-index c.args.allocation_length (header c.args.generation (48 * length c.args.pairs.now)) c.loop-nexus.data.items
     c.shown-first.ensures c.loop-nexus-test.false c.loop-nexus.invariant (omega arith)
+
+pub loop-nexus-init : goal.loop-nexus-init
+loop-nexus-init c = search rules

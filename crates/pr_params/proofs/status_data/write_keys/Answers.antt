@@ -1,4 +1,4 @@
-use Rattle.std.proofs.Common.{ℕ, ◌+◌, ◌*◌, ◌/◌, length, take, refl, ap, ◌∙◌, arith}
+use Rattle.std.proofs.Common.{ℕ, ◌+◌, ◌*◌, ◌/◌, length, take, refl, ap, ◌∙◌, arith, rules}
 use Rattle.byteorder.specs.Endian.{big_bytes}
 use Rattle.scsi_nexus.specs.declared.nexus.Nexus.{Nexus}
 use Rattle.pr_params.specs.Status.{header}
@@ -11,3 +11,6 @@ returns c =
     ∙ cut_at (λ (e : Nexus × ℕ). big_bytes 8 e.1) 8 (λ e. refl) c.args.pairs.now c.shown-first.result.now
     (c.args.allocation_length / 8 + 1) c.loop-key.key-index c.args.allocation_length (header c.args.generation (8 * length c.args.pairs.now)) c.loop-key.data.items
     c.shown-first.ensures c.loop-key-test.false c.loop-key.invariant (omega arith)
+
+pub loop-key-init : goal.loop-key-init
+loop-key-init c = search rules

@@ -13,3 +13,12 @@ returns-clause-step g c = search rules
 
 pub returns-clause-act : goal.returns-clause-act
 returns-clause-act g c = search rules
+
+pub returns-clause-book : goal.returns-clause-book
+returns-clause-book g c = search rules
+
+pub returns-clause-part : goal.returns-clause-part
+returns-clause-part g c = search rules
+
+pub returns-clause-unnumbered : goal.returns-clause-unnumbered
+returns-clause-unnumbered g c = search rules

@@ -1,0 +1,5 @@
+use Rattle.std.proofs.Common.{rules}
+use Rattle.device_server.proofs.payload.Payload.copied.Goals as goal
+
+pub returns : goal.returns
+returns c = search rules
