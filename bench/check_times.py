@@ -23,7 +23,8 @@ PARTS = "Answers|Code|Given|Goals|Invariants|Kinds|Layout|Lts|Met|Named|Proof|Re
 def check(folder, words):
     with tempfile.TemporaryDirectory() as nothing:
         hide = f'[ ! -d {KEPT} ] || mount --bind "$1" {KEPT}; shift; exec rt check --jobs 1 "$@"'
-        return subprocess.run(["unshare", "-m", "sh", "-c", hide, "sh", nothing, *words], cwd=folder, stdout=subprocess.DEVNULL, check=False).returncode
+        ran = ["unshare", "-m", "sh", "-c", hide, "sh", nothing, *words]
+        return subprocess.run(ran, cwd=folder, stdout=subprocess.PIPE, stderr=subprocess.STDOUT, text=True, errors="replace", check=False)
 
 
 def seconds_by_function(crate, incremental):
@@ -46,12 +47,13 @@ def main():
     folder = os.path.join(TOP, "crates", asked.crate)
     incremental = os.path.join(folder, "out", "incremental")
     shutil.rmtree(incremental, ignore_errors=True)
-    status = check(folder, ["--test"] if asked.test else [])
+    checked = check(folder, ["--test"] if asked.test else [])
+    if checked.returncode:
+        sys.exit(f"{checked.stdout}check_times: {asked.crate} isn't proved")
     whole, borrows = seconds_by_function(asked.crate, incremental)
     for function, seconds in whole.most_common(asked.top):
         print(f"{seconds:6.1f} {borrows[function]:6.1f} {function}")
     print(f"{sum(whole.values()):6.1f} {sum(borrows.values()):6.1f} {len(whole)} functions in all")
-    return status
 
 
-sys.exit(main())
+main()
