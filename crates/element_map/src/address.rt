@@ -6,7 +6,7 @@ use crate::elements::Elements;
 use tape_medium::{FIRST_DATA_TRANSFER, FIRST_IMPORT_EXPORT, FIRST_STORAGE, TRANSPORT};
 
 /// What an address names: an element by its number within its type, from 0.
-#[derive(Clone, Copy, Debug, PartialEq, Eq)]
+#[derive(Clone, Copy)]
 pub(crate) enum Element {
     Transport,
     DataTransfer(usize),

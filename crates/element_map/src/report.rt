@@ -9,7 +9,7 @@ use crate::elements::Elements;
 use crate::run::Run;
 
 /// The elements that are reported, of each type.
-#[derive(Clone, Copy, Debug, PartialEq, Eq)]
+#[derive(Clone, Copy)]
 pub(crate) struct Report {
     pub medium_transport: Run,
     pub data_transfer: Run,

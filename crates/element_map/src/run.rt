@@ -12,7 +12,7 @@ use crate::place::tag_of;
 use tape_medium::VolumeTag;
 
 /// Elements of one type, by the number of the first and how many they are.
-#[derive(Clone, Copy, Debug, PartialEq, Eq)]
+#[derive(Clone, Copy)]
 pub(crate) struct Run {
     pub from: usize,
     pub count: usize,

@@ -9,7 +9,7 @@ use iscsi_pdu::{Completion, DataIn, SerialNumber, TargetHeader, TargetPdu};
 use std::alloc::AllocError;
 
 /// What the Data-In PDUs of a command have alike.
-#[derive(Clone, Copy, Debug)]
+#[derive(Clone, Copy)]
 pub(crate) struct Transfer {
     pub(crate) limits: TransferLimits,
     pub(crate) numbers: SequenceNumbers,

@@ -15,7 +15,7 @@ use std::alloc::AllocError;
 const LONGEST_PIECE: u32 = 8192;
 
 /// What a request makes of a login.
-#[derive(Clone, Copy, Debug)]
+#[derive(Clone, Copy)]
 pub(crate) enum Turn {
     /// The login is refused.
     Refuses(LoginStatus),

@@ -13,7 +13,7 @@ use tape_keeper::{KeepChange, KeepEvent, KeepFault, KeepListener, KeptThing, Tap
 use tape_medium::VolumeTag;
 
 /// How far copies go.
-#[derive(Clone, Copy, Debug, PartialEq, Eq)]
+#[derive(Clone, Copy, PartialEq, Eq)]
 pub(crate) enum Depth {
     /// Into the image.
     Image,

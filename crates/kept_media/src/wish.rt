@@ -2,7 +2,7 @@ ghost use Rattle.std.specs.Prelude.{◌≡◌};
 ghost use Rattle.kept_media.specs.Wishes.{wish_of};
 
 /// What is to be kept of a command that ended GOOD.
-#[derive(Clone, Copy, Debug, PartialEq, Eq)]
+#[derive(Clone, Copy)]
 pub(crate) enum Wish {
     Nothing,
     /// Objects were written, which are copied behind.

@@ -12,7 +12,7 @@ pub(crate) enum MoveJudgement {
 }
 
 /// Why nothing was carried. Nothing has changed.
-#[derive(Clone, Copy, Debug, PartialEq, Eq)]
+#[derive(Clone, Copy)]
 pub(crate) enum MoveStop {
     /// What the changer reports.
     Refused(Condition),

@@ -8,7 +8,7 @@ use std::alloc::{AllocError, Global};
 use tape_medium::VolumeTag;
 
 /// What a file of the folder is, by its name.
-#[derive(Clone, Copy, Debug, PartialEq, Eq)]
+#[derive(Clone, Copy)]
 pub(crate) enum FileKind {
     /// `TAG.tap`: the volume with that tag.
     Volume(VolumeTag),

@@ -3,7 +3,7 @@ use std::fmt;
 use std::io::Write;
 
 /// What is told of a folder that is opened.
-#[derive(Clone, Copy, Debug)]
+#[derive(Clone, Copy)]
 pub(crate) enum Notice<'a> {
     /// The name of a file in the folder ends in `.tap`, and is that of no volume.
     NoTag { folder: &'a str, name: &'a str },

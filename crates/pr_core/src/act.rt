@@ -29,7 +29,7 @@ pub enum ReservationAct<'a> {
 }
 
 /// What decides what an act does to the nexuses other than its sender, found once for all of them.
-#[derive(Clone, Copy, Debug, PartialEq, Eq)]
+#[derive(Clone, Copy)]
 pub(crate) struct Standing {
     /// Whether the act is a preemption that takes the reservation.
     pub(crate) is_taking: bool,

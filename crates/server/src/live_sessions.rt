@@ -16,7 +16,7 @@ use std::time::{Clock, Duration};
 const END_OF_SESSION: u64 = 5;
 
 /// Who a session of iSCSI is.
-#[derive(Clone, Copy, Debug, PartialEq, Eq)]
+#[derive(Clone, Copy, PartialEq, Eq)]
 struct Initiator {
     nexus: Nexus,
     session: SessionIdentity,

@@ -5,7 +5,7 @@ use std::{fmt, str};
 const NO_TEXT: &str = "a name that can't be shown";
 
 /// An initiator of iSCSI that has logged in.
-#[derive(Clone, Copy, Debug)]
+#[derive(Clone, Copy)]
 pub(crate) struct LoggedIn<'a> {
     /// The place of its session in the order of accepting, from 1 on.
     pub number: u64,

@@ -21,7 +21,7 @@ const MANY: u64 = 4096;
 const MOST: u64 = 8192;
 
 /// What the thread that writes is at.
-#[derive(Clone, Copy, Debug, PartialEq, Eq)]
+#[derive(Clone, Copy)]
 enum Phase {
     /// It hasn't begun, or has ended.
     Absent,
@@ -32,7 +32,7 @@ enum Phase {
 }
 
 /// What the thread that writes is at, and what it is asked.
-#[derive(Clone, Copy, Debug, PartialEq, Eq)]
+#[derive(Clone, Copy)]
 struct DrainState {
     phase: Phase,
     /// Whether it was asked since it began to take records the last time.

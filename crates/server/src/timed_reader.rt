@@ -7,7 +7,7 @@ use std::time::{Clock, Duration, Instant};
 const MOST_SIGNALS: u32 = 1000;
 
 /// How long a connection is waited for. `None`: for ever.
-#[derive(Clone, Copy, Debug, PartialEq, Eq)]
+#[derive(Clone, Copy)]
 pub(crate) struct Patience {
     /// Until its host is logged in.
     pub login: Option<Duration>,

@@ -54,7 +54,7 @@ fn settle_with<S: SeatService>(service: &mut S, drain: &RecordDrain)
 }
 
 /// What is known of a session that goes on.
-#[derive(Clone, Copy, Debug)]
+#[derive(Clone, Copy)]
 pub(crate) struct SessionSoFar {
     /// Who asked last to be let in.
     pub nexus: Option<Nexus>,

@@ -6,7 +6,7 @@ use std::fmt;
 use std::io::{self, Write};
 
 /// What is told of the places where serving begins.
-#[derive(Clone, Copy, Debug)]
+#[derive(Clone, Copy)]
 pub(crate) enum Notice<'a> {
     /// The file at this path was taken away.
     TookAway(&'a str),
