@@ -1,6 +1,7 @@
 -- What agrees with what seats have noted agrees with it however it is handed over.
 use Rattle.std.proofs.Common.{◌≡◌, ℕ, ◌+◌, ◌-◌, length, List, [], ◌∷◌, map, sym, ap, ◌∙◌, subst, Result, Ok, Err, Option, Some, None, arith}
 use Rattle.std.specs.Prelude.{All, IfOk, IfSome, IsPermutation}
+use Rattle.std.specs.Option.{option_map}
 use Rattle.std.proofs.lemmas.List.Folds.{flat_map-map}
 use Rattle.std.proofs.lemmas.List.Elements.{All-nil, All-cons, All-tail}
 use Rattle.audit_log.specs.declared.record.Record.{Record}
@@ -34,3 +35,9 @@ if_ok (Err e) P Q f h = tt
 pub if_some : {A : Type 0} (o : Option A) (P Q : A → Type 0) → ((x : A) → P x → Q x) → IfSome o P → IfSome o Q
 if_some None P Q f h = tt
 if_some (Some x) P Q f h = f x h
+
+-- of options of the same contents
+pub if_some_too : {A B U : Type 0} (f : A → U) (h : B → U) (a : Option A) (b : Option B) (P : U → Type 0) → option_map f a ≡ option_map h b → IfSome b (λ y. P (h y)) → IfSome a (λ x. P (f x))
+if_some_too f h None b P same has = tt
+if_some_too f h (Some x) None P same has = absurd cc
+if_some_too f h (Some x) (Some y) P same has = let is : f x ≡ h y = cc in subst P (sym is) has

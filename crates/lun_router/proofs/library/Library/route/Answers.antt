@@ -1,4 +1,7 @@
-use Rattle.std.proofs.Common.{arith}
+use Rattle.std.proofs.Common.{ℕ, ap, sym, ◌∙◌, arith}
+use Rattle.judgement.specs.Commands.{act_of}
+use Rattle.kept_unit.specs.ActKinds.{act_kind_of, act_kind_if}
+use Rattle.kept_unit.specs.Keeping.{kind_at}
 use Rattle.lun_router.proofs.Rising.{rises, stays}
 use Rattle.lun_router.proofs.library.Library.route.Goals as goal
 
@@ -25,3 +28,18 @@ returns-in-4-clause-rise g c =
     rises c.args.parts.now c.parts-in-4.inside.zero.amount c.parts-in-4.inside.one.amount c.parts-in-4.inside.two.amount c.parts-in-4.inside.three.amount c.parts-in-4.inside.four.amount
     c.parts-in-4.inside.zero.amount c.parts-in-4.inside.one.amount c.parts-in-4.inside.two.amount c.parts-in-4.inside.three.amount c.step_if_there-in-4.new.part.amount c.step_if_there-in-4.result.numbers c.parts-in-4.view_is
     (stays _ _ (c.step_if_there-in-4.ensures.only 0 (λ e. omega arith))) (stays _ _ (c.step_if_there-in-4.ensures.only 1 (λ e. omega arith))) (stays _ _ (c.step_if_there-in-4.ensures.only 2 (λ e. omega arith))) (stays _ _ (c.step_if_there-in-4.ensures.only 3 (λ e. omega arith))) c.step_if_there-in-4.ensures.part
+
+pub returns-in-0-clause-act : goal.returns-in-0-clause-act
+returns-in-0-clause-act g c = c.step_changer.ensures.act ∙ ap (λ (l : ℕ). act_kind_if c.step_changer.result.numbers (act_kind_of (act_of (kind_at l) c.args.raw.cdb.now c.args.raw.bytes.now))) (sym c.in-0.is)
+
+pub returns-in-1-clause-act : goal.returns-in-1-clause-act
+returns-in-1-clause-act g c = c.step_at.ensures.act ∙ ap (λ (l : ℕ). act_kind_if c.step_at.result.numbers (act_kind_of (act_of (kind_at l) c.args.raw.cdb.now c.args.raw.bytes.now))) (sym c.in-1.is)
+
+pub returns-in-2-clause-act : goal.returns-in-2-clause-act
+returns-in-2-clause-act g c = c.step_if_there.ensures.act ∙ ap (λ (l : ℕ). act_kind_if c.step_if_there.result.numbers (act_kind_of (act_of (kind_at l) c.args.raw.cdb.now c.args.raw.bytes.now))) (sym c.in-2.is)
+
+pub returns-in-3-clause-act : goal.returns-in-3-clause-act
+returns-in-3-clause-act g c = c.step_if_there-in-3.ensures.act ∙ ap (λ (l : ℕ). act_kind_if c.step_if_there-in-3.result.numbers (act_kind_of (act_of (kind_at l) c.args.raw.cdb.now c.args.raw.bytes.now))) (sym c.in-3.is)
+
+pub returns-in-4-clause-act : goal.returns-in-4-clause-act
+returns-in-4-clause-act g c = c.step_if_there-in-4.ensures.act ∙ ap (λ (l : ℕ). act_kind_if c.step_if_there-in-4.result.numbers (act_kind_of (act_of (kind_at l) c.args.raw.cdb.now c.args.raw.bytes.now))) (sym c.in-4.is)

@@ -1,4 +1,7 @@
-use Rattle.std.proofs.Common.{rules}
+use Rattle.std.proofs.Common.{List, [], ◌∷◌, ◌++◌, ap, ◌∙◌, rules}
+use Rattle.kept_unit.specs.declared.entry.Entry.{Entry}
+use Rattle.lun_router.specs.Settling.{ranges_of}
+use Rattle.lun_router.proofs.Rising.{counted_more}
 use Rattle.lun_router.proofs.library.Library.submit.Goals as goal
 
 pub returns-clause-answer : goal.returns-clause-answer
@@ -6,3 +9,8 @@ returns-clause-answer g c = search rules
 
 pub returns-clause-act : goal.returns-clause-act
 returns-clause-act g c = search rules
+
+pub invariant_of-seat-2 : goal.invariant_of-seat-2
+invariant_of-seat-2 g c =
+    let more = c.push_reserved.ensures ∙ ap (λ (l : List Entry). l ++ c.entry.result ∷ []) c.make_room.ensures.same in
+    counted_more (ranges_of c.seat.inside.ranges) c.seat.inside.entries.entries c.push_reserved.new.self.entries c.entry.result c.route-done.result c.seat.inside.parts c.route-done.new.parts more c.entry.ensures c.seat.invariant c.route-done.ensures.rise
