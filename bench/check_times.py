@@ -1,10 +1,12 @@
 #!/usr/bin/env python3
-"""Seconds that each function of a crate takes to prove: `bench/check_times.py CRATE [--test] [--top N]`.
+"""What each function of a crate costs to prove: `bench/check_times.py CRATE [--test] [--top N]`.
 
-Checks the crate from nothing, one part after another, and goes by the times of the files that the check leaves, one for each part of a
-function. Behind the seconds stand those of the part that shows what is borrowed and how long: it grows with the statements of a function
-times its variables. What stands for no function (loading, linking) is left out. Works as root, since what the kit kept of other checks is
-hidden meanwhile; libraries below that aren't proved yet are proved first.
+Checks the crate from nothing, one part after another, and goes by the files that the check leaves, one for each part of a function: their
+megabytes, and the seconds from one to the next. Behind each stands the share of the part that shows what is borrowed and how long, which
+grows with the statements of a function times its variables. The megabytes are the same in each run, and the most costly functions by them
+come first; seconds also tell what else the machine did, and those of the function that is proved first hold what comes before it.
+What stands for no function (loading, linking) is left out. Works as root, since what the kit kept of other checks is hidden meanwhile;
+libraries below that aren't proved yet are proved first.
 """
 import argparse
 import collections
@@ -27,15 +29,33 @@ def check(folder, words):
         return subprocess.run(ran, cwd=folder, stdout=subprocess.PIPE, stderr=subprocess.STDOUT, text=True, errors="replace", check=False)
 
 
-def seconds_by_function(crate, incremental):
-    files = sorted((os.stat(path).st_mtime, path) for at, _, names in os.walk(incremental) for path in (f"{at}/{name}" for name in names))
-    whole, borrows = collections.Counter(), collections.Counter()
-    for (before, _), (after, path) in zip(files, files[1:]):
+class Cost:
+    """Of a function: megabytes and seconds, each with the share of borrows."""
+
+    def __init__(self):
+        self.megabytes = self.borrowed_megabytes = self.seconds = self.borrowed_seconds = 0.0
+
+    def add(self, megabytes, seconds, is_of_borrows):
+        self.megabytes += megabytes
+        self.seconds += seconds
+        if is_of_borrows:
+            self.borrowed_megabytes += megabytes
+            self.borrowed_seconds += seconds
+
+    def line(self, name):
+        return f"{self.megabytes:7.2f} {self.borrowed_megabytes:7.2f} MB {self.seconds:6.1f} {self.borrowed_seconds:6.1f} s  {name}"
+
+
+def cost_by_function(crate, incremental):
+    paths = [f"{at}/{name}" for at, _, names in os.walk(incremental) for name in names]
+    files = sorted((found.st_mtime, found.st_size, path) for path in paths for found in [os.stat(path)])
+    costs, whole = collections.defaultdict(Cost), Cost()
+    for (before, _, _), (after, size, path) in zip(files, files[1:]):
         found = re.match(rf"Rattle-{crate}-proofs\.(.+?)\.({PARTS})\b", os.path.basename(path))
         if found:
-            whole[found[1]] += after - before
-            borrows[found[1]] += (after - before) * (found[2] == "Lts")
-    return whole, borrows
+            for cost in costs[found[1]], whole:
+                cost.add(size / 1e6, after - before, found[2] == "Lts")
+    return costs, whole
 
 
 def main():
@@ -50,10 +70,10 @@ def main():
     checked = check(folder, ["--test"] if asked.test else [])
     if checked.returncode:
         sys.exit(f"{checked.stdout}check_times: {asked.crate} isn't proved")
-    whole, borrows = seconds_by_function(asked.crate, incremental)
-    for function, seconds in whole.most_common(asked.top):
-        print(f"{seconds:6.1f} {borrows[function]:6.1f} {function}")
-    print(f"{sum(whole.values()):6.1f} {sum(borrows.values()):6.1f} {len(whole)} functions in all")
+    costs, whole = cost_by_function(asked.crate, incremental)
+    for function, cost in sorted(costs.items(), key=lambda row: -row[1].megabytes)[: asked.top]:
+        print(cost.line(function))
+    print(whole.line(f"{len(costs)} functions in all"))
 
 
 main()
