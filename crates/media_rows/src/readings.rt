@@ -177,19 +177,15 @@ fn expected_of(row: Row) -> Result<Seen, ReadTapeFault> {
     }
 }
 
-fn assert_row(rt: &impl Abort, alloc: Global, row: Row) {
-    let (shows, mut image, capacity, _) = row;
-    assert_same(
-        rt,
-        seen_in(alloc, &mut image, capacity),
-        expected_of(row),
-        shows,
-    );
+fn assert_row(rt: &impl Abort, alloc: Global, row: &Row) {
+    let (shows, mut image, capacity, _) = *row;
+    let found = seen_in(alloc, &mut image, capacity);
+    assert_same(rt, found, expected_of(*row), shows);
 }
 
 #[test]
 fn images_are_read_as_tapes(rt: HostRuntime) {
-    for row in ROWS {
+    for row in &ROWS {
         assert_row(&rt, rt.alloc(), row);
     }
 }

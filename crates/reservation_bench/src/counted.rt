@@ -36,22 +36,40 @@ fn full_status_again(alloc: Global, state: &PrState) -> Result<u64, AllocError> 
     Ok(made)
 }
 
-/// One kind of work, 1,000 times at 256 registrations and all slots used, for a run in which instructions
-/// are counted; "none" for what any of them takes before.
-pub(crate) fn run(rt: &(impl Print + AllocGlobal), kind: &str) -> io::Result<()> {
-    let count = REGISTRATIONS as u64;
+/// Queues all of whose slots are used.
+fn full_queues() -> Queues {
     let mut queues = Queues::new();
     for number in 0..128 {
         let _ = queues.contact(nexus_of(number * 2));
     }
+    queues
+}
+
+/// What a kind of work makes, by how often.
+fn made(alloc: Global, state: &PrState, kind: &str) -> Result<u64, AllocError> {
+    match kind {
+        "keys" => keys_again(alloc, state),
+        "full_status" => full_status_again(alloc, state),
+        _ => Ok(0),
+    }
+}
+
+/// How often a kind of work was done.
+fn done(alloc: Global, kind: &str) -> Result<u64, AllocError> {
+    let count = REGISTRATIONS as u64;
+    let mut queues = full_queues();
     let mut state = registered(&mut queues, count);
-    let done = match kind {
-        "judge" => judge_again(&state, count, TIMES),
-        "register" => register_again(&mut state, &mut queues, count, TIMES),
-        "release" => release_again(&mut state, &mut queues, TIMES),
-        "keys" => keys_again(rt.alloc(), &state)?,
-        "full_status" => full_status_again(rt.alloc(), &state)?,
-        _ => 0,
-    };
+    match kind {
+        "judge" => Ok(judge_again(&state, count, TIMES)),
+        "register" => Ok(register_again(&mut state, &mut queues, count, TIMES)),
+        "release" => Ok(release_again(&mut state, &mut queues, TIMES)),
+        _ => made(alloc, &state, kind),
+    }
+}
+
+/// One kind of work, 1,000 times at 256 registrations and all slots used, for a run in which instructions
+/// are counted; "none" for what any of them takes before.
+pub(crate) fn run(rt: &(impl Print + AllocGlobal), kind: &str) -> io::Result<()> {
+    let done = done(rt.alloc(), kind)?;
     println!(rt; "{kind}: {done}")
 }

@@ -56,6 +56,22 @@ pub(crate) fn registered(queues: &mut Queues, count: u64) -> PrState {
     state
 }
 
+/// The number behind another, of so many: 0 behind the last.
+fn next(number: u64, count: u64) -> u64 {
+    let next = number.wrapping_add(1);
+    if next < count { next } else { 0 }
+}
+
+/// The command by which the nexus of a number registers again.
+fn registering(number: u64) -> OutParams {
+    command(OutServiceAction::Register, number.wrapping_add(1), 0)
+}
+
+/// The nexus of a number registers again: whether that was accepted.
+fn is_registered(state: &mut PrState, queues: &mut Queues, number: u64) -> bool {
+    obey(state, queues, nexus_of(number), &registering(number))
+}
+
 /// Each nexus registers again, so many times in all: how many were accepted.
 pub(crate) fn register_again(
     state: &mut PrState,
@@ -66,16 +82,16 @@ pub(crate) fn register_again(
     let mut accepted = 0u64;
     let mut number = 0u64;
     for _ in 0..times {
-        let params = command(OutServiceAction::Register, number.wrapping_add(1), 0);
-        if obey(state, queues, nexus_of(number), &params) {
-            accepted = accepted.wrapping_add(1);
-        }
-        number = number.wrapping_add(1);
-        if number >= count {
-            number = 0;
-        }
+        let is_accepted = is_registered(state, queues, number);
+        accepted = accepted.wrapping_add(u64::from(is_accepted));
+        number = next(number, count);
     }
     accepted
+}
+
+/// Whether the nexus of a number may register again.
+fn is_allowed(state: &PrState, number: u64) -> bool {
+    state.judge(nexus_of(number), &registering(number)) == Verdict::Allowed
 }
 
 /// Each command of register_again is judged alone: how many were allowed.
@@ -83,16 +99,22 @@ pub(crate) fn judge_again(state: &PrState, count: u64, times: u64) -> u64 {
     let mut allowed = 0u64;
     let mut number = 0u64;
     for _ in 0..times {
-        let params = command(OutServiceAction::Register, number.wrapping_add(1), 0);
-        if state.judge(nexus_of(number), &params) == Verdict::Allowed {
-            allowed = allowed.wrapping_add(1);
-        }
-        number = number.wrapping_add(1);
-        if number >= count {
-            number = 0;
-        }
+        allowed = allowed.wrapping_add(u64::from(is_allowed(state, number)));
+        number = next(number, count);
     }
     allowed
+}
+
+/// The first nexus does one and the other: whether both were accepted.
+fn are_accepted(
+    state: &mut PrState,
+    queues: &mut Queues,
+    first: &OutParams,
+    second: &OutParams,
+) -> bool {
+    let is_first = obey(state, queues, nexus_of(0), first);
+    let is_second = obey(state, queues, nexus_of(0), second);
+    is_first && is_second
 }
 
 /// The first nexus reserves and releases in turn, and the release tells all registered ones.
@@ -101,21 +123,24 @@ pub(crate) fn release_again(state: &mut PrState, queues: &mut Queues, times: u64
     let reserve = command(OutServiceAction::Reserve, 1, 5);
     let release = command(OutServiceAction::Release, 1, 5);
     for _ in 0..times {
-        let reserved = obey(state, queues, nexus_of(0), &reserve);
-        let released = obey(state, queues, nexus_of(0), &release);
-        if reserved && released {
-            accepted = accepted.wrapping_add(1);
-        }
+        let are_accepted = are_accepted(state, queues, &reserve, &release);
+        accepted = accepted.wrapping_add(u64::from(are_accepted));
     }
     accepted
 }
 
-/// The same work on a small scale, whose output is the same at any speed.
-pub(crate) fn small(rt: &impl Print) -> io::Result<()> {
+/// How many were allowed, registered and released on a small scale.
+fn small_counts() -> (u64, u64, u64) {
     let mut queues = Queues::new();
     let mut state = registered(&mut queues, 64);
     let allowed = judge_again(&state, 64, 1_000);
     let registered = register_again(&mut state, &mut queues, 64, 1_000);
     let released = release_again(&mut state, &mut queues, 100);
+    (allowed, registered, released)
+}
+
+/// The same work on a small scale, whose output is the same at any speed.
+pub(crate) fn small(rt: &impl Print) -> io::Result<()> {
+    let (allowed, registered, released) = small_counts();
     println!(rt; "{allowed} allowed, {registered} registered, {released} released")
 }

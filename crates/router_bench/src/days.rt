@@ -8,7 +8,7 @@ use crate::targets::four_drives;
 use crate::work::{BLOCKS, REWIND, TEST_UNIT_READY, Task, loading, nexus_at};
 use kept_unit::UnitLedger;
 use library_device::Device;
-use lun_router::{Blanks, Library, Pass};
+use lun_router::{Blanks, CloseFault, Histories, Library, Pass};
 use std::alloc::Global;
 use std::marker::Brand;
 use std::rt::Clock;
@@ -100,6 +100,30 @@ fn lun_at(place: usize, is_shared: bool) -> u8 {
     }
 }
 
+/// Asks from so many threads, each at its own drive or all at the first.
+fn ask_from_threads<T: Opened + Sync, R: Threads + Wait + Sync>(
+    rt: &R,
+    alloc: Global,
+    library: &T,
+    seats: &mut [T::Seat],
+    is_shared: bool,
+    asked: Round<'_>,
+)
+where
+    T::Seat: Send,
+{
+    let threads = seats.len().max(1);
+    thread::for_each_mut(
+        rt,
+        seats,
+        threads,
+        &|place, seat| {
+            let lun = lun_at(place, is_shared);
+            ask(rt, alloc, library, seat, place, Round { lun, ..asked })
+        },
+    );
+}
+
 /// Measures one task from so many threads, each at its own drive or all at the first.
 fn measure<T: Opened + Sync, R: Clock + Print + Threads + Wait + Sync>(
     rt: &R,
@@ -115,25 +139,16 @@ where
     T::Seat: Send,
 {
     let threads = seats.len().max(1);
-    let cdb = task.cdb();
     let data = task.data(alloc)?;
-    let bytes = data.as_slice();
     let count = task.count(scale);
+    let asked = Round {
+        lun: 1,
+        cdb: &task.cdb(),
+        bytes: data.as_slice(),
+        count,
+    };
     let start = Instant::now(rt)?;
-    thread::for_each_mut(
-        rt,
-        seats,
-        threads,
-        &|place, seat| {
-            let round = Round {
-                lun: lun_at(place, is_shared),
-                cdb: &cdb,
-                bytes,
-                count,
-            };
-            ask(rt, alloc, library, seat, place, round)
-        },
-    );
+    ask_from_threads(rt, alloc, library, seats, is_shared, asked);
     let time = start.elapsed(rt)?;
     let way = if is_shared { "one-drive" } else { "own-drives" };
     tell(rt, way, threads, task, count, time, is_told)
@@ -183,12 +198,34 @@ fn measure_by_threads<T: Opened + Sync, R: Clock + Print + Threads + Wait + Sync
 where
     T::Seat: Send,
 {
-    for threads in [1, 2, 4] {
-        let count = threads.min(seats.len());
+    for threads in &[1, 2, 4] {
+        let count = seats.len().min(*threads);
         let some = seats.split_at_mut(count).0;
         measure(rt, alloc, library, some, task, is_shared, scale, is_told)?;
     }
     Ok(())
+}
+
+/// Tells how long a library took to close that is closed now.
+fn tell_close(rt: &(impl Clock + Print), start: Instant, is_told: bool) -> io::Result<()> {
+    let time = start.elapsed(rt)?;
+    tell(rt, "close", 1, Task::Ready, 1, time, is_told)
+}
+
+/// Tells what a library left that was closed.
+fn tell_left(
+    rt: &impl Print,
+    closed: &Result<Histories<Device>, CloseFault>,
+    is_told: bool,
+) -> io::Result<()> {
+    match closed {
+        Ok(histories) if !is_told => {
+            let records = histories.first.records().len();
+            println!(rt; "library left {records} records at its first drive")
+        }
+        Ok(_) => Ok(()),
+        Err(fault) => println!(rt; "not closed: {fault}"),
+    }
 }
 
 /// Measures how long the library takes to close, and tells what it left.
@@ -201,16 +238,41 @@ fn close<T: Opened, R: Clock + Print>(
 ) -> io::Result<()> {
     let start = Instant::now(rt)?;
     let closed = library.close(alloc, seats);
-    let time = start.elapsed(rt)?;
-    tell(rt, "close", 1, Task::Ready, 1, time, is_told)?;
-    match closed {
-        Ok(histories) if !is_told => {
-            let records = histories.first.records().len();
-            println!(rt; "library left {records} records at its first drive")
-        }
-        Ok(_) => Ok(()),
-        Err(fault) => println!(rt; "not closed: {fault}"),
+    tell_close(rt, start, is_told)?;
+    tell_left(rt, &closed, is_told)
+}
+
+/// Measures each task from one, two and four threads.
+fn measure_tasks<T: Opened + Sync, R: Clock + Print + Threads + Wait + Sync>(
+    rt: &R,
+    alloc: Global,
+    library: &T,
+    seats: &mut [T::Seat],
+    is_shared: bool,
+    scale: u32,
+    is_told: bool,
+) -> io::Result<()>
+where
+    T::Seat: Send,
+{
+    for task in &[Task::Ready, Task::Write, Task::Read] {
+        measure_by_threads(rt, alloc, library, seats, *task, is_shared, scale, is_told)?;
     }
+    Ok(())
+}
+
+/// Loads and writes all by the first seat.
+fn prepare<T: Opened, R: Wait>(
+    rt: &R,
+    alloc: Global,
+    library: &T,
+    seats: &mut [T::Seat],
+) -> io::Result<()> {
+    let Some(seat) = seats.first_mut() else {
+        return Ok(());
+    };
+    load(rt, alloc, library, seat);
+    write_all(rt, alloc, library, seat)
 }
 
 /// Measures all, and closes the library.
@@ -225,16 +287,10 @@ fn play<T: Opened + Sync, R: Clock + Print + Threads + Wait + Sync>(
 where
     T::Seat: Send,
 {
-    if let Some(seat) = seats.first_mut() {
-        load(rt, alloc, &library, seat);
-        write_all(rt, alloc, &library, seat)?;
-    }
-    for is_shared in [false, true] {
-        for task in [Task::Ready, Task::Write, Task::Read] {
-            let all = seats.as_mut_slice();
-            measure_by_threads(rt, alloc, &library, all, task, is_shared, scale, is_told)?;
-        }
-    }
+    let all = seats.as_mut_slice();
+    prepare(rt, alloc, &library, all)?;
+    measure_tasks(rt, alloc, &library, all, false, scale, is_told)?;
+    measure_tasks(rt, alloc, &library, all, true, scale, is_told)?;
     close(rt, alloc, library, seats, is_told)
 }
 

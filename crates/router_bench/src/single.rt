@@ -30,14 +30,24 @@ fn ask(alloc: Global, core: &mut TargetCore<Device>, command: &Event, rewind: &E
     }
 }
 
+/// Asks a unit once, without data.
+fn ask_once(
+    alloc: Global,
+    core: &mut TargetCore<Device>,
+    lun: u8,
+    cdb: &[u8],
+) -> Result<(), AllocError> {
+    let _ = core.step(alloc, &event(lun, cdb, Vec::new(alloc))?);
+    Ok(())
+}
+
 /// A target whose first drive is loaded and written once, so that the tape takes its memory before anything is measured.
 fn loaded(alloc: Global, rewind: &Event) -> io::Result<TargetCore<Device>> {
     let mut core = four_drives(alloc)?;
-    for lun in [0, 1] {
-        let _ = core.step(alloc, &event(lun, &TEST_UNIT_READY, Vec::new(alloc))?);
-    }
-    let _ = core.step(alloc, &event(0, &loading(0), Vec::new(alloc))?);
-    let _ = core.step(alloc, &event(1, &TEST_UNIT_READY, Vec::new(alloc))?);
+    ask_once(alloc, &mut core, 0, &TEST_UNIT_READY)?;
+    ask_once(alloc, &mut core, 1, &TEST_UNIT_READY)?;
+    ask_once(alloc, &mut core, 0, &loading(0))?;
+    ask_once(alloc, &mut core, 1, &TEST_UNIT_READY)?;
     let write = event(1, &Task::Write.cdb(), Task::Write.data(alloc)?)?;
     ask(alloc, &mut core, &write, rewind, BLOCKS);
     Ok(core)
@@ -61,6 +71,20 @@ fn measure_task(
     tell(rt, "step", 1, task, count, time, is_told)
 }
 
+/// Tells how many records the first drive has left.
+fn tell_left(
+    rt: &impl Print,
+    alloc: Global,
+    core: &mut TargetCore<Device>,
+    is_told: bool,
+) -> io::Result<()> {
+    let records = core.drain(alloc, 1).map_or(0, |records| records.len());
+    if is_told {
+        return Ok(());
+    }
+    println!(rt; "step left {records} records")
+}
+
 /// Measures each task, and answers the target that it made for that.
 pub(crate) fn measure(
     rt: &(impl Clock + Print),
@@ -70,12 +94,9 @@ pub(crate) fn measure(
 ) -> io::Result<TargetCore<Device>> {
     let rewind = event(1, &REWIND, Vec::new(alloc))?;
     let mut core = loaded(alloc, &rewind)?;
-    for task in [Task::Ready, Task::Write, Task::Read] {
-        measure_task(rt, alloc, &mut core, &rewind, task, scale, is_told)?;
+    for task in &[Task::Ready, Task::Write, Task::Read] {
+        measure_task(rt, alloc, &mut core, &rewind, *task, scale, is_told)?;
     }
-    let records = core.drain(alloc, 1).map_or(0, |records| records.len());
-    if !is_told {
-        println!(rt; "step left {records} records")?;
-    }
+    tell_left(rt, alloc, &mut core, is_told)?;
     Ok(core)
 }

@@ -15,22 +15,38 @@ pub(crate) const DRIVES: u8 = 4;
 /// How many bytes of blocks a volume takes: 64 MiB.
 const CAPACITY: u64 = 67_108_864;
 
-pub(crate) fn four_drives(alloc: Global) -> io::Result<TargetCore<Device>> {
+/// An empty volume, whose tag is a place over and over.
+fn volume(alloc: Global, place: u8) -> Volume {
+    Volume {
+        tag: VolumeTag([place; 32]),
+        protected: false,
+        tape: Tape::new(alloc, CAPACITY),
+    }
+}
+
+/// Drives and storage elements, with a volume in each of these.
+fn elements(alloc: Global) -> io::Result<Elements> {
     let mut elements = Elements::new(alloc, u16::from(DRIVES), u16::from(DRIVES), 0)?;
     for place in 0..DRIVES {
-        let volume = Volume {
-            tag: VolumeTag([place; 32]),
-            protected: false,
-            tape: Tape::new(alloc, CAPACITY),
-        };
-        let _ = elements.put(FIRST_STORAGE + u16::from(place), volume);
+        let _ = elements.put(FIRST_STORAGE + u16::from(place), volume(alloc, place));
     }
+    Ok(elements)
+}
+
+/// The device of a logical unit: the changer at 0, and a drive at each other.
+fn device_at(alloc: Global, lun: u8) -> io::Result<Device> {
+    if lun == 0 {
+        Ok(Device::Changer(Changer::new(elements(alloc)?)))
+    } else {
+        Ok(Device::Tape(TapeDrive::new()))
+    }
+}
+
+pub(crate) fn four_drives(alloc: Global) -> io::Result<TargetCore<Device>> {
     let mut units = Vec::new(alloc);
-    let changer = Device::Changer(Changer::new(elements));
-    units.push(unit_at(alloc, 0, DRIVES + 1, changer)?)?;
-    for place in 0..DRIVES {
-        let drive = Device::Tape(TapeDrive::new());
-        units.push(unit_at(alloc, place + 1, DRIVES + 1, drive)?)?;
+    for lun in 0..=DRIVES {
+        let device = device_at(alloc, lun)?;
+        units.push(unit_at(alloc, lun, DRIVES + 1, device)?)?;
     }
     match TargetCore::new(units) {
         Ok(core) => Ok(core),

@@ -13,8 +13,8 @@ const CELLS: [(&'static str, Class, u32); 6] = [
 
 #[test]
 fn word_has_the_cells_of_a_class(rt: HostRuntime) {
-    for (shows, class, expected) in CELLS {
-        assert_same(&rt, word(class), expected, shows);
+    for (shows, class, expected) in &CELLS {
+        assert_same(&rt, word(*class), *expected, shows);
     }
 }
 

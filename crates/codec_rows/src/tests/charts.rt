@@ -76,8 +76,8 @@ const NAMES: [(&'static str, Option<Class>); 7] = [
 
 #[test]
 fn class_named_finds_a_class_in_either_case(rt: HostRuntime) {
-    for (name, expected) in NAMES {
-        assert_same(&rt, class_named(name), expected, name);
+    for (name, expected) in &NAMES {
+        assert_same(&rt, class_named(name), *expected, name);
     }
 }
 

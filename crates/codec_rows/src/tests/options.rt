@@ -23,8 +23,8 @@ const DIGITS: [(&'static str, &'static str, Result<Nexus, OptionFault>); 8] = [
 
 #[test]
 fn nexus_of_reads_sixteen_digits(rt: HostRuntime) {
-    for (name, hex, nexus) in DIGITS {
-        assert_same(&rt, nexus_of(hex, 4), nexus, name);
+    for (name, hex, nexus) in &DIGITS {
+        assert_same(&rt, nexus_of(hex, 4), *nexus, name);
     }
 }
 

@@ -1,3 +1,5 @@
+ghost use Rattle.std.specs.Prelude.{◌≡◌};
+
 use super::assert_same;
 use audit_log::*;
 use permit_tables::{Cell, ResType, Role};
@@ -16,7 +18,9 @@ const A: Nexus = Nexus {
 };
 
 /// The record of A's first TEST UNIT READY, which meets the condition of its first contact.
-fn first_contact() -> Record {
+fn first_contact() -> Record
+    ensures { result.number ≡ 1 }
+{
     Record {
         number: 1,
         nexus: Some(A),
@@ -54,7 +58,9 @@ fn wrong_key(rt: &impl Abort, alloc: Global) -> Result<Record, AllocError> {
 }
 
 /// An event that isn't a command.
-fn event(number: u64, nexus: Option<Nexus>, act: Act) -> Record {
+fn event(number: u64, nexus: Option<Nexus>, act: Act) -> Record
+    ensures { result.number ≡ number }
+{
     Record {
         number,
         nexus,
@@ -100,9 +106,16 @@ fn counts(trail: &Trail) -> (u64, usize) {
 }
 
 /// What a record is compared by: its number, class and rule.
-fn key_of(record: &Record) -> (u64, Option<Class>, Option<KeyRule>) {
+type Key = (u64, Option<Class>, Option<KeyRule>);
+
+fn key_of(record: &Record) -> Key {
     (record.number, record.act.class(), record.rule)
 }
+
+const DRAINED: [Key; 2] = [
+    (1, Some(Class::TestUnitReady), None),
+    (2, Some(Class::Register), Some(KeyRule::K1)),
+];
 
 #[test]
 fn drain_hands_out_records_and_goes_on_counting(rt: HostRuntime) -> Result<(), Fail> {
@@ -112,13 +125,9 @@ fn drain_hands_out_records_and_goes_on_counting(rt: HostRuntime) -> Result<(), F
     add(&mut trail, wrong_key(&rt, rt.alloc())?)?;
     assert_same(&rt, counts(&trail), (2, 2), "with two records");
     let drained = trail.drain(rt.alloc());
-    let expected = [
-        (1, Some(Class::TestUnitReady), None),
-        (2, Some(Class::Register), Some(KeyRule::K1)),
-    ];
     assert_same(&rt, drained.len(), 2, "records handed out");
-    for (record, expected) in drained.iter().zip(expected) {
-        assert_same(&rt, key_of(record), expected, "a record");
+    for (record, expected) in drained.iter().zip(&DRAINED) {
+        assert_same(&rt, key_of(record), *expected, "a record");
     }
     let sense = drained.first().and_then(|record| record.sense);
     assert_same(&rt, sense, first_contact().sense, "its sense data");
@@ -132,28 +141,16 @@ fn drain_hands_out_records_and_goes_on_counting(rt: HostRuntime) -> Result<(), F
 fn drain_into_goes_on_in_the_room_of_the_vector(rt: HostRuntime) -> Result<(), Fail> {
     let mut trail = Trail::new(rt.alloc(), 0);
     trail.reserve_one()?;
-    trail.push(Record {
-        number: 1,
-        ..first_contact()
-    });
+    trail.push(first_contact());
     let mut handed_out = Vec::with_capacity(rt.alloc(), 2)?;
     trail.drain_into(&mut handed_out);
     assert_numbers(&rt, handed_out.as_slice(), &[1]);
-    trail.push(Record {
-        number: 2,
-        ..event(2, Some(A), Act::Loss)
-    });
-    trail.push(Record {
-        number: 3,
-        ..event(3, None, Act::Reset)
-    });
+    trail.push(event(2, Some(A), Act::Loss));
+    trail.push(event(3, None, Act::Reset));
     handed_out.clear();
     trail.drain_into(&mut handed_out);
     assert_numbers(&rt, handed_out.as_slice(), &[2, 3]);
-    trail.push(Record {
-        number: 4,
-        ..event(4, None, Act::Reset)
-    });
+    trail.push(event(4, None, Act::Reset));
     assert_same(&rt, trail.last(), 4, "the last number");
     Ok(())
 }

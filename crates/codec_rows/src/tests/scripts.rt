@@ -89,14 +89,19 @@ fn resets(alloc: Global, count: u32) -> Result<String, Fail> {
     Ok(text)
 }
 
+/// Compares how many events a piece has, and which is its first.
+fn assert_piece(rt: &impl Abort, piece: &[Event], len: usize) {
+    assert_same(rt, piece.len(), len, "events of a piece");
+    assert_same(rt, unit_reset(piece.first()), Some(1), "its first event");
+}
+
 #[test]
 fn events_of_takes_more_events_than_a_piece_has(rt: HostRuntime) -> Result<(), Fail> {
     let text = resets(rt.alloc(), 8_193)?;
     let pieces = events_of(rt.alloc(), text.as_bytes())?.into_pieces();
     assert_same(&rt, pieces.len(), 3, "pieces");
-    for (piece, len) in pieces.iter().zip([4_096, 4_096, 1]) {
-        assert_same(&rt, piece.len(), len, "events of a piece");
-        assert_same(&rt, unit_reset(piece.first()), Some(1), "its first event");
+    for (piece, len) in pieces.iter().zip(&[4_096, 4_096, 1]) {
+        assert_piece(&rt, piece.as_slice(), *len);
     }
     Ok(())
 }

@@ -56,23 +56,29 @@ fn show_frame(read_buffer: &mut ReadBuffer, shown: &mut String) -> Result<(), Fa
     Ok(())
 }
 
-#[test]
-fn parse_frame_reads_off_a_trickle(rt: HostRuntime) -> Result<(), Fail> {
+/// Reads and shows the frames of the session until nothing comes.
+fn show_frames(read_buffer: &mut ReadBuffer, shown: &mut String) -> Result<(), Fail> {
     let mut reader = Trickle {
         bytes: ONE_SESSION,
         place: 0,
     };
-    let mut read_buffer = ReadBuffer::new(rt.alloc())?;
-    let mut shown = String::new(rt.alloc());
     for _ in 0..64 {
         let Ok(count) = read_buffer.fill(&mut reader) else {
             return Err("a read failed".into());
         };
-        show_frame(&mut read_buffer, &mut shown)?;
+        show_frame(read_buffer, shown)?;
         if count == 0 {
             break;
         }
     }
+    Ok(())
+}
+
+#[test]
+fn parse_frame_reads_off_a_trickle(rt: HostRuntime) -> Result<(), Fail> {
+    let mut read_buffer = ReadBuffer::new(rt.alloc())?;
+    let mut shown = String::new(rt.alloc());
+    show_frames(&mut read_buffer, &mut shown)?;
     assert_same(&rt, shown.as_str(), SHOWN, "the frames");
     assert_same(&rt, read_buffer.pending(), b"", "behind them");
     Ok(())
@@ -110,8 +116,9 @@ const FAULTY: [(&'static str, bool, &'static [u8], Option<FrameFault>); 5] = [
 
 #[test]
 fn parse_frame_tells_a_fault_by_its_first_byte(rt: HostRuntime) {
-    for (shows, is_in_session, bytes, fault) in FAULTY {
-        assert_same(&rt, fault_of_frame(is_in_session, bytes), Ok(fault), shows);
+    for (shows, is_in_session, bytes, fault) in &FAULTY {
+        let found = fault_of_frame(*is_in_session, bytes);
+        assert_same(&rt, found, Ok(*fault), shows);
     }
 }
 
@@ -249,15 +256,20 @@ const OTHERS: [(&'static str, FrameRef<'static>, bool); 4] = [
     ("a LOGOUT", FrameRef::Logout, true),
 ];
 
+/// Compares whether the frames of the other kinds can be sent.
+fn assert_others(rt: &impl Abort) {
+    for (shows, frame, expected) in &OTHERS {
+        assert_same(rt, frame.is_sendable(), *expected, shows);
+    }
+}
+
 #[test]
 fn is_sendable_goes_by_the_limits_of_a_frame(rt: HostRuntime) -> Result<(), Fail> {
-    for (shows, cdb, length, expected) in COMMANDS {
-        let found = is_command_sendable(rt.alloc(), cdb, length)?;
-        assert_same(&rt, found, expected, shows);
+    for (shows, cdb, length, expected) in &COMMANDS {
+        let found = is_command_sendable(rt.alloc(), cdb, *length)?;
+        assert_same(&rt, found, *expected, shows);
     }
-    for (shows, frame, expected) in &OTHERS {
-        assert_same(&rt, frame.is_sendable(), *expected, shows);
-    }
+    assert_others(&rt);
     Ok(())
 }
 
@@ -372,8 +384,8 @@ const OTHER_REPLIES: [(&'static [u8], Option<(Other, usize)>); 5] = [
 
 #[test]
 fn parse_reply_reads_each_reply(rt: HostRuntime) {
-    for (bytes, expected) in OTHER_REPLIES {
-        assert_same(&rt, other_told(bytes), expected, "a reply");
+    for (bytes, expected) in &OTHER_REPLIES {
+        assert_same(&rt, other_told(bytes), *expected, "a reply");
     }
     let is_partial = matches!(parse_reply(b"\0\0\0\x02\x83"), ParsedReply::Partial);
     assert_same(&rt, is_partial, true, "a reply that is cut");
@@ -431,7 +443,7 @@ const FAULTY_REPLIES: [(&'static str, &'static [u8], Option<ReplyFault>); 11] = 
 
 #[test]
 fn parse_reply_tells_a_fault_by_its_first_byte(rt: HostRuntime) {
-    for (shows, bytes, fault) in FAULTY_REPLIES {
-        assert_same(&rt, fault_of(bytes), fault, shows);
+    for (shows, bytes, fault) in &FAULTY_REPLIES {
+        assert_same(&rt, fault_of(bytes), *fault, shows);
     }
 }

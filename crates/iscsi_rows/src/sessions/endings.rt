@@ -1,8 +1,8 @@
 //! How connections end: refused, silent, cut, discovery sessions.
 use super::streams::{ALONE, Scene};
 use super::words::{
-    BEFORE_ALL, CLOSED, DISCOVERY, DISCOVERY_LET_IN, Ending, LOGGED_IN, LOGIN, OUT, Pdu,
-    assert_endings,
+    BEFORE_ALL, CLOSED, DISCOVERY, DISCOVERY_LET_IN, Ending, LOGIN, OUT, Pdu, assert_endings,
+    assert_endings_of_a_session,
 };
 use iscsi_pdu::LoginStatus;
 use iscsi_session::IscsiFault;
@@ -86,7 +86,7 @@ const SILENCES: [Ending; 2] = [
 
 #[test]
 fn a_silence_is_met_by_a_ping_and_two_by_the_end(rt: HostRuntime) -> Result<(), Fail> {
-    assert_endings(&rt, rt.alloc(), &LOGGED_IN, &SILENCES)
+    assert_endings_of_a_session(&rt, rt.alloc(), &SILENCES)
 }
 
 /// Just 40 bytes of it come.

@@ -1,8 +1,8 @@
 //! Sessions that are to end: their initiators are asked for a logout.
 use super::streams::{ALONE, Scene};
 use super::words::{
-    ANSWER, BEFORE_ALL, CLOSED, DATA, DISCOVERY, DISCOVERY_LET_IN, Ending, LOGGED_IN, OUT, Pdu,
-    READY, WRITE, WRITTEN, assert_endings,
+    ANSWER, BEFORE_ALL, CLOSED, DATA, DISCOVERY, DISCOVERY_LET_IN, Ending, OUT, Pdu, READY, WRITE,
+    WRITTEN, assert_endings, assert_endings_of_a_session,
 };
 use iscsi_session::IscsiFault;
 use std::test::Fail;
@@ -174,7 +174,7 @@ const ROWS: [Ending; 8] = [
 fn an_initiator_is_asked_for_a_logout_once_sessions_are_to_end(
     rt: HostRuntime,
 ) -> Result<(), Fail> {
-    assert_endings(&rt, rt.alloc(), &LOGGED_IN, &ROWS)
+    assert_endings_of_a_session(&rt, rt.alloc(), &ROWS)
 }
 
 const OF_DISCOVERY: [Ending; 1] = [(

@@ -1,8 +1,8 @@
 //! The order of commands by CmdSN, and its circle.
 use super::streams::ALONE;
 use super::words::{
-    ANSWER, BEFORE_ALL, Call, DATA, Ending, GROUP, LOGGED_IN, LOST, NAMES, Pdu, READY, Row, WRITE,
-    WRITTEN, assert_endings, assert_rows,
+    ANSWER, BEFORE_ALL, Call, DATA, Ending, GROUP, LOST, NAMES, Pdu, READY, Row, WRITE, WRITTEN,
+    assert_endings_of_a_session, assert_rows, assert_rows_of_a_session,
 };
 use iscsi_session::IscsiFault;
 use std::test::Fail;
@@ -108,7 +108,7 @@ const ORDER: [Row; 6] = [
 
 #[test]
 fn commands_are_executed_in_the_order_of_their_numbers(rt: HostRuntime) -> Result<(), Fail> {
-    assert_rows(&rt, rt.alloc(), &LOGGED_IN, &ORDER)
+    assert_rows_of_a_session(&rt, rt.alloc(), &ORDER)
 }
 
 /// Logins with the CmdSN before the last and with the last, and their responses.
@@ -377,7 +377,7 @@ const WAITING: [Row; 1] = [(
 
 #[test]
 fn as_many_as_32_commands_wait_in_their_order(rt: HostRuntime) -> Result<(), Fail> {
-    assert_rows(&rt, rt.alloc(), &LOGGED_IN, &WAITING)
+    assert_rows_of_a_session(&rt, rt.alloc(), &WAITING)
 }
 
 const TOO_MANY: [Ending; 1] = [(
@@ -425,5 +425,5 @@ const TOO_MANY: [Ending; 1] = [(
 
 #[test]
 fn one_more_command_that_waits_ends_the_session(rt: HostRuntime) -> Result<(), Fail> {
-    assert_endings(&rt, rt.alloc(), &LOGGED_IN, &TOO_MANY)
+    assert_endings_of_a_session(&rt, rt.alloc(), &TOO_MANY)
 }

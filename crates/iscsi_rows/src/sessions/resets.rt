@@ -1,7 +1,7 @@
 //! Units that another session resets where commands wait.
 use super::streams::{ALONE, Scene};
 use super::words::{
-    ANSWER, CLOSED, Call, DATA, Ending, LOGGED_IN, Pdu, READY, WRITE, WRITTEN, assert_endings,
+    ANSWER, CLOSED, Call, DATA, Ending, Pdu, READY, WRITE, WRITTEN, assert_endings_of_a_session,
 };
 use std::test::Fail;
 
@@ -136,5 +136,5 @@ const RESETS: [Ending; 7] = [
 fn commands_at_a_unit_that_another_session_resets_are_not_executed(
     rt: HostRuntime,
 ) -> Result<(), Fail> {
-    assert_endings(&rt, rt.alloc(), &LOGGED_IN, &RESETS)
+    assert_endings_of_a_session(&rt, rt.alloc(), &RESETS)
 }

@@ -1,6 +1,6 @@
 //! What is told as missing, or over, and data in several Data-In.
 use super::assert_same;
-use super::words::{ANSWER, Call, LOGGED_IN, Pdu, READY, Row, assert_rows, bytes_of};
+use super::words::{ANSWER, Call, Pdu, READY, Row, assert_rows_of_a_session, bytes_of};
 use iscsi_answers::{
     AnsweredCommand, SequenceNumbers, TransferLimits, UnitAnswer, write_command_answer,
 };
@@ -478,5 +478,5 @@ const IN_SESSIONS: [Row; 5] = [
 
 #[test]
 fn residuals_are_told_in_sessions(rt: HostRuntime) -> Result<(), Fail> {
-    assert_rows(&rt, rt.alloc(), &LOGGED_IN, &IN_SESSIONS)
+    assert_rows_of_a_session(&rt, rt.alloc(), &IN_SESSIONS)
 }

@@ -1,6 +1,6 @@
 //! Whole sessions.
 use super::streams::{ALONE, Scene};
-use super::words::{ANSWER, Call, Ending, LOGGED_IN, OUT, Pdu, READY, WRITE, assert_endings};
+use super::words::{ANSWER, Call, Ending, OUT, Pdu, READY, WRITE, assert_endings_of_a_session};
 use std::test::Fail;
 
 /// INQUIRY of 255 bytes at unit 0, CmdSN 1; TEST UNIT READY, CmdSN 2; WRITE(6) of a block of four bytes as immediate data, CmdSN 3; and
@@ -43,7 +43,7 @@ const WHOLE: [Ending; 1] = [(ALONE, OUT, "all at once", COMMANDS, ANSWERS, CALLS
 
 #[test]
 fn a_session_is_served_byte_for_byte(rt: HostRuntime) -> Result<(), Fail> {
-    assert_endings(&rt, rt.alloc(), &LOGGED_IN, &WHOLE)
+    assert_endings_of_a_session(&rt, rt.alloc(), &WHOLE)
 }
 
 const OF_1: Scene = Scene { size: 1, ..ALONE };
@@ -77,5 +77,5 @@ const PIECES: [Ending; 4] = [
 
 #[test]
 fn a_stream_in_pieces_is_answered_alike(rt: HostRuntime) -> Result<(), Fail> {
-    assert_endings(&rt, rt.alloc(), &LOGGED_IN, &PIECES)
+    assert_endings_of_a_session(&rt, rt.alloc(), &PIECES)
 }

@@ -1,7 +1,7 @@
 //! Data that are asked for, and task management.
 use super::words::{
-    ANSWER, Call, DATA, Frame, LET_IN, LOGGED_IN, LOGIN, LOST, Pdu, READY, Row, WRITE, WRITTEN,
-    assert_rows,
+    ANSWER, Call, DATA, Frame, LET_IN, LOGIN, LOST, Pdu, READY, Row, WRITE, WRITTEN, assert_rows,
+    assert_rows_of_a_session,
 };
 use std::test::Fail;
 
@@ -35,7 +35,7 @@ const ASKED_FOR: [Row; 1] = [(
 
 #[test]
 fn the_data_of_a_write_are_asked_for(rt: HostRuntime) -> Result<(), Fail> {
-    assert_rows(&rt, rt.alloc(), &LOGGED_IN, &ASKED_FOR)
+    assert_rows_of_a_session(&rt, rt.alloc(), &ASKED_FOR)
 }
 
 /// ABORT TASK of the write, twice; LOGICAL UNIT RESET of unit 1, which finds no room, and of unit 2, which isn't there; CLEAR ACA; and
@@ -73,7 +73,7 @@ const MANAGED: [Row; 1] = [(
 
 #[test]
 fn task_management_is_answered_at_once(rt: HostRuntime) -> Result<(), Fail> {
-    assert_rows(&rt, rt.alloc(), &LOGGED_IN, &MANAGED)
+    assert_rows_of_a_session(&rt, rt.alloc(), &MANAGED)
 }
 
 /// CHECK CONDITION to the write, which was executed behind a function.

@@ -1,5 +1,5 @@
 //! Text requests in full feature, in pieces on either side.
-use super::words::{LOGGED_IN, Pdu, Row, assert_rows};
+use super::words::{Pdu, Row, assert_rows_of_a_session};
 use std::test::Fail;
 
 /// The tag of a first request, and of an answer that is at its end.
@@ -125,7 +125,7 @@ const PIECES: [Row; 5] = [
 
 #[test]
 fn texts_come_and_go_in_pieces(rt: HostRuntime) -> Result<(), Fail> {
-    assert_rows(&rt, rt.alloc(), &LOGGED_IN, &PIECES)
+    assert_rows_of_a_session(&rt, rt.alloc(), &PIECES)
 }
 
 const TURNS: [Row; 5] = [
@@ -263,7 +263,7 @@ const TURNS: [Row; 5] = [
 
 #[test]
 fn texts_go_on_by_their_tag(rt: HostRuntime) -> Result<(), Fail> {
-    assert_rows(&rt, rt.alloc(), &LOGGED_IN, &TURNS)
+    assert_rows_of_a_session(&rt, rt.alloc(), &TURNS)
 }
 
 /// The last is of a length that counts from the next answer on.
@@ -383,7 +383,7 @@ const ANSWERS: [Row; 4] = [
 
 #[test]
 fn answers_go_out_in_pieces(rt: HostRuntime) -> Result<(), Fail> {
-    assert_rows(&rt, rt.alloc(), &LOGGED_IN, &ANSWERS)
+    assert_rows_of_a_session(&rt, rt.alloc(), &ANSWERS)
 }
 
 /// The most bytes of a text, and one more.
@@ -422,5 +422,5 @@ const LONGEST: [Row; 1] = [(
 
 #[test]
 fn a_text_has_an_end(rt: HostRuntime) -> Result<(), Fail> {
-    assert_rows(&rt, rt.alloc(), &LOGGED_IN, &LONGEST)
+    assert_rows_of_a_session(&rt, rt.alloc(), &LONGEST)
 }

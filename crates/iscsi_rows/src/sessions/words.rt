@@ -1,6 +1,6 @@
 //! PDUs by the words of their headers, and connections of them.
 use super::assert_same;
-use super::streams::{ALONE, Scene, serve_scene};
+use super::streams::{ALONE, Scene, Served, serve_scene};
 use iscsi_session::{IscsiEnd, IscsiFault};
 use std::alloc::Global;
 use std::process::Abort;
@@ -48,7 +48,7 @@ pub(super) struct Frame(
 
 pub(super) const BEFORE_ALL: Frame = Frame(&[], &[], &[]);
 
-pub(super) const LOGGED_IN: Frame = Frame(&[LOGIN], &[LET_IN], &[LOST]);
+const LOGGED_IN: Frame = Frame(&[LOGIN], &[LET_IN], &[LOST]);
 
 pub(super) const CLOSED: Ended = Ok(IscsiEnd::Closed);
 
@@ -181,11 +181,16 @@ fn add_calls(out: &mut Vec<u8>, calls: &[Call]) -> Result<(), Fail> {
     Ok(())
 }
 
+/// Serves a connection.
+fn served(alloc: Global, frame: &Frame, row: &Ending) -> Result<Served, Fail> {
+    let input = joined(alloc, frame.0, row.3)?;
+    serve_scene(alloc, row.0, input.as_slice())
+}
+
 /// Serves a connection, and compares what came of it.
 fn assert_row(rt: &impl Abort, alloc: Global, frame: &Frame, row: &Ending) -> Result<(), Fail> {
-    let (scene, ended, shows, sent, told, calls) = *row;
-    let input = joined(alloc, frame.0, sent)?;
-    let served = serve_scene(alloc, scene, input.as_slice())?;
+    let (_, ended, shows, _, told, calls) = *row;
+    let served = served(alloc, frame, row)?;
     let output = joined(alloc, frame.1, told)?;
     let calls = calls_of(alloc, calls, frame.2)?;
     assert_same(rt, served.output.as_slice(), output.as_slice(), shows);
@@ -209,6 +214,15 @@ pub(super) fn assert_rows(
     Ok(())
 }
 
+/// The same behind a login.
+pub(super) fn assert_rows_of_a_session(
+    rt: &impl Abort,
+    alloc: Global,
+    rows: &[Row],
+) -> Result<(), Fail> {
+    assert_rows(rt, alloc, &LOGGED_IN, rows)
+}
+
 pub(super) fn assert_endings(
     rt: &impl Abort,
     alloc: Global,
@@ -219,4 +233,13 @@ pub(super) fn assert_endings(
         assert_row(rt, alloc, frame, row)?;
     }
     Ok(())
+}
+
+/// The same behind a login.
+pub(super) fn assert_endings_of_a_session(
+    rt: &impl Abort,
+    alloc: Global,
+    rows: &[Ending],
+) -> Result<(), Fail> {
+    assert_endings(rt, alloc, &LOGGED_IN, rows)
 }

@@ -1,6 +1,8 @@
 //! Logins by CHAP, one way and both ways. The digests are those of Python's hashlib.
 use super::exchanges::{Exchange, NAMES, PLAIN, Setting, Turn, assert_exchanges};
 use iscsi_login::Challenge;
+use std::alloc::Global;
+use std::process::Abort;
 use std::test::Fail;
 
 /// The host has two users, of which one has the target prove itself too; another host has one.
@@ -460,9 +462,14 @@ const AFTER_MD5: Setting = Setting {
     ..BY_CHAP
 };
 
+/// Logins whose host has been challenged by SHA-256.
+fn assert_after_sha256(rt: &impl Abort, alloc: Global, rows: &[Exchange]) -> Result<(), Fail> {
+    assert_exchanges(rt, alloc, &AFTER_SHA256, rows)
+}
+
 #[test]
 fn a_host_proves_itself(rt: HostRuntime) -> Result<(), Fail> {
-    assert_exchanges(&rt, rt.alloc(), &AFTER_SHA256, &ONE_WAY)
+    assert_after_sha256(&rt, rt.alloc(), &ONE_WAY)
 }
 
 #[test]
@@ -477,7 +484,7 @@ fn a_host_is_challenged_at_once(rt: HostRuntime) -> Result<(), Fail> {
 
 #[test]
 fn a_host_and_the_target_prove_themselves(rt: HostRuntime) -> Result<(), Fail> {
-    assert_exchanges(&rt, rt.alloc(), &AFTER_SHA256, &BOTH_WAYS)
+    assert_after_sha256(&rt, rt.alloc(), &BOTH_WAYS)
 }
 
 #[test]
@@ -492,12 +499,12 @@ fn other_ways_through_chap_lead_nowhere(rt: HostRuntime) -> Result<(), Fail> {
 
 #[test]
 fn other_ways_on_from_the_challenge_lead_nowhere(rt: HostRuntime) -> Result<(), Fail> {
-    assert_exchanges(&rt, rt.alloc(), &AFTER_SHA256, &WRONG_WAYS_ON)
+    assert_after_sha256(&rt, rt.alloc(), &WRONG_WAYS_ON)
 }
 
 #[test]
 fn wrong_answers_are_denied_all_alike(rt: HostRuntime) -> Result<(), Fail> {
-    assert_exchanges(&rt, rt.alloc(), &AFTER_SHA256, &WRONG_ANSWERS)
+    assert_after_sha256(&rt, rt.alloc(), &WRONG_ANSWERS)
 }
 
 const UNABLE: Setting = Setting {

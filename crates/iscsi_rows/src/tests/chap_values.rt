@@ -190,7 +190,7 @@ const CHOSEN: [(&'static str, &'static [u8], Option<ChapAlgorithm>); 3] = [
 
 #[test]
 fn an_algorithm_is_chosen_from_a_list(rt: HostRuntime) {
-    for (shows, list, expected) in CHOSEN {
-        assert_same(&rt, chosen_algorithm(list), expected, shows);
+    for (shows, list, expected) in &CHOSEN {
+        assert_same(&rt, chosen_algorithm(list), *expected, shows);
     }
 }

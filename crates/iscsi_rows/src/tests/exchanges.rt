@@ -157,15 +157,25 @@ fn target_in(alloc: Global, setting: &Setting) -> Result<LoginTarget, Fail> {
     Ok(target)
 }
 
-/// The responses to the requests.
-fn found(alloc: Global, setting: &Setting, turns: &[Turn<'_>]) -> Result<Vec<u8>, Fail> {
-    let target = target_in(alloc, setting)?;
+/// The responses of a target to the requests.
+fn responses(
+    alloc: Global,
+    target: &LoginTarget,
+    setting: &Setting,
+    turns: &[Turn<'_>],
+) -> Result<Vec<u8>, Fail> {
     let mut exchange = LoginExchange::new(alloc, 1, setting.challenge);
     let mut out = Vec::new(alloc);
     let refused = setting.refused;
-    take_all(&mut exchange, &target, refused, setting.first, &mut out)?;
-    take_all(&mut exchange, &target, refused, turns, &mut out)?;
+    take_all(&mut exchange, target, refused, setting.first, &mut out)?;
+    take_all(&mut exchange, target, refused, turns, &mut out)?;
     Ok(out)
+}
+
+/// The responses to the requests.
+fn found(alloc: Global, setting: &Setting, turns: &[Turn<'_>]) -> Result<Vec<u8>, Fail> {
+    let target = target_in(alloc, setting)?;
+    responses(alloc, &target, setting, turns)
 }
 
 /// Adds the responses of turns from a StatSN on, and gives the one behind theirs.

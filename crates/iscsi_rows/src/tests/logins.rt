@@ -497,8 +497,8 @@ fn a_host_that_is_named_twice_is_the_first_and_no_name_is_none(
     rt: HostRuntime,
 ) -> Result<(), Fail> {
     let access = access(rt.alloc())?;
-    for (shows, name, expected) in ADMITTED {
-        assert_same(&rt, access.admit(name), expected, shows);
+    for (shows, name, expected) in &ADMITTED {
+        assert_same(&rt, access.admit(name), *expected, shows);
     }
     Ok(())
 }

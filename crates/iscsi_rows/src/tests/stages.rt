@@ -2,6 +2,8 @@
 use super::exchanges::{
     Exchange, GROUP, NAMES, PLAIN, Setting, Turn, assert_exchange, assert_exchanges,
 };
+use std::alloc::Global;
+use std::process::Abort;
 use std::test::Fail;
 
 /// Security negotiation is left for operational negotiation.
@@ -360,24 +362,29 @@ const AFTER_NAMES: Setting = Setting {
     ..PLAIN
 };
 
+/// Logins without CHAP.
+fn assert_plain(rt: &impl Abort, alloc: Global, rows: &[Exchange]) -> Result<(), Fail> {
+    assert_exchanges(rt, alloc, &PLAIN, rows)
+}
+
 #[test]
 fn stages_lead_on_and_never_back(rt: HostRuntime) -> Result<(), Fail> {
-    assert_exchanges(&rt, rt.alloc(), &PLAIN, &STAGES)
+    assert_plain(&rt, rt.alloc(), &STAGES)
 }
 
 #[test]
 fn no_other_way_leads_from_a_stage(rt: HostRuntime) -> Result<(), Fail> {
-    assert_exchanges(&rt, rt.alloc(), &PLAIN, &OTHER_STAGES)
+    assert_plain(&rt, rt.alloc(), &OTHER_STAGES)
 }
 
 #[test]
 fn a_text_may_be_cut_anywhere(rt: HostRuntime) -> Result<(), Fail> {
-    assert_exchanges(&rt, rt.alloc(), &PLAIN, &PIECES)
+    assert_plain(&rt, rt.alloc(), &PIECES)
 }
 
 #[test]
 fn the_portal_group_is_told_who_names_the_target(rt: HostRuntime) -> Result<(), Fail> {
-    assert_exchanges(&rt, rt.alloc(), &PLAIN, &GROUPS)
+    assert_plain(&rt, rt.alloc(), &GROUPS)
 }
 
 #[test]
@@ -387,7 +394,7 @@ fn a_first_burst_is_no_longer_than_a_burst(rt: HostRuntime) -> Result<(), Fail> 
 
 #[test]
 fn nor_than_one_that_was_agreed_early(rt: HostRuntime) -> Result<(), Fail> {
-    assert_exchanges(&rt, rt.alloc(), &PLAIN, &EARLY_BURST)
+    assert_plain(&rt, rt.alloc(), &EARLY_BURST)
 }
 
 #[test]

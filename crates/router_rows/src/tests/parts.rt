@@ -66,6 +66,17 @@ fn drain_both<T: Opened, R: Abort + Wait>(
     assert_same(rt, is_settled, true, "memory for settling");
 }
 
+/// The TEST UNIT READY of a turn.
+fn ready_at(nexus: Nexus, turn: u8) -> Row {
+    let lun = 1 + turn % 2;
+    let (shows, answer) = if turn < 2 {
+        ("the first command at a drive", POWER_ON)
+    } else {
+        ("a later command at a drive", NO_MEDIUM)
+    };
+    (shows, nexus, lun, Ask::Ready, answer, None)
+}
+
 /// One hundred TEST UNIT READYs, to drive 1 and drive 2 by turns, with a drain of both after the fiftieth where there
 /// is to be one.
 fn ask_100_times<T: Opened, R: Abort + Wait>(
@@ -77,14 +88,7 @@ fn ask_100_times<T: Opened, R: Abort + Wait>(
     drained: Option<&Flags>,
 ) {
     for turn in 0..100u8 {
-        let lun = 1 + turn % 2;
-        let (shows, answer) = if turn < 2 {
-            ("the first command at a drive", POWER_ON)
-        } else {
-            ("a later command at a drive", NO_MEDIUM)
-        };
-        let row = (shows, nexus, lun, Ask::Ready, answer, None);
-        ask_one(rt, alloc, library, seat, &row);
+        ask_one(rt, alloc, library, seat, &ready_at(nexus, turn));
         if turn == 49
             && let Some(flags) = drained
         {
@@ -145,13 +149,13 @@ fn move_back_and_forth<T: Opened, R: Abort + Wait>(
     let nexus = nexus_at(place);
     let contact = ("at the changer", nexus, 0, Ask::Ready, POWER_ON, None);
     ask_one(rt, alloc, library, seat, &contact);
-    let moves = if place == 0 {
-        FIRST_MOVES
+    let moves: &[Row] = if place == 0 {
+        &FIRST_MOVES
     } else {
-        SECOND_MOVES
+        &SECOND_MOVES
     };
     for _turn in 0..50u8 {
-        ask_all(rt, alloc, library, seat, &moves);
+        ask_all(rt, alloc, library, seat, moves);
     }
 }
 

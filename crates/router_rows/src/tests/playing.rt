@@ -188,6 +188,49 @@ fn closed_undrained<T: Opened, R: Abort + Wait>(
     closed(alloc, library, seats)
 }
 
+fn closed_as_planned<T: Opened, R: Abort + Wait>(
+    rt: &R,
+    alloc: Global,
+    library: T,
+    seats: Vec<T::Seat>,
+    closing: Closing,
+) -> Result<Histories<Device>, Fail> {
+    match closing {
+        Closing::AtOnce => closed(alloc, library, seats),
+        Closing::SeatMissing => closed_with_a_seat_missing(rt, alloc, library, seats),
+        Closing::Undrained => closed_undrained(rt, alloc, library, seats),
+    }
+}
+
+/// The numbers that were noted as handed out of each drive.
+fn noted_in<R: Wait>(rt: &R, flags: &Flags) -> (u128, u128) {
+    (*flags.first.lock(rt), *flags.second.lock(rt))
+}
+
+/// Numbers were noted where the threads drain, and nowhere else.
+fn assert_noted(rt: &impl Abort, noted: (u128, u128), part: Option<Part>) {
+    let is_noted = (noted.0 != 0, noted.1 != 0);
+    let drains = matches!(part, Some(Part::Drains));
+    assert_same(rt, is_noted, (drains, drains), "numbers that were noted");
+}
+
+/// Compares the numbers that were noted or that drives still have.
+fn assert_drives(
+    rt: &impl Abort,
+    histories: &Histories<Device>,
+    noted: (u128, u128),
+    expected: (u128, u128),
+) {
+    let found = with_numbers_left(rt, noted.0, &histories.first);
+    assert_same(rt, found, expected.0, "numbers of drive 1");
+    if let Some(drive) = &histories.second {
+        let found = with_numbers_left(rt, noted.1, drive);
+        assert_same(rt, found, expected.1, "numbers of drive 2");
+    }
+    let others = (histories.second.is_some(), histories.third.is_some());
+    assert_same(rt, others, (true, false), "a second drive, and no third");
+}
+
 /// Compares what the changer and the drives have at the end with what must be left.
 fn assert_histories<R: Abort + Wait>(
     rt: &R,
@@ -198,18 +241,9 @@ fn assert_histories<R: Abort + Wait>(
     let (count, first, second) = plan.records;
     let found = histories.changer.records().len();
     assert_same(rt, found, count, "records of the changer");
-    let noted = (*flags.first.lock(rt), *flags.second.lock(rt));
-    let is_noted = (noted.0 != 0, noted.1 != 0);
-    let drains = matches!(plan.part, Some(Part::Drains));
-    assert_same(rt, is_noted, (drains, drains), "numbers that were noted");
-    let found = with_numbers_left(rt, noted.0, &histories.first);
-    assert_same(rt, found, first, "numbers of drive 1");
-    if let Some(drive) = &histories.second {
-        let found = with_numbers_left(rt, noted.1, drive);
-        assert_same(rt, found, second, "numbers of drive 2");
-    }
-    let others = (histories.second.is_some(), histories.third.is_some());
-    assert_same(rt, others, (true, false), "a second drive, and no third");
+    let noted = noted_in(rt, flags);
+    assert_noted(rt, noted, plan.part);
+    assert_drives(rt, histories, noted, (first, second));
 }
 
 /// Plays a scene, closes the library, and compares what it leaves.
@@ -226,11 +260,7 @@ where
 {
     let plan = plan_of(scene);
     play_open(rt, alloc, &library, seats.as_mut_slice(), flags, &plan)?;
-    let histories = match plan.closing {
-        Closing::AtOnce => closed(alloc, library, seats)?,
-        Closing::SeatMissing => closed_with_a_seat_missing(rt, alloc, library, seats)?,
-        Closing::Undrained => closed_undrained(rt, alloc, library, seats)?,
-    };
+    let histories = closed_as_planned(rt, alloc, library, seats, plan.closing)?;
     assert_histories(rt, &histories, flags, &plan);
     Ok(())
 }

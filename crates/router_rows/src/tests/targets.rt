@@ -24,19 +24,36 @@ fn volume(alloc: Global, letter: u8) -> Volume {
     }
 }
 
-pub(super) fn two_drives(alloc: Global) -> Result<TargetCore<Device>, Fail> {
-    let mut elements = Elements::new(alloc, 2, 4, 0)?;
-    for (address, letter) in [(0x0400, b'a'), (0x0401, b'b')] {
-        if elements.put(address, volume(alloc, letter)).is_err() {
-            return Err("no room for a volume".into());
-        }
+/// Puts a volume into an element.
+fn put(alloc: Global, elements: &mut Elements, address: u16, letter: u8) -> Result<(), Fail> {
+    match elements.put(address, volume(alloc, letter)) {
+        Ok(()) => Ok(()),
+        Err(_) => Err("no room for a volume".into()),
     }
+}
+
+/// The elements, with the two volumes.
+fn elements(alloc: Global) -> Result<Elements, Fail> {
+    let mut elements = Elements::new(alloc, 2, 4, 0)?;
+    put(alloc, &mut elements, 0x0400, b'a')?;
+    put(alloc, &mut elements, 0x0401, b'b')?;
+    Ok(elements)
+}
+
+/// The device of a logical unit: the changer at 0, and a drive at each other.
+fn device_at(alloc: Global, lun: u8) -> Result<Device, Fail> {
+    if lun == 0 {
+        Ok(Device::Changer(Changer::new(elements(alloc)?)))
+    } else {
+        Ok(Device::Tape(TapeDrive::new()))
+    }
+}
+
+pub(super) fn two_drives(alloc: Global) -> Result<TargetCore<Device>, Fail> {
     let mut units = Vec::new(alloc);
-    let changer = Device::Changer(Changer::new(elements));
-    units.push(unit_at(alloc, 0, UNITS, changer)?)?;
-    for lun in 1..UNITS {
-        let drive = Device::Tape(TapeDrive::new());
-        units.push(unit_at(alloc, lun, UNITS, drive)?)?;
+    for lun in 0..UNITS {
+        let device = device_at(alloc, lun)?;
+        units.push(unit_at(alloc, lun, UNITS, device)?)?;
     }
     match TargetCore::new(units) {
         Ok(core) => Ok(core),
