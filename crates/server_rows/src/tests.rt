@@ -16,6 +16,7 @@ mod streams;
 use changer_server::Changer;
 use element_map::Elements;
 use library_device::{Device, unit_at};
+use logical_unit::LogicalUnit;
 use scsi_nexus::Nexus;
 use std::alloc::Global;
 use std::fmt::Debug;
@@ -59,24 +60,34 @@ fn holds(text: &[u8], line: &str) -> bool {
     }
 }
 
-/// A changer with a volume in its one storage element, and an empty drive.
-fn target(alloc: Global) -> Result<TargetCore<Device>, Fail> {
+/// A changer with a volume in its one storage element.
+fn changer(alloc: Global) -> Result<Device, Fail> {
     let volume = Volume {
         tag: VolumeTag([b'v'; 32]),
         protected: false,
         tape: Tape::new(alloc, 1024),
     };
     let mut elements = Elements::new(alloc, 1, 1, 0)?;
-    if elements.put(0x0400, volume).is_err() {
-        return Err("no room for a volume".into());
+    match elements.put(0x0400, volume) {
+        Ok(()) => Ok(Device::Changer(Changer::new(elements))),
+        Err(_) => Err("no room for a volume".into()),
     }
-    let changer = Device::Changer(Changer::new(elements));
-    let drive = Device::Tape(TapeDrive::new());
+}
+
+/// That changer's unit, and an empty drive's.
+fn units(alloc: Global) -> Result<Vec<LogicalUnit<Device>>, Fail> {
+    let changer = unit_at(alloc, 0, 2, changer(alloc)?)?;
+    let drive = unit_at(alloc, 1, 2, Device::Tape(TapeDrive::new()))?;
     let mut units = Vec::new(alloc);
-    units.push(unit_at(alloc, 0, 2, changer)?)?;
-    units.push(unit_at(alloc, 1, 2, drive)?)?;
-    let Ok(core) = TargetCore::new(units) else {
-        return Err("no target".into());
-    };
-    Ok(core)
+    units.push(changer)?;
+    units.push(drive)?;
+    Ok(units)
+}
+
+/// A target of these two.
+fn target(alloc: Global) -> Result<TargetCore<Device>, Fail> {
+    match TargetCore::new(units(alloc)?) {
+        Ok(core) => Ok(core),
+        Err(_) => Err("no target".into()),
+    }
 }

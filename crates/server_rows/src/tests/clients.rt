@@ -77,6 +77,25 @@ fn is_taken_at(alloc: Global, stream: &UnixStream, step: Step) -> io::Result<boo
     }
 }
 
+/// Takes a step at one of the connections. Whether it is there, and all is as it should be.
+fn is_taken_among(
+    alloc: Global,
+    streams: &[UnixStream],
+    place: usize,
+    step: Step,
+) -> io::Result<bool> {
+    match streams.get(place) {
+        Some(stream) => is_taken_at(alloc, stream, step),
+        None => Ok(false),
+    }
+}
+
+/// Makes one more connection.
+fn connect<R: Net>(rt: &R, address: &SocketAddr, streams: &mut Vec<UnixStream>) -> io::Result<()> {
+    let stream = UnixStream::connect_addr(rt, address)?;
+    Ok(streams.push(stream)?)
+}
+
 /// Takes a step. Whether all is as it should be.
 fn is_taken<R: Clock + Net + Wait>(
     rt: &R,
@@ -87,40 +106,60 @@ fn is_taken<R: Clock + Net + Wait>(
     step: Step,
 ) -> io::Result<bool> {
     match step {
-        Step::Connects => streams.push(UnixStream::connect_addr(rt, address)?)?,
+        Step::Connects => connect(rt, address, streams)?,
         Step::Ends => ending.end(rt),
         Step::Opens => ending.gate.open(rt),
         Step::Passes => ending.gate.pass(rt),
         Step::Says(place, _, _)
         | Step::IsLeft(place)
         | Step::Asks(place, _, _)
-        | Step::Floods(place, _, _) => match streams.get(place) {
-            Some(stream) => return is_taken_at(alloc, stream, step),
-            None => return Ok(false),
-        },
+        | Step::Floods(place, _, _) => return is_taken_among(alloc, streams, place, step),
+    }
+    Ok(true)
+}
+
+/// Takes the steps. Whether all is as it should be.
+fn are_taken<R: Clock + Net + Wait>(
+    rt: &R,
+    alloc: Global,
+    address: &SocketAddr,
+    streams: &mut Vec<UnixStream>,
+    ending: &Ending<'_, '_>,
+    steps: &[Step],
+) -> io::Result<bool> {
+    for step in steps {
+        if !is_taken(rt, alloc, address, streams, ending, *step)? {
+            return Ok(false);
+        }
     }
     Ok(true)
 }
 
 /// Connects so many times, takes the steps, and says whether all that was read is as it should be.
-pub(super) fn talk<R: Clock + Net + Wait>(
+fn talk<R: AllocGlobal + Clock + Net + Wait>(
     rt: &R,
-    alloc: Global,
     address: &SocketAddr,
     connections: usize,
     ending: &Ending<'_, '_>,
     steps: &[Step],
 ) -> io::Result<bool> {
-    let mut streams = Vec::new(alloc);
+    let mut streams = Vec::new(rt.alloc());
     for _connection in 0..connections {
-        streams.push(UnixStream::connect_addr(rt, address)?)?;
+        connect(rt, address, &mut streams)?;
     }
-    for step in steps {
-        if !is_taken(rt, alloc, address, &mut streams, ending, *step)? {
-            return Ok(false);
-        }
-    }
-    Ok(true)
+    are_taken(rt, rt.alloc(), address, &mut streams, ending, steps)
+}
+
+/// The same. Where not all is as it should be, the server ends.
+pub(super) fn talk_or_end<R: AllocGlobal + Clock + Net + Wait>(
+    rt: &R,
+    address: &SocketAddr,
+    connections: usize,
+    ending: &Ending<'_, '_>,
+    steps: &[Step],
+) -> io::Result<bool> {
+    let talked = talk(rt, address, connections, ending, steps);
+    ending.unless_right(rt, talked)
 }
 
 /// Where a writer waits for a client, or a client for a writer, until it is opened, for good.

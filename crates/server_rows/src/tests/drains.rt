@@ -96,31 +96,54 @@ const LINES_AS_THEY_COME: &[u8] = b"1 500000000000000a.1 TEST-UNIT-READY 2 - - 0
     1 500000000000000b.1 TEST-UNIT-READY 2 - - 02\n\
     2 500000000000000b.1 LOSS 6 - - 00\n";
 
-/// Serves the two sessions by one worker, to a writer with some trouble that takes 20 bytes at a time: what came of it, and what
-/// was written.
+/// What came of a meeting, what was written, and by how many writes.
+#[derive(Drop)]
+struct Drained {
+    met: Met,
+    written: Vec<u8>,
+    writes: u64,
+}
+
+/// Serves a meeting to a writer with some trouble that takes at most so many bytes at a time.
+fn meet_writer<R: AllocGlobal + Clock + Files + Net + RandomSource + Sync + Threads + Wait>(
+    rt: &R,
+    id: u32,
+    meeting: Meeting,
+    steps: &[Step],
+    trouble: Trouble,
+    most: usize,
+) -> Result<Drained, Fail> {
+    let gate = Gate::new();
+    let mut writer = Writer::new(rt, &gate, trouble, most);
+    let met = meet_at_gate(rt, id, meeting, steps, &mut writer, &gate)?;
+    Ok(Drained {
+        met,
+        written: writer.written,
+        writes: writer.writes,
+    })
+}
+
+/// Serves the two sessions by one worker, to a writer with some trouble that takes 20 bytes at a time.
 fn meet_drained<R: AllocGlobal + Clock + Files + Net + RandomSource + Sync + Threads + Wait>(
     rt: &R,
     id: u32,
     name: &'static str,
     trouble: Trouble,
-) -> Result<(Met, Vec<u8>), Fail> {
-    let gate = Gate::new();
-    let mut writer = Writer::new(rt, &gate, trouble, 20);
+) -> Result<Drained, Fail> {
     let meeting = Meeting {
         records: RecordOutput::AsTheyCome,
         workers: 1,
         ..sessions(name, 2)
     };
-    let met = meet_at_gate(rt, id, meeting, &ONE_AFTER_THE_OTHER, &mut writer, &gate)?;
-    Ok((met, writer.written))
+    meet_writer(rt, id, meeting, &ONE_AFTER_THE_OTHER, trouble, 20)
 }
 
 #[test]
 fn serve_library_writes_records_after_each_session(rt: HostRuntime) -> Result<(), Fail> {
     let id = process::id(rt.process());
-    let (met, written) = meet_drained(&rt, id, "drained", Trouble::None)?;
-    assert_same(&rt, met.served, Ok(()), "drained");
-    assert_bytes(&rt, written.as_slice(), LINES_AS_THEY_COME, "drained");
+    let drained = meet_drained(&rt, id, "drained", Trouble::None)?;
+    assert_same(&rt, drained.met.served, Ok(()), "drained");
+    assert_bytes(&rt, &drained.written, LINES_AS_THEY_COME, "drained");
     Ok(())
 }
 
@@ -133,10 +156,10 @@ const CAUGHT_UP: &str = "vtl: the lines of records that were kept are written\n"
 fn serve_library_keeps_lines_whose_write_fails(rt: HostRuntime) -> Result<(), Fail> {
     let id = process::id(rt.process());
     for at in 1..8u64 {
-        let (met, written) = meet_drained(&rt, id, "kept", Trouble::Fails(at, at))?;
-        assert_same(&rt, met.served, Ok(()), "kept");
-        assert_bytes(&rt, written.as_slice(), LINES_AS_THEY_COME, "kept");
-        assert_told(&rt, &met.told, KEPT);
+        let drained = meet_drained(&rt, id, "kept", Trouble::Fails(at, at))?;
+        assert_same(&rt, drained.met.served, Ok(()), "kept");
+        assert_bytes(&rt, &drained.written, LINES_AS_THEY_COME, "kept");
+        assert_told(&rt, &drained.met.told, KEPT);
     }
     Ok(())
 }
@@ -152,13 +175,13 @@ const LOST: [&str; 3] = [
 #[test]
 fn serve_library_tells_which_records_were_not_written(rt: HostRuntime) -> Result<(), Fail> {
     let id = process::id(rt.process());
-    let (met, written) = meet_drained(&rt, id, "lost", Trouble::Fails(1, u64::MAX))?;
-    assert_same(&rt, met.served, Err(ServerFault::Write), "lost");
-    assert_bytes(&rt, written.as_slice(), &[], "lost");
+    let drained = meet_drained(&rt, id, "lost", Trouble::Fails(1, u64::MAX))?;
+    assert_same(&rt, drained.met.served, Err(ServerFault::Write), "lost");
+    assert_bytes(&rt, &drained.written, &[], "lost");
     for line in LOST {
-        assert_told(&rt, &met.told, line);
+        assert_told(&rt, &drained.met.told, line);
     }
-    assert_same(&rt, holds(&met.told, CAUGHT_UP), false, CAUGHT_UP);
+    assert_same(&rt, holds(&drained.met.told, CAUGHT_UP), false, CAUGHT_UP);
     Ok(())
 }
 
@@ -175,16 +198,14 @@ const LONG: [Step; 6] = [
 #[test]
 fn serve_library_hands_many_records_out_within_a_session(rt: HostRuntime) -> Result<(), Fail> {
     let id = process::id(rt.process());
-    let gate = Gate::new();
-    let mut writer = Writer::new(&rt, &gate, Trouble::None, usize::MAX);
     let meeting = Meeting {
         records: RecordOutput::AsTheyCome,
         ..sessions("long", 1)
     };
-    let met = meet_at_gate(&rt, id, meeting, &LONG, &mut writer, &gate)?;
-    assert_same(&rt, met.served, Ok(()), "long");
-    assert_same(&rt, writer.writes >= 2, true, "more than one write");
-    let counts = counts_of(&rt, rt.alloc(), &writer.written)?;
+    let drained = meet_writer(&rt, id, meeting, &LONG, Trouble::None, usize::MAX)?;
+    assert_same(&rt, drained.met.served, Ok(()), "long");
+    assert_same(&rt, drained.writes >= 2, true, "more than one write");
+    let counts = counts_of(&rt, rt.alloc(), &drained.written)?;
     assert_same(&rt, counts, (5_001, 0), "long");
     Ok(())
 }
@@ -232,18 +253,16 @@ const STALLED: [Step; 16] = [
 #[test]
 fn serve_library_goes_on_while_its_reader_stalls(rt: HostRuntime) -> Result<(), Fail> {
     let id = process::id(rt.process());
-    let gate = Gate::new();
-    let mut writer = Writer::new(&rt, &gate, Trouble::Stalls, usize::MAX);
     let meeting = Meeting {
         records: RecordOutput::AsTheyCome,
         term: ServeTerm::Sessions(3),
         connections: 3,
         ..sessions("stalled", 2)
     };
-    let met = meet_at_gate(&rt, id, meeting, &STALLED, &mut writer, &gate)?;
-    assert_same(&rt, met.served, Ok(()), "stalled");
-    assert_same(&rt, holds(&met.told, KEPT), false, KEPT);
-    let counts = counts_of(&rt, rt.alloc(), &writer.written)?;
+    let drained = meet_writer(&rt, id, meeting, &STALLED, Trouble::Stalls, usize::MAX)?;
+    assert_same(&rt, drained.met.served, Ok(()), "stalled");
+    assert_same(&rt, holds(&drained.met.told, KEPT), false, KEPT);
+    let counts = counts_of(&rt, rt.alloc(), &drained.written)?;
     assert_same(&rt, counts, (7_003, 5_001), "stalled");
     Ok(())
 }

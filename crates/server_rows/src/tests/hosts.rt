@@ -1,18 +1,17 @@
 //! A host and a served library, over a socket.
 
-use super::meetings::PATIENT;
+use super::meetings::{address_of, door_at, serve, sessions};
 use super::{assert_bytes, assert_same};
 use client_session::{ClientSessionFault, converse};
-use output_lines::{Audit, Explanations};
+use library_device::Device;
+use output_lines::Explanations;
 use program_options::LibraryOptions;
 use scsi_nexus::Nexus;
-use server::{
-    Door, LiveSessions, RecordOutput, ServeLimits, ServeTerm, ServerFault, Teller, Telling,
-    serve_library,
-};
+use server::{Door, LiveSessions, ServerFault, Teller, Telling};
+use std::alloc::{AllocError, Global};
 use std::fs::Files;
 use std::net::Net;
-use std::os::unix::net::{SocketAddr, SocketAddrExt, UnixListener, UnixStream};
+use std::os::unix::net::{SocketAddr, UnixStream};
 use std::random::RandomSource;
 use std::sync::Wait;
 use std::test::Fail;
@@ -21,6 +20,7 @@ use std::time::Clock;
 use std::{io, process};
 use stocked_library::library;
 use tape_keeper::NoKeeper;
+use target_core::TargetCore;
 
 const A: Nexus = Nexus {
     sas: 0x5000_0000_0000_000A,
@@ -58,43 +58,38 @@ fn send<R: AllocGlobal + Net>(
     ))
 }
 
-/// Serves the usual library for a session of A's, in a second thread, at an address that is no file.
-fn meet<R: AllocGlobal + Clock + Files + Net + RandomSource + Sync + Threads + Wait>(
+/// The usual library.
+fn usual(alloc: Global) -> Result<TargetCore<Device>, AllocError> {
+    library(alloc, &LibraryOptions::DEFAULT)
+}
+
+/// Serves a library for one session, and tells its faults nowhere.
+fn serve_once<R: AllocGlobal + Clock + RandomSource + Sync + Threads + Wait>(
     rt: &R,
-    id: u32,
+    core: TargetCore<Device>,
+    doors: &[Door<'_>; 1],
+    records: &mut Vec<u8>,
+) -> Result<(), ServerFault> {
+    let live = LiveSessions::new(rt.alloc());
+    let teller = Teller::new(Telling::Faults, Vec::new(rt.alloc()));
+    let meeting = sessions("host", 1);
+    serve(rt, core, doors, meeting, &live, records, &NoKeeper, &teller)
+}
+
+/// Serves a library for a session of A's, in a second thread.
+fn serve_and_send<R: AllocGlobal + Clock + Net + RandomSource + Sync + Threads + Wait>(
+    rt: &R,
+    core: TargetCore<Device>,
+    doors: &[Door<'_>; 1],
+    address: &SocketAddr,
     script: &str,
 ) -> Result<Met, Fail> {
-    let alloc = rt.alloc();
-    let name = format!(in alloc; "vtl-host-{id}")?;
-    let address = SocketAddr::from_abstract_name(name.as_bytes())?;
-    let doors = [Door::of_socket(UnixListener::bind_addr(rt, &address)?)?];
-    let core = library(alloc, &LibraryOptions::DEFAULT)?;
-    let mut records = Vec::new(alloc);
-    let mut replies = Vec::new(alloc);
-    let sessions = LiveSessions::new(alloc);
-    let teller = Teller::new(Telling::Faults, Vec::new(alloc));
+    let mut records = Vec::new(rt.alloc());
+    let mut replies = Vec::new(rt.alloc());
     let (hosted, sent) = thread::join(
         rt,
-        || {
-            let limits = ServeLimits {
-                workers: 1,
-                term: ServeTerm::Sessions(1),
-                times: PATIENT,
-                sessions: &sessions,
-            };
-            serve_library(
-                rt,
-                alloc,
-                core,
-                &doors,
-                limits,
-                RecordOutput::AtTheEnd(Audit::Lines),
-                &NoKeeper,
-                &mut records,
-                &teller,
-            )
-        },
-        || send(rt, &address, script, &mut replies),
+        || serve_once(rt, core, doors, &mut records),
+        || send(rt, address, script, &mut replies),
     );
     Ok(Met {
         hosted,
@@ -102,6 +97,18 @@ fn meet<R: AllocGlobal + Clock + Files + Net + RandomSource + Sync + Threads + W
         records,
         replies,
     })
+}
+
+/// Serves the usual library for a session of A's, at an address that is no file.
+fn meet<R: AllocGlobal + Clock + Files + Net + RandomSource + Sync + Threads + Wait>(
+    rt: &R,
+    id: u32,
+    script: &str,
+) -> Result<Met, Fail> {
+    let address = address_of(rt.alloc(), "host", id)?;
+    let doors = [door_at(rt, &address)?];
+    let core = usual(rt.alloc())?;
+    serve_and_send(rt, core, &doors, &address, script)
 }
 
 const REPLIES: &[u8] = b"02 700006000000000a00000000290000000000 -\n00 - -\n";

@@ -3,7 +3,7 @@ ghost use Rattle.std.specs.Prelude.{◌≤◌, length};
 
 use super::clients::{Ending, Gate};
 use super::exchanges::{Answer, Frame, POWER_ON_1, POWER_ON_2, is_answered};
-use super::meetings::PATIENT;
+use super::meetings::{PATIENT, address_of, door_at};
 use super::sessions::LINES_OF_BOTH;
 use super::{assert_bytes, assert_same, assert_told, target};
 use iscsi_login::{Access, Authentication, Host, LoginTarget};
@@ -16,7 +16,7 @@ use std::alloc::{AllocError, Global};
 use std::fs::Files;
 use std::io::{self, Read, Write};
 use std::net::{Net, SocketAddr, TcpListener, TcpStream};
-use std::os::unix::net::{self, SocketAddrExt, UnixListener, UnixStream};
+use std::os::unix::net::{self, UnixStream};
 use std::process::{self, Abort};
 use std::random::RandomSource;
 use std::sync::Wait;
@@ -280,6 +280,29 @@ fn is_taken<R: Clock + Net<Listener = TcpListener, Stream = TcpStream> + Wait>(
     }
 }
 
+/// Reads of A's and B's connections wait for 20 seconds, and no longer.
+fn limit_reads(socket: &UnixStream, portal: &TcpStream) -> io::Result<()> {
+    socket.set_read_timeout(Some(seconds(20)))?;
+    portal.set_read_timeout(Some(seconds(20)))
+}
+
+/// Takes the steps. Whether all is as it should be.
+fn are_taken<R: Clock + Net<Listener = TcpListener, Stream = TcpStream> + Wait>(
+    rt: &R,
+    alloc: Global,
+    socket: &UnixStream,
+    portal: &TcpStream,
+    ending: &Ending<'_, '_>,
+    steps: &[Step],
+) -> io::Result<bool> {
+    for step in steps {
+        if !is_taken(rt, alloc, socket, portal, ending, *step)? {
+            return Ok(false);
+        }
+    }
+    Ok(true)
+}
+
 /// Connects as A and as B, takes the steps, and says whether all that was read, in time, is as it should be.
 fn talk<R: Clock + Net<Listener = TcpListener, Stream = TcpStream> + Wait>(
     rt: &R,
@@ -291,29 +314,32 @@ fn talk<R: Clock + Net<Listener = TcpListener, Stream = TcpStream> + Wait>(
 ) -> io::Result<bool> {
     let socket = UnixStream::connect_addr(rt, address)?;
     let portal = TcpStream::connect(rt, portal)?;
-    socket.set_read_timeout(Some(seconds(20)))?;
-    portal.set_read_timeout(Some(seconds(20)))?;
-    for step in steps {
-        if !is_taken(rt, alloc, &socket, &portal, ending, *step)? {
-            return Ok(false);
-        }
-    }
-    Ok(true)
+    limit_reads(&socket, &portal)?;
+    are_taken(rt, alloc, &socket, &portal, ending, steps)
 }
 
-/// A target that lets B and C in, by their names.
-fn target_of_two(alloc: Global) -> Result<LoginTarget, AllocError> {
+/// A host with this name and this identity.
+fn host(alloc: Global, name: &[u8], sas: u64) -> Result<Host, AllocError> {
+    Ok(Host {
+        name: Vec::from_slice(alloc, name)?,
+        sas,
+    })
+}
+
+/// B and C, by their names.
+fn hosts(alloc: Global) -> Result<Vec<Host>, AllocError> {
     let mut hosts = Vec::new(alloc);
-    hosts.push(Host {
-        name: Vec::from_slice(alloc, b"iqn.2026-11.example:b")?,
-        sas: 0x5000_0000_0000_000B,
-    })?;
-    hosts.push(Host {
-        name: Vec::from_slice(alloc, b"iqn.2026-11.example:c")?,
-        sas: 0x5000_0000_0000_000C,
-    })?;
+    hosts.push(host(alloc, b"iqn.2026-11.example:b", 0x5000_0000_0000_000B)?)?;
+    hosts.push(host(alloc, b"iqn.2026-11.example:c", 0x5000_0000_0000_000C)?)?;
+    Ok(hosts)
+}
+
+/// A target that lets B and C in.
+fn target_of_two(alloc: Global) -> Result<LoginTarget, AllocError> {
+    let name = Vec::from_slice(alloc, b"iqn.2026-11.localhost:vtl")?;
+    let hosts = hosts(alloc)?;
     Ok(LoginTarget {
-        name: Vec::from_slice(alloc, b"iqn.2026-11.localhost:vtl")?,
+        name,
         access: Access {
             hosts,
             any_host: false,
@@ -372,6 +398,91 @@ fn serve_and_talk<
     ))
 }
 
+/// What came of a meeting, the lines of its records, and what was told.
+#[derive(Drop)]
+struct Met {
+    served: Result<(), ServerFault>,
+    /// Whether A and B were told what they should be.
+    is_right: bool,
+    lines: Vec<u8>,
+    told: Vec<u8>,
+}
+
+/// Serves a library to A and B, at its two doors.
+fn meet_at<
+    R: AllocGlobal
+        + Clock
+        + Files
+        + Net<Listener = TcpListener, Stream = TcpStream>
+        + RandomSource
+        + Sync
+        + Threads
+        + Wait,
+>(
+    rt: &R,
+    doors: &[Door<'_>; 2],
+    address: &net::SocketAddr,
+    portal: SocketAddr,
+    times: WaitTimes,
+    steps: &[Step],
+) -> Result<Met, Fail> {
+    let mut lines = Vec::new(rt.alloc());
+    let mut told = Vec::new(rt.alloc());
+    let teller = Teller::new(Telling::Everything, &mut told);
+    let (served, talked) = serve_and_talk(
+        rt,
+        doors,
+        address,
+        portal,
+        times,
+        steps,
+        &mut lines,
+        &Gate::new(),
+        &teller,
+    )?;
+    drop(teller);
+    Ok(Met {
+        served,
+        is_right: talked?,
+        lines,
+        told,
+    })
+}
+
+/// A door at an address, and one of a portal.
+fn doors_at<'t, R: Files + Net<Listener = TcpListener, Stream = TcpStream>>(
+    rt: &R,
+    address: &net::SocketAddr,
+    listener: TcpListener,
+    target: &'t LoginTarget,
+) -> io::Result<[Door<'t>; 2]> {
+    let socket = door_at(rt, address)?;
+    Ok([socket, Door::of_portal(listener, target, 1)?])
+}
+
+/// Serves a library to A and B, at an address that is no file and a portal.
+fn meet<
+    R: AllocGlobal
+        + Clock
+        + Files
+        + Net<Listener = TcpListener, Stream = TcpStream>
+        + RandomSource
+        + Sync
+        + Threads
+        + Wait,
+>(
+    rt: &R,
+    address: &net::SocketAddr,
+    target: &LoginTarget,
+    times: WaitTimes,
+    steps: &[Step],
+) -> Result<Met, Fail> {
+    let listener = TcpListener::bind(rt, "127.0.0.1:0")?;
+    let portal = listener.local_addr()?;
+    let doors = doors_at(rt, address, listener, target)?;
+    meet_at(rt, &doors, address, portal, times, steps)
+}
+
 /// Which time is short.
 #[derive(Clone, Copy)]
 enum Short {
@@ -396,13 +507,14 @@ fn times_of(short: Short) -> WaitTimes {
     }
 }
 
-/// A part of the server's address, which time hosts have little of, what A and B do, and, where they are compared, the lines that the
-/// server writes and some words of what it tells.
+/// A part of the server's address, which time hosts have little of, what A and B do, whether the lines that the server writes are
+/// compared, and with which, and some words of what it tells.
 type Row = (
     &'static str,
     Short,
     &'static [Step],
-    Option<&'static [u8]>,
+    bool,
+    &'static [u8],
     &'static str,
 );
 
@@ -418,38 +530,16 @@ fn assert_met<
         + Threads
         + Wait,
 >(rt: &R, id: u32, row: Row) -> Result<(), Fail> {
-    let (name, short, steps, lines, words) = row;
-    let alloc = rt.alloc();
-    let socket_name = format!(in alloc; "vtl-{name}-{id}")?;
-    let address = net::SocketAddr::from_abstract_name(socket_name.as_bytes())?;
-    let target = target_of_two(alloc)?;
-    let listener = TcpListener::bind(rt, "127.0.0.1:0")?;
-    let portal = listener.local_addr()?;
-    let doors = [
-        Door::of_socket(UnixListener::bind_addr(rt, &address)?)?,
-        Door::of_portal(listener, &target, 1)?,
-    ];
-    let mut output = Vec::new(alloc);
-    let mut told = Vec::new(alloc);
-    let teller = Teller::new(Telling::Everything, &mut told);
-    let (served, talked) = serve_and_talk(
-        rt,
-        &doors,
-        &address,
-        portal,
-        times_of(short),
-        steps,
-        &mut output,
-        &Gate::new(),
-        &teller,
-    )?;
-    drop(teller);
-    assert_same(rt, talked?, true, name);
-    assert_same(rt, served, Ok(()), name);
-    if let Some(lines) = lines {
-        assert_bytes(rt, output.as_slice(), lines, name);
+    let (name, short, steps, are_compared, lines, words) = row;
+    let address = address_of(rt.alloc(), name, id)?;
+    let target = target_of_two(rt.alloc())?;
+    let met = meet(rt, &address, &target, times_of(short), steps)?;
+    assert_same(rt, met.is_right, true, name);
+    assert_same(rt, met.served, Ok(()), name);
+    if are_compared {
+        assert_bytes(rt, &met.lines, lines, name);
     }
-    assert_told(rt, told.as_slice(), words);
+    assert_told(rt, &met.told, words);
     Ok(())
 }
 
@@ -587,63 +677,72 @@ const ROWS: [Row; 9] = [
         "two-doors",
         Short::None,
         &CONFLICT_AT_TWO_DOORS,
-        Some(LINES_OF_BOTH),
+        true,
+        LINES_OF_BOTH,
         "of 500000000000000b.1: ended by its LOGOUT after 2 commands",
     ),
     (
         "no-iscsi-login",
         Short::Login,
         &NO_LOGIN,
-        Some(b""),
+        true,
+        b"",
         "before its LOGIN: nothing came in time\n",
     ),
     (
         "no-pong",
         Short::Ping,
         &NO_PONG,
-        None,
+        false,
+        b"",
         "of 500000000000000b.1: nothing came in time\n",
     ),
     (
         "live-iscsi",
         Short::None,
         &ENDED_AT_TWO_DOORS,
-        Some(LINES_OF_B),
+        true,
+        LINES_OF_B,
         "of 500000000000000b.1: ended by the end of input after 1 commands",
     ),
     (
         "back-again",
         Short::None,
         &BACK_AGAIN,
-        Some(LINES_OF_BOTH_SESSIONS),
+        true,
+        LINES_OF_BOTH_SESSIONS,
         "of 500000000000000b.1: ended by the end of input after 1 commands",
     ),
     (
         "reset-by-another",
         Short::None,
         &RESET_BY_ANOTHER,
-        Some(LINES_OF_THE_RESET),
+        true,
+        LINES_OF_THE_RESET,
         "of 500000000000000b.1: ended by its LOGOUT after 2 commands",
     ),
     (
         "reset-at-the-socket",
         Short::None,
         &RESET_AT_THE_SOCKET,
-        Some(LINES_OF_THE_RESET),
+        true,
+        LINES_OF_THE_RESET,
         "of 500000000000000b.1: ended by its LOGOUT after 2 commands",
     ),
     (
         "register-at-the-socket",
         Short::None,
         &REGISTER_AT_THE_SOCKET,
-        Some(LINES_OF_THE_REGISTER),
+        true,
+        LINES_OF_THE_REGISTER,
         "of 500000000000000b.1: ended by its LOGOUT after 2 commands",
     ),
     (
         "asked-to-leave",
         Short::None,
         &ASKED_TO_LEAVE,
-        Some(LINES_OF_B),
+        true,
+        LINES_OF_B,
         "of 500000000000000b.1: ended by its LOGOUT after 1 commands",
     ),
 ];

@@ -1,6 +1,6 @@
 //! A server that meets a client, and what comes of it.
 
-use super::clients::{Ending, Gate, Step, talk};
+use super::clients::{Ending, Gate, Step, talk_or_end};
 use super::keepers::FailingKeeper;
 use super::{assert_bytes, assert_same, target};
 use library_device::Device;
@@ -9,6 +9,7 @@ use server::{
     Door, LiveSessions, RecordOutput, ServeLimits, ServeTerm, ServerFault, Teller, Telling,
     WaitTimes, serve_library,
 };
+use std::alloc::Global;
 use std::fs::Files;
 use std::io::{self, Write};
 use std::net::Net;
@@ -59,11 +60,50 @@ pub(super) const fn sessions(name: &'static str, workers: u8) -> Meeting {
     }
 }
 
-/// Serves a target to a client in a second thread. What the server answers, and whether the client was told what it should be.
-fn serve_and_talk<
-    R: AllocGlobal + Clock + Files + Net + RandomSource + Sync + Threads + Wait,
+/// An address that is no file, by a part of its name.
+pub(super) fn address_of(alloc: Global, name: &str, id: u32) -> Result<SocketAddr, Fail> {
+    let name = format!(in alloc; "vtl-{name}-{id}")?;
+    Ok(SocketAddr::from_abstract_name(name.as_bytes())?)
+}
+
+/// A door at an address.
+pub(super) fn door_at<'a, R: Files + Net>(rt: &R, address: &SocketAddr) -> io::Result<Door<'a>> {
+    Door::of_socket(UnixListener::bind_addr(rt, address)?)
+}
+
+/// Serves a target as a meeting says.
+pub(super) fn serve<
+    R: AllocGlobal + Clock + RandomSource + Sync + Threads + Wait,
     W: Write + Send,
     E: Write + Send,
+    K: TapeKeeper<Device> + Sync,
+>(
+    rt: &R,
+    core: TargetCore<Device>,
+    doors: &[Door<'_>; 1],
+    meeting: Meeting,
+    sessions: &LiveSessions,
+    output: &mut W,
+    keeper: &K,
+    teller: &Teller<E>,
+) -> Result<(), ServerFault> {
+    let limits = ServeLimits {
+        workers: meeting.workers.max(1),
+        term: meeting.term,
+        times: meeting.times,
+        sessions,
+    };
+    let alloc = rt.alloc();
+    let records = meeting.records;
+    serve_library(
+        rt, alloc, core, doors, limits, records, keeper, output, teller,
+    )
+}
+
+/// Serves a target to a client in a second thread. What the server answers, and whether the client was told what it should be.
+fn serve_and_talk<
+    R: AllocGlobal + Clock + Net + RandomSource + Sync + Threads + Wait,
+    W: Write + Send,
     K: TapeKeeper<Device> + Sync,
 >(
     rt: &R,
@@ -75,10 +115,10 @@ fn serve_and_talk<
     output: &mut W,
     gate: &Gate,
     keeper: &K,
-    teller: &Teller<E>,
+    told: &mut Vec<u8>,
 ) -> (Result<(), ServerFault>, io::Result<bool>) {
-    let alloc = rt.alloc();
-    let sessions = LiveSessions::new(alloc);
+    let teller = Teller::new(Telling::Everything, told);
+    let sessions = LiveSessions::new(rt.alloc());
     let ending = Ending {
         sessions: &sessions,
         gate,
@@ -86,29 +126,8 @@ fn serve_and_talk<
     };
     thread::join(
         rt,
-        || {
-            let limits = ServeLimits {
-                workers: meeting.workers.max(1),
-                term: meeting.term,
-                times: meeting.times,
-                sessions: &sessions,
-            };
-            serve_library(
-                rt,
-                alloc,
-                core,
-                doors,
-                limits,
-                meeting.records,
-                keeper,
-                output,
-                &teller,
-            )
-        },
-        || {
-            let talked = talk(rt, alloc, address, meeting.connections, &ending, steps);
-            ending.unless_right(rt, talked)
-        },
+        || serve(rt, core, doors, meeting, &sessions, output, keeper, &teller),
+        || talk_or_end(rt, address, meeting.connections, &ending, steps),
     )
 }
 
@@ -159,25 +178,31 @@ pub(super) fn meet_keeper<
     gate: &Gate,
     keeper: &K,
 ) -> Result<Met, Fail> {
-    let alloc = rt.alloc();
-    let name = format!(in alloc; "vtl-{}-{id}", meeting.name)?;
-    let address = SocketAddr::from_abstract_name(name.as_bytes())?;
-    let doors = [Door::of_socket(UnixListener::bind_addr(rt, &address)?)?];
-    let mut told = Vec::new(alloc);
-    let teller = Teller::new(Telling::Everything, &mut told);
+    let address = address_of(rt.alloc(), meeting.name, id)?;
+    let doors = [door_at(rt, &address)?];
+    meet_at(rt, &doors, &address, meeting, steps, output, gate, keeper)
+}
+
+/// The same, at the door of an address.
+fn meet_at<
+    R: AllocGlobal + Clock + Net + RandomSource + Sync + Threads + Wait,
+    W: Write + Send,
+    K: TapeKeeper<Device> + Sync,
+>(
+    rt: &R,
+    doors: &[Door<'_>; 1],
+    address: &SocketAddr,
+    meeting: Meeting,
+    steps: &[Step],
+    output: &mut W,
+    gate: &Gate,
+    keeper: &K,
+) -> Result<Met, Fail> {
+    let core = target(rt.alloc())?;
+    let mut told = Vec::new(rt.alloc());
     let (served, talked) = serve_and_talk(
-        rt,
-        target(alloc)?,
-        &doors,
-        &address,
-        meeting,
-        steps,
-        output,
-        gate,
-        keeper,
-        &teller,
+        rt, core, doors, address, meeting, steps, output, gate, keeper, &mut told,
     );
-    drop(teller);
     if !talked? {
         return Err("another reply".into());
     }

@@ -6,11 +6,13 @@ use super::{assert_bytes, assert_same, assert_told};
 use command_line::{IscsiOptions, ServeOptions};
 use output_lines::Audit;
 use program_options::{LibraryOptions, ServeTimes, ServeUntil};
-use server_socket::serve;
+use server_socket::{SocketFault, serve};
 use std::alloc::{AllocError, AllocGlobal, Global};
+use std::env::Env;
 use std::fs::{Files, Permissions};
 use std::net::{Net, SocketAddr, TcpListener, TcpStream};
 use std::os::unix::fs::PermissionsExt;
+use std::process::Abort;
 use std::random::RandomSource;
 use std::sync::Wait;
 use std::test::Fail;
@@ -68,10 +70,39 @@ pub(super) fn refused<
     if !told.is_empty() {
         return Err("told".into());
     }
+    shown(rt.alloc(), served)
+}
+
+/// The exit status of a fault, and its lines.
+fn shown(alloc: Global, served: Result<(), SocketFault>) -> Result<(u8, String), Fail> {
     match served {
         Ok(()) => Err("served".into()),
-        Err(fault) => Ok((fault.status(), fault.to_string(rt.alloc())?)),
+        Err(fault) => Ok((fault.status(), fault.to_string(alloc)?)),
     }
+}
+
+/// A path in the folder of temporary files, by a part of its name.
+pub(super) fn temporary_path<R: AllocGlobal + Env>(
+    rt: &R,
+    id: u32,
+    name: &str,
+) -> Result<String, Fail> {
+    let name = format!(in rt.alloc(); "vtl-{name}-{id}")?;
+    let path = env::temp_dir(rt)?.join(rt.alloc(), name.as_str())?;
+    let path = path.to_str().ok_or("a path that is no text")?;
+    Ok(String::from_str(rt.alloc(), path)?)
+}
+
+/// Takes a file away, and hands on what was told before.
+pub(super) fn without_file<R: Files>(
+    rt: &R,
+    path: &str,
+    told: Result<(u8, String), Fail>,
+) -> Result<(u8, String), Fail> {
+    let removed = fs::remove_file(rt, path);
+    let told = told?;
+    removed?;
+    Ok(told)
 }
 
 #[test]
@@ -105,11 +136,29 @@ fn refused_secrets<
     let chap = Some(String::from_str(rt.alloc(), path)?);
     let address = SocketAddr::from(([127, 0, 0, 1], 0));
     let serving = options_at(rt.alloc(), address, chap)?;
-    let told = refused(rt, files, serving);
-    let removed = fs::remove_file(rt, path);
-    let told = told?;
-    removed?;
-    Ok(told)
+    without_file(rt, path, refused(rt, files, serving))
+}
+
+/// Tries a row's file of secrets, and compares what is told.
+fn assert_refused<
+    R: Abort
+        + AllocGlobal
+        + Clock
+        + Files
+        + Input
+        + Net<Listener = TcpListener, Stream = TcpStream>
+        + Print
+        + RandomSource
+        + Sync
+        + Threads
+        + Wait,
+>(rt: &R, files: &HostRuntime, path: &str, row: Row) -> Result<(), Fail> {
+    let (mode, text, expected, words) = row;
+    let (status, shown) = refused_secrets(rt, files, path, mode, text)?;
+    assert_same(rt, status, expected, words);
+    assert_told(rt, shown.as_bytes(), words);
+    assert_same(rt, shown.contains("short"), false, words);
+    Ok(())
 }
 
 /// A file's mode and text, the exit status, and what is told behind its path.
@@ -135,15 +184,9 @@ const ROWS: [Row; 3] = [
 fn serve_refuses_secrets_that_others_may_read_or_that_are_none(
     rt: HostRuntime,
 ) -> Result<(), Fail> {
-    let name = format!(in rt.alloc(); "vtl-secrets-{}", process::id(rt.process()))?;
-    let path = env::temp_dir(&rt)?.join(rt.alloc(), name.as_str())?;
-    let path = path.to_str().ok_or("a path that is no text")?;
+    let path = temporary_path(&rt, process::id(rt.process()), "secrets")?;
     for row in &ROWS {
-        let (mode, text, expected, words) = *row;
-        let (status, shown) = refused_secrets(&rt, &rt, path, mode, text)?;
-        assert_same(&rt, status, expected, words);
-        assert_told(&rt, shown.as_bytes(), words);
-        assert_same(&rt, shown.contains("short"), false, words);
+        assert_refused(&rt, &rt, path.as_str(), *row)?;
     }
     Ok(())
 }

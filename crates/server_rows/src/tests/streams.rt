@@ -175,6 +175,76 @@ fn assert_answered(rt: &impl Abort, row: Row, ended: Result<End, SessionFault>, 
     );
 }
 
+/// Serves a row's session at a seat of a library, and compares how it ends.
+fn serve_row<
+    L0: UnitLedger,
+    L1: UnitLedger,
+    L2: UnitLedger,
+    L3: UnitLedger,
+    L4: UnitLedger,
+    R: Abort + Wait,
+>(
+    rt: &R,
+    alloc: Global,
+    library: &Library<L0, L1, L2, L3, L4, Device, Pass>,
+    seat: Seat<L0, L1, L2, L3, L4>,
+    row: Row,
+) -> Seat<L0, L1, L2, L3, L4> {
+    let (mut reader, mut writer) = stream_of(alloc, row);
+    let directory = Mutex::new(Directory::new(alloc));
+    let (seat, ended) = serve_at(
+        rt,
+        alloc,
+        library,
+        &directory,
+        seat,
+        &mut reader,
+        &mut writer,
+    );
+    assert_answered(rt, row, ended, &writer.written);
+    seat
+}
+
+/// Serves it at the last seat.
+fn serve_last<
+    L0: UnitLedger,
+    L1: UnitLedger,
+    L2: UnitLedger,
+    L3: UnitLedger,
+    L4: UnitLedger,
+    R: Abort + Wait,
+>(
+    rt: &R,
+    alloc: Global,
+    library: &Library<L0, L1, L2, L3, L4, Device, Pass>,
+    seats: &mut Vec<Seat<L0, L1, L2, L3, L4>>,
+    row: Row,
+) -> Result<(), Fail> {
+    match seats.pop() {
+        Some(seat) => Ok(seats.push(serve_row(rt, alloc, library, seat, row))?),
+        None => Err("no seat".into()),
+    }
+}
+
+/// Closes a library by some of its seats.
+fn close<L0: UnitLedger, L1: UnitLedger, L2: UnitLedger, L3: UnitLedger, L4: UnitLedger, R: Wait>(
+    rt: &R,
+    alloc: Global,
+    library: Library<L0, L1, L2, L3, L4, Device, Pass>,
+    seats: Vec<Seat<L0, L1, L2, L3, L4>>,
+) -> Closed {
+    let mut lines = Vec::new(alloc);
+    let mut told = Vec::new(alloc);
+    let teller = Teller::new(Telling::Faults, &mut told);
+    let closed = close_and_write(rt, alloc, library, seats, Audit::Lines, &mut lines, &teller);
+    drop(teller);
+    Closed {
+        closed,
+        lines,
+        told,
+    }
+}
+
 /// Serves a row's session at a library, and closes it.
 fn serve_and_close<
     L0: UnitLedger + Send + Sync,
@@ -191,36 +261,12 @@ fn serve_and_close<
     row: Row,
     closing: Seats,
 ) -> Result<Closed, Fail> {
-    let (mut reader, mut writer) = stream_of(alloc, row);
-    let directory = Mutex::new(Directory::new(alloc));
-    let Some(seat) = seats.pop() else {
-        return Err("no seat".into());
-    };
-    let (seat, ended) = serve_at(
-        rt,
-        alloc,
-        &library,
-        &directory,
-        seat,
-        &mut reader,
-        &mut writer,
-    );
-    seats.push(seat)?;
-    assert_answered(rt, row, ended, &writer.written);
+    serve_last(rt, alloc, &library, &mut seats, row)?;
     match closing {
         Seats::All => {}
         Seats::None => seats.clear(),
     }
-    let mut lines = Vec::new(alloc);
-    let mut told = Vec::new(alloc);
-    let teller = Teller::new(Telling::Faults, &mut told);
-    let closed = close_and_write(rt, alloc, library, seats, Audit::Lines, &mut lines, &teller);
-    drop(teller);
-    Ok(Closed {
-        closed,
-        lines,
-        told,
-    })
+    Ok(close(rt, alloc, library, seats))
 }
 
 fn open_and_serve<
