@@ -7,10 +7,9 @@ use Rattle.lun_router.specs.Seats.{SeatValue, IsUntold}
 use Rattle.output_lines.specs.declared.audit_lines.Audit.{Audit}
 use Rattle.server.specs.declared.serving.RecordOutput.{RecordOutput}
 use Rattle.server.specs.declared.serving.RecordOutput.TheVariants.{AtTheEnd, AsTheyCome}
-use Rattle.server.specs.Batches.{HandsOut}
-use Rattle.server.specs.Serving.{DrainsAndCloses, IsClosed, ServesLibrary}
+use Rattle.server.specs.Serving.{IsClosed, ServesLibrary, WritesBefore, WritesOut, of_the_rest}
 use Rattle.server.specs.Sessions.{IsOfSessions, SeatsCome}
-use Rattle.server.proofs.HandingOut.{hands_left, hands_more}
+use Rattle.server.proofs.HandingOut.{hands_more, hands_none}
 use Rattle.server.proofs.Sessions.{of_sessions}
 use Rattle.std.specs.Io.KnownBytes.{Appends}
 use Rattle.std.specs.Option.{option_map}
@@ -45,22 +44,33 @@ pub seats_back : (core : List UnitView) (units count made : ℕ) (opened back : 
 seats_back core units count made opened back opened_len back_len size untold came many opened_is back_is =
     let served = seats_served core units count opened back size (sym opened_is ∙ many.1) untold came in (served, back_is ∙ served.1 ∙ sym many.0)
 
--- a library that was served, from its closing
-pub at_the_end : (core : List UnitView) (count : ℕ) (records : RecordOutput) (audit : Audit) (seats : List SeatValue) (zero one two three four : ℕ) (w w' : Option (List ℕ)) → records ≡ AtTheEnd audit
-    → All (IsOfSessions (length core)) seats × (length seats ≡ count) → IsSince core zero one two three four → IsClosed seats audit zero one two three four w w' → ServesLibrary core count records w w'
-at_the_end core count records audit seats zero one two three four w w' is served since closed =
-    rw is (record {
-      before = w;
-      as_they_came = refl;
-      rest = record { zero = zero; one = one; two = two; three = three; four = four; seats = seats; many = served.1; served = served.0; since = since; closed = closed };
-    })
+-- nothing was written
+pub writes_none : (records : RecordOutput) (w : Option (List ℕ)) (left : List ℕ) → WritesOut records w w left left
+writes_none (AtTheEnd audit) w left = refl
+writes_none AsTheyCome w left = hands_none w left
 
-pub as_they_come : (core : List UnitView) (count : ℕ) (records : RecordOutput) (seats : List SeatValue) (none left : List ℕ) (zero one two three four : ℕ) (w v w' : Option (List ℕ)) → records ≡ AsTheyCome
-    → All (IsOfSessions (length core)) seats × (length seats ≡ count) → IsSince core zero one two three four → none ≡ [] → HandsOut w v none left
-    → DrainsAndCloses left seats zero one two three four v w' → ServesLibrary core count records w w'
-as_they_come core count records seats none left zero one two three four w v w' is served since empty came closed =
-    rw is (record {
-      before = closed.before;
-      as_they_came = hands_more w v closed.before [] left [] (subst (λ (l : List ℕ). HandsOut w v l left) empty came) (hands_left v closed.before left [] closed.rest);
-      rest = record { zero = zero; one = one; two = two; three = three; four = four; seats = seats; many = served.1; served = served.0; since = since; closed = closed.closed };
-    })
+-- what was written before the end, as far as no line is left
+writes_before : (records : RecordOutput) (w v b : Option (List ℕ)) (left : List ℕ) → WritesOut records w v [] left → WritesOut records v b left [] → WritesBefore records w b
+writes_before (AtTheEnd audit) w v b left one two = two ∙ one
+writes_before AsTheyCome w v b left one two = hands_more w v b [] left [] one two
+
+-- a library that was served, from its closing
+pub library_served : (core : List UnitView) (count : ℕ) (records : RecordOutput) (audit : Audit) (seats : List SeatValue) (none left : List ℕ) (n0 n1 n2 n3 n4 : ℕ) (w v b w' : Option (List ℕ)) → audit ≡ of_the_rest records
+    → All (IsOfSessions (length core)) seats × (length seats ≡ count) → IsSince core n0 n1 n2 n3 n4 → none ≡ [] → WritesOut records w v none left → WritesOut records v b left []
+    → IsClosed seats audit n0 n1 n2 n3 n4 b w' → ServesLibrary core count records w w'
+library_served core count records audit seats none left n0 n1 n2 n3 n4 w v b w' wanted served since empty came rest closed = record {
+  before = b;
+  as_they_came = writes_before records w v b left (subst (λ (l : List ℕ). WritesOut records w v l left) empty came) rest;
+  rest = record {
+    zero = n0;
+    one = n1;
+    two = n2;
+    three = n3;
+    four = n4;
+    seats = seats;
+    many = served.1;
+    served = served.0;
+    since = since;
+    closed = subst (λ (a : Audit). IsClosed seats a n0 n1 n2 n3 n4 b w') wanted closed;
+  };
+}

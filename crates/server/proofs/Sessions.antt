@@ -125,21 +125,26 @@ zip_map R f (x ∷ xs) (y ∷ ys) so = (so.0, zip_map R f xs ys so.1)
 
 -- ---- what workers give back
 
-map_map : {A B C : Type 0} (f : A → B) (h : B → C) (xs : List A) → map (λ x. h (f x)) xs ≡ map h (map f xs)
-map_map f h [] = refl
-map_map {A} {B} {C} f h (x ∷ xs) = ap (λ (ys : List C). h (f x) ∷ ys) (map_map f h xs)
+-- services that were given to workers had their sessions, and are back
+pub served : {W S : Type 0} (R : S → S → Type 0) (service : W → S) (services : List S) (before after : List W) (none back : List S) → map service before ≡ services
+    → AllZip (λ v w. R (service v) (service w)) before after → none ≡ [] → back ≡ none ++ map service after → AllZip R services back
+served {W} {S} R service services before after none back held came empty given =
+    let back_is : back ≡ map service after = given ∙ ap (λ (xs : List S). xs ++ map service after) empty in
+    subst (λ (xs : List S). AllZip R services xs) (sym back_is) (subst (λ (xs : List S). AllZip R xs (map service after)) held (zip_map R service before after came))
 
--- services were made for seats and given to workers, these had their sessions, and their seats are back
-pub served : {W : Type 0} (service : W → LibraryServiceValue) (u : ℕ) (seats : List SeatValue) (services : List LibraryServiceValue) (before after : List W) (none back : List SeatValue)
-    → services ≡ map (service_at u) seats → map service before ≡ services → AllZip (λ v w. ComesBySessions DoesToService SettlesService (λ x. x.units) (service v) (service w)) before after → none ≡ []
-    → back ≡ none ++ map (λ w. (service w).seat) after → SeatsCome u seats back
-served {W} service u seats services before after none back made held came empty given =
-    let ends = map service after in
-    let zipped = zip_map (ComesBySessions DoesToService SettlesService (λ x. x.units)) service before after came in
-    let seats_are : back ≡ map (λ x. x.seat) ends =
-    given ∙ ap (λ (xs : List SeatValue). xs ++ map (λ (w : W). (service w).seat) after) empty ∙ map_map service (λ (x : LibraryServiceValue). x.seat) after in
-    subst (λ (xs : List SeatValue). SeatsCome u seats xs) (sym seats_are)
-    (seats_at u seats ends (subst (λ (xs : List LibraryServiceValue). AllZip (ComesBySessions DoesToService SettlesService (λ x. x.units)) xs ends) (held ∙ made) zipped))
+-- services that were made for seats had their sessions, and their seats are back
+pub seats_left : (u : ℕ) (seats back none : List SeatValue) (services ends : List LibraryServiceValue) → services ≡ map (service_at u) seats
+    → AllZip (ComesBySessions DoesToService SettlesService (λ x. x.units)) services ends → none ≡ [] → back ≡ none ++ map (λ x. x.seat) ends → SeatsCome u seats back
+seats_left u seats back none services ends made came empty given =
+    let back_is : back ≡ map (λ x. x.seat) ends = given ∙ ap (λ (xs : List SeatValue). xs ++ map (λ (x : LibraryServiceValue). x.seat) ends) empty in
+    subst (λ (xs : List SeatValue). SeatsCome u seats xs) (sym back_is)
+    (seats_at u seats ends (subst (λ (xs : List LibraryServiceValue). AllZip (ComesBySessions DoesToService SettlesService (λ x. x.units)) xs ends) made came))
+
+pub as_many : {A B : Type 0} (R : A → B → Type 0) (xs : List A) (ys : List B) → AllZip R xs ys → length ys ≡ length xs
+as_many R [] [] so = refl
+as_many R [] (y ∷ ys) so = absurd so
+as_many R (x ∷ xs) [] so = absurd so
+as_many R (x ∷ xs) (y ∷ ys) so = ap suc (as_many R xs ys so.1)
 
 -- what a call of each left
 pub changes_zip : {F T : Type 0} (g : Shared F (ℕ × (MutBor T × Unit {0})) ((Unit {0}) × (MutBor T × Unit {0}))) (f : F) (R : T → T → Type 0) (xs ys : List T) → length ys ≡ length xs

@@ -20,7 +20,7 @@ some_of : (P : ServerFault → Type 0) (c : Bool) (a b : ServerFault) → P a �
 some_of P true a b one other = one
 some_of P false a b one other = other
 
-earlier_keeps : (P : ServerFault → Type 0) (a b : Option ServerFault) → IfSome a P → IfSome b P → IfSome (earlier a b) P
+pub earlier_keeps : (P : ServerFault → Type 0) (a b : Option ServerFault) → IfSome a P → IfSome b P → IfSome (earlier a b) P
 earlier_keeps P None b one other = other
 earlier_keeps P (Some a) None one other = one
 earlier_keeps P (Some a) (Some b) one other = some_of P (is_before b a) b a other one
@@ -34,11 +34,12 @@ err_keeps P (Ok u) holds = tt
 err_keeps P (Err f) holds = holds
 
 -- what holds of each fault holds of the one that is told
-pub first_keeps : (P : ServerFault → Type 0) (served kept : Option ServerFault) (closed result : End) → result ≡ told_of (earlier (earlier served kept) (result_err closed))
-    → IfSome served P → IfSome kept P → IfErr closed P → IfErr result P
-first_keeps P served kept closed result is of_serving of_keeping of_closing =
-    let told = earlier_keeps P (earlier served kept) (result_err closed) (earlier_keeps P served kept of_serving of_keeping) (err_keeps P closed of_closing) in
-    subst (λ (r : End). IfErr r P) (sym is) (told_keeps P (earlier (earlier served kept) (result_err closed)) told)
+pub first_keeps : (P : ServerFault → Type 0) (first left : Option ServerFault) (closed result : End) → result ≡ told_of (earlier first (earlier left (result_err closed))) → IfSome first P → IfSome left P
+    → IfErr closed P → IfErr result P
+first_keeps P first left closed result is of_serving of_writing of_closing =
+    let at_the_end = earlier_keeps P left (result_err closed) of_writing (err_keeps P closed of_closing) in
+    let told = earlier_keeps P first (earlier left (result_err closed)) of_serving at_the_end in
+    subst (λ (r : End). IfErr r P) (sym is) (told_keeps P (earlier first (earlier left (result_err closed))) told)
 
 one_told : (Q : Type 0) (c : Bool) (a b : ServerFault) → OnOk (told_of (if c then Some a else Some b)) Q
 one_told Q true a b = tt
@@ -48,30 +49,24 @@ told_with : (Q : Type 0) (a : Option ServerFault) (f : ServerFault) → OnOk (to
 told_with Q None f = tt
 told_with Q (Some a) f = one_told Q (is_before f a) f a
 
+told_with_one : (Q : Type 0) (o : Option ServerFault) (c : Bool) (a b : ServerFault) → OnOk (told_of (earlier o (if c then Some a else Some b))) Q
+told_with_one Q o true a b = told_with Q o a
+told_with_one Q o false a b = told_with Q o b
+
 told_where : (Q : Type 0) (o : Option ServerFault) → Q → OnOk (told_of o) Q
 told_where Q None q = q
 told_where Q (Some f) q = tt
 
-closing_went : {P Q : Type 0} (served kept : Option ServerFault) (closed : End) → (P → Q) → OnOk closed P → OnOk (told_of (earlier (earlier served kept) (result_err closed))) Q
-closing_went {P} {Q} served kept (Ok u) so p = told_where Q (earlier (earlier served kept) None) (so p)
-closing_went {P} {Q} served kept (Err f) so p = told_with Q (earlier served kept) f
+end_went : {O P Q : Type 0} (first left : Option ServerFault) (closed : End) → (O → P → Q) → (left ≡ None → O) → OnOk closed P → OnOk (told_of (earlier first (earlier left (result_err closed)))) Q
+end_went {O} {P} {Q} first None (Ok u) so o p = told_where Q (earlier first None) (so (o refl) p)
+end_went {O} {P} {Q} first None (Err f) so o p = told_with Q first f
+end_went {O} {P} {Q} first (Some a) (Ok u) so o p = told_with Q first a
+end_went {O} {P} {Q} first (Some a) (Err f) so o p = told_with_one Q first (is_before f a) f a
 
--- where no fault is told, closing had none
-pub all_went : {P Q : Type 0} (served kept : Option ServerFault) (closed result : End) → result ≡ told_of (earlier (earlier served kept) (result_err closed)) → (P → Q) → OnOk closed P → OnOk result Q
-all_went {P} {Q} served kept closed result is so p = subst (λ (r : End). OnOk r Q) (sym is) (closing_went served kept closed so p)
-
-some_first : (Q : Type 0) (a : ServerFault) (b : Option ServerFault) → OnOk (told_of (earlier (Some a) b)) Q
-some_first Q a None = tt
-some_first Q a (Some b) = one_told Q (is_before b a) b a
-
-writing_went : {O P Q : Type 0} (written closed : End) → (O → P → Q) → OnOk written O → OnOk closed P → OnOk (told_of (earlier (earlier None (result_err written)) (result_err closed))) Q
-writing_went (Ok u) closed so o p = closing_went None None closed (so o) p
-writing_went {O} {P} {Q} (Err f) closed so o p = some_first Q f (result_err closed)
-
--- nor had writing what was left before
-pub both_went : {O P Q : Type 0} (written closed result : End) → result ≡ told_of (earlier (earlier None (result_err written)) (result_err closed)) → (O → P → Q) → OnOk written O → OnOk closed P
-    → OnOk result Q
-both_went {O} {P} {Q} written closed result is so o p = subst (λ (r : End). OnOk r Q) (sym is) (writing_went written closed so o p)
+-- where no fault is told, neither writing what was left nor closing had one
+pub all_went : {O P Q : Type 0} (first left : Option ServerFault) (closed result : End) → result ≡ told_of (earlier first (earlier left (result_err closed))) → (O → P → Q) → (left ≡ None → O)
+    → OnOk closed P → OnOk result Q
+all_went {O} {P} {Q} first left closed result is so o p = subst (λ (r : End). OnOk r Q) (sym is) (end_went first left closed so o p)
 
 -- ---- which faults these may be
 
@@ -85,10 +80,10 @@ media_may term None is = tt
 media_may term (Some f) is = subst (λ (g : ServerFault). MayTell term g) (sym is) tt
 
 -- of writing what was left
-pub left_may : (made seats : ℕ) (written : End) → IfErr written (λ f. (f ≡ fault.Write) ⊎ (f ≡ fault.NoMemory)) → IfSome (result_err written) (MayEndWith made seats)
-left_may made seats (Ok u) is = tt
-left_may made seats (Err f) (inl is) = subst (λ (g : ServerFault). MayEndWith made seats g) (sym is) tt
-left_may made seats (Err f) (inr is) = subst (λ (g : ServerFault). MayEndWith made seats g) (sym is) tt
+pub left_may : (term : ServeTerm) (left : Option ServerFault) → IfSome left (λ f. (f ≡ fault.Write) ⊎ (f ≡ fault.NoMemory)) → IfSome left (MayTell term)
+left_may term None is = tt
+left_may term (Some f) (inl is) = subst (λ (g : ServerFault). MayTell term g) (sym is) tt
+left_may term (Some f) (inr is) = subst (λ (g : ServerFault). MayTell term g) (sym is) tt
 
 none_missing : (term : ServeTerm) (made seats : ℕ) (f : ServerFault) → seats ≡ made → MayEndWith made seats f → MayTell term f
 none_missing term made seats (fault.Session s) same may = absurd may

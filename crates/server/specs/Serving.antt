@@ -10,7 +10,7 @@ use Rattle.output_lines.specs.declared.audit_lines.Audit.TheVariants.{Lines}
 use Rattle.output_lines.specs.AuditLines.{audit_text}
 use Rattle.server.specs.declared.serving.RecordOutput.{RecordOutput}
 use Rattle.server.specs.declared.serving.RecordOutput.TheVariants.{AtTheEnd, AsTheyCome}
-use Rattle.server.specs.Batches.{GoesOn, HandsOut}
+use Rattle.server.specs.Batches.{HandsOut}
 use Rattle.server.specs.Sessions.{IsOfSessions}
 
 -- a unit that may be absent
@@ -38,12 +38,6 @@ pub record IsClosed (seats : List SeatValue) (audit : Audit) (zero one two three
   pub fourth_agrees : IfSome fourth (λ u. AgreesAt 4 four u seats)
   pub lines : Appends written written' (audit_text audit (changer ∷ first ∷ if_there second ++ if_there third ++ if_there fourth))
 
--- the same with a line for each record, behind the lines that were left of records that had been taken before
-pub record DrainsAndCloses (left : List ℕ) (seats : List SeatValue) (zero one two three four : ℕ) (written written' : Option (List ℕ)) : Type 0 where
-  pub before : Option (List ℕ)
-  pub rest : GoesOn written before left []
-  pub closed : IsClosed seats Lines zero one two three four before written'
-
 -- the same of the target that the library was opened over, with so many seats, of which each was told of the sessions of one worker alone
 pub record ClosesOver (core : List UnitView) (count : ℕ) (audit : Audit) (written written' : Option (List ℕ)) : Type 0 where
   pub zero : ℕ
@@ -66,6 +60,11 @@ of_the_rest AsTheyCome = Lines
 abbrev pub WritesBefore : RecordOutput → (written written' : Option (List ℕ)) → Type 0
 WritesBefore (AtTheEnd audit) written written' = written' ≡ written
 WritesBefore AsTheyCome written written' = HandsOut written written' [] []
+
+-- the same from one time to another, where lines are left of records that were handed out
+abbrev pub WritesOut : RecordOutput → (written written' : Option (List ℕ)) → (left left' : List ℕ) → Type 0
+WritesOut (AtTheEnd audit) written written' left left' = written' ≡ written
+WritesOut AsTheyCome written written' left left' = HandsOut written written' left left'
 
 -- a server of so many workers that wrote its lines at the end, behind those that it wrote as they came, if it was to write some then
 pub record ServesLibrary (core : List UnitView) (count : ℕ) (records : RecordOutput) (written written' : Option (List ℕ)) : Type 0 where

@@ -1,3 +1,6 @@
+ghost use Rattle.std.specs.Prelude.{◌≡◌, ◌++◌, ◌+◌, ◌≤◌, map, IfOk, vec_capacity, vec_len};
+ghost use Rattle.server.specs.LibraryService.{service_at};
+
 use crate::library_tapes::LibraryTapes;
 use kept_unit::{Done, UnitLedger};
 use library_device::Device;
@@ -13,13 +16,8 @@ use tape_keeper::{GoodCommand, KeepListener, TapeKeeper};
 pub(crate) trait SeatService: Service + Drop {
     ghost use Rattle.std.specs.Prelude.{◌≡◌, ℕ, List, OnOk, OnErr};
 
-    type Seat: Drop;
-
     /// What settling the seat by these numbers does.
     ghost settles: { List ℕ → Self → Self → Type 0 };
-
-    /// The seat.
-    ghost seat_of: { Self → Self.Seat };
 
     /// Whether a nexus has a slot at a unit, or finds one.
     fn has_room(&self, nexus: Nexus, lun: u8) -> bool;
@@ -34,10 +32,6 @@ pub(crate) trait SeatService: Service + Drop {
     fn settle(&mut self, drained: &[u64; 5]) -> Result<(), AllocError>
         ensures ok { OnOk result (settles drained.now self.old self.new) }
         ensures err { OnErr result (self.new ≡ self.old) };
-
-    /// The seat, with which the library is closed.
-    fn leave_seat(self) -> Self::Seat
-        ensures { result ≡ seat_of self };
 }
 
 /// A seat at a library, and the directory of its sessions beside it. Contracts see what the seat holds, and how many
@@ -195,11 +189,7 @@ impl<
 > SeatService for LibraryService<'a, L0, L1, L2, L3, L4, R, K> {
     ghost use Rattle.server.specs.LibraryService.{SettlesService};
 
-    type Seat = Seat<L0, L1, L2, L3, L4>;
-
     ghost settles = { SettlesService };
-
-    ghost seat_of = { λ p. p.seat };
 
     fn has_room(&self, nexus: Nexus, lun: u8) -> bool {
         self.library.has_room(self.rt, nexus, lun)
@@ -219,8 +209,53 @@ impl<
     fn settle(&mut self, drained: &[u64; 5]) -> Result<(), AllocError> {
         self.settle_seat(drained)
     }
+}
 
-    fn leave_seat(self) -> Seat<L0, L1, L2, L3, L4> {
-        self.into_seat()
+/// A service at each seat.
+pub(crate) fn services_of<
+    'a,
+    L0: UnitLedger,
+    L1: UnitLedger,
+    L2: UnitLedger,
+    L3: UnitLedger,
+    L4: UnitLedger,
+    R: Wait,
+    K: TapeKeeper<Device>,
+>(
+    rt: &'a R,
+    alloc: Global,
+    library: &'a Library<L0, L1, L2, L3, L4, Device, Pass>,
+    directory: &'a Mutex<Directory>,
+    seats: Vec<Seat<L0, L1, L2, L3, L4>>,
+    keeper: &'a K,
+) -> Result<Vec<LibraryService<'a, L0, L1, L2, L3, L4, R, K>>, AllocError>
+    ensures { IfOk result (λ services. services.items ≡ map (service_at library.now.units) seats.items) }
+{
+    let mut services = Vec::new(alloc);
+    'seats: for seat in seats {
+        services.push(LibraryService::new(rt, library, directory, seat, keeper))?;
+    }
+    Ok(services)
+}
+
+/// Puts the seats of services behind those that are there, in their order.
+pub(crate) fn leave_seats<
+    'a,
+    L0: UnitLedger,
+    L1: UnitLedger,
+    L2: UnitLedger,
+    L3: UnitLedger,
+    L4: UnitLedger,
+    R: Wait,
+    K: TapeKeeper<Device>,
+>(
+    services: Vec<LibraryService<'a, L0, L1, L2, L3, L4, R, K>>,
+    seats: &mut Vec<Seat<L0, L1, L2, L3, L4>>,
+)
+    requires { vec_len seats.old + vec_len services ≤ vec_capacity seats.old }
+    ensures { seats.new.items ≡ seats.old.items ++ map (λ s. s.seat) services.entry.items }
+{
+    'services: for service in services {
+        seats.push_reserved(service.into_seat());
     }
 }

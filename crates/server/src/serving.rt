@@ -1,12 +1,12 @@
-ghost use Rattle.std.specs.Prelude.{◌≡◌, ◌*◌, ◌<◌, ◌≤◌, length, vec_len, IfErr, IfSome, OnOk};
-ghost use Rattle.std.specs.Result.{result_err};
+ghost use Rattle.std.specs.Prelude.{◌≡◌, ◌*◌, ◌<◌, ◌≤◌, ◌⊎◌, [], None, length, IfErr, IfSome, OnOk};
+ghost use Rattle.std.specs.List.{AllZip};
 ghost use Rattle.logical_unit.specs.UnitView.{units_of};
 ghost use Rattle.lun_router.specs.Opening.{IsSince};
-ghost use Rattle.server.specs.Batches.{HandsOut, left_in};
-ghost use Rattle.server.specs.Faults.{MayEndWith, MayTell, earlier, told_of};
-ghost use Rattle.server.specs.Serving.{DrainsAndCloses, ServesLibrary};
-ghost use Rattle.server.specs.Sessions.{SeatsCome};
-ghost use Rattle.server.specs.declared.server_fault.ServerFault.TheVariants.{Media};
+ghost use Rattle.server.specs.Batches.{GoesOn, HandsOut, left_in};
+ghost use Rattle.server.specs.Faults.{MayTell, told_of};
+ghost use Rattle.server.specs.Serving.{ServesLibrary, WritesOut};
+ghost use Rattle.server.specs.Sessions.{ComesBySessions, SeatsCome};
+ghost use Rattle.server.specs.declared.server_fault.ServerFault.TheVariants as fault;
 
 use crate::acceptor::{Acceptor, ServeLimits};
 use crate::batch::Batch;
@@ -14,8 +14,10 @@ use crate::closing::close_and_write;
 use crate::door::Door;
 use crate::event::Event;
 use crate::keeping::keep_at_the_end;
+use crate::library_service::{SeatService, leave_seats, services_of};
 use crate::library_tapes::LibraryTapes;
 use crate::record_drain::RecordDrain;
+use crate::record_source::RecordSource;
 use crate::server_fault::{FaultySession, ServerFault, earlier};
 use crate::staffing::{serve_all, serve_and_end};
 use crate::teller::Teller;
@@ -23,15 +25,17 @@ use kept_unit::UnitLedger;
 use library_device::Device;
 use lun_router::{Blanks, Library, Pass, Seat};
 use output_lines::Audit;
+use session::Directory;
 use std::alloc::{AllocError, Global};
 use std::io::Write;
 use std::marker::Brand;
+use std::mem;
 use std::random::RandomSource;
-use std::sync::Wait;
 use std::sync::ledger::Blank;
+use std::sync::{Mutex, Wait};
 use std::thread::{self, Threads};
 use std::time::Clock;
-use tape_keeper::TapeKeeper;
+use tape_keeper::{TapeKeeper, TapeSource};
 use target_core::TargetCore;
 
 /// What is written of the records of a library that is served.
@@ -42,6 +46,21 @@ pub enum RecordOutput {
     /// A line for each record so far, LUN 0 first, behind each session and whenever a unit has 4,096 of them, by a thread of its
     /// own. The units then no longer keep them. At the end a line for each that is left.
     AsTheyCome,
+}
+
+impl RecordOutput {
+    ghost use Rattle.std.specs.Prelude.{◌≡◌};
+    ghost use Rattle.server.specs.Serving.{of_the_rest};
+
+    /// What is wanted of the records that are left at the end.
+    fn of_the_rest(self) -> Audit
+        ensures { result ≡ of_the_rest self }
+    {
+        match self {
+            RecordOutput::AtTheEnd(audit) => audit,
+            RecordOutput::AsTheyCome => Audit::Lines,
+        }
+    }
 }
 
 /// Serves a target to connections of doors, each by a worker and as the nexus that its LOGIN names or its initiator is let in as, and
@@ -138,99 +157,38 @@ fn serve_with_ledgers<
         Ok(opened) => opened,
         Err((refused, _)) => return Err(refused.into()),
     };
-    match records {
-        RecordOutput::AtTheEnd(audit) => {
-            let served = serve_all(
-                rt, alloc, &library, &mut seats, acceptor, None, keeper, teller,
-            )?;
-            let kept = keep_library(rt, alloc, keeper, &library, teller);
-            let closed = close_and_write(rt, alloc, library, seats, audit, writer, teller);
-            first_of(acceptor.own_fault(served), kept, closed)
-        }
-        RecordOutput::AsTheyCome => {
-            let drain = RecordDrain::new();
-            let mut batch = Batch::new(alloc);
-            let served = serve_and_write(
-                rt, alloc, &library, &mut seats, acceptor, &drain, keeper, &mut batch, writer,
-                teller,
-            )?;
-            let kept = keep_library(rt, alloc, keeper, &library, teller);
-            let closed = write_and_close(rt, alloc, library, seats, batch, writer, teller);
-            first_of(acceptor.own_fault(served), kept, closed)
-        }
-    }
+    let mut batch = Batch::new(alloc);
+    let served = serve_seats(
+        rt, alloc, &library, &mut seats, acceptor, records, keeper, &mut batch, writer, teller,
+    )?;
+    let kept = keep_at_the_end(
+        rt,
+        alloc,
+        keeper,
+        &LibraryTapes { library: &library },
+        teller,
+    );
+    let left = write_rest(rt, alloc, records, batch, writer, teller);
+    let audit = records.of_the_rest();
+    let closed = close_and_write(rt, alloc, library, seats, audit, writer, teller);
+    told_of(earlier(
+        earlier(acceptor.own_fault(served), kept),
+        earlier(left, closed.err()),
+    ))
 }
 
-/// Keeps all of a library's tapes at its end, and where they lie: the fault where not all of it is kept.
-fn keep_library<
-    L0: UnitLedger,
-    L1: UnitLedger,
-    L2: UnitLedger,
-    L3: UnitLedger,
-    L4: UnitLedger,
-    R: Wait,
-    E: Write,
-    K: TapeKeeper<Device>,
->(
-    rt: &R,
-    alloc: Global,
-    keeper: &K,
-    library: &Library<L0, L1, L2, L3, L4, Device, Pass>,
-    teller: &Teller<E>,
-) -> Option<ServerFault>
-    ensures { IfSome result (λ fault. fault ≡ Media) }
+/// How it went, where a fault may have happened.
+fn told_of(fault: Option<ServerFault>) -> Result<(), ServerFault>
+    ensures { result ≡ told_of fault }
 {
-    let tapes = LibraryTapes { library };
-    keep_at_the_end(rt, alloc, keeper, &tapes, teller)
-}
-
-/// How it went, by the faults of serving, of keeping and of closing: the first of them.
-fn first_of(
-    served: Option<ServerFault>,
-    kept: Option<ServerFault>,
-    closed: Result<(), ServerFault>,
-) -> Result<(), ServerFault>
-    ensures { result ≡ told_of (earlier (earlier served kept) (result_err closed)) }
-{
-    match earlier(earlier(served, kept), closed.err()) {
+    match fault {
         None => Ok(()),
         Some(fault) => Err(fault),
     }
 }
 
-/// Writes the lines that are left of the records that were taken last, and closes the library as `close_and_write` does.
-fn write_and_close<
-    L0: UnitLedger,
-    L1: UnitLedger,
-    L2: UnitLedger,
-    L3: UnitLedger,
-    L4: UnitLedger,
-    R: Wait,
-    W: Write,
-    E: Write,
->(
-    rt: &R,
-    alloc: Global,
-    library: Library<L0, L1, L2, L3, L4, Device, Pass>,
-    seats: Vec<Seat<L0, L1, L2, L3, L4>>,
-    mut batch: Batch,
-    writer: &mut W,
-    teller: &Teller<E>,
-) -> Result<(), ServerFault>
-    ensures closed { OnOk result (DrainsAndCloses (left_in batch) seats.items L0.since L1.since L2.since L3.since L4.since (W.contents writer.old) (W.contents writer.new)) }
-    ensures fault { IfErr result (λ fault. MayEndWith library.seats (vec_len seats) fault) }
-{
-    let written = batch.write_left(alloc, writer);
-    if let Some(records) = batch.unwritten() {
-        teller.tell(rt, &Event::Unwritten(records));
-    }
-    let closed = close_and_write(rt, alloc, library, seats, Audit::Lines, writer, teller);
-    first_of(None, written.err(), closed)
-}
-
-/// Serves sessions with a worker at each seat, while a thread of its own hands their records out as they come.
-fn serve_and_write<
-    'x,
+/// Serves sessions with a worker at each seat. Then the seats are back.
+fn serve_seats<
     L0: UnitLedger + Send + Sync,
     L1: UnitLedger + Send + Sync,
     L2: UnitLedger + Send + Sync,
@@ -241,29 +199,117 @@ fn serve_and_write<
     E: Write + Send,
     K: TapeKeeper<Device> + Sync,
 >(
-    rt: &'x R,
+    rt: &R,
     alloc: Global,
-    library: &'x Library<L0, L1, L2, L3, L4, Device, Pass>,
+    library: &Library<L0, L1, L2, L3, L4, Device, Pass>,
     seats: &mut Vec<Seat<L0, L1, L2, L3, L4>>,
     acceptor: &Acceptor<'_>,
+    records: RecordOutput,
+    keeper: &K,
+    batch: &mut Batch,
+    writer: &mut W,
+    teller: &Teller<E>,
+) -> Result<Option<FaultySession>, AllocError>
+    ensures lines { WritesOut records (W.contents writer.old) (W.contents writer.new) (left_in batch.old) (left_in batch.new) }
+    ensures served { OnOk result (SeatsCome library.now.units seats.old.items seats.new.items) }
+{
+    let mut back = Vec::new(alloc);
+    back.reserve(seats.len())?;
+    let taken = mem::replace(seats, Vec::new(alloc));
+    let directory = Mutex::new(Directory::new(alloc));
+    let mut services = services_of(rt, alloc, library, &directory, taken, keeper)?;
+    let tapes = LibraryTapes { library };
+    let served = serve_services(
+        rt,
+        alloc,
+        &mut services,
+        &tapes,
+        library,
+        acceptor,
+        records,
+        keeper,
+        batch,
+        writer,
+        teller,
+    )?;
+    leave_seats(services, &mut back);
+    *seats = back;
+    Ok(served)
+}
+
+/// Serves sessions with a worker at each service, and writes meanwhile what is wanted of the records that units hand out.
+fn serve_services<
+    S: SeatService + Send,
+    T: TapeSource<Device> + Sync,
+    D: RecordSource + Sync,
+    R: Clock + RandomSource + Threads + Wait + Sync,
+    W: Write + Send,
+    E: Write + Send,
+    K: TapeKeeper<Device> + Sync,
+>(
+    rt: &R,
+    alloc: Global,
+    services: &mut Vec<S>,
+    tapes: &T,
+    units: &D,
+    acceptor: &Acceptor<'_>,
+    records: RecordOutput,
+    keeper: &K,
+    batch: &mut Batch,
+    writer: &mut W,
+    teller: &Teller<E>,
+) -> Result<Option<FaultySession>, AllocError>
+    ensures lines { WritesOut records (W.contents writer.old) (W.contents writer.new) (left_in batch.old) (left_in batch.new) }
+    ensures served { OnOk result (AllZip (ComesBySessions S.notes S.settles S.count) services.old.items services.new.items) }
+{
+    match records {
+        RecordOutput::AtTheEnd(_) => serve_all(
+            rt, alloc, services, tapes, acceptor, None, keeper, teller,
+        ),
+        RecordOutput::AsTheyCome => {
+            let drain = RecordDrain::new();
+            serve_and_write(
+                rt, alloc, services, tapes, units, acceptor, &drain, keeper, batch, writer, teller,
+            )
+        }
+    }
+}
+
+/// Serves sessions with a worker at each service, while a thread of its own hands their records out as they come.
+fn serve_and_write<
+    'x,
+    S: SeatService + Send,
+    T: TapeSource<Device> + Sync,
+    D: RecordSource + Sync,
+    R: Clock + RandomSource + Threads + Wait + Sync,
+    W: Write + Send,
+    E: Write + Send,
+    K: TapeKeeper<Device> + Sync,
+>(
+    rt: &'x R,
+    alloc: Global,
+    services: &mut Vec<S>,
+    tapes: &T,
+    units: &D,
+    acceptor: &Acceptor<'_>,
     drain: &'x RecordDrain,
-    keeper: &'x K,
+    keeper: &K,
     batch: &mut Batch,
     writer: &mut W,
     teller: &'x Teller<E>,
 ) -> Result<Option<FaultySession>, AllocError>
     ensures lines { HandsOut (W.contents writer.old) (W.contents writer.new) (left_in batch.old) (left_in batch.new) }
-    ensures served { OnOk result (SeatsCome library.now.units seats.old.items seats.new.items) }
+    ensures served { OnOk result (AllZip (ComesBySessions S.notes S.settles S.count) services.old.items services.new.items) }
 {
     let alloc_of_workers = alloc;
     let ((), served) = thread::join_mut(
         rt,
-        &mut || drain.hand_out_as_asked(rt, alloc, library, batch, writer, teller),
+        &mut || drain.hand_out_as_asked(rt, alloc, units, batch, writer, teller),
         &mut || serve_and_end(
             rt,
             alloc_of_workers,
-            library,
-            seats,
+            services,
+            tapes,
             acceptor,
             drain,
             keeper,
@@ -271,4 +317,40 @@ fn serve_and_write<
         ),
     );
     served
+}
+
+/// Writes the lines that are left of the records that were taken last, where some were, or tells which have none.
+fn write_rest<R: Wait, W: Write, E: Write>(
+    rt: &R,
+    alloc: Global,
+    records: RecordOutput,
+    batch: Batch,
+    writer: &mut W,
+    teller: &Teller<E>,
+) -> Option<ServerFault>
+    ensures left { result ≡ None → WritesOut records (W.contents writer.old) (W.contents writer.new) (left_in batch) [] }
+    ensures fault { IfSome result (λ f. (f ≡ fault.Write) ⊎ (f ≡ fault.NoMemory)) }
+{
+    match records {
+        RecordOutput::AtTheEnd(_) => None,
+        RecordOutput::AsTheyCome => write_batch(rt, alloc, batch, writer, teller),
+    }
+}
+
+/// Writes the lines that are left of a batch, or tells which of its records have none.
+fn write_batch<R: Wait, W: Write, E: Write>(
+    rt: &R,
+    alloc: Global,
+    mut batch: Batch,
+    writer: &mut W,
+    teller: &Teller<E>,
+) -> Option<ServerFault>
+    ensures left { result ≡ None → GoesOn (W.contents writer.old) (W.contents writer.new) (left_in batch) [] }
+    ensures fault { IfSome result (λ f. (f ≡ fault.Write) ⊎ (f ≡ fault.NoMemory)) }
+{
+    let written = batch.write_left(alloc, writer);
+    if let Some(records) = batch.unwritten() {
+        teller.tell(rt, &Event::Unwritten(records));
+    }
+    written.err()
 }

@@ -1,4 +1,4 @@
-//! The workers of a library, made over their services, and the seats that they give back.
+//! The workers of a library, made over their services, which they give back.
 
 ghost use Rattle.std.specs.Prelude.{◌≡◌, ◌++◌, ◌+◌, ◌≤◌, None, length, map, IfOk, vec_capacity, vec_len};
 ghost use Rattle.server.specs.Faults.{first_among};
@@ -74,21 +74,21 @@ pub(crate) fn workers_of<'a, S: SeatService, R: Wait, E: Write>(
     Ok(workers)
 }
 
-/// Puts the seats of workers behind those that are there, in their order, and answers the fault of the session that was accepted first
+/// Puts the services of workers behind those that are there, in their order, and answers the fault of the session that was accepted first
 /// of those that had one.
 pub(crate) fn give_back<'a, S: SeatService, R: Wait, E: Write>(
     workers: Vec<Worker<'a, S, R, E>>,
-    seats: &mut Vec<S::Seat>,
+    services: &mut Vec<S>,
 ) -> Option<FaultySession>
-    requires { vec_len seats.old + vec_len workers ≤ vec_capacity seats.old }
-    ensures seats { seats.new.items ≡ seats.old.items ++ map (λ w. S.seat_of w.service) workers.entry.items }
+    requires { vec_len services.old + vec_len workers ≤ vec_capacity services.old }
+    ensures services { services.new.items ≡ services.old.items ++ map (λ w. w.service) workers.entry.items }
     ensures fault { result ≡ first_among None (map (λ w. w.fault) workers.entry.items) }
 {
     let mut told = None;
     'workers: for worker in workers {
         let Worker { service, fault } = worker;
         told = first_accepted(told, fault);
-        seats.push_reserved(service.into_seat());
+        services.push_reserved(service.into_seat_service());
     }
     told
 }

@@ -143,12 +143,12 @@ impl<'a, S: SeatService, R: Wait, E: Write> WorkerService<'a, S, R, E> {
         }
     }
 
-    /// The seat, with which the library is closed.
-    pub fn into_seat(self) -> S::Seat
-        ensures { result ≡ S.seat_of self.entry }
+    /// The library's service, once there are no more sessions.
+    pub fn into_seat_service(self) -> S
+        ensures { result ≡ self.entry }
     {
         let WorkerService { seat_service, .. } = self;
-        seat_service.leave_seat()
+        seat_service
     }
 }
 

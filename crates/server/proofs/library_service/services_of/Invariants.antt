@@ -1,6 +1,6 @@
 use Rattle.std.proofs.Common.{◌≡◌, map}
 use Rattle.server.specs.LibraryService.{service_at}
-use Rattle.server.proofs.staffing.services_of.Given as goal
+use Rattle.server.proofs.library_service.services_of.Given as goal
 
 -- at the seats that the loop has passed
 abbrev pub invariant-seats : goal.invariant-seats
