@@ -1,4 +1,4 @@
-use Rattle.std.proofs.Common.{List, ℕ, subst}
+use Rattle.std.proofs.Common.{List, ℕ, rules, subst}
 use Rattle.std.specs.Io.KnownBytes.{Appends}
 use Rattle.iscsi_session.specs.declared.login.LoginWait.{LoginWait}
 use Rattle.iscsi_session.specs.LoggingIn.{HasReached, LogsIn, WhereBegun}
@@ -17,3 +17,9 @@ returns-clause-session g c =
     serves g.S.Service.notes g.S.Service.count target c.args.challenge c.args.portal.now.group c.in-Begins.begun _ e c.args.service.now c.hold.new.service pending (g.R.Read.remaining c.args.reader.now)
     (g.R.Read.remaining c.await_login.new.reader) _ (g.W.Write.contents c.args.writer.now) (g.W.Write.contents c.await_login.new.writer) _ c.hold.result c.new-exchange.ensures login reached c.in-Normal.is told
     c.hold.ensures.session
+
+pub returns-in-Discovery-clause-service : goal.returns-in-Discovery-clause-service
+returns-in-Discovery-clause-service g c = search rules
+
+pub returns-in-Discovery-clause-refused : goal.returns-in-Discovery-clause-refused
+returns-in-Discovery-clause-refused g c = search rules
