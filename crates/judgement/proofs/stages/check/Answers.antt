@@ -3,3 +3,9 @@ use Rattle.judgement.proofs.stages.check.Goals as goal
 
 pub returns-clause-ok : goal.returns-clause-ok
 returns-clause-ok g c = search rules
+
+pub returns-clause-err : goal.returns-clause-err
+returns-clause-err g c = search rules
+
+pub returns-clause-want : goal.returns-clause-want
+returns-clause-want g c = search rules

@@ -1,0 +1,5 @@
+use Rattle.std.proofs.Common.{rules}
+use Rattle.kept_unit.proofs.kept.Kept.drives.Goals as goal
+
+pub returns : goal.returns
+returns g c = search rules
