@@ -1,5 +1,5 @@
-/* What the machine gives: the least that threads can do for the commands of crates/router_bench, without a library. Each thread has a
- * lock, a list of records and a tape of its own. It prints the lines that router_bench prints, with the way `plain`. Before them it
+/* What the machine gives: the least that threads can do for the commands of crates/measurements, without a library. Each thread has a
+ * lock, a list of records and a tape of its own. It prints the lines that `measurements libraries` prints, with the way `plain`. Before them it
  * prints what threads take that only count, with the way `counting`: more than that no threads can gain on the machine.
  */
 #include <pthread.h>

@@ -4,17 +4,17 @@
 # in one thread, without locks or entries, and what threads in C take that only copy the bytes and keep a record
 # (bench/plain_threads.c), and threads that only count. A line says the way, how many threads, the command, how many each thread sent, and the time in
 # microseconds; behind them stands what a command took, and how many times the commands of one thread the same way had. A number says
-# how many runs are made; times differ much from run to run. It proves and builds crates/router_bench where that isn't done yet, so
-# a first run takes minutes.
+# how many runs are made; times differ much from run to run. It proves and builds crates/measurements where that isn't done yet, so
+# a first run takes half an hour.
 set -eu
 bench=$(cd "$(dirname "$0")" && pwd)
 work=$(mktemp -d)
 trap 'rm -rf "$work"' EXIT
 cc -O2 -pthread -o "$work/plain_threads" "$bench/plain_threads.c"
-cd "$bench/../crates/router_bench"
-rt run -- figures >/dev/null
+cd "$bench/../crates/measurements"
+rt run -- libraries >/dev/null
 for _ in $(seq "${1:-1}"); do
-    out/router_bench figures >"$work/figures"
+    out/measurements libraries >"$work/figures"
     "$work/plain_threads" >>"$work/figures"
     cat "$work/figures"
     awk '

@@ -1,6 +1,6 @@
 use Rattle.std.specs.Prelude.{slice_get, map}
 use Rattle.lun_router.specs.Opening.{last_at}
-use Rattle.router_bench.proofs.days.run.Given as goal
+use Rattle.measurements.proofs.libraries.days.run.Given as goal
 
 abbrev pub ghosts-day-L0-Ledger : goal.ghosts-day-L0-Ledger
 ghosts-day-L0-Ledger g a = record { name = a.blanks.zero.name; parts = a.blanks.zero.parts }

@@ -1,4 +1,4 @@
-use crate::work::Task;
+use crate::libraries::work::Task;
 use std::io;
 use std::time::Duration;
 

@@ -1,4 +1,4 @@
-use crate::work::{MARKS, blank, copies, fill, longest_block, over_marks, read_back};
+use crate::tapes::work::{MARKS, blank, copies, fill, longest_block, over_marks, read_back};
 use std::io;
 use std::rt::Clock;
 use std::time::{Duration, Instant};

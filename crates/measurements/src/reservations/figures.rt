@@ -1,4 +1,4 @@
-use crate::work::{judge_again, register_again, registered, release_again};
+use crate::reservations::work::{judge_again, register_again, registered, release_again};
 use pr_core::PrState;
 use std::io;
 use std::rt::Clock;

@@ -2,10 +2,10 @@
 ghost use Rattle.std.specs.Prelude.{◌≡◌, ◌<◌, map};
 ghost use Rattle.lun_router.specs.Opening.{IsSince};
 
-use crate::figures::tell;
-use crate::opened::Opened;
-use crate::targets::four_drives;
-use crate::work::{BLOCKS, REWIND, TEST_UNIT_READY, Task, loading, nexus_at};
+use crate::libraries::figures::tell;
+use crate::libraries::opened::Opened;
+use crate::libraries::targets::four_drives;
+use crate::libraries::work::{BLOCKS, REWIND, TEST_UNIT_READY, Task, loading, nexus_at};
 use kept_unit::UnitLedger;
 use library_device::Device;
 use lun_router::{Blanks, CloseFault, Histories, Library, Pass};

@@ -1,8 +1,8 @@
 //! The same commands in one thread, through a target without locks.
 
-use crate::figures::tell;
-use crate::targets::four_drives;
-use crate::work::{BLOCKS, REWIND, TEST_UNIT_READY, Task, loading, nexus_at};
+use crate::libraries::figures::tell;
+use crate::libraries::targets::four_drives;
+use crate::libraries::work::{BLOCKS, REWIND, TEST_UNIT_READY, Task, loading, nexus_at};
 use arrayvec::ArrayVec;
 use library_device::Device;
 use std::alloc::{AllocError, Global};

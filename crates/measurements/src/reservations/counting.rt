@@ -1,4 +1,4 @@
-use crate::work::{judge_again, nexus_of, register_again, registered, release_again};
+use crate::reservations::work::{judge_again, nexus_of, register_again, registered, release_again};
 use pr_core::{PrState, REGISTRATIONS};
 use pr_params::{write_full_status, write_keys};
 use std::alloc::{AllocError, Global};
