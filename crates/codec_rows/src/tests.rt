@@ -1,5 +1,6 @@
 mod cells;
 mod charts;
+mod command_lines;
 mod commands;
 mod generated;
 mod nexuses;

@@ -1,9 +1,8 @@
+use crate::comparing::assert_same;
 use changer_server::Changer;
 use element_map::Elements;
 use scsi_nexus::Nexus;
 use std::alloc::{AllocError, Global};
-use std::fmt::Debug;
-use std::process::Abort;
 use tape_medium::VolumeTag;
 
 mod bays;
@@ -25,17 +24,6 @@ const B: Nexus = Nexus {
 };
 
 const TAG: VolumeTag = VolumeTag([b'T'; 32]);
-
-/// Compares what was found with what is expected. Each `assert_eq!` costs the proof of the function that it stands in some
-/// ten times this call.
-fn assert_same<T: Copy + PartialEq + Debug>(
-    rt: &impl Abort,
-    found: T,
-    expected: T,
-    shows: &'static str,
-) {
-    assert!(rt; found == expected, "{shows}: {found:?}, not {expected:?}");
-}
 
 /// A changer over one drive, with one storage element and no volume.
 fn empty_changer(alloc: Global) -> Result<Changer, AllocError> {

@@ -12,7 +12,7 @@ mod scenes;
 mod settling;
 mod targets;
 
-use asking::assert_same;
+use crate::comparing::assert_same;
 use days::run;
 use gates::{Flags, TestGate};
 use scenes::Scene;

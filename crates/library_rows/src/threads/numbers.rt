@@ -1,6 +1,6 @@
 //! Record numbers from 1 to 128, as sets: number 1 is bit 0 of a `u128`.
 
-use super::asking::assert_same;
+use crate::comparing::assert_same;
 use library_device::Device;
 use logical_unit::LogicalUnit;
 use std::process::Abort;

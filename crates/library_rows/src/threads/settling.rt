@@ -1,7 +1,7 @@
 //! Seats that are settled between the drains of units.
 
-use super::asking::assert_same;
 use super::opened::Opened;
+use crate::comparing::assert_same;
 use kept_unit::NumberRange;
 use std::alloc::Global;
 use std::process::Abort;

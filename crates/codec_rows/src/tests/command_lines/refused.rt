@@ -1,5 +1,6 @@
 //! Lines that name no task: how the program ends by each, and what it tells.
-use super::{asked, assert_same};
+use super::asked;
+use crate::tests::assert_same;
 use std::alloc::Global;
 use std::process::Abort;
 use std::test::Fail;

@@ -1,7 +1,7 @@
 use Rattle.std.specs.Prelude.{slice_get}
 use Rattle.logical_unit.specs.UnitView.{units_of}
 use Rattle.lun_router.specs.Opening.{last_at}
-use Rattle.router_rows.proofs.tests.days.run.Given as goal
+use Rattle.library_rows.proofs.threads.days.run.Given as goal
 
 abbrev pub ghosts-day-L0-Ledger : goal.ghosts-day-L0-Ledger
 ghosts-day-L0-Ledger g a = record { name = a.blanks.zero.name; parts = a.blanks.zero.parts }

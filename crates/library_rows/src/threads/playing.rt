@@ -1,6 +1,6 @@
 //! How a scene is played in an open library, to its end.
 
-use super::asking::{A, Ask, POWER_ON, Row, ask_all, ask_one, assert_same};
+use super::asking::{A, Ask, POWER_ON, Row, ask_all, ask_one};
 use super::attending::{Asked, assert_all_asked};
 use super::gates::Flags;
 use super::numbers::with_numbers_left;
@@ -8,6 +8,7 @@ use super::opened::Opened;
 use super::parts::{Part, play_in_threads};
 use super::scenes::{Scene, plan_of};
 use super::settling::{Settled, assert_settled};
+use crate::comparing::assert_same;
 use library_device::Device;
 use lun_router::{CloseFault, Histories};
 use scsi_nexus::Nexus;

@@ -1,8 +1,8 @@
 //! An attendant that is let at units.
 ghost use Rattle.std.specs.Prelude.{◌≡◌};
 
-use super::asking::assert_same;
 use super::opened::Opened;
+use crate::comparing::assert_same;
 use device_server::Attendant;
 use library_device::Device;
 use std::process::Abort;

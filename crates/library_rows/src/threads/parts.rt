@@ -1,9 +1,10 @@
 //! What each of two threads does with a seat of its own.
 
-use super::asking::{A, Ask, B, DONE, NO_MEDIUM, POWER_ON, Row, ask_all, ask_one, assert_same};
+use super::asking::{A, Ask, B, DONE, NO_MEDIUM, POWER_ON, Row, ask_all, ask_one};
 use super::gates::Flags;
 use super::numbers::last_of;
 use super::opened::Opened;
+use crate::comparing::assert_same;
 use scsi_nexus::Nexus;
 use std::alloc::Global;
 use std::process::Abort;

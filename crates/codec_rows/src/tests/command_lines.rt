@@ -2,26 +2,14 @@
 
 mod refused;
 
+use super::assert_same;
 use command_line::{CommandLineFault, IscsiOptions, Task, task_of};
 use output_lines::{Audit, Explanations};
 use permit_tables::Class;
 use program_options::{GivenLibrary, ServeTimes, ServeUntil};
 use std::alloc::Global;
-use std::fmt::Debug;
-use std::process::Abort;
 use std::test::Fail;
 use std::time::Duration;
-
-/// Compares what was found with what is expected. Each `assert_eq!` costs the proof of the function that it stands in some
-/// ten times this call.
-fn assert_same<T: Copy + PartialEq + Debug>(
-    rt: &impl Abort,
-    found: T,
-    expected: T,
-    shows: &'static str,
-) {
-    assert!(rt; found == expected, "{shows}: {found:?}, not {expected:?}");
-}
 
 /// The words of a command line that stand apart by one blank.
 fn words_of(alloc: Global, line: &str) -> Result<Vec<String>, Fail> {

@@ -1,5 +1,5 @@
 use crate::comparing::{assert_list, assert_same};
-use crate::failing_store::FailingStore;
+use crate::media::failing_store::FailingStore;
 use std::alloc::Global;
 use std::process::Abort;
 use std::test::Fail;

@@ -1,12 +1,12 @@
 //! Commands of the tests, and what their answers are compared with.
 
 use super::opened::Opened;
+use crate::comparing::assert_same;
 use kept_unit::EventKind;
 use logical_unit::{Receipt, Reply};
 use scsi_nexus::Nexus;
 use scsi_sense::Status;
 use std::alloc::Global;
-use std::fmt::Debug;
 use std::process::Abort;
 use std::sync::Wait;
 
@@ -132,17 +132,6 @@ pub(super) const DONE: Answer = Answer::Good(Data::None);
 /// A call and its answer: what it shows, the nexus, the logical unit, what is asked, the answer, and how many records it
 /// must leave, where that is looked at.
 pub(super) type Row = (&'static str, Nexus, u8, Ask, Answer, Option<usize>);
-
-/// Compares what was found with what is expected. Each `assert_eq!` costs the proof of the function that it stands in some
-/// ten times this call.
-pub(super) fn assert_same<T: Copy + PartialEq + Debug>(
-    rt: &impl Abort,
-    found: T,
-    expected: T,
-    shows: &'static str,
-) {
-    assert!(rt; found == expected, "{shows}: {found:?}, not {expected:?}");
-}
 
 /// The additional sense code of a reply, with its qualifier.
 fn codes_of(reply: &Reply) -> Option<(u8, u8)> {

@@ -1,0 +1,4 @@
+mod hosts;
+mod sessions;
+
+use crate::comparing::assert_same;
