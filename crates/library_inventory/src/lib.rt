@@ -1,5 +1,4 @@
-//! The inventory of a library: what it is made of, and which volume lies in which element; its text; and where each volume lies at a
-//! start.
+//! The inventory of a library: what it is made of, and which volume lies in which element; and where each volume lies at a start.
 #![tactic(auto)]
 
 mod among;
@@ -13,12 +12,9 @@ mod name;
 mod placed;
 mod placing;
 mod rows;
-mod text;
 
 pub use element::{Element, LibrarySize};
-pub use fault::{
-    AddFault, InventoryKey, ReadFault, SizeOption, StartFault, VolumeFault, WriteFault,
-};
+pub use fault::{AddFault, SizeOption, StartFault};
 pub use given::size_at_start;
 pub use inventory::Inventory;
 pub use laws::starts_hold_all_images;
@@ -26,4 +22,3 @@ pub use name::{name_of_tag, tag_of_name};
 pub use placed::PlacedVolume;
 pub use placing::{Start, place};
 pub use rows::worked_rows;
-pub use text::{read_inventory, write_inventory};

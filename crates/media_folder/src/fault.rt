@@ -1,9 +1,8 @@
 ghost use Rattle.std.specs.Prelude.{◌≡◌};
 ghost use Rattle.media_folder.specs.Faults.{folder_status};
 
-use library_inventory::{
-    AddFault, InventoryKey, LibrarySize, ReadFault, SizeOption, StartFault, VolumeFault, WriteFault,
-};
+use crate::text_fault::{InventoryKey, ReadFault, VolumeFault, WriteFault};
+use library_inventory::{AddFault, LibrarySize, SizeOption, StartFault};
 use std::alloc::AllocError;
 use std::fmt;
 use std::io::ErrorKind;

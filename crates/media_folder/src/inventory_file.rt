@@ -1,7 +1,9 @@
 //! The file of a library's inventory.
 use crate::fault::FolderFault;
+use crate::inventory_text::{read_inventory, write_inventory};
 use crate::names::path_in;
-use library_inventory::{Inventory, ReadFault, read_inventory, write_inventory};
+use crate::text_fault::ReadFault;
+use library_inventory::Inventory;
 use std::fs::{self, File, Files, OpenFile};
 use std::io::{self, ErrorKind, Write};
 

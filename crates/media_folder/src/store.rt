@@ -3,7 +3,7 @@ use std::io::{self, ErrorKind, Seek, SeekFrom, Write};
 use tape_flush::{ImageStore, StoreFault};
 
 /// What may be done with a volume's file.
-#[derive(Clone, Copy, Debug, PartialEq, Eq)]
+#[derive(Clone, Copy)]
 pub enum FileAccess {
     ReadWrite,
     /// The file is read alone, and stays as it is: its volume is protected.

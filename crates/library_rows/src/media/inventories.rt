@@ -1,9 +1,9 @@
 use crate::comparing::{assert_list, assert_same};
 use library_inventory::{
-    AddFault, Element, Inventory, InventoryKey, LibrarySize, PlacedVolume, ReadFault, SizeOption,
-    Start, StartFault, VolumeFault, name_of_tag, place, read_inventory, size_at_start, tag_of_name,
-    write_inventory,
+    AddFault, Element, Inventory, LibrarySize, PlacedVolume, SizeOption, Start, StartFault,
+    name_of_tag, place, size_at_start, tag_of_name,
 };
+use media_folder::{InventoryKey, ReadFault, VolumeFault, read_inventory, write_inventory};
 use program_options::GivenLibrary;
 use std::alloc::Global;
 use std::process::Abort;

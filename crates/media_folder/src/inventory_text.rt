@@ -1,8 +1,9 @@
-use crate::element::{Element, LibrarySize};
-use crate::fault::{AddFault, InventoryKey, ReadFault, VolumeFault, WriteFault};
-use crate::inventory::Inventory;
-use crate::name::{name_of_tag, tag_of_name};
-use crate::placed::PlacedVolume;
+//! The text of an inventory, `library.toml`, in TOML 1.0.
+
+use crate::text_fault::{InventoryKey, ReadFault, VolumeFault, WriteFault};
+use library_inventory::{
+    AddFault, Element, Inventory, LibrarySize, PlacedVolume, name_of_tag, tag_of_name,
+};
 use std::alloc::Global;
 use std::fmt::Write;
 use toml::{Table, Value};

@@ -1,0 +1,63 @@
+//! Why a text isn't that of an inventory, and why an inventory has no text.
+
+use library_inventory::AddFault;
+use std::alloc::AllocError;
+use thiserror::Error;
+
+/// A key of an inventory's text.
+#[derive(Clone, Copy, Debug, PartialEq, Eq)]
+pub enum InventoryKey {
+    Version,
+    Drives,
+    Slots,
+    Portals,
+    Volume,
+}
+
+/// What is wrong with a volume of an inventory's text.
+#[derive(Clone, Copy, Debug, PartialEq, Eq, Error)]
+pub enum VolumeFault {
+    #[error("no table")]
+    NoTable,
+    /// Its tag isn't there, or isn't one.
+    #[error("no tag")]
+    NoTag,
+    /// It names no element, or several.
+    #[error("no element")]
+    NoElement,
+    #[error("refused")]
+    Refused(AddFault),
+}
+
+/// Why a text isn't that of an inventory.
+#[derive(Clone, Copy, Debug, PartialEq, Eq, Error)]
+pub enum ReadFault {
+    #[error("want of memory")]
+    NoMemory,
+    #[error("the text is no TOML")]
+    NoToml,
+    #[error("unknown version")]
+    UnknownVersion(i64),
+    /// A key isn't there, or its value isn't one that it may have.
+    #[error("bad value")]
+    BadKey(InventoryKey),
+    /// Of the volumes one, counted from 0.
+    #[error("bad volume")]
+    Volume { nth: usize, fault: VolumeFault },
+}
+
+/// Why an inventory has no text.
+#[derive(Clone, Copy, Debug, Error)]
+pub enum WriteFault {
+    #[error("want of memory")]
+    NoMemory,
+    /// A tag has no name that a file can have.
+    #[error("a tag with no name")]
+    NoName,
+}
+
+impl From<AllocError> for WriteFault {
+    fn from(_error: AllocError) -> WriteFault {
+        WriteFault::NoMemory
+    }
+}
