@@ -3,7 +3,7 @@ ghost use Rattle.std.specs.Prelude.{◌≡◌};
 use permit_tables::{Class, KeptParams};
 
 /// What a record says was asked of the unit.
-#[derive(Debug, Drop)]
+#[derive(Drop)]
 pub enum Act {
     /// A command other than PERSISTENT RESERVE OUT.
     Command(Class),

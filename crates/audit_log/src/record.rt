@@ -5,7 +5,7 @@ use scsi_nexus::Nexus;
 use scsi_sense::{Sense, Status};
 
 /// What was asked of a unit, and how it was judged and answered (profile).
-#[derive(Debug, Drop)]
+#[derive(Drop)]
 pub struct Record {
     /// The record's number at its unit: one more than that of the record before.
     pub number: u64,

@@ -4,7 +4,7 @@ use std::marker::Model;
 use std::mem;
 
 /// The records of a unit, numbered without a gap from one more than the last number before them.
-#[derive(Debug, Drop)]
+#[derive(Drop)]
 pub struct Trail {
     base: u64,
     records: Vec<Record>,

@@ -5,7 +5,7 @@ use scsi_nexus::Nexus;
 use std::net::SocketAddr;
 
 /// What the program is asked to do.
-#[derive(Debug, Drop, PartialEq, Eq)]
+#[derive(Drop)]
 pub enum Task {
     /// Run the script of standard input at a library, and print its replies, in words too where that is wanted, and
     /// what is wanted of the records.
@@ -20,7 +20,7 @@ pub enum Task {
 }
 
 /// Where a library is served and kept, for how long, when its records are printed, and what is told of its sessions.
-#[derive(Debug, Drop, PartialEq, Eq)]
+#[derive(Drop)]
 pub struct ServeOptions {
     /// The path of the socket's file, if there is to be one.
     pub socket: Option<String>,
@@ -40,7 +40,7 @@ pub struct ServeOptions {
 }
 
 /// Where a library is kept, and what it has to agree with.
-#[derive(Debug, Drop, PartialEq, Eq)]
+#[derive(Drop)]
 pub struct MediaOptions {
     /// The path of its folder.
     pub folder: String,
@@ -49,7 +49,7 @@ pub struct MediaOptions {
 }
 
 /// Where initiators of iSCSI come in, and who they may be.
-#[derive(Debug, Drop, PartialEq, Eq)]
+#[derive(Drop)]
 pub struct IscsiOptions {
     /// The portals: the first is portal group 1 and target port 1, and so on.
     pub portals: Vec<SocketAddr>,
@@ -64,7 +64,7 @@ pub struct IscsiOptions {
 }
 
 /// Where a library is met, and as which host.
-#[derive(Debug, Drop, PartialEq, Eq)]
+#[derive(Drop)]
 pub struct ClientOptions {
     /// The path of the socket's file.
     pub socket: String,

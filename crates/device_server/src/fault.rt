@@ -1,7 +1,7 @@
 use thiserror::Error;
 
 /// Why no volume was taken out.
-#[derive(Clone, Copy, Debug, PartialEq, Eq, Error)]
+#[derive(Clone, Copy, Debug, Error)]
 pub enum TakeFault {
     /// No such place, or one that holds no volumes.
     #[error("no such place")]
@@ -11,7 +11,7 @@ pub enum TakeFault {
 }
 
 /// Why a volume wasn't put in.
-#[derive(Clone, Copy, Debug, PartialEq, Eq, Error)]
+#[derive(Clone, Copy, Debug, Error)]
 pub enum PutFault {
     /// No such place, or one that holds no volumes.
     #[error("no such place")]
@@ -21,6 +21,6 @@ pub enum PutFault {
 }
 
 /// No data transfer element is there.
-#[derive(Clone, Copy, Debug, PartialEq, Eq, Error)]
+#[derive(Clone, Copy, Debug, Error)]
 #[error("no data transfer element there")]
 pub struct BadPlace;

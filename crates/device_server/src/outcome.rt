@@ -3,7 +3,7 @@ use scsi_sense::{Condition, Sense, Status};
 use std::alloc::Global;
 
 /// How a device ended a command.
-#[derive(Debug, Drop)]
+#[derive(Drop)]
 pub struct Outcome {
     /// GOOD or CHECK CONDITION.
     pub status: Status,

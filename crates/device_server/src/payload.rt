@@ -2,7 +2,7 @@ use std::alloc::{AllocError, Global};
 use std::marker::Model;
 
 /// The data of an answer: at most 65,536 bytes, as many as one command reads (profile). Contracts see its bytes.
-#[derive(Debug, Drop)]
+#[derive(Drop)]
 pub struct Payload {
     bytes: Vec<u8>,
 }

@@ -5,7 +5,7 @@ use crate::layout::{ACCESS, FULL, IMPORTS_AND_EXPORTS};
 use tape_medium::{FIRST_DATA_TRANSFER, FIRST_IMPORT_EXPORT, FIRST_STORAGE, TRANSPORT};
 
 /// The type of an element (SMC-3, "READ ELEMENT STATUS command").
-#[derive(Clone, Copy, Debug, PartialEq, Eq)]
+#[derive(Clone, Copy)]
 pub enum ElementType {
     MediumTransport,
     DataTransfer,

@@ -47,7 +47,7 @@ impl FrameRef<'_> {
 }
 
 /// What a stream begins with.
-#[derive(Clone, Copy, Debug)]
+#[derive(Clone, Copy)]
 pub enum ParsedFrame<'a> {
     /// Less than a frame.
     Partial,

@@ -16,7 +16,7 @@ pub enum LoginAnswer {
 }
 
 /// What a session is answered, one reply a frame.
-#[derive(Clone, Copy, Debug)]
+#[derive(Clone, Copy)]
 pub enum ReplyFrame<'a> {
     Login(LoginAnswer),
     /// A command's status, its sense data where it has any, the number of its record, and its data.
@@ -31,7 +31,7 @@ pub enum ReplyFrame<'a> {
 }
 
 /// What a stream of replies begins with.
-#[derive(Clone, Copy, Debug)]
+#[derive(Clone, Copy)]
 pub enum ParsedReply<'a> {
     /// Less than a reply.
     Partial,

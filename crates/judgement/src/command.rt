@@ -11,7 +11,7 @@ use scsi_sense::Condition;
 use std::alloc::{AllocError, Global};
 
 /// A command that its CDB and parameter list spell, as far as their lengths and codes go.
-#[derive(Debug, Drop)]
+#[derive(Drop)]
 pub enum Command {
     /// PERSISTENT RESERVE OUT with its parameter list.
     ReserveOut(ReserveParams),

@@ -2,7 +2,7 @@ use audit_log::Stage;
 use permit_tables::{Cell, KeyRule};
 
 /// What a record says of how an event was judged, beside its status and sense data.
-#[derive(Clone, Copy, Debug, PartialEq, Eq)]
+#[derive(Clone, Copy)]
 pub struct Decision {
     /// The stage that decided the answer.
     pub stage: Stage,

@@ -4,7 +4,7 @@ use scsi_sense::{Condition, Sense, Status};
 use std::alloc::Global;
 
 /// The answer to an event.
-#[derive(Debug, Drop)]
+#[derive(Drop)]
 pub struct Reply {
     pub status: Status,
     /// What CHECK CONDITION reports; none with another status.

@@ -4,7 +4,7 @@ use std::marker::Model;
 
 /// A PERSISTENT RESERVE OUT command with its parameter list, behind a pointer: a list may name
 /// many SAS addresses, and the other commands shouldn't be as large.
-#[derive(Debug, Drop)]
+#[derive(Drop)]
 pub struct ReserveParams {
     params: Box<OutParams>,
 }

@@ -13,7 +13,7 @@ use tape_keeper::{KeepChange, KeepEvent, KeepFault, KeepListener, KeptThing, Tap
 use tape_medium::VolumeTag;
 
 /// How far copies go.
-#[derive(Clone, Copy, PartialEq, Eq)]
+#[derive(Clone, Copy)]
 pub(crate) enum Depth {
     /// Into the image.
     Image,

@@ -1,5 +1,5 @@
 /// Which objects of a tape a part of its image has, counted from its beginning.
-#[derive(Clone, Copy, Debug, PartialEq, Eq)]
+#[derive(Clone, Copy)]
 pub struct PartRange {
     /// So many stay in the image, and the part comes behind them.
     pub stay: u32,

@@ -28,7 +28,7 @@ pub struct StartedVolume {
 }
 
 /// Why a library isn't made of volumes.
-#[derive(Clone, Copy, Debug, PartialEq, Eq, Error)]
+#[derive(Clone, Copy, Debug, Error)]
 pub enum LibraryFault {
     #[error("want of memory")]
     NoMemory,

@@ -7,7 +7,7 @@ use permit_tables::Class;
 
 /// What an entry keeps of an act: its kind, and of a command the class. It takes no memory; the parameters of a PERSISTENT
 /// RESERVE OUT are in the record alone.
-#[derive(Clone, Copy, Debug, PartialEq, Eq)]
+#[derive(Clone, Copy, PartialEq, Eq)]
 pub enum ActKind {
     Command(Class),
     /// Bytes that spell no command of the unit.

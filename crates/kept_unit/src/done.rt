@@ -16,7 +16,7 @@ use std::alloc::Global;
 use std::marker::Model;
 
 /// What was asked: a command is the very slices that were lent to the call.
-#[derive(Clone, Copy, Debug)]
+#[derive(Clone, Copy)]
 pub enum EventKind<'a> {
     /// That an I_T nexus is lost.
     Loss,
@@ -27,7 +27,7 @@ pub enum EventKind<'a> {
 }
 
 /// A call with its answer. Only the calls of this crate make one: with a number, only a step of a unit does.
-#[derive(Debug, Drop)]
+#[derive(Drop)]
 pub struct Done<'a> {
     nexus: Option<Nexus>,
     lun: u8,

@@ -4,7 +4,7 @@ use scsi_nexus::Nexus;
 use scsi_sense::{Sense, Status};
 
 /// What a seat keeps of a call and its answer.
-#[derive(Debug, Drop)]
+#[derive(Drop)]
 pub struct Entry {
     /// The I_T nexus that asked or was lost; none for a reset.
     pub nexus: Option<Nexus>,

@@ -3,7 +3,7 @@ use std::marker::Model;
 
 /// The records that a call left, at most three: of each the logical unit number of the unit that has it, and its number
 /// there. Contracts see the list.
-#[derive(Debug, Drop)]
+#[derive(Drop)]
 pub struct Numbers {
     pairs: ArrayVec<(u8, u64), 3>,
 }

@@ -1,7 +1,7 @@
 use thiserror::Error;
 
 /// Why no volume was taken out of a unit, or put in, in the order of the tests. Nothing has changed.
-#[derive(Clone, Copy, Debug, PartialEq, Eq, Error)]
+#[derive(Clone, Copy, Debug, Error)]
 pub enum MediumFault {
     #[error("not a drive")]
     NotADrive,

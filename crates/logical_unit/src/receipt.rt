@@ -3,7 +3,7 @@ use judgement::Reply;
 use std::alloc::Global;
 
 /// The answer to an event, and the records that it left: one at most, unless it is a MOVE MEDIUM that names drives.
-#[derive(Debug, Drop)]
+#[derive(Drop)]
 pub struct Receipt {
     pub reply: Reply,
     /// For each record the unit that has it, by logical unit number, and its number there: the changer's, then

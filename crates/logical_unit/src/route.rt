@@ -7,7 +7,7 @@ use scsi_cdb::{Kind, Request, decode};
 use tape_medium::FIRST_DATA_TRANSFER;
 
 /// The ends of a MOVE MEDIUM by their element addresses, and the drives among them by logical unit number.
-#[derive(Clone, Copy, Debug, PartialEq, Eq)]
+#[derive(Clone, Copy)]
 pub struct Route {
     pub source: u16,
     pub destination: u16,

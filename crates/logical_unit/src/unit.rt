@@ -14,7 +14,7 @@ use tape_medium::{Volume, VolumeTag};
 use thiserror::Error;
 
 /// There is no room for a record of the event, or no number, and nothing has changed.
-#[derive(Clone, Copy, Debug, PartialEq, Eq, Error)]
+#[derive(Clone, Copy, Debug, Error)]
 #[error("busy")]
 pub struct Busy;
 

@@ -7,7 +7,7 @@ pub trait Gate: Sync + Drop {
 }
 
 /// Does nothing.
-#[derive(Clone, Copy, Debug)]
+#[derive(Clone, Copy)]
 pub struct Pass;
 
 impl Gate for Pass {

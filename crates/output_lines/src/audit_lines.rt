@@ -8,10 +8,9 @@ use logical_unit::LogicalUnit;
 use std::alloc::{AllocError, Global};
 
 /// What is written of the units' records.
-#[derive(Clone, Copy, Debug, Default, PartialEq, Eq)]
+#[derive(Clone, Copy, Debug, PartialEq, Eq)]
 pub enum Audit {
     /// Nothing.
-    #[default]
     Off,
     /// A line for each record.
     Lines,

@@ -7,10 +7,9 @@ use scsi_sense::{Sense, Status};
 use std::alloc::AllocError;
 
 /// Whether replies are said in words, too.
-#[derive(Clone, Copy, Debug, Default, PartialEq, Eq)]
+#[derive(Clone, Copy, Debug, PartialEq, Eq)]
 pub enum Explanations {
     /// Their lines alone.
-    #[default]
     Off,
     /// Behind the line of each a line that begins with `# `, which is a comment of a script.
     On,

@@ -21,7 +21,7 @@ const ROLES_LINE: &str =
 /// where it meets RESERVATION CONFLICT (the form of SPC-4, "Persistent reservations interactions with
 /// commands"). Two lines above name the types and the roles. A role stands where it can occur: nobody holds
 /// where nothing is reserved, and under a type of all registrants each registered nexus holds.
-#[derive(Clone, Copy, Debug)]
+#[derive(Clone, Copy)]
 pub struct Chart<'a> {
     /// The classes, from the top.
     pub classes: &'a [Class],

@@ -2,7 +2,7 @@ use thiserror::Error;
 
 /// Why an allowed PERSISTENT RESERVE OUT command is refused, by the additional sense that answers
 /// it. Each leaves everything unchanged.
-#[derive(Clone, Copy, Debug, Drop, PartialEq, Eq, Error)]
+#[derive(Clone, Copy, Debug, Drop, Error)]
 pub enum PrFault {
     /// 24h/00h INVALID FIELD IN CDB.
     #[error("invalid field in CDB")]

@@ -3,10 +3,9 @@ ghost use Rattle.std.specs.Prelude.{◌≡◌, ℕ, Some};
 use std::fmt;
 
 /// The type of a persistent reservation, or none (SPC-4, "Persistent reservations type").
-#[derive(Clone, Copy, Debug, Default, PartialEq, Eq)]
+#[derive(Clone, Copy, Debug, PartialEq, Eq)]
 pub enum ResType {
     /// Nothing is reserved.
-    #[default]
     None,
     /// Write Exclusive, type 1h.
     We,

@@ -9,7 +9,7 @@ use scsi_nexus::Nexus;
 use unit_attention::Kind;
 
 /// A reservation act that was accepted, as the history of a unit has it beside its sender.
-#[derive(Clone, Copy, Debug, PartialEq, Eq)]
+#[derive(Clone, Copy)]
 pub enum ReservationAct<'a> {
     /// REGISTER or REGISTER AND IGNORE EXISTING KEY with the new key and the nexuses that it names;
     /// 0 unregisters them.

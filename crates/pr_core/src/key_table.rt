@@ -14,7 +14,7 @@ use std::marker::Model;
 pub const REGISTRATIONS: usize = LIST_CAPACITY;
 
 /// The registered nexuses with their keys, ascending by nexus, in fixed room.
-#[derive(Debug, Default, Drop)]
+#[derive(Drop)]
 pub(crate) struct KeyTable {
     entries: ArrayVec<(Nexus, u64), REGISTRATIONS>,
 }

@@ -28,7 +28,7 @@ use std::marker::Model;
 ///     state.apply(nexus, &params, &mut queues)?;
 /// }
 /// ```
-#[derive(Debug, Default, Drop)]
+#[derive(Drop)]
 pub struct PrState {
     keys: KeyTable,
     reservation: Option<(ResType, Nexus)>,

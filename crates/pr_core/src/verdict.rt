@@ -1,7 +1,7 @@
 use permit_tables::{Cell, KeyRule};
 
 /// How a PERSISTENT RESERVE OUT command is judged. All but `Allowed` end in RESERVATION CONFLICT.
-#[derive(Clone, Copy, Debug, PartialEq, Eq)]
+#[derive(Clone, Copy)]
 pub enum Verdict {
     /// The table and the rules on keys let it through.
     Allowed,

@@ -15,7 +15,7 @@ use std::marker::Model;
 /// What a list of accepted acts leaves, found by walking the list once: the plain program that the
 /// tests hold `PrState` against, their oracle. Each act is looked up nexus by nexus in the table of
 /// what it does to keys, so it costs memory and time that `PrState` doesn't.
-#[derive(Debug, Drop)]
+#[derive(Drop)]
 pub struct WalkedState {
     keys: Vec<(Nexus, u64)>,
     reservation: Option<(ResType, Nexus)>,

@@ -4,7 +4,7 @@ use crate::option_fault::OptionFault;
 pub const MAX_READS: u64 = 0xFFFF_FFFF;
 
 /// What a library is made of.
-#[derive(Clone, Copy, Debug, PartialEq, Eq)]
+#[derive(Clone, Copy)]
 pub struct LibraryOptions {
     pub drives: u8,
     /// Storage elements.

@@ -12,7 +12,7 @@ use std::alloc::{AllocError, Global};
 const MOST_HOSTS: usize = 64;
 
 /// An initiator that is let in by its name.
-#[derive(Debug, Drop, PartialEq, Eq)]
+#[derive(Drop)]
 pub struct NamedHost {
     /// Its iSCSI name.
     pub name: Vec<u8>,
@@ -21,7 +21,7 @@ pub struct NamedHost {
 }
 
 /// The same, where its name lies.
-#[derive(Clone, Copy, Debug)]
+#[derive(Clone, Copy)]
 pub struct HostText<'a> {
     pub name: &'a [u8],
     pub sas: u64,

@@ -6,7 +6,7 @@ use std::fmt;
 use thiserror::Error;
 
 /// Why a replay ended early.
-#[derive(Clone, Copy, Debug, PartialEq, Eq, Error)]
+#[derive(Clone, Copy, Debug, Error)]
 pub enum ReplayFault {
     /// The first line with a fault, counted from 1.
     Line { number: u64, what: LineFault },

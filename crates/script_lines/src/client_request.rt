@@ -1,5 +1,5 @@
 /// What a host asks of a logical unit.
-#[derive(Debug, Drop)]
+#[derive(Drop)]
 pub enum ClientRequest {
     /// A command: its CDB, 1 to 16 bytes, and the data sent with it, at most 131,053 bytes.
     Command {

@@ -10,7 +10,7 @@ use target_core::Event;
 const PIECE: usize = 4_096;
 
 /// The events of a script, in pieces, so that those that have run can be let go.
-#[derive(Debug, Drop)]
+#[derive(Drop)]
 pub struct Events {
     pieces: Vec<Vec<Event>>,
 }

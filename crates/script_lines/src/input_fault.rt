@@ -3,7 +3,7 @@ use std::fmt;
 use thiserror::Error;
 
 /// Why not all was read.
-#[derive(Clone, Copy, Debug, PartialEq, Eq, Error)]
+#[derive(Clone, Copy, Debug, Error)]
 pub enum InputFault {
     /// A read failed, or one more read was needed than was allowed.
     Read,

@@ -21,7 +21,7 @@ pub const MAX_LINE: usize = 270_000;
 const MAX_DATA: usize = 131_053;
 
 /// Why a line gave no event.
-#[derive(Clone, Copy, Debug, PartialEq, Eq)]
+#[derive(Clone, Copy)]
 pub enum LineError {
     NoMemory,
     Fault(LineFault),

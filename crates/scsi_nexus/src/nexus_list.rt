@@ -15,7 +15,7 @@ pub const LIST_CAPACITY: usize = 256;
 pub struct ListFull;
 
 /// A list of nexuses in fixed room, which takes no memory.
-#[derive(Debug, Default, Drop)]
+#[derive(Drop)]
 pub struct NexusList {
     nexuses: ArrayVec<Nexus, LIST_CAPACITY>,
 }

@@ -18,7 +18,7 @@ pub enum TransportIdFault {
 
 /// The TransportID of a SAS initiator port (SPC-4, "TransportID for initiator ports using SCSI over
 /// SAS").
-#[derive(Clone, Copy, Debug, Default)]
+#[derive(Clone, Copy)]
 pub struct TransportId;
 
 impl TransportId {

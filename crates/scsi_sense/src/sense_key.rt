@@ -4,7 +4,7 @@ use crate::layout::*;
 use std::fmt;
 
 /// The sense keys of the conditions (SPC-4, "Sense key and additional sense code definitions").
-#[derive(Clone, Copy, Debug, PartialEq, Eq)]
+#[derive(Clone, Copy)]
 pub enum SenseKey {
     NoSense,
     NotReady,

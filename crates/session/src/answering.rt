@@ -55,7 +55,7 @@ fn reset<S: Service>(
 }
 
 /// What comes behind a frame.
-#[derive(Clone, Copy, PartialEq, Eq)]
+#[derive(Clone, Copy)]
 pub(crate) enum AfterFrame {
     /// Other frames.
     Frames,

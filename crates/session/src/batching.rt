@@ -34,7 +34,7 @@ pub(crate) fn flush<W: Write>(out: &mut Vec<u8>, writer: &mut W) -> Result<(), S
 }
 
 /// Why answering paused.
-#[derive(Clone, Copy, PartialEq, Eq)]
+#[derive(Clone, Copy)]
 enum Pause {
     /// No whole frame is left.
     NeedsInput,

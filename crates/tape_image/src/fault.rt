@@ -15,6 +15,6 @@ pub enum ImageFault {
 }
 
 /// An image goes on behind the last offset that there is, 2^64 - 1.
-#[derive(Clone, Copy, Debug, PartialEq, Eq, Error)]
+#[derive(Clone, Copy, Debug, Error)]
 #[error("image of 2^64 bytes or more")]
 pub struct PastLastOffset;

@@ -4,7 +4,7 @@ use std::io;
 use thiserror::Error;
 
 /// Why an image has no index. What was read of it is lost.
-#[derive(Clone, Copy, Debug, PartialEq, Eq, Error)]
+#[derive(Clone, Copy, Debug, Error)]
 pub enum IndexFault {
     #[error("want of memory")]
     NoMemory,

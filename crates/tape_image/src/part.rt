@@ -7,7 +7,7 @@ use crate::layout::*;
 use byteorder::{ByteOrder, LittleEndian};
 
 /// What an image begins with.
-#[derive(Clone, Copy, Debug)]
+#[derive(Clone, Copy)]
 pub enum ImagePart<'a> {
     /// Less than a part, which has so many bytes at least.
     Partial(usize),

@@ -11,7 +11,7 @@ pub trait KeepListener {
 }
 
 /// A command that ended GOOD, as far as a keeper of tapes looks at it.
-#[derive(Clone, Copy, Debug)]
+#[derive(Clone, Copy)]
 pub struct GoodCommand<'a> {
     pub lun: u8,
     pub cdb: &'a [u8],
@@ -59,7 +59,7 @@ pub trait TapeKeeper<D: DeviceServer> {
 }
 
 /// Nobody keeps them: they are gone with the library.
-#[derive(Clone, Copy, Debug, Default)]
+#[derive(Clone, Copy)]
 pub struct NoKeeper;
 
 impl<D: DeviceServer> TapeKeeper<D> for NoKeeper {

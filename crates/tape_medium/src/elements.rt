@@ -15,7 +15,7 @@ pub const FIRST_IMPORT_EXPORT: u16 = 0x0200;
 pub const FIRST_STORAGE: u16 = 0x0400;
 
 /// Why the elements of a medium changer refuse a call, in the order of the tests.
-#[derive(Clone, Copy, Debug, PartialEq, Eq, Error)]
+#[derive(Clone, Copy, Debug, Error)]
 pub enum MapFault {
     /// No element at an address, or one of a type that the call isn't for.
     #[error("no such element")]

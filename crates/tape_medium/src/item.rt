@@ -1,5 +1,5 @@
 /// What lay at the position of a tape that was read.
-#[derive(Clone, Copy, Debug, PartialEq, Eq)]
+#[derive(Clone, Copy)]
 pub enum Item {
     /// A logical block, with its whole length in bytes.
     Block(u32),

@@ -1,5 +1,5 @@
 /// A logical object of a tape, where it lies.
-#[derive(Clone, Copy, Debug)]
+#[derive(Clone, Copy)]
 pub enum TapeObject<'a> {
     /// A logical block of 1 to 65,536 bytes.
     Block(&'a [u8]),

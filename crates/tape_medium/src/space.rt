@@ -1,5 +1,5 @@
 /// What a tape is spaced over (SSC-4, "SPACE(6) command").
-#[derive(Clone, Copy, Debug, PartialEq, Eq)]
+#[derive(Clone, Copy)]
 pub enum SpaceCode {
     /// Logical blocks, up to a filemark.
     Blocks,
@@ -10,7 +10,7 @@ pub enum SpaceCode {
 }
 
 /// Why spacing stopped.
-#[derive(Clone, Copy, Debug, PartialEq, Eq)]
+#[derive(Clone, Copy)]
 pub enum Stop {
     /// As many were passed as the count says, or it is the end of data that was asked for.
     Done,
@@ -23,7 +23,7 @@ pub enum Stop {
 }
 
 /// How spacing ended.
-#[derive(Clone, Copy, Debug, PartialEq, Eq)]
+#[derive(Clone, Copy)]
 pub struct SpaceEnd {
     /// How many blocks, or filemarks, were passed of those that the count asks for. To the end of data it is 0.
     pub moved: u32,

@@ -6,7 +6,7 @@ use scsi_nexus::Nexus;
 pub const MAX_CDB: usize = CDB_LENGTH;
 
 /// What happens at the target.
-#[derive(Debug, Drop)]
+#[derive(Drop)]
 pub enum Event {
     /// A command of a nexus to a logical unit, with the data sent with it.
     Command {

@@ -1,6 +1,6 @@
 /// A unit attention condition, by its additional sense code and qualifier (SPC-4, "Unit attention
 /// condition").
-#[derive(Clone, Copy, Debug, Default, PartialEq, Eq)]
+#[derive(Clone, Copy, Default)]
 pub enum Kind {
     /// 29h/00h POWER ON, RESET, OR BUS DEVICE RESET OCCURRED: the first contact of a nexus.
     #[default]

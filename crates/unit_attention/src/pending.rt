@@ -6,7 +6,7 @@ use std::marker::Model;
 const KINDS: usize = 8;
 
 /// The kinds that wait for one nexus, oldest first, each once at most.
-#[derive(Debug, Default, Drop)]
+#[derive(Default, Drop)]
 pub(crate) struct Pending {
     kinds: ArrayVec<Kind, KINDS>,
 }

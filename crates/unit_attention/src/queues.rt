@@ -9,12 +9,12 @@ use thiserror::Error;
 pub const SLOTS: usize = 128;
 
 /// Every slot is used.
-#[derive(Clone, Copy, Debug, Drop, PartialEq, Eq, Error)]
+#[derive(Clone, Copy, Debug, Drop, Error)]
 #[error("no slot is left for another nexus")]
 pub struct NoSlot;
 
 /// What waits for each nexus that had contact with a unit.
-#[derive(Debug, Default, Drop)]
+#[derive(Drop)]
 pub struct Queues {
     slots: ArrayVec<(Nexus, Pending), SLOTS>,
     /// Where the slot that `find` found last stood. It is a guess: any number is right.

@@ -91,7 +91,10 @@ pub(crate) fn register_again(
 
 /// Whether the nexus of a number may register again.
 fn is_allowed(state: &PrState, number: u64) -> bool {
-    state.judge(nexus_of(number), &registering(number)) == Verdict::Allowed
+    matches!(
+        state.judge(nexus_of(number), &registering(number)),
+        Verdict::Allowed
+    )
 }
 
 /// Each command of register_again is judged alone: how many were allowed.
