@@ -215,7 +215,7 @@ pub fn write_text_response(
 }
 
 /// What the response to a text request takes from it, and the tag that it hands out if the operation goes on.
-#[derive(Clone, Copy, Debug, PartialEq, Eq)]
+#[derive(Clone, Copy)]
 pub struct TextTags {
     pub initiator_task_tag: u32,
     pub target_transfer_tag: u32,

@@ -14,7 +14,7 @@ use scsi_sense::{SENSE_LENGTH, Sense, Status};
 use std::alloc::AllocError;
 
 /// What the answer to a command takes from it.
-#[derive(Clone, Copy, Debug, PartialEq, Eq)]
+#[derive(Clone, Copy)]
 pub struct AnsweredCommand {
     pub initiator_task_tag: u32,
     /// R: data are expected from the target.
@@ -28,7 +28,7 @@ pub struct AnsweredCommand {
 }
 
 /// How a unit has replied to a command.
-#[derive(Clone, Copy, Debug)]
+#[derive(Clone, Copy)]
 pub struct UnitAnswer<'a> {
     pub status: Status,
     /// With CHECK CONDITION alone.

@@ -1,7 +1,7 @@
 ghost use Rattle.std.specs.Prelude.{◌≤◌};
 
 /// How much goes to an initiator in one piece, in bytes.
-#[derive(Clone, Copy, Debug, PartialEq, Eq)]
+#[derive(Clone, Copy)]
 pub struct TransferLimits {
     /// The most of a data segment: the initiator's own MaxRecvDataSegmentLength.
     pub max_data_segment_length: u32,

@@ -7,7 +7,7 @@ use itoa::Buffer;
 use std::alloc::AllocError;
 
 /// Where the target is reached, as `ADDRESS:PORT`, and the portal group that it stands for there.
-#[derive(Debug, Drop)]
+#[derive(Drop)]
 pub struct PortalAddress {
     pub address: String,
     pub group: u16,

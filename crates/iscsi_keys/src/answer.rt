@@ -23,7 +23,7 @@ pub enum KeyAnswer {
 }
 
 /// What the target goes by in a login.
-#[derive(Clone, Copy, Debug, PartialEq, Eq)]
+#[derive(Clone, Copy)]
 pub struct Terms {
     /// A discovery session has no use for the keys of data transfer.
     pub discovery: bool,

@@ -10,7 +10,7 @@ pub const KEYS: usize = 24;
 
 /// The keys of a login that the target knows (RFC 7143, "Login/Text Operational Text Keys", "iSCSI Security Text Keys and
 /// Authentication Methods").
-#[derive(Clone, Copy, Debug, PartialEq, Eq)]
+#[derive(Clone, Copy)]
 pub enum Key {
     InitiatorName,
     InitiatorAlias,

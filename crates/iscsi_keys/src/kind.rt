@@ -1,7 +1,7 @@
 use crate::word::Word;
 
 /// How the value of a key comes to be agreed (RFC 7143, "Declarations", "Negotiations").
-#[derive(Clone, Copy, Debug, PartialEq, Eq)]
+#[derive(Clone, Copy)]
 pub enum KeyKind {
     /// Declared by the initiator.
     Declared,
@@ -24,7 +24,7 @@ pub enum KeyKind {
 }
 
 /// The numbers that a key may have, and the target's own.
-#[derive(Clone, Copy, Debug, PartialEq, Eq)]
+#[derive(Clone, Copy)]
 pub struct Range {
     pub least: u32,
     pub most: u32,

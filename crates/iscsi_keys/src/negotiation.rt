@@ -9,7 +9,7 @@ use crate::parameters::SessionParameters;
 use crate::value::key_named;
 
 /// A login's negotiation, key by key.
-#[derive(Clone, Copy, Debug)]
+#[derive(Clone, Copy)]
 pub struct Negotiation {
     pub terms: Terms,
     /// The keys that were offered, by their places.

@@ -8,7 +8,7 @@ pub const TARGET_MAX_RECV_DATA_SEGMENT_LENGTH: u32 = 262_144;
 
 /// What a session goes by, as its login has agreed it. What isn't here has one value that no initiator can change: one
 /// connection, one outstanding R2T, data in order, error recovery level 0.
-#[derive(Clone, Copy, Debug, PartialEq, Eq)]
+#[derive(Clone, Copy)]
 pub struct SessionParameters {
     /// The most bytes of a data segment that goes to the initiator: its own MaxRecvDataSegmentLength.
     pub max_send_data_segment_length: u32,

@@ -6,7 +6,7 @@ use crate::fault::TextFault;
 use std::alloc::AllocError;
 
 /// What a text begins with: a key with its value, up to a NUL, and the rest behind it (RFC 7143, "Text Format").
-#[derive(Clone, Copy, Debug)]
+#[derive(Clone, Copy)]
 pub enum TextItem<'a> {
     End,
     Pair {

@@ -8,7 +8,7 @@ use sha2::{Digest, Sha256};
 pub const LONGEST_NAME: usize = 223;
 
 /// An initiator that is let in by its name.
-#[derive(Debug, Drop)]
+#[derive(Drop)]
 pub struct Host {
     /// Its iSCSI name.
     pub name: Vec<u8>,
@@ -17,7 +17,7 @@ pub struct Host {
 }
 
 /// Who is let in.
-#[derive(Debug, Drop)]
+#[derive(Drop)]
 pub struct Access {
     /// Those who are let in by name; of two with one name the first counts.
     pub hosts: Vec<Host>,

@@ -10,7 +10,7 @@ use iscsi_keys::{Key, Negotiation, Terms};
 use iscsi_pdu::LoginStatus;
 
 /// A login whose initiator was let in by its name.
-#[derive(Clone, Copy, Debug)]
+#[derive(Clone, Copy)]
 pub struct Admitted {
     pub admission: Admission,
     pub session_type: SessionType,

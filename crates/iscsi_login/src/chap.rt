@@ -17,7 +17,7 @@ use iscsi_pdu::LoginStatus;
 use std::alloc::{AllocError, Global};
 
 /// How far an initiator has come in authenticating itself by CHAP.
-#[derive(Clone, Copy, Debug, PartialEq, Eq)]
+#[derive(Clone, Copy)]
 pub enum ChapPhase {
     /// It hasn't offered an algorithm.
     Unasked,
@@ -37,7 +37,7 @@ impl ChapPhase {
 }
 
 /// What CHAP goes by in a login.
-#[derive(Clone, Copy, Debug)]
+#[derive(Clone, Copy)]
 pub struct ChapState {
     /// What the target asks the initiator to answer, where it can ask.
     pub challenge: Option<Challenge>,

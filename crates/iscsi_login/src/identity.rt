@@ -3,7 +3,7 @@ ghost use Rattle.std.specs.Prelude.{◌≡◌};
 use iscsi_pdu::{LoginRequest, SerialNumber};
 
 /// What all requests of a login carry alike (RFC 7143, "Login Request").
-#[derive(Clone, Copy, Debug)]
+#[derive(Clone, Copy)]
 pub struct LoginIdentity {
     /// The initiator's part of the session identifier, six bytes.
     pub isid: u64,

@@ -12,14 +12,14 @@ use iscsi_pdu::{LoginRequest, LoginStatus, SerialNumber, Stage};
 use std::alloc::AllocError;
 
 /// A login phase, as far as it has come.
-#[derive(Clone, Copy, Debug)]
+#[derive(Clone, Copy)]
 pub enum Login {
     Open(OpenLogin),
     Ended(LoginEnd),
 }
 
 /// A login that waits for a request.
-#[derive(Clone, Copy, Debug)]
+#[derive(Clone, Copy)]
 pub struct OpenLogin {
     /// The portal group that the initiator has come to.
     pub portal_group: u16,
@@ -32,7 +32,7 @@ pub struct OpenLogin {
 }
 
 /// How a login has ended.
-#[derive(Clone, Copy, Debug)]
+#[derive(Clone, Copy)]
 pub enum LoginEnd {
     FullFeature(FullFeature),
     /// The connection ends.
@@ -40,7 +40,7 @@ pub enum LoginEnd {
 }
 
 /// The session that a login has begun.
-#[derive(Clone, Copy, Debug)]
+#[derive(Clone, Copy)]
 pub struct FullFeature {
     pub portal_group: u16,
     pub admission: Admission,
@@ -57,7 +57,7 @@ pub struct FullFeature {
 }
 
 /// How a request is answered.
-#[derive(Clone, Copy, Debug)]
+#[derive(Clone, Copy)]
 pub enum LoginStep {
     /// With Success, and where the next stage begins (T) with that.
     Continues { next_stage: Option<Stage> },

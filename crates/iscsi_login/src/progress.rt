@@ -2,7 +2,7 @@ use crate::login::{FullFeature, LoginEnd};
 use iscsi_pdu::LoginStatus;
 
 /// How far a request has brought a login.
-#[derive(Clone, Copy, Debug)]
+#[derive(Clone, Copy)]
 pub enum LoginProgress {
     /// It was answered, and another is awaited.
     Answered,

@@ -1,7 +1,7 @@
 ghost use Rattle.std.specs.Prelude.{◌≡◌};
 
 /// What an Asynchronous Message tells (RFC 7143, "AsyncEvent").
-#[derive(Clone, Copy, Debug, PartialEq, Eq)]
+#[derive(Clone, Copy)]
 pub enum AsyncEvent {
     /// The data segment has the sense data.
     ScsiEvent,

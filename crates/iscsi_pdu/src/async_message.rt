@@ -11,7 +11,7 @@ use crate::layout::*;
 use crate::serial_number::SerialNumber;
 
 /// Asynchronous Message (RFC 7143, "Asynchronous Message").
-#[derive(Clone, Copy, Debug)]
+#[derive(Clone, Copy)]
 pub struct AsyncMessage {
     /// The logical unit number, eight bytes.
     pub lun: u64,

@@ -8,7 +8,7 @@ use crate::scsi_status::ScsiStatus;
 use crate::serial_number::SerialNumber;
 
 /// How a command ended, as the last Data-In of a command tells it in place of a SCSI Response (RFC 7143, "SCSI Data-In").
-#[derive(Clone, Copy, Debug)]
+#[derive(Clone, Copy)]
 pub struct Completion {
     pub status: ScsiStatus,
     pub stat_sn: SerialNumber,

@@ -5,7 +5,7 @@ use crate::layout::*;
 use crate::serial_number::SerialNumber;
 
 /// SCSI Data-In (RFC 7143, "SCSI Data-In").
-#[derive(Clone, Copy, Debug)]
+#[derive(Clone, Copy)]
 pub struct DataIn {
     /// F: no other PDU of the sequence follows.
     pub is_final: bool,

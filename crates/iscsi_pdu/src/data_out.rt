@@ -4,7 +4,7 @@ use crate::layout::*;
 use crate::serial_number::SerialNumber;
 
 /// SCSI Data-Out (RFC 7143, "SCSI Data-Out").
-#[derive(Clone, Copy, Debug)]
+#[derive(Clone, Copy)]
 pub struct DataOut {
     /// F: no other PDU of the sequence follows.
     pub is_final: bool,

@@ -12,7 +12,7 @@ use crate::text_request::TextRequest;
 use crate::unknown_request::UnknownRequest;
 
 /// A basic header segment that an initiator sends (RFC 7143, "Opcode").
-#[derive(Clone, Copy, Debug)]
+#[derive(Clone, Copy)]
 pub enum InitiatorHeader {
     NopOut(NopOut),
     ScsiCommand(ScsiCommand),

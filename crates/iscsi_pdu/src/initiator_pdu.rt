@@ -9,7 +9,7 @@ use crate::initiator_header::InitiatorHeader;
 use crate::segments::{Segments, Split, extended_cdb, segments_of};
 
 /// What an initiator sends, where it lies among the bytes of the stream.
-#[derive(Clone, Copy, Debug)]
+#[derive(Clone, Copy)]
 pub struct InitiatorPdu<'a> {
     pub header: InitiatorHeader,
     /// The bytes of a SCSI Command's CDB behind its first 16.
@@ -19,7 +19,7 @@ pub struct InitiatorPdu<'a> {
 }
 
 /// What a stream of an initiator begins with.
-#[derive(Clone, Copy, Debug)]
+#[derive(Clone, Copy)]
 pub enum ParsedInitiatorPdu<'a> {
     /// Less than a PDU, of which so many bytes are wanted before more can be said.
     Partial(usize),

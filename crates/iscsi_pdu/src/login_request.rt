@@ -5,7 +5,7 @@ use crate::serial_number::SerialNumber;
 use crate::stage::Stage;
 
 /// Login Request (RFC 7143, "Login Request").
-#[derive(Clone, Copy, Debug)]
+#[derive(Clone, Copy)]
 pub struct LoginRequest {
     /// T: the initiator is ready for the next stage.
     pub transit: bool,

@@ -6,7 +6,7 @@ use crate::serial_number::SerialNumber;
 use crate::stage::Stage;
 
 /// Login Response (RFC 7143, "Login Response").
-#[derive(Clone, Copy, Debug)]
+#[derive(Clone, Copy)]
 pub struct LoginResponse {
     /// T: the next stage begins.
     pub transit: bool,

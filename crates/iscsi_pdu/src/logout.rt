@@ -1,7 +1,7 @@
 ghost use Rattle.std.specs.Prelude.{◌≡◌, ◌≤◌};
 
 /// Why an initiator logs out (RFC 7143, "Reason Code" of the Logout Request).
-#[derive(Clone, Copy, Debug, PartialEq, Eq)]
+#[derive(Clone, Copy)]
 pub enum LogoutReason {
     CloseTheSession,
     CloseTheConnection,
@@ -40,7 +40,7 @@ impl LogoutReason {
 }
 
 /// How a logout was answered (RFC 7143, "Response" of the Logout Response).
-#[derive(Clone, Copy, Debug, PartialEq, Eq)]
+#[derive(Clone, Copy, PartialEq, Eq)]
 pub enum LogoutResult {
     /// The connection or session is closed.
     Closed,

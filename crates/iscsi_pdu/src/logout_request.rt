@@ -5,7 +5,7 @@ use crate::logout::LogoutReason;
 use crate::serial_number::SerialNumber;
 
 /// Logout Request (RFC 7143, "Logout Request").
-#[derive(Clone, Copy, Debug)]
+#[derive(Clone, Copy)]
 pub struct LogoutRequest {
     /// Whether it is for immediate delivery.
     pub immediate: bool,

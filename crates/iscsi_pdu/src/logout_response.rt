@@ -10,7 +10,7 @@ use crate::logout::LogoutResult;
 use crate::serial_number::SerialNumber;
 
 /// Logout Response (RFC 7143, "Logout Response").
-#[derive(Clone, Copy, Debug)]
+#[derive(Clone, Copy)]
 pub struct LogoutResponse {
     pub response: LogoutResult,
     pub initiator_task_tag: u32,

@@ -4,7 +4,7 @@ use crate::layout::*;
 use crate::serial_number::SerialNumber;
 
 /// NOP-In (RFC 7143, "NOP-In").
-#[derive(Clone, Copy, Debug)]
+#[derive(Clone, Copy)]
 pub struct NopIn {
     /// The logical unit number, eight bytes.
     pub lun: u64,

@@ -4,7 +4,7 @@ use crate::layout::*;
 use crate::serial_number::SerialNumber;
 
 /// NOP-Out (RFC 7143, "NOP-Out").
-#[derive(Clone, Copy, Debug)]
+#[derive(Clone, Copy)]
 pub struct NopOut {
     /// Whether it is for immediate delivery.
     pub immediate: bool,

@@ -4,7 +4,7 @@ use crate::layout::*;
 use crate::serial_number::SerialNumber;
 
 /// Ready To Transfer (R2T) (RFC 7143, "Ready To Transfer (R2T)").
-#[derive(Clone, Copy, Debug)]
+#[derive(Clone, Copy)]
 pub struct ReadyToTransfer {
     /// The logical unit number, eight bytes.
     pub lun: u64,

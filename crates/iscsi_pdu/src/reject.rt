@@ -5,7 +5,7 @@ use crate::reject_reason::RejectReason;
 use crate::serial_number::SerialNumber;
 
 /// Reject (RFC 7143, "Reject").
-#[derive(Clone, Copy, Debug)]
+#[derive(Clone, Copy)]
 pub struct Reject {
     pub reason: RejectReason,
     pub stat_sn: SerialNumber,

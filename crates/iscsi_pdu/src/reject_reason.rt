@@ -1,7 +1,7 @@
 ghost use Rattle.std.specs.Prelude.{◌≡◌};
 
 /// Why a PDU was rejected (RFC 7143, "Reason" of the Reject PDU).
-#[derive(Clone, Copy, Debug, PartialEq, Eq)]
+#[derive(Clone, Copy)]
 pub enum RejectReason {
     DataDigestError,
     SnackReject,

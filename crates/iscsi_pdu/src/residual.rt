@@ -2,7 +2,7 @@ use crate::fields::*;
 use crate::layout::*;
 
 /// What is left of the data that a command was to transfer (RFC 7143, "Residual Count").
-#[derive(Clone, Copy, Debug, PartialEq, Eq)]
+#[derive(Clone, Copy)]
 pub enum Residual {
     /// All that was expected, and no more.
     Exact,

@@ -5,7 +5,7 @@ use crate::serial_number::SerialNumber;
 use crate::task_attribute::TaskAttribute;
 
 /// SCSI Command (RFC 7143, "SCSI Command").
-#[derive(Clone, Copy, Debug)]
+#[derive(Clone, Copy)]
 pub struct ScsiCommand {
     /// Whether it is for immediate delivery.
     pub immediate: bool,

@@ -7,7 +7,7 @@ use crate::serial_number::SerialNumber;
 use crate::service_response::ServiceResponse;
 
 /// SCSI Response (RFC 7143, "SCSI Response").
-#[derive(Clone, Copy, Debug)]
+#[derive(Clone, Copy)]
 pub struct ScsiResponse {
     pub response: ServiceResponse,
     pub status: ScsiStatus,

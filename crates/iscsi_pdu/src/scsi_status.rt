@@ -1,7 +1,7 @@
 ghost use Rattle.std.specs.Prelude.{◌≡◌};
 
 /// The status of a command (RFC 7143, "Status"; SAM-5, "Status codes").
-#[derive(Clone, Copy, Debug, PartialEq, Eq)]
+#[derive(Clone, Copy)]
 pub enum ScsiStatus {
     Good,
     CheckCondition,

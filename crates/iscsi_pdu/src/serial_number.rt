@@ -2,7 +2,7 @@ ghost use Rattle.std.specs.Prelude.{◌≡◌, ◌↔◌, ◌<◌, IsTrue};
 
 /// A number of a sequence, as CmdSN, StatSN and DataSN: of 32 bits, compared by serial number arithmetic (RFC 7143,
 /// "Command Numbering and Acknowledging"; RFC 1982).
-#[derive(Clone, Copy, Debug, PartialEq, Eq)]
+#[derive(Clone, Copy)]
 pub struct SerialNumber {
     pub number: u32,
 }

@@ -1,7 +1,7 @@
 ghost use Rattle.std.specs.Prelude.{◌≡◌};
 
 /// How a target has done with a command (RFC 7143, "Response" of the SCSI Response).
-#[derive(Clone, Copy, Debug, PartialEq, Eq)]
+#[derive(Clone, Copy)]
 pub enum ServiceResponse {
     CommandCompletedAtTarget,
     TargetFailure,

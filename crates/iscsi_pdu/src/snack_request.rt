@@ -5,7 +5,7 @@ use crate::serial_number::SerialNumber;
 use crate::snack_type::SnackType;
 
 /// SNACK Request (RFC 7143, "SNACK Request").
-#[derive(Clone, Copy, Debug)]
+#[derive(Clone, Copy)]
 pub struct SnackRequest {
     pub snack_type: SnackType,
     /// The logical unit number, eight bytes.

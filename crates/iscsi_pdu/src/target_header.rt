@@ -14,7 +14,7 @@ use crate::text_response::TextResponse;
 use crate::unknown_response::UnknownResponse;
 
 /// A basic header segment that a target sends (RFC 7143, "Opcode").
-#[derive(Clone, Copy, Debug)]
+#[derive(Clone, Copy)]
 pub enum TargetHeader {
     NopIn(NopIn),
     ScsiResponse(ScsiResponse),

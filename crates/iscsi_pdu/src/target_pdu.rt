@@ -7,7 +7,7 @@ use crate::segments::{Split, segments_of};
 use crate::target_header::TargetHeader;
 
 /// What a target sends, where it lies among the bytes of the stream.
-#[derive(Clone, Copy, Debug)]
+#[derive(Clone, Copy)]
 pub struct TargetPdu<'a> {
     pub header: TargetHeader,
     /// The data segment, without its padding.
@@ -15,7 +15,7 @@ pub struct TargetPdu<'a> {
 }
 
 /// What a stream of a target begins with.
-#[derive(Clone, Copy, Debug)]
+#[derive(Clone, Copy)]
 pub enum ParsedTargetPdu<'a> {
     /// Less than a PDU, of which so many bytes are wanted before more can be said.
     Partial(usize),

@@ -5,7 +5,7 @@ use crate::serial_number::SerialNumber;
 use crate::task_management::TaskManagementFunction;
 
 /// Task Management Function Request (RFC 7143, "Task Management Function Request").
-#[derive(Clone, Copy, Debug)]
+#[derive(Clone, Copy)]
 pub struct TaskManagementRequest {
     /// Whether it is for immediate delivery.
     pub immediate: bool,

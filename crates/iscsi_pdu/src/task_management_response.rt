@@ -5,7 +5,7 @@ use crate::serial_number::SerialNumber;
 use crate::task_management_result::TaskManagementResult;
 
 /// Task Management Function Response (RFC 7143, "Task Management Function Response").
-#[derive(Clone, Copy, Debug)]
+#[derive(Clone, Copy)]
 pub struct TaskManagementResponse {
     pub response: TaskManagementResult,
     pub initiator_task_tag: u32,

@@ -4,7 +4,7 @@ use crate::layout::*;
 use crate::serial_number::SerialNumber;
 
 /// Text Request (RFC 7143, "Text Request").
-#[derive(Clone, Copy, Debug)]
+#[derive(Clone, Copy)]
 pub struct TextRequest {
     /// Whether it is for immediate delivery.
     pub immediate: bool,

@@ -4,7 +4,7 @@ use crate::layout::*;
 use crate::serial_number::SerialNumber;
 
 /// Text Response (RFC 7143, "Text Response").
-#[derive(Clone, Copy, Debug)]
+#[derive(Clone, Copy)]
 pub struct TextResponse {
     /// F: no other PDU of the sequence follows.
     pub is_final: bool,

@@ -4,7 +4,7 @@ use crate::layout::*;
 use crate::serial_number::SerialNumber;
 
 /// A PDU of an initiator whose opcode isn't one of RFC 7143's, with the fields that all of them have.
-#[derive(Clone, Copy, Debug)]
+#[derive(Clone, Copy)]
 pub struct UnknownRequest {
     /// Whether it is for immediate delivery.
     pub immediate: bool,

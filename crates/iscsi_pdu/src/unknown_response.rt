@@ -3,7 +3,7 @@ use crate::header::*;
 use crate::layout::*;
 
 /// A PDU of a target whose opcode isn't one of RFC 7143's.
-#[derive(Clone, Copy, Debug)]
+#[derive(Clone, Copy)]
 pub struct UnknownResponse {
     /// Six bits.
     pub opcode: u8,

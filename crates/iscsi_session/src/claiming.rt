@@ -9,7 +9,7 @@ use iscsi_pdu::LoginStatus;
 use scsi_nexus::Nexus;
 
 /// What a session is known by beside its nexus, which stands for the initiator's name and the portal group.
-#[derive(Clone, Copy, Debug, PartialEq, Eq)]
+#[derive(Clone, Copy, PartialEq, Eq)]
 pub struct SessionIdentity {
     /// The initiator's part of the session identifier, six bytes.
     pub isid: u64,
@@ -52,7 +52,7 @@ pub trait SessionRegister {
 }
 
 /// What a login asks for.
-#[derive(Clone, Copy, Debug, PartialEq, Eq)]
+#[derive(Clone, Copy)]
 pub enum Claim {
     /// A session of its own. It has none where something else lives as its nexus.
     New,

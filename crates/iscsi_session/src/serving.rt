@@ -4,6 +4,7 @@ ghost use Rattle.iscsi_login.specs.declared.names.SessionType.TheVariants.{Norma
 ghost use Rattle.iscsi_tasks.specs.Values.{TasksValue};
 ghost use Rattle.iscsi_tasks.specs.Next.{next_of};
 ghost use Rattle.iscsi_tasks.specs.declared.next_task.NextTask.TheVariants.{Idle};
+ghost use Rattle.session.specs.Serving.{IsLostBelow};
 ghost use Rattle.iscsi_session.specs.Faults.{IsLater};
 ghost use Rattle.iscsi_session.specs.Leaving.{Leaves};
 ghost use Rattle.iscsi_session.specs.Talking.{Converses};
@@ -78,22 +79,8 @@ pub fn serve<S: Service, G: SessionRegister, R: Read, W: Write>(
         LoginWait::Begins { begun, turns } => (begun, turns),
         LoginWait::Ended(end) => return Ok(end),
     };
-    match begun.session_type {
-        SessionType::Discovery => discover(
-            alloc,
-            &mut NoUnits,
-            register,
-            portal,
-            &mut exchange,
-            tsih,
-            &begun,
-            &mut read_buffer,
-            &mut out,
-            reader,
-            writer,
-            turns,
-        ),
-        SessionType::Normal => hold(
+    if has_units(begun.session_type) {
+        hold(
             alloc,
             service,
             register,
@@ -106,7 +93,31 @@ pub fn serve<S: Service, G: SessionRegister, R: Read, W: Write>(
             reader,
             writer,
             turns,
-        ),
+        )
+    } else {
+        discover(
+            alloc,
+            register,
+            portal,
+            &mut exchange,
+            tsih,
+            &begun,
+            &mut read_buffer,
+            &mut out,
+            reader,
+            writer,
+            turns,
+        )
+    }
+}
+
+/// Whether a session of the type has units: a discovery session has none.
+fn has_units(session_type: SessionType) -> bool
+    ensures { result ≡ true → session_type ≡ Normal }
+{
+    match session_type {
+        SessionType::Discovery => false,
+        SessionType::Normal => true,
     }
 }
 
@@ -127,9 +138,8 @@ fn refuse<W: Write>(
 }
 
 /// A discovery session, from the last request of its login to its end. It takes the place of none.
-fn discover<S: Service, G: SessionRegister, R: Read, W: Write>(
+fn discover<G: SessionRegister, R: Read, W: Write>(
     alloc: Global,
-    service: &mut S,
     register: &G,
     portal: &Portal<'_>,
     exchange: &mut LoginExchange,
@@ -146,7 +156,7 @@ fn discover<S: Service, G: SessionRegister, R: Read, W: Write>(
     }
     greet_and_converse(
         alloc,
-        service,
+        &mut NoUnits,
         register,
         NO_NEXUS,
         portal,
@@ -184,6 +194,14 @@ fn enter<S: Service, G: SessionRegister>(
         Ok(key) => Ok(key),
         Err(fault) => Err(status_of(fault)),
     }
+}
+
+/// Loses a nexus at every unit, and says whether none was BUSY.
+fn lose_at_units<S: Service>(alloc: Global, service: &mut S, nexus: Nexus) -> bool
+    ensures { IsLostBelow S.notes nexus (S.count service.old) service.old service.new result }
+{
+    let units = service.units();
+    lose_all(alloc, service, nexus, units)
 }
 
 /// A normal session, from the last request of its login to its end.
@@ -235,8 +253,7 @@ fn hold<S: Service, G: SessionRegister, R: Read, W: Write>(
         writer,
         turns,
     );
-    let units = service.units();
-    let is_lost = lose_all(alloc, service, nexus, units);
+    let is_lost = lose_at_units(alloc, service, nexus);
     service.logout(key);
     if !is_lost {
         return Err(IscsiFault::NoMemory);

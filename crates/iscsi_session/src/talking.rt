@@ -1,5 +1,5 @@
 //! A connection in full feature, from what is pending behind its login to its end.
-ghost use Rattle.std.specs.Prelude.{◌≡◌, ◌⊎◌, ◌++◌, ◌<◌, ℕ, [], List, length, IfErr, Ok, OnOk};
+ghost use Rattle.std.specs.Prelude.{◌≡◌, ◌⊎◌, ◌++◌, ◌<◌, ℕ, [], List, false, length, IfErr, IfSome, Ok, OnOk};
 ghost use Rattle.iscsi_pdu.specs.Pdus.{TargetPduValue};
 ghost use Rattle.iscsi_answers.specs.Written.{bytes_of_all};
 ghost use Rattle.iscsi_login.specs.declared.names.SessionType.TheVariants.{Normal};
@@ -200,6 +200,16 @@ fn read_on<R: Read>(
     }
 }
 
+/// Within how many seconds all sessions are to end, where a logout is to be asked for: once.
+fn time_to_leave<G: SessionRegister>(register: &G, is_asked: bool) -> Option<u16>
+    ensures { IfSome result (λ seconds. (is_asked ≡ false) × G.ends register.now seconds) }
+{
+    if is_asked {
+        return None;
+    }
+    register.ends_within()
+}
+
 /// Asks for a logout where all sessions are to end, unless it was asked for before.
 fn ask_to_leave<G: SessionRegister>(
     register: &G,
@@ -211,10 +221,7 @@ fn ask_to_leave<G: SessionRegister>(
     ensures tasks { connection.new.tasks ≡ connection.old.tasks }
     ensures asks { OnOk result (MayAsk (G.ends register.now) connection.old.tasks is_asked.old is_asked.new out.old.items out.new.items) }
 {
-    if *is_asked {
-        return Ok(());
-    }
-    match register.ends_within() {
+    match time_to_leave(register, *is_asked) {
         Some(seconds) => {
             write_leave_request(out, connection.numbers(), seconds)?;
             connection.has_answered();

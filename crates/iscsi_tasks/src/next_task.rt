@@ -16,7 +16,7 @@ pub enum NextTask {
 }
 
 /// What an R2T asks for (RFC 7143, "Ready To Transfer (R2T)").
-#[derive(Clone, Copy, Debug)]
+#[derive(Clone, Copy)]
 pub struct TransferRequest {
     /// The logical unit number, eight bytes.
     pub lun: u64,

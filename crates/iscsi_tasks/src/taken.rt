@@ -1,7 +1,7 @@
 use iscsi_pdu::RejectReason;
 
 /// What is done with a SCSI Command.
-#[derive(Clone, Copy, Debug, PartialEq, Eq)]
+#[derive(Clone, Copy)]
 pub enum TakenCommand {
     /// Nothing, and its data will be passed over too: it isn't the one that is expected.
     PassedOver,
@@ -14,7 +14,7 @@ pub enum TakenCommand {
 }
 
 /// What is done with a Data-Out.
-#[derive(Clone, Copy, Debug, PartialEq, Eq)]
+#[derive(Clone, Copy)]
 pub enum TakenData {
     /// Its task has its data.
     Taken,

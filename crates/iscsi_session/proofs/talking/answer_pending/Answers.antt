@@ -39,6 +39,16 @@ returns-then-len-ge-BATCH-clause-talks g c normal =
     c.consume.new.self _ (initiator_value pdu) size (c.pdus.invariant.2 normal) c.pdus.invariant.1 here c.consume.ensures (c.in_ok-ends-in-Complete.ensures.said normal) in
     (so.0, _, so.1, (refl, so.2))
 
+pub returns-in-Partial-clause-talks : goal.returns-in-Partial-clause-talks
+returns-in-Partial-clause-talks g c normal =
+    let so = c.pdus.invariant.2 normal in
+    (so.0, _, so.1, (refl, so.2))
+
+pub returns-in-Invalid-clause-talks : goal.returns-in-Invalid-clause-talks
+returns-in-Invalid-clause-talks g c normal =
+    let so = c.pdus.invariant.2 normal in
+    (so.0, _, so.1, tt)
+
 pub pdus-preserved : goal.pdus-preserved
 pdus-preserved g c = (
   omega (arith, c.pdus.invariant.0, ap length c.consume.ensures, length-drop c.in-Complete.count c.pdus.read_buffer),

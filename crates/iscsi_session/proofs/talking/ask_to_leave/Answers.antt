@@ -7,4 +7,4 @@ use Rattle.iscsi_session.proofs.talking.ask_to_leave.Goals as goal
 pub returns-in_ok-write_leave_request-in-Some-clause-asks : goal.returns-in_ok-write_leave_request-in-Some-clause-asks
 returns-in_ok-write_leave_request-in-Some-clause-asks g c =
     let said = c.in_ok-write_leave_request-in-Some.ensures ∙ ap (λ n. c.args.out.now.items ++ bytes_of (leave_request n c.in-Some.seconds)) c.numbers.ensures in
-    inr (c.if-is_asked.false, refl, (c.args.connection.now.stat_sn, c.in-Some.seconds, c.in-Some.ensures, said_one _ _ _ said))
+    inr (c.in-Some.ensures.0, refl, (c.args.connection.now.stat_sn, c.in-Some.seconds, c.in-Some.ensures.1, said_one _ _ _ said))
