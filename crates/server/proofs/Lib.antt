@@ -1,7 +1,3 @@
-pub mod Closed
-pub mod HandingOut
-pub mod Seats
-pub mod Told
-pub mod Written
+pub mod GivenBack
 pub mod Sessions
 pub mod SessionRows

@@ -7,7 +7,7 @@ use Rattle.kept_unit.specs.Answers.{DoneValue, EventValue, IsAnswer}
 use Rattle.session.specs.Answering.{Calls, IsCall}
 use Rattle.session.specs.Leaving.{ComesBySession}
 use Rattle.session.specs.Serving.{is_busy}
-use Rattle.server.specs.LibraryService.{DoesForWorker}
+use Rattle.server.specs.SeatService.{DoesForWorker}
 use Rattle.server.specs.Rows.{Gives, IsCommandOf, IsLossOf, KeepsAnswer, NeverSettles}
 
 abbrev Kept : List DoneValue → DoneValue → List DoneValue → Type 0

@@ -22,13 +22,6 @@ is_detail event.Kept = false
 is_detail event.CaughtUp = false
 is_detail (event.Unwritten r) = false
 
--- what is told of how handing out went, by whether lines couldn't be written before and now: where that changes
-abbrev pub change_of : (was_failing is_failing : Bool) → Option Event
-change_of false false = None
-change_of false true = Some event.Kept
-change_of true false = Some event.CaughtUp
-change_of true true = None
-
 abbrev pub end_words : Option End → List ℕ
 end_words (Some end.Logout) = codes "ended by its LOGOUT"
 end_words (Some end.Closed) = codes "ended by the end of input"

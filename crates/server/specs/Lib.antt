@@ -1,9 +1,7 @@
 pub mod IscsiFaults
 pub mod Faults
 pub mod Events
-pub mod Batches
-pub mod Serving
-pub mod LibraryService
+pub mod SeatService
 pub mod Sessions
 pub mod Logins
 pub mod Rows

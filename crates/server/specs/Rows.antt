@@ -1,10 +1,8 @@
--- Values of worked rows: sessions at a service of one unit that keeps each answer and is never settled, and one that had a fault.
-use Rattle.std.specs.Prelude.{◌≡◌, ℕ, List, [], ◌∷◌, ◌++◌, Option, Some, None}
+-- Values of worked rows: sessions at a service of one unit that keeps each answer and is never settled.
+use Rattle.std.specs.Prelude.{◌≡◌, ℕ, List, [], ◌∷◌, ◌++◌, Option, Some}
 use Rattle.scsi_nexus.specs.declared.nexus.Nexus.{Nexus}
 use Rattle.kept_unit.specs.Answers as event
 use Rattle.kept_unit.specs.Answers.{DoneValue, IsAnswer}
-use Rattle.server.specs.declared.server_fault.Cause.TheVariants.{Silence}
-use Rattle.server.specs.declared.server_fault.FaultySession.{FaultySession}
 use Rattle.server.specs.Sessions.{Sessions}
 
 abbrev pub a : Nexus
@@ -22,10 +20,6 @@ NeverSettles drained s t = ⊥
 -- these answers and no others were given to sessions of these
 abbrev pub Gives : List (Option Nexus) → List DoneValue → Type 0
 Gives sessions answers = Sessions KeepsAnswer NeverSettles (λ _. 1) sessions [] answers
-
--- a session that ended since nothing came in time
-abbrev pub silent_session : ℕ → FaultySession
-silent_session number = record { number = number; nexus = None; cause = Silence }
 
 -- TEST UNIT READY
 abbrev pub IsCommandOf : Nexus → DoneValue → Type 0

@@ -1,12 +1,10 @@
 -- What sessions make of a seat, one after another. `notes s d t` says that a call with the answer d makes t of s, `settles drained s t` that settling
 -- it by these numbers does, and `count` how many units there are.
 use Rattle.std.specs.Prelude.{◌≡◌, ℕ, List, [], ◌∷◌, Option}
-use Rattle.std.specs.List.{AllZip}
 use Rattle.scsi_nexus.specs.declared.nexus.Nexus.{Nexus}
 use Rattle.kept_unit.specs.Answers.{DoneValue}
-use Rattle.lun_router.specs.Seats.{SeatValue, IsUntold, Notes, Settles}
 use Rattle.session.specs.Leaving.{ComesBySession}
-use Rattle.server.specs.LibraryService.{DoesForWorker, MaySettle}
+use Rattle.server.specs.SeatService.{DoesForWorker, MaySettle}
 
 -- one session after another, each of the nexus that was let in, or of nobody; behind each call and each session it may be settled
 abbrev pub Sessions : {S : Type 0} → (S → DoneValue → S → Type 0) → (settles : List ℕ → S → S → Type 0) → (count : S → ℕ) → List (Option Nexus) → S → S → Type 0
@@ -16,17 +14,3 @@ Sessions {S} notes settles count (who ∷ others) s t =
 
 abbrev pub ComesBySessions : {S : Type 0} → (S → DoneValue → S → Type 0) → (settles : List ℕ → S → S → Type 0) → (count : S → ℕ) → S → S → Type 0
 ComesBySessions notes settles count s t = (sessions : List (Option Nexus)) × Sessions notes settles count sessions s t
-
--- a seat, at a library of so many units
-abbrev pub SeatComes : (units : ℕ) → SeatValue → SeatValue → Type 0
-SeatComes units s t = ComesBySessions Notes Settles (λ _. units) s t
-
--- as many seats, each come from its own
-abbrev pub SeatsCome : (units : ℕ) → List SeatValue → List SeatValue → Type 0
-SeatsCome units = AllZip (SeatComes units)
-
--- a seat that was told nothing when the library was opened
-pub record IsOfSessions (units : ℕ) (seat : SeatValue) : Type 0 where
-  pub opened : SeatValue
-  pub untold : IsUntold opened
-  pub comes : SeatComes units opened seat

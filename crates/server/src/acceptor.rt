@@ -1,10 +1,8 @@
 ghost use Rattle.std.specs.Prelude.{◌≡◌};
-ghost use Rattle.server.specs.Faults.{own_fault};
 
 use crate::door::{Door, Visitor};
 use crate::event::Event;
 use crate::live_sessions::LiveSessions;
-use crate::server_fault::{FaultySession, ServerFault};
 use crate::teller::Teller;
 use std::io::Write;
 use std::sync::Wait;
@@ -51,8 +49,8 @@ pub struct ServeLimits<'a> {
 
 /// Where workers get their connections, each from one of the doors.
 #[derive(Drop)]
-pub(crate) struct Acceptor<'a> {
-    doors: &'a [Door<'a>],
+pub struct Acceptor<'a> {
+    pub doors: &'a [Door<'a>],
     pub limits: ServeLimits<'a>,
     /// How many connections have been accepted.
     accepted: AtomicU64,
@@ -82,20 +80,20 @@ impl<'a> Acceptor<'a> {
         }
     }
 
-    pub fn doors(&self) -> &'a [Door<'a>]
+    pub(crate) fn doors(&self) -> &'a [Door<'a>]
         ensures { result ≡ self.now.doors }
     {
         self.doors
     }
 
     /// The door of the worker with this place among all: each door has as many.
-    pub fn door_of(&self, place: usize) -> Option<&'a Door<'a>> {
+    pub(crate) fn door_of(&self, place: usize) -> Option<&'a Door<'a>> {
         self.doors.get(place.checked_rem(self.doors.len())?)
     }
 
     /// Waits for the next connection of a door. One of its workers at a time does, so that the numbers of those that come in there
     /// are the order of accepting; where that fails all of them pause.
-    pub fn accept<R: Clock + Wait, E: Write>(
+    pub(crate) fn accept<R: Clock + Wait, E: Write>(
         &self,
         rt: &R,
         door: &Door<'_>,
@@ -151,16 +149,6 @@ impl<'a> Acceptor<'a> {
     fn shut_doors(&self) {
         for door in self.doors {
             door.shut_down();
-        }
-    }
-
-    /// What of a session's fault is the server's.
-    pub fn own_fault(&self, session: Option<FaultySession>) -> Option<ServerFault>
-        ensures { result ≡ own_fault self.now.limits.term session }
-    {
-        match (self.limits.term, session) {
-            (ServeTerm::Sessions(_), Some(session)) => Some(ServerFault::Session(session)),
-            (_, None) | (ServeTerm::UntilClosed, Some(_)) => None,
         }
     }
 }

@@ -1,7 +1,7 @@
 ghost use Rattle.std.specs.Prelude.{◌≡◌};
 ghost use Rattle.server.specs.Events.{end_words, is_detail};
 
-use crate::server_fault::FaultySession;
+use crate::faulty_session::FaultySession;
 use scsi_nexus::Nexus;
 use session::End;
 use std::fmt;

@@ -3,14 +3,14 @@ ghost use Rattle.std.specs.Prelude.{◌⊎◌, IfOk, IfErr};
 ghost use Rattle.iscsi_session.specs.Leaving as iscsi;
 ghost use Rattle.session.specs.Leaving.{Leaves};
 ghost use Rattle.session.specs.Serving.{BreaksOff, IsKeptOut, Serves};
-ghost use Rattle.server.specs.LibraryService.{DoesForWorker};
+ghost use Rattle.server.specs.SeatService.{DoesForWorker};
 
 use crate::acceptor::{Acceptor, WaitTimes};
 use crate::door::{Door, PortalDoor};
+use crate::faulty_session::{Cause, FaultySession};
 use crate::kept_writer::KeptWriter;
-use crate::library_service::SeatService;
 use crate::live_sessions::SessionsBeside;
-use crate::server_fault::{Cause, FaultySession};
+use crate::seat_service::SeatService;
 use crate::teller::Teller;
 use crate::timed_reader::{Patience, TimedReader};
 use crate::worker::Visit;

@@ -1,16 +1,6 @@
-//! Where a library's records are handed out while it is served: by one thread, whenever workers ask it to.
-ghost use Rattle.std.specs.Prelude.{◌≡◌, [], OnOk};
-ghost use Rattle.server.specs.Batches.{HandsOut, left_in};
-ghost use Rattle.server.specs.Events.{change_of};
+//! Where workers ask that a library's records be handed out while it is served, which one thread does.
 
-use crate::batch::Batch;
-use crate::event::Event;
 use crate::handed_out::HandedOut;
-use crate::record_source::RecordSource;
-use crate::server_fault::ServerFault;
-use crate::teller::Teller;
-use std::alloc::Global;
-use std::io::Write;
 use std::sync::atomic::{AtomicBool, Ordering};
 use std::sync::{Condvar, Mutex, Wait};
 
@@ -55,7 +45,7 @@ impl DrainState {
 /// Where workers ask that records be handed out, and one thread does it: no worker writes, and so none is held up by who reads,
 /// but where a unit has very many records.
 #[derive(Drop)]
-pub(crate) struct RecordDrain {
+pub struct RecordDrain {
     handed_out: HandedOut,
     /// Whether lines couldn't be written the last time.
     is_failing: AtomicBool,
@@ -83,12 +73,12 @@ impl RecordDrain {
     }
 
     /// Up to which number each unit's records were handed out, by LUN.
-    pub fn numbers(&self) -> [u64; 5] {
+    pub(crate) fn numbers(&self) -> [u64; 5] {
         self.handed_out.numbers()
     }
 
     /// Notes that a unit's records up to a number were taken, so that commands which wait for that go on.
-    fn note<R: Wait>(&self, rt: &R, lun: u8, last: u64) {
+    pub fn note<R: Wait>(&self, rt: &R, lun: u8, last: u64) {
         self.handed_out.note(lun, last);
         // Who has looked at the numbers and is about to wait has the lock until it does.
         drop(self.state.lock(rt));
@@ -103,14 +93,14 @@ impl RecordDrain {
     }
 
     /// Asks that the records so far be handed out.
-    pub fn ask<R: Wait>(&self, rt: &R) {
+    pub(crate) fn ask<R: Wait>(&self, rt: &R) {
         self.state.lock(rt).is_due = true;
         self.asked.notify_all();
     }
 
     /// Asks that the records so far be handed out, within a session, where the unit has many, up to the one of this number.
     /// Waits only where they are very many, until they are fewer or couldn't be written.
-    pub fn ask_within_session<R: Wait>(&self, rt: &R, lun: u8, number: u64) {
+    pub(crate) fn ask_within_session<R: Wait>(&self, rt: &R, lun: u8, number: u64) {
         if !self.has_many(lun, number) {
             return;
         }
@@ -124,13 +114,13 @@ impl RecordDrain {
     }
 
     /// Nobody will ask any more: what is due is still handed out.
-    pub fn end<R: Wait>(&self, rt: &R) {
+    pub(crate) fn end<R: Wait>(&self, rt: &R) {
         self.state.lock(rt).is_over = true;
         self.asked.notify_all();
     }
 
     /// Waits until records are to be handed out, or nobody will ask any more. Whether they are.
-    fn await_turn<R: Wait>(&self, rt: &R) -> bool {
+    pub fn await_turn<R: Wait>(&self, rt: &R) -> bool {
         let mut state = self.state.lock(rt);
         state.phase = Phase::Waiting;
         self.went_on.notify_all();
@@ -146,94 +136,8 @@ impl RecordDrain {
         };
         is_due
     }
-
-    /// Writes what is left of a batch, and then a line for each record of a unit. What can't be written is left in the batch, and
-    /// as long as something is, units keep their records.
-    fn hand_out_unit<D: RecordSource, R: Wait, W: Write>(
-        &self,
-        rt: &R,
-        alloc: Global,
-        library: &D,
-        lun: u8,
-        batch: &mut Batch,
-        writer: &mut W,
-    ) -> Result<(), ServerFault>
-        ensures left { HandsOut (W.contents writer.old) (W.contents writer.new) (left_in batch.old) (left_in batch.new) }
-        ensures all { OnOk result (left_in batch.new ≡ []) }
-    {
-        batch.write_left(alloc, writer)?;
-        if let Some(last) = batch.take(rt, library, lun) {
-            self.note(rt, lun, last);
-        }
-        batch.write_left(alloc, writer)
-    }
-
-    /// The same of each unit, LUN 0 first.
-    fn hand_out_units<D: RecordSource, R: Wait, W: Write>(
-        &self,
-        rt: &R,
-        alloc: Global,
-        library: &D,
-        batch: &mut Batch,
-        writer: &mut W,
-    ) -> Result<(), ServerFault>
-        ensures { HandsOut (W.contents writer.old) (W.contents writer.new) (left_in batch.old) (left_in batch.new) }
-    {
-        'units: for lun in 0..library.units() {
-            self.hand_out_unit(rt, alloc, library, lun, batch, writer)?;
-        }
-        Ok(())
-    }
-
-    /// The same, and tells where that fails for the first time and where it no longer does.
-    fn hand_out<D: RecordSource, R: Wait, W: Write, E: Write>(
-        &self,
-        rt: &R,
-        alloc: Global,
-        library: &D,
-        batch: &mut Batch,
-        writer: &mut W,
-        teller: &Teller<E>,
-    )
-        ensures { HandsOut (W.contents writer.old) (W.contents writer.new) (left_in batch.old) (left_in batch.new) }
-    {
-        let is_failing = self
-            .hand_out_units(rt, alloc, library, batch, writer)
-            .is_err();
-        let was_failing = self.is_failing.swap(is_failing, Ordering::SeqCst);
-        if let Some(event) = change_of(was_failing, is_failing) {
-            teller.tell(rt, &event);
-        }
-    }
-
-    /// Hands records out whenever that is due, until nobody will ask any more.
-    pub fn hand_out_as_asked<D: RecordSource, R: Wait, W: Write, E: Write>(
-        &self,
-        rt: &R,
-        alloc: Global,
-        library: &D,
-        batch: &mut Batch,
-        writer: &mut W,
-        teller: &Teller<E>,
-    )
-        ensures { HandsOut (W.contents writer.old) (W.contents writer.new) (left_in batch.old) (left_in batch.new) }
-    {
-        'turns: for _turn in rt.forever() {
-            if !self.await_turn(rt) {
-                return;
-            }
-            self.hand_out(rt, alloc, library, batch, writer, teller);
-        }
-    }
-}
-
-/// What is to be told of how handing out went: that it fails since now, or no longer does.
-fn change_of(was_failing: bool, is_failing: bool) -> Option<Event>
-    ensures { result ≡ change_of was_failing is_failing }
-{
-    match (was_failing, is_failing) {
-        (false, true) => Some(Event::Kept),
-        (true, false) => Some(Event::CaughtUp),
-        (false, false) | (true, true) => None,
+    /// Notes whether lines can't be written now. Whether they couldn't the last time.
+    pub fn note_failing(&self, is_failing: bool) -> bool {
+        self.is_failing.swap(is_failing, Ordering::SeqCst)
     }
 }

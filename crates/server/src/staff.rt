@@ -3,10 +3,10 @@
 ghost use Rattle.std.specs.Prelude.{◌≡◌, ◌++◌, ◌+◌, ◌≤◌, None, length, map, IfOk, vec_capacity, vec_len};
 ghost use Rattle.server.specs.Faults.{first_among};
 
-use crate::library_service::SeatService;
+use crate::faulty_session::{FaultySession, first_accepted};
 use crate::record_drain::RecordDrain;
 use crate::reset_counts::ResetCounts;
-use crate::server_fault::{FaultySession, first_accepted};
+use crate::seat_service::SeatService;
 use crate::session_flags::SessionFlags;
 use crate::teller::Teller;
 use crate::worker::Worker;

@@ -5,10 +5,10 @@ ghost use Rattle.std.specs.List.{AllZip};
 ghost use Rattle.server.specs.Sessions.{ComesBySessions};
 
 use crate::acceptor::Acceptor;
+use crate::faulty_session::FaultySession;
 use crate::keeping::write_behind;
-use crate::library_service::SeatService;
 use crate::record_drain::RecordDrain;
-use crate::server_fault::FaultySession;
+use crate::seat_service::SeatService;
 use crate::staff::{flags_of, give_back, workers_of};
 use crate::teller::Teller;
 use crate::worker::Worker;
@@ -23,7 +23,7 @@ use std::time::Clock;
 use tape_keeper::{TapeKeeper, TapeSource};
 
 /// Serves sessions with a worker at each seat. Then none asks any more that records be handed out.
-pub(crate) fn serve_and_end<
+pub fn serve_and_end<
     'x,
     S: SeatService + Send,
     T: TapeSource<Device> + Sync,
@@ -57,7 +57,7 @@ pub(crate) fn serve_and_end<
 }
 
 /// Serves sessions with a worker at each seat, as `serve_sessions` does, while a thread of its own copies what is written to tapes.
-pub(crate) fn serve_all<
+pub fn serve_all<
     'x,
     S: SeatService + Send,
     T: TapeSource<Device> + Sync,

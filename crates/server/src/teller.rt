@@ -52,7 +52,7 @@ impl<E: Write> Teller<E> {
     }
 
     /// Tells an event, if it is to be told. Where its line can't be written there is nobody to tell.
-    pub(crate) fn tell<R: Wait>(&self, rt: &R, event: &Event) {
+    pub fn tell<R: Wait>(&self, rt: &R, event: &Event) {
         match self.telling {
             Telling::Faults if event.is_detail() => {}
             Telling::Faults | Telling::Everything => {

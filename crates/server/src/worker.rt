@@ -1,13 +1,13 @@
 ghost use Rattle.session.specs.Leaving.{Leaves};
-ghost use Rattle.server.specs.LibraryService.{DoesForWorker};
+ghost use Rattle.server.specs.SeatService.{DoesForWorker};
 ghost use Rattle.server.specs.Sessions.{ComesBySessions};
 
 use crate::acceptor::{Acceptor, Connection};
 use crate::door::{Door, Visitor};
 use crate::event::{EndedSession, Event};
+use crate::faulty_session::{FaultySession, first_accepted};
 use crate::holding::hold;
-use crate::library_service::SeatService;
-use crate::server_fault::{FaultySession, first_accepted};
+use crate::seat_service::SeatService;
 use crate::worker_service::{SessionSoFar, WorkerService};
 use std::alloc::Global;
 use std::io::Write;

@@ -1,10 +1,10 @@
-ghost use Rattle.server.specs.LibraryService.{MaySettle};
+ghost use Rattle.server.specs.SeatService.{MaySettle};
 
 use crate::event::Event;
 use crate::keeping::KeepTeller;
-use crate::library_service::SeatService;
 use crate::record_drain::RecordDrain;
 use crate::reset_counts::ResetCounts;
+use crate::seat_service::SeatService;
 use crate::session_flags::SessionFlags;
 use crate::teller::Teller;
 use kept_unit::Done;
@@ -153,7 +153,7 @@ impl<'a, S: SeatService, R: Wait, E: Write> WorkerService<'a, S, R, E> {
 }
 
 impl<'a, S: SeatService, R: Wait, E: Write> Service for WorkerService<'a, S, R, E> {
-    ghost use Rattle.server.specs.LibraryService.{DoesForWorker};
+    ghost use Rattle.server.specs.SeatService.{DoesForWorker};
 
     ghost notes = { DoesForWorker S.notes S.settles };
 

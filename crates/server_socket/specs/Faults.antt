@@ -4,7 +4,7 @@ use Rattle.std.specs.Fmt.{decimal}
 use Rattle.iscsi_chap.specs.declared.secrets_fault.LineFault.{LineFault}
 use Rattle.iscsi_chap.specs.declared.secrets_fault.LineFault.TheVariants.{FieldCount, SecretLength}
 use Rattle.media_folder.specs.Faults.{folder_status}
-use Rattle.server.specs.Faults as host
+use Rattle.server_socket.specs.ServerFaults as host
 use Rattle.server_socket.specs.declared.socket_fault.SocketFault.{SocketFault}
 use Rattle.server_socket.specs.declared.socket_fault.SocketFault.TheVariants as serve
 

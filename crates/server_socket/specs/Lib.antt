@@ -1,5 +1,10 @@
+pub mod Batches
 pub mod Faults
+pub mod LibraryService
 pub mod Notices
 pub mod Places
 pub mod Rows
+pub mod ServedLibrary
+pub mod ServedSeats
+pub mod ServerFaults
 pub mod Serving

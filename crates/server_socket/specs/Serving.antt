@@ -3,8 +3,8 @@ use Rattle.std.specs.Prelude.{Bool, true, false}
 use Rattle.output_lines.specs.declared.audit_lines.Audit.{Audit}
 use Rattle.program_options.specs.declared.serve_until.ServeUntil.{ServeUntil}
 use Rattle.program_options.specs.declared.serve_until.ServeUntil.TheVariants.{Sessions, InputEnds}
-use Rattle.server.specs.declared.serving.RecordOutput.{RecordOutput}
-use Rattle.server.specs.declared.serving.RecordOutput.TheVariants.{AtTheEnd, AsTheyCome}
+use Rattle.server_socket.specs.declared.serving.RecordOutput.{RecordOutput}
+use Rattle.server_socket.specs.declared.serving.RecordOutput.TheVariants.{AtTheEnd, AsTheyCome}
 use Rattle.server.specs.declared.teller.Telling.{Telling}
 use Rattle.server.specs.declared.teller.Telling.TheVariants.{Faults, Everything}
 use Rattle.server.specs.declared.acceptor.ServeTerm.{ServeTerm}

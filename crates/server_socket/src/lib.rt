@@ -1,17 +1,30 @@
 //! A library that is served at a socket whose file is made for it, at portals of iSCSI, or at both: for a number of sessions, or until
-//! standard input ends.
+//! standard input ends. What knows the ledgers of a library stands here: its seats, their workers' services, the lines of its records, and its closing.
 #![tactic(auto)]
 
+mod batch;
+mod closing;
+mod handing_out;
 mod iscsi_target;
+mod keeping;
 mod kept_library;
 mod laws;
+mod library_service;
+mod library_tapes;
 mod notice;
 mod places;
+mod record_source;
 mod secrets_file;
+mod server_fault;
+mod serving;
 mod socket;
 mod socket_fault;
 mod socket_file;
 
-pub use laws::worked_rows;
+pub use closing::close_and_write;
+pub use laws::{fault_rows, worked_rows};
+pub use library_service::LibraryService;
+pub use server_fault::{ServerFault, earlier};
+pub use serving::{RecordOutput, serve_library};
 pub use socket::serve;
 pub use socket_fault::SocketFault;

@@ -10,15 +10,14 @@ use crate::iscsi_target::{PortalTarget, target_of};
 use crate::kept_library::{KeptLibrary, kept_library};
 use crate::notice::{Notice, tell};
 use crate::places::{Places, open_places};
+use crate::server_fault::ServerFault;
+use crate::serving::{RecordOutput, serve_library};
 use crate::socket_fault::SocketFault;
 use command_line::ServeOptions;
 use library_device::Device;
 use output_lines::Audit;
 use program_options::{LibraryOptions, MAX_READS, ServeTimes, ServeUntil};
-use server::{
-    LiveSessions, RecordOutput, ServeLimits, ServeTerm, ServerFault, Teller, Telling, WaitTimes,
-    serve_library,
-};
+use server::{LiveSessions, ServeLimits, ServeTerm, Teller, Telling, WaitTimes};
 use std::alloc::{AllocError, Global};
 use std::fs::Files;
 use std::io::{self, Read, Write};

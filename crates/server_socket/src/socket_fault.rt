@@ -1,9 +1,9 @@
 ghost use Rattle.std.specs.Prelude.{◌≡◌};
 ghost use Rattle.server_socket.specs.Faults.{line_words};
 
+use crate::server_fault::ServerFault;
 use iscsi_chap::LineFault;
 use media_folder::FolderFault;
-use server::ServerFault;
 use std::alloc::AllocError;
 use std::fmt;
 use std::io::ErrorKind;

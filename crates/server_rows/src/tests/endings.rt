@@ -4,9 +4,8 @@ use super::clients::Step;
 use super::exchanges::{Answer, Frame, POWER_ON_1};
 use super::meetings::{Meeting, PATIENT, meet, sessions};
 use super::{A, assert_bytes, assert_same};
-use server::{
-    Cause, EndedSession, Event, FaultySession, ServeTerm, ServerFault, UnwrittenRecords, WaitTimes,
-};
+use server::{Cause, EndedSession, Event, FaultySession, ServeTerm, UnwrittenRecords, WaitTimes};
+use server_socket::ServerFault;
 use session::{End, SessionFault};
 use std::alloc::Global;
 use std::process::{self, Abort};

@@ -2,7 +2,8 @@
 
 use super::{A, assert_bytes, assert_same};
 use lun_router::CloseFault;
-use server::{Cause, FaultySession, ServerFault, earlier};
+use server::{Cause, FaultySession};
+use server_socket::{ServerFault, earlier};
 use session::SessionFault;
 use std::alloc::Global;
 use std::process::Abort;

@@ -8,10 +8,8 @@ use super::sessions::LINES_OF_BOTH;
 use super::{assert_bytes, assert_same, assert_told, target};
 use iscsi_login::{Access, Authentication, Host, LoginTarget};
 use output_lines::Audit;
-use server::{
-    Door, LiveSessions, RecordOutput, ServeLimits, ServeTerm, ServerFault, Teller, Telling,
-    WaitTimes, serve_library,
-};
+use server::{Door, LiveSessions, ServeLimits, ServeTerm, Teller, Telling, WaitTimes};
+use server_socket::{RecordOutput, ServerFault, serve_library};
 use std::alloc::{AllocError, Global};
 use std::fs::Files;
 use std::io::{self, Read, Write};

@@ -5,10 +5,8 @@ use super::keepers::FailingKeeper;
 use super::{assert_bytes, assert_same, target};
 use library_device::Device;
 use output_lines::Audit;
-use server::{
-    Door, LiveSessions, RecordOutput, ServeLimits, ServeTerm, ServerFault, Teller, Telling,
-    WaitTimes, serve_library,
-};
+use server::{Door, LiveSessions, ServeLimits, ServeTerm, Teller, Telling, WaitTimes};
+use server_socket::{RecordOutput, ServerFault, serve_library};
 use std::alloc::Global;
 use std::fs::Files;
 use std::io::{self, Write};

@@ -1,4 +1,4 @@
-use Rattle.server.specs.LibraryService.{DoesForWorker}
+use Rattle.server.specs.SeatService.{DoesForWorker}
 use Rattle.server.proofs.Sessions.{portal_left}
 use Rattle.server.proofs.holding.meet.Goals as goal
 

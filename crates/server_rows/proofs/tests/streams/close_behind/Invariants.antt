@@ -1,6 +1,6 @@
 use Rattle.std.specs.Prelude.{slice_get}
 use Rattle.logical_unit.specs.UnitView.{units_of}
-use Rattle.server.proofs.Closed.{last_of}
+use Rattle.server_socket.proofs.Closed.{last_of}
 use Rattle.server_rows.proofs.tests.streams.close_behind.Given as goal
 
 abbrev pub ghosts-open_and_serve-L0-Ledger : goal.ghosts-open_and_serve-L0-Ledger

@@ -1,8 +1,0 @@
-use Rattle.std.proofs.Common.{rules}
-use Rattle.server.proofs.batch.Batch.write_left.Goals as goal
-
-pub returns-then-not-write_left-clause-left : goal.returns-then-not-write_left-clause-left
-returns-then-not-write_left-clause-left g c = search rules
-
-pub returns-then-not-write_left-clause-kept : goal.returns-then-not-write_left-clause-kept
-returns-then-not-write_left-clause-kept g c = search rules

@@ -1,9 +1,0 @@
-use Rattle.std.proofs.Common.{length}
-use Rattle.server.proofs.Written.{Wrote}
-use Rattle.server.proofs.batch.write_some.Given as goal
-
-abbrev pub invariant-writes : goal.invariant-writes
-invariant-writes g l = Wrote (g.W.Write.contents l.fn.writer) (g.W.Write.contents l.writer) l.bytes l.rest
-
-abbrev pub decreases-writes : goal.decreases-writes
-decreases-writes g l = length l.rest

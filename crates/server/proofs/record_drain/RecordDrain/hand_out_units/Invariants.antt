@@ -1,6 +1,0 @@
-use Rattle.server.specs.Batches.{HandsOut, left_in}
-use Rattle.server.proofs.record_drain.RecordDrain.hand_out_units.Given as goal
-
-abbrev pub invariant-units : goal.invariant-units
-invariant-units g l =
-    HandsOut (g.W.Write.contents l.fn.writer) (g.W.Write.contents l.writer) (left_in l.fn.batch) (left_in l.batch)

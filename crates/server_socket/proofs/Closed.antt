@@ -1,0 +1,76 @@
+-- A library that was closed, from what its parts say.
+use Rattle.std.proofs.Common.{◌≡◌, ◌∙◌, ℕ, refl, List, [], length, Option, Some, None, IfSome, subst, sym}
+use Rattle.std.specs.Prelude.{All}
+use Rattle.logical_unit.specs.UnitView.{UnitView, last_number}
+use Rattle.lun_router.specs.Opening.{IsSince, LastIs}
+use Rattle.lun_router.specs.Seats.{SeatValue, IsUntold}
+use Rattle.output_lines.specs.declared.audit_lines.Audit.{Audit}
+use Rattle.server_socket.specs.declared.serving.RecordOutput.{RecordOutput}
+use Rattle.server_socket.specs.declared.serving.RecordOutput.TheVariants.{AtTheEnd, AsTheyCome}
+use Rattle.server_socket.specs.ServedLibrary.{IsClosed, ServesLibrary, WritesBefore, WritesOut, of_the_rest}
+use Rattle.server_socket.specs.ServedSeats.{IsOfSessions, SeatsCome}
+use Rattle.server_socket.proofs.HandingOut.{hands_more, hands_none}
+use Rattle.server_socket.proofs.ServedSeats.{of_sessions}
+use Rattle.std.specs.Io.KnownBytes.{Appends}
+use Rattle.std.specs.Option.{option_map}
+
+-- what holds of the value that there is, if any, holds of its image
+pub some_mapped : {A : Type 0} {B : Type 0} (P : B → Type 0) (f : A → B) (o : Option A) → IfSome o (λ a. P (f a)) → IfSome (option_map f o) P
+some_mapped P f None h = h
+some_mapped P f (Some a) h = h
+
+-- what was written, by what it is
+pub written_as : (w : Option (List ℕ)) (w' : Option (List ℕ)) (bytes : List ℕ) (lines : List ℕ) → bytes ≡ lines → Appends w w' bytes → Appends w w' lines
+written_as w w' bytes lines e h = rw (sym e) h
+
+-- the last record number of a unit, or 0 where there is none
+abbrev pub last_of : Option UnitView → ℕ
+last_of None = 0
+last_of (Some u) = last_number u
+
+pub last_is : (o : Option UnitView) → LastIs o (last_of o)
+last_is None = tt
+last_is (Some u) = refl
+
+-- of the seats that a library was opened with
+pub seats_served : (core : List UnitView) (units count : ℕ) (opened seats : List SeatValue) → units ≡ length core → length opened ≡ count → All IsUntold opened → SeatsCome units opened seats
+    → All (IsOfSessions (length core)) seats × (length seats ≡ count)
+seats_served core units count opened seats size many untold came =
+    let both = of_sessions (length core) opened seats untold (subst (λ (u : ℕ). SeatsCome u opened seats) size came) in (both.0, both.1 ∙ many)
+
+-- the seats that serving gave back of those that a library was opened with, in vectors of these lengths: none is missing
+pub seats_back : (core : List UnitView) (units count made : ℕ) (opened back : List SeatValue) (opened_len back_len : ℕ) → units ≡ length core → All IsUntold opened → SeatsCome units opened back
+    → (made ≡ count) × (opened_len ≡ count) → opened_len ≡ length opened → back_len ≡ length back → (All (IsOfSessions (length core)) back × (length back ≡ count)) × (back_len ≡ made)
+seats_back core units count made opened back opened_len back_len size untold came many opened_is back_is =
+    let served = seats_served core units count opened back size (sym opened_is ∙ many.1) untold came in (served, back_is ∙ served.1 ∙ sym many.0)
+
+-- nothing was written
+pub writes_none : (records : RecordOutput) (w : Option (List ℕ)) (left : List ℕ) → WritesOut records w w left left
+writes_none (AtTheEnd audit) w left = refl
+writes_none AsTheyCome w left = hands_none w left
+
+-- what was written before the end, as far as no line is left
+writes_before : (records : RecordOutput) (w v b : Option (List ℕ)) (left : List ℕ) → WritesOut records w v [] left → WritesOut records v b left [] → WritesBefore records w b
+writes_before (AtTheEnd audit) w v b left one two = two ∙ one
+writes_before AsTheyCome w v b left one two = hands_more w v b [] left [] one two
+
+-- a library that was served, from its closing
+pub library_served : (core : List UnitView) (count : ℕ) (records : RecordOutput) (audit : Audit) (seats : List SeatValue) (none left : List ℕ) (n0 n1 n2 n3 n4 : ℕ) (w v b w' : Option (List ℕ)) → audit ≡ of_the_rest records
+    → All (IsOfSessions (length core)) seats × (length seats ≡ count) → IsSince core n0 n1 n2 n3 n4 → none ≡ [] → WritesOut records w v none left → WritesOut records v b left []
+    → IsClosed seats audit n0 n1 n2 n3 n4 b w' → ServesLibrary core count records w w'
+library_served core count records audit seats none left n0 n1 n2 n3 n4 w v b w' wanted served since empty came rest closed = record {
+  before = b;
+  as_they_came = writes_before records w v b left (subst (λ (l : List ℕ). WritesOut records w v l left) empty came) rest;
+  rest = record {
+    zero = n0;
+    one = n1;
+    two = n2;
+    three = n3;
+    four = n4;
+    seats = seats;
+    many = served.1;
+    served = served.0;
+    since = since;
+    closed = subst (λ (a : Audit). IsClosed seats a n0 n1 n2 n3 n4 b w') wanted closed;
+  };
+}

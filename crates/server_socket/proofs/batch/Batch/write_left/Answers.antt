@@ -1,0 +1,8 @@
+use Rattle.std.proofs.Common.{rules}
+use Rattle.server_socket.proofs.batch.Batch.write_left.Goals as goal
+
+pub returns-then-not-write_left-clause-left : goal.returns-then-not-write_left-clause-left
+returns-then-not-write_left-clause-left g c = search rules
+
+pub returns-then-not-write_left-clause-kept : goal.returns-then-not-write_left-clause-kept
+returns-then-not-write_left-clause-kept g c = search rules

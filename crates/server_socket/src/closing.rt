@@ -1,0 +1,214 @@
+ghost use Rattle.std.specs.Prelude.{◌≡◌, ◌≢◌, ◌⊎◌, ◌<◌, ◌≤◌, ◌+◌, ◌∷◌, ◌++◌, [], Err, IfErr, IfOk, OnOk, vec_capacity, vec_len};
+ghost use Rattle.std.specs.Io.KnownBytes.{Appends};
+ghost use Rattle.std.specs.Option.{option_map};
+ghost use Rattle.logical_unit.specs.UnitView.{units_of};
+ghost use Rattle.output_lines.specs.AuditLines.{audit_text};
+ghost use Rattle.lun_router.specs.declared.closing.CloseFault.TheVariants.{SeatMissing};
+ghost use Rattle.server_socket.specs.Batches.{WritesWhole};
+ghost use Rattle.server_socket.specs.ServerFaults.{MayEndWith};
+ghost use Rattle.server_socket.specs.ServedLibrary.{IsClosed, if_there};
+ghost use Rattle.server_socket.specs.declared.server_fault.ServerFault.TheVariants as fault;
+
+use crate::batch::{records_behind, whole_lines, write_some};
+use crate::server_fault::ServerFault;
+use audit_log::Record;
+use kept_unit::UnitLedger;
+use library_device::Device;
+use logical_unit::LogicalUnit;
+use lun_router::{Histories, Library, Pass, Seat};
+use output_lines::{Audit, audit_text};
+use server::{Event, Teller};
+use std::alloc::Global;
+use std::io::Write;
+use std::sync::Wait;
+
+/// The most units that a library has.
+const MOST_UNITS: usize = 5;
+
+/// Closes a library with its seats, and writes the lines that are wanted of the records, LUN 0 first. The lines are made before the first of
+/// them is written. Where not all can be, it is told of which records at which units.
+pub fn close_and_write<
+    L0: UnitLedger,
+    L1: UnitLedger,
+    L2: UnitLedger,
+    L3: UnitLedger,
+    L4: UnitLedger,
+    R: Wait,
+    W: Write,
+    E: Write,
+>(
+    rt: &R,
+    alloc: Global,
+    library: Library<L0, L1, L2, L3, L4, Device, Pass>,
+    seats: Vec<Seat<L0, L1, L2, L3, L4>>,
+    audit: Audit,
+    writer: &mut W,
+    teller: &Teller<E>,
+) -> Result<(), ServerFault>
+    ensures closed { OnOk result (IsClosed seats.items audit L0.since L1.since L2.since L3.since L4.since (W.contents writer.old) (W.contents writer.new)) }
+    ensures fault { IfErr result (λ f. MayEndWith library.seats (vec_len seats) f) }
+    ensures missing { vec_len seats ≢ library.seats → result ≡ Err (fault.Close SeatMissing) }
+    ensures none { IfErr result (λ f. (f ≡ fault.Write) ⊎ (W.contents writer.new ≡ W.contents writer.old)) }
+{
+    let histories = match library.close(alloc, seats) {
+        Ok(histories) => histories,
+        Err((fault, library, _)) => {
+            tell_unwritten_at(rt, alloc, &library, teller);
+            return Err(ServerFault::Close(fault));
+        }
+    };
+    match units_in(alloc, histories) {
+        Ok(units) => write_units(rt, alloc, audit, &units, writer, teller),
+        Err(histories) => {
+            tell_unwritten_in(rt, &histories, teller);
+            Err(ServerFault::NoMemory)
+        }
+    }
+}
+
+/// The units of a library that was closed, LUN 0 first. Where there is no room for them, they come back.
+fn units_in(
+    alloc: Global,
+    histories: Histories<Device>,
+) -> Result<Vec<LogicalUnit<Device>>, Histories<Device>>
+    ensures ok { IfOk result (λ units. units_of units.items ≡ histories.changer.unit ∷ histories.first.unit ∷ if_there (option_map (λ u. u.unit) histories.second) ++ if_there (option_map (λ u. u.unit) histories.third) ++ if_there (option_map (λ u. u.unit) histories.fourth)) }
+    ensures err { IfErr result (λ back. back ≡ histories) }
+{
+    let mut units = Vec::new(alloc);
+    if units.reserve(MOST_UNITS).is_err() {
+        return Err(histories);
+    }
+    let Histories {
+        changer,
+        first,
+        second,
+        third,
+        fourth,
+    } = histories;
+    units.push_reserved(changer);
+    units.push_reserved(first);
+    push_if_there(&mut units, second);
+    push_if_there(&mut units, third);
+    push_if_there(&mut units, fourth);
+    Ok(units)
+}
+
+fn push_if_there(units: &mut Vec<LogicalUnit<Device>>, unit: Option<LogicalUnit<Device>>)
+    requires room { vec_len units.old < vec_capacity units.old }
+    ensures units { units_of units.new.items ≡ units_of units.old.items ++ if_there (option_map (λ u. u.unit) unit) }
+    ensures length { vec_len units.new ≤ vec_len units.old + 1 }
+    ensures capacity { vec_capacity units.new ≡ vec_capacity units.old }
+{
+    if let Some(unit) = unit {
+        units.push_reserved(unit);
+    }
+}
+
+/// Writes the lines that are wanted of units' records, LUN 0 first, or tells which aren't written.
+fn write_units<R: Wait, W: Write, E: Write>(
+    rt: &R,
+    alloc: Global,
+    audit: Audit,
+    units: &[LogicalUnit<Device>],
+    writer: &mut W,
+    teller: &Teller<E>,
+) -> Result<(), ServerFault>
+    ensures lines { OnOk result (Appends (W.contents writer.old) (W.contents writer.new) (audit_text audit (units_of units.now))) }
+    ensures fault { IfErr result (λ f. (f ≡ fault.Write) ⊎ ((f ≡ fault.NoMemory) × (W.contents writer.new ≡ W.contents writer.old))) }
+{
+    let text = match audit_text(alloc, audit, units) {
+        Ok(text) => text,
+        Err(error) => {
+            tell_unwritten(rt, units, 0, teller);
+            return Err(error.into());
+        }
+    };
+    match write_lines(writer, text.as_str()) {
+        Ok(()) => Ok(()),
+        Err(lines) => {
+            tell_unwritten(rt, units, lines, teller);
+            Err(ServerFault::Write)
+        }
+    }
+}
+
+/// Writes lines, and what the writer may still hold back of them. On an error: how many were written whole.
+fn write_lines<W: Write>(writer: &mut W, lines: &str) -> Result<(), usize>
+    ensures all { OnOk result (Appends (W.contents writer.old) (W.contents writer.new) lines.now) }
+    ensures whole { IfErr result (λ count. WritesWhole (W.contents writer.old) (W.contents writer.new) lines.now count) }
+{
+    let bytes = lines.as_bytes();
+    let count = write_some(writer, bytes);
+    if count == bytes.len() && writer.flush().is_ok() {
+        Ok(())
+    } else {
+        Err(whole_lines(&bytes[..count]))
+    }
+}
+
+/// Tells which records of units have no line, where so many lines were written, LUN 0 first.
+fn tell_unwritten<R: Wait, E: Write>(
+    rt: &R,
+    units: &[LogicalUnit<Device>],
+    lines: usize,
+    teller: &Teller<E>,
+) {
+    let mut left = lines;
+    for unit in units {
+        tell_behind(rt, unit.lun(), unit.records(), left, teller);
+        left = left.saturating_sub(unit.records().len());
+    }
+}
+
+/// Tells that no record has a line of the units of a library that was closed.
+fn tell_unwritten_in<R: Wait, E: Write>(rt: &R, histories: &Histories<Device>, teller: &Teller<E>) {
+    tell_behind(
+        rt,
+        histories.changer.lun(),
+        histories.changer.records(),
+        0,
+        teller,
+    );
+    tell_behind(
+        rt,
+        histories.first.lun(),
+        histories.first.records(),
+        0,
+        teller,
+    );
+    for unit in [&histories.second, &histories.third, &histories.fourth] {
+        if let Some(unit) = unit {
+            tell_behind(rt, unit.lun(), unit.records(), 0, teller);
+        }
+    }
+}
+
+/// Tells that no record has a line which the units of a library still have that couldn't be closed.
+fn tell_unwritten_at<
+    L0: UnitLedger,
+    L1: UnitLedger,
+    L2: UnitLedger,
+    L3: UnitLedger,
+    L4: UnitLedger,
+    R: Wait,
+    E: Write,
+>(rt: &R, alloc: Global, library: &Library<L0, L1, L2, L3, L4, Device, Pass>, teller: &Teller<E>) {
+    for lun in 0..library.units() {
+        if let Some(records) = library.drain(rt, alloc, lun) {
+            tell_behind(rt, lun, &records, 0, teller);
+        }
+    }
+}
+
+/// Tells which of a unit's records have no line, where so many have one.
+fn tell_behind<R: Wait, E: Write>(
+    rt: &R,
+    lun: u8,
+    records: &[Record],
+    lines: usize,
+    teller: &Teller<E>,
+) {
+    if let Some(unwritten) = records_behind(lun, records, lines) {
+        teller.tell(rt, &Event::Unwritten(unwritten));
+    }
+}

@@ -1,0 +1,346 @@
+ghost use Rattle.std.specs.Prelude.{◌≡◌, ◌*◌, ◌<◌, ◌≤◌, ◌⊎◌, [], None, length, IfErr, IfSome, OnOk};
+ghost use Rattle.std.specs.List.{AllZip};
+ghost use Rattle.logical_unit.specs.UnitView.{units_of};
+ghost use Rattle.lun_router.specs.Opening.{IsSince};
+ghost use Rattle.server.specs.Sessions.{ComesBySessions};
+ghost use Rattle.server_socket.specs.Batches.{GoesOn, HandsOut, left_in};
+ghost use Rattle.server_socket.specs.ServerFaults.{MayTell};
+ghost use Rattle.server_socket.specs.ServedLibrary.{ServesLibrary, WritesOut};
+ghost use Rattle.server_socket.specs.ServedSeats.{SeatsCome};
+ghost use Rattle.server_socket.specs.declared.server_fault.ServerFault.TheVariants as fault;
+
+use crate::batch::Batch;
+use crate::closing::close_and_write;
+use crate::handing_out::hand_out_as_asked;
+use crate::keeping::keep_at_the_end;
+use crate::library_service::{leave_seats, services_of};
+use crate::library_tapes::LibraryTapes;
+use crate::record_source::RecordSource;
+use crate::server_fault::{ServerFault, earlier, own_fault, told_of};
+use kept_unit::UnitLedger;
+use library_device::Device;
+use lun_router::{Blanks, Library, Pass, Seat};
+use output_lines::Audit;
+use server::{
+    Acceptor, Door, Event, FaultySession, RecordDrain, SeatService, ServeLimits, Teller, serve_all,
+    serve_and_end,
+};
+use session::Directory;
+use std::alloc::{AllocError, Global};
+use std::io::Write;
+use std::marker::Brand;
+use std::mem;
+use std::random::RandomSource;
+use std::sync::ledger::Blank;
+use std::sync::{Mutex, Wait};
+use std::thread::{self, Threads};
+use std::time::Clock;
+use tape_keeper::{TapeKeeper, TapeSource};
+use target_core::TargetCore;
+
+/// What is written of the records of a library that is served.
+#[derive(Clone, Copy, Debug, PartialEq, Eq)]
+pub enum RecordOutput {
+    /// What is wanted of them at the end.
+    AtTheEnd(Audit),
+    /// A line for each record so far, LUN 0 first, behind each session and whenever a unit has 4,096 of them, by a thread of its
+    /// own. The units then no longer keep them. At the end a line for each that is left.
+    AsTheyCome,
+}
+
+impl RecordOutput {
+    ghost use Rattle.std.specs.Prelude.{◌≡◌};
+    ghost use Rattle.server_socket.specs.ServedLibrary.{of_the_rest};
+
+    /// What is wanted of the records that are left at the end.
+    fn of_the_rest(self) -> Audit
+        ensures { result ≡ of_the_rest self }
+    {
+        match self {
+            RecordOutput::AtTheEnd(audit) => audit,
+            RecordOutput::AsTheyCome => Audit::Lines,
+        }
+    }
+}
+
+/// Serves a target to connections of doors, each by a worker and as the nexus that its LOGIN names or its initiator is let in as, and
+/// tells what happens. A keeper keeps its tapes meanwhile, and all of them once the last has ended. Then the library is closed, and what
+/// is wanted of the records is written, LUN 0 first, also where a session had a fault. Lines that can't be written are kept and tried
+/// again; those that never can be are told.
+///
+/// Of the faults that happened the first in the order of `ServerFault` is told; no clause says which of them happened. No seat is missing
+/// at the end.
+pub fn serve_library<
+    R: Clock + RandomSource + Threads + Wait + Sync,
+    W: Write + Send,
+    E: Write + Send,
+    K: TapeKeeper<Device> + Sync,
+>(
+    rt: &R,
+    alloc: Global,
+    core: TargetCore<Device>,
+    doors: &[Door<'_>],
+    limits: ServeLimits<'_>,
+    records: RecordOutput,
+    keeper: &K,
+    writer: &mut W,
+    teller: &Teller<E>,
+) -> Result<(), ServerFault>
+    requires some { 0 < limits.workers }
+    requires doors { (0 < length doors.now) × (length doors.now ≤ 5) }
+    ensures served { OnOk result (ServesLibrary (units_of core) (limits.entry.workers * length doors.now) records (W.contents writer.old) (W.contents writer.new)) }
+    ensures fault { IfErr result (λ fault. MayTell limits.entry.term fault) }
+{
+    let seats = seats_at(limits.workers, doors.len());
+    let parts = seats as u64;
+    let blanks = Blanks {
+        zero: Blank::new(parts),
+        one: Blank::new(parts),
+        two: Blank::new(parts),
+        three: Blank::new(parts),
+        four: Blank::new(parts),
+    };
+    let acceptor = Acceptor::new(doors, limits);
+    serve_with_ledgers::<Brand, Brand, Brand, Brand, Brand, R, W, E, K>(
+        rt, alloc, core, seats, blanks, &acceptor, records, keeper, writer, teller,
+    )
+}
+
+/// How many seats there are at so many doors, each with so many workers.
+#[tactic(auto, using(crate::proofs::Seats::some_seats, crate::proofs::Seats::few_seats))]
+fn seats_at(workers: u8, doors: usize) -> usize
+    requires workers { 0 < workers }
+    requires doors { (0 < doors) × (doors ≤ 5) }
+    ensures count { result ≡ workers * doors }
+    ensures some { (0 < result) × (result ≤ 1275) }
+{
+    usize::from(workers) * doors
+}
+
+/// The same, generic over the five ledgers.
+fn serve_with_ledgers<
+    L0: UnitLedger + Send + Sync,
+    L1: UnitLedger + Send + Sync,
+    L2: UnitLedger + Send + Sync,
+    L3: UnitLedger + Send + Sync,
+    L4: UnitLedger + Send + Sync,
+    R: Clock + RandomSource + Threads + Wait + Sync,
+    W: Write + Send,
+    E: Write + Send,
+    K: TapeKeeper<Device> + Sync,
+>(
+    rt: &R,
+    alloc: Global,
+    core: TargetCore<Device>,
+    workers: usize,
+    blanks: Blanks,
+    acceptor: &Acceptor<'_>,
+    records: RecordOutput,
+    keeper: &K,
+    writer: &mut W,
+    teller: &Teller<E>,
+) -> Result<(), ServerFault>
+    requires some { 0 < workers }
+    requires zero { (blanks.zero.name ≡ L0.name) × (blanks.zero.parts ≡ L0.parts) × (L0.parts ≡ workers) }
+    requires one { (blanks.one.name ≡ L1.name) × (blanks.one.parts ≡ L1.parts) × (L1.parts ≡ workers) }
+    requires two { (blanks.two.name ≡ L2.name) × (blanks.two.parts ≡ L2.parts) × (L2.parts ≡ workers) }
+    requires three { (blanks.three.name ≡ L3.name) × (blanks.three.parts ≡ L3.parts) × (L3.parts ≡ workers) }
+    requires four { (blanks.four.name ≡ L4.name) × (blanks.four.parts ≡ L4.parts) × (L4.parts ≡ workers) }
+    requires since { IsSince (units_of core) L0.since L1.since L2.since L3.since L4.since }
+    ensures served { OnOk result (ServesLibrary (units_of core) workers records (W.contents writer.old) (W.contents writer.new)) }
+    ensures fault { IfErr result (λ fault. MayTell acceptor.now.limits.term fault) }
+{
+    let opened = Library::<L0, L1, L2, L3, L4, Device, Pass>::new(
+        alloc, core, workers, blanks, Pass,
+    );
+    let (library, mut seats) = match opened {
+        Ok(opened) => opened,
+        Err((refused, _)) => return Err(refused.into()),
+    };
+    let mut batch = Batch::new(alloc);
+    let served = serve_seats(
+        rt, alloc, &library, &mut seats, acceptor, records, keeper, &mut batch, writer, teller,
+    )?;
+    let kept = keep_at_the_end(
+        rt,
+        alloc,
+        keeper,
+        &LibraryTapes { library: &library },
+        teller,
+    );
+    let left = write_rest(rt, alloc, records, batch, writer, teller);
+    let audit = records.of_the_rest();
+    let closed = close_and_write(rt, alloc, library, seats, audit, writer, teller);
+    told_of(earlier(
+        earlier(own_fault(acceptor.limits.term, served), kept),
+        earlier(left, closed.err()),
+    ))
+}
+
+/// Serves sessions with a worker at each seat. Then the seats are back.
+fn serve_seats<
+    L0: UnitLedger + Send + Sync,
+    L1: UnitLedger + Send + Sync,
+    L2: UnitLedger + Send + Sync,
+    L3: UnitLedger + Send + Sync,
+    L4: UnitLedger + Send + Sync,
+    R: Clock + RandomSource + Threads + Wait + Sync,
+    W: Write + Send,
+    E: Write + Send,
+    K: TapeKeeper<Device> + Sync,
+>(
+    rt: &R,
+    alloc: Global,
+    library: &Library<L0, L1, L2, L3, L4, Device, Pass>,
+    seats: &mut Vec<Seat<L0, L1, L2, L3, L4>>,
+    acceptor: &Acceptor<'_>,
+    records: RecordOutput,
+    keeper: &K,
+    batch: &mut Batch,
+    writer: &mut W,
+    teller: &Teller<E>,
+) -> Result<Option<FaultySession>, AllocError>
+    ensures lines { WritesOut records (W.contents writer.old) (W.contents writer.new) (left_in batch.old) (left_in batch.new) }
+    ensures served { OnOk result (SeatsCome library.now.units seats.old.items seats.new.items) }
+{
+    let mut back = Vec::new(alloc);
+    back.reserve(seats.len())?;
+    let taken = mem::replace(seats, Vec::new(alloc));
+    let directory = Mutex::new(Directory::new(alloc));
+    let mut services = services_of(rt, alloc, library, &directory, taken, keeper)?;
+    let tapes = LibraryTapes { library };
+    let served = serve_services(
+        rt,
+        alloc,
+        &mut services,
+        &tapes,
+        library,
+        acceptor,
+        records,
+        keeper,
+        batch,
+        writer,
+        teller,
+    )?;
+    leave_seats(services, &mut back);
+    *seats = back;
+    Ok(served)
+}
+
+/// Serves sessions with a worker at each service, and writes meanwhile what is wanted of the records that units hand out.
+fn serve_services<
+    S: SeatService + Send,
+    T: TapeSource<Device> + Sync,
+    D: RecordSource + Sync,
+    R: Clock + RandomSource + Threads + Wait + Sync,
+    W: Write + Send,
+    E: Write + Send,
+    K: TapeKeeper<Device> + Sync,
+>(
+    rt: &R,
+    alloc: Global,
+    services: &mut Vec<S>,
+    tapes: &T,
+    units: &D,
+    acceptor: &Acceptor<'_>,
+    records: RecordOutput,
+    keeper: &K,
+    batch: &mut Batch,
+    writer: &mut W,
+    teller: &Teller<E>,
+) -> Result<Option<FaultySession>, AllocError>
+    ensures lines { WritesOut records (W.contents writer.old) (W.contents writer.new) (left_in batch.old) (left_in batch.new) }
+    ensures served { OnOk result (AllZip (ComesBySessions S.notes S.settles S.count) services.old.items services.new.items) }
+{
+    match records {
+        RecordOutput::AtTheEnd(_) => serve_all(
+            rt, alloc, services, tapes, acceptor, None, keeper, teller,
+        ),
+        RecordOutput::AsTheyCome => {
+            let drain = RecordDrain::new();
+            serve_and_write(
+                rt, alloc, services, tapes, units, acceptor, &drain, keeper, batch, writer, teller,
+            )
+        }
+    }
+}
+
+/// Serves sessions with a worker at each service, while a thread of its own hands their records out as they come.
+fn serve_and_write<
+    'x,
+    S: SeatService + Send,
+    T: TapeSource<Device> + Sync,
+    D: RecordSource + Sync,
+    R: Clock + RandomSource + Threads + Wait + Sync,
+    W: Write + Send,
+    E: Write + Send,
+    K: TapeKeeper<Device> + Sync,
+>(
+    rt: &'x R,
+    alloc: Global,
+    services: &mut Vec<S>,
+    tapes: &T,
+    units: &D,
+    acceptor: &Acceptor<'_>,
+    drain: &'x RecordDrain,
+    keeper: &K,
+    batch: &mut Batch,
+    writer: &mut W,
+    teller: &'x Teller<E>,
+) -> Result<Option<FaultySession>, AllocError>
+    ensures lines { HandsOut (W.contents writer.old) (W.contents writer.new) (left_in batch.old) (left_in batch.new) }
+    ensures served { OnOk result (AllZip (ComesBySessions S.notes S.settles S.count) services.old.items services.new.items) }
+{
+    let alloc_of_workers = alloc;
+    let ((), served) = thread::join_mut(
+        rt,
+        &mut || hand_out_as_asked(drain, rt, alloc, units, batch, writer, teller),
+        &mut || serve_and_end(
+            rt,
+            alloc_of_workers,
+            services,
+            tapes,
+            acceptor,
+            drain,
+            keeper,
+            teller,
+        ),
+    );
+    served
+}
+
+/// Writes the lines that are left of the records that were taken last, where some were, or tells which have none.
+fn write_rest<R: Wait, W: Write, E: Write>(
+    rt: &R,
+    alloc: Global,
+    records: RecordOutput,
+    batch: Batch,
+    writer: &mut W,
+    teller: &Teller<E>,
+) -> Option<ServerFault>
+    ensures left { result ≡ None → WritesOut records (W.contents writer.old) (W.contents writer.new) (left_in batch) [] }
+    ensures fault { IfSome result (λ f. (f ≡ fault.Write) ⊎ (f ≡ fault.NoMemory)) }
+{
+    match records {
+        RecordOutput::AtTheEnd(_) => None,
+        RecordOutput::AsTheyCome => write_batch(rt, alloc, batch, writer, teller),
+    }
+}
+
+/// Writes the lines that are left of a batch, or tells which of its records have none.
+fn write_batch<R: Wait, W: Write, E: Write>(
+    rt: &R,
+    alloc: Global,
+    mut batch: Batch,
+    writer: &mut W,
+    teller: &Teller<E>,
+) -> Option<ServerFault>
+    ensures left { result ≡ None → GoesOn (W.contents writer.old) (W.contents writer.new) (left_in batch) [] }
+    ensures fault { IfSome result (λ f. (f ≡ fault.Write) ⊎ (f ≡ fault.NoMemory)) }
+{
+    let written = batch.write_left(alloc, writer);
+    if let Some(records) = batch.unwritten() {
+        teller.tell(rt, &Event::Unwritten(records));
+    }
+    written.err()
+}
