@@ -10,3 +10,5 @@ mod media;
 mod tests;
 #[cfg(test)]
 mod threads;
+#[cfg(test)]
+mod trickle;

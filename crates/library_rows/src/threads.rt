@@ -1,4 +1,4 @@
-//! Threads over a library of a changer and drives: each test opens one, plays a scene in it, and closes it.
+//! Threads over a library of a changer and drives: each scene is played in one that is opened for it and closed behind it.
 
 mod asking;
 mod attending;
@@ -15,7 +15,8 @@ mod targets;
 use crate::comparing::assert_same;
 use days::run;
 use gates::{Flags, TestGate};
-use scenes::Scene;
+use playing::Plan;
+use scenes::{SCENES, plan_at};
 use std::process::Abort;
 use std::sync::Wait;
 use std::sync::atomic::Ordering;
@@ -23,83 +24,36 @@ use std::test::Fail;
 use std::thread::Threads;
 use std::time::Clock;
 
-/// Plays a scene whose gate holds nothing.
+/// The gate was passed once if it holds a unit, and meanwhile the other unit was not held.
+fn assert_gate(rt: &impl Abort, flags: &Flags, plan: &Plan) {
+    let entered = flags.entered.load(Ordering::SeqCst);
+    let ran_out = flags.ran_out.load(Ordering::SeqCst);
+    let expected = (u64::from(plan.holds), false);
+    assert_same(rt, (entered, ran_out), expected, plan.shows);
+}
+
+/// Plays the scene at a place among them all.
 fn play<R: Abort + AllocGlobal + Clock + Threads + Wait + Sync>(
     rt: &R,
     clock: &HostRuntime,
-    scene: Scene,
+    scene: usize,
 ) -> Result<(), Fail> {
+    let plan = plan_at(scene);
     let flags = Flags::new();
     let gate = TestGate {
         clock,
         flags: &flags,
-        holds: false,
+        holds: plan.holds,
     };
-    run(rt, rt.alloc(), gate, &flags, scene)
-}
-
-#[test]
-fn submit_of_two_threads_has_a_record_for_each_command(rt: HostRuntime) -> Result<(), Fail> {
-    play(&rt, &rt, Scene::TwoDrives)
-}
-
-#[test]
-fn drain_by_two_threads_loses_no_number(rt: HostRuntime) -> Result<(), Fail> {
-    play(&rt, &rt, Scene::Drains)
-}
-
-#[test]
-fn submit_held_at_a_drive_holds_no_other_drive(rt: HostRuntime) -> Result<(), Fail> {
-    let flags = Flags::new();
-    let gate = TestGate {
-        clock: &rt,
-        flags: &flags,
-        holds: true,
-    };
-    run(&rt, rt.alloc(), gate, &flags, Scene::HeldUnit)?;
-    let entered = flags.entered.load(Ordering::SeqCst);
-    assert_same(&rt, entered, 1, "how often the gate is passed");
-    let ran_out = flags.ran_out.load(Ordering::SeqCst);
-    assert_same(&rt, ran_out, false, "the other unit is not held");
+    run(rt, rt.alloc(), gate, &flags, scene)?;
+    assert_gate(rt, &flags, &plan);
     Ok(())
 }
 
 #[test]
-fn close_refuses_one_seat_of_two(rt: HostRuntime) -> Result<(), Fail> {
-    play(&rt, &rt, Scene::EverySeat)
-}
-
-#[test]
-fn move_medium_of_two_threads_is_recorded_at_both_units(rt: HostRuntime) -> Result<(), Fail> {
-    play(&rt, &rt, Scene::Moving)
-}
-
-#[test]
-fn lose_and_reset_are_told_at_units_that_are_there(rt: HostRuntime) -> Result<(), Fail> {
-    play(&rt, &rt, Scene::LossAndReset)
-}
-
-#[test]
-fn write_of_another_host_than_the_holder_leaves_the_tape(rt: HostRuntime) -> Result<(), Fail> {
-    play(&rt, &rt, Scene::SharedDrive)
-}
-
-#[test]
-fn has_room_until_128_nexuses_are_known(rt: HostRuntime) -> Result<(), Fail> {
-    play(&rt, &rt, Scene::FullSlots)
-}
-
-#[test]
-fn settle_makes_drained_entries_into_ranges(rt: HostRuntime) -> Result<(), Fail> {
-    play(&rt, &rt, Scene::Settling)
-}
-
-#[test]
-fn settle_of_a_move_waits_for_the_drain_of_both_units(rt: HostRuntime) -> Result<(), Fail> {
-    play(&rt, &rt, Scene::SettledMoves)
-}
-
-#[test]
-fn attend_asks_the_attendant_once_at_each_unit(rt: HostRuntime) -> Result<(), Fail> {
-    play(&rt, &rt, Scene::Attended)
+fn scenes_at_a_library_leave_what_they_must(rt: HostRuntime) -> Result<(), Fail> {
+    for scene in 0..SCENES.len() {
+        play(&rt, &rt, scene)?;
+    }
+    Ok(())
 }

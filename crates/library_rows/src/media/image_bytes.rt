@@ -1,6 +1,7 @@
 use crate::comparing::{assert_list, assert_same};
-use std::alloc::Global;
-use std::io::{self, Read};
+use crate::trickle::Trickle;
+use std::alloc::{AllocError, Global};
+use std::process::Abort;
 use std::test::Fail;
 use tape_image::{
     ImageEnd, ImageFault, ImagePart, ImageReader, IndexFault, IndexedObject, index_image,
@@ -12,61 +13,94 @@ const IMAGE: &[u8] = &[
     2, 0, 0, 0, b'h', b'i', 2, 0, 0, 0, 0, 0, 0, 0, 3, 0, 0, 0, b'o', b'd', b'd', 0, 3, 0, 0, 0,
 ];
 
-/// A reader of an image, a byte at each read. Each third read is interrupted.
-#[derive(Drop)]
-struct Trickle<'a> {
-    bytes: &'a [u8],
-    reads: u64,
-}
-
-impl Read for Trickle<'_> {
-    fn read(&mut self, buffer: &mut [u8]) -> io::Result<usize> {
-        self.reads = self.reads.saturating_add(1);
-        if self.reads % 3 == 0 {
-            return Err(io::Error::from(io::ErrorKind::Interrupted));
-        }
-        match (self.bytes.split_first(), buffer.first_mut()) {
-            (Some((next, rest)), Some(first)) => {
-                *first = *next;
-                self.bytes = rest;
-                Ok(1)
-            }
-            _ => Ok(0),
-        }
+/// An image whose reads, each of a byte, are interrupted again and again.
+fn trickle(bytes: &[u8]) -> Trickle<'_> {
+    Trickle {
+        bytes,
+        reads: 0,
+        fails_at: 0,
+        is_interrupted: true,
     }
 }
 
-/// What a reader of an image gives, a line for each object, and how the image ends.
-fn told(alloc: Global, bytes: &[u8]) -> Result<(Vec<(u64, usize)>, Option<ImageEnd>), Fail> {
-    let mut reader = Trickle { bytes, reads: 0 };
+/// Adds where the object begins that a reader of an image is at, and how long it is.
+fn push_part(image: &ImageReader, objects: &mut Vec<(u64, usize)>) -> Result<(), AllocError> {
+    match image.part() {
+        ImagePart::Block(block, _) => objects.push((image.offset(), block.len()))?,
+        ImagePart::Mark => objects.push((image.offset(), 0))?,
+        _ => {}
+    }
+    Ok(())
+}
+
+/// Adds what a reader of an image gives, a line for each object, and says how the image ends.
+fn told(
+    alloc: Global,
+    bytes: &[u8],
+    objects: &mut Vec<(u64, usize)>,
+) -> Result<Option<ImageEnd>, Fail> {
+    let mut reader = trickle(bytes);
     let mut image = ImageReader::new(alloc)?;
-    let mut objects = Vec::new(alloc);
     for _ in 0..200 {
         if image.await_part(&mut reader).is_err() {
             continue;
         }
-        if let Some(end) = image.end() {
-            return Ok((objects, Some(end)));
+        if image.end().is_some() {
+            return Ok(image.end());
         }
-        match image.part() {
-            ImagePart::Block(block, _) => objects.push((image.offset(), block.len()))?,
-            ImagePart::Mark => objects.push((image.offset(), 0))?,
-            _ => {}
-        }
+        push_part(&image, objects)?;
         image.pass()?;
     }
-    Ok((objects, None))
+    Ok(None)
+}
+
+/// Compares what is told of the first so many bytes of the image.
+fn assert_told(
+    rt: &impl Abort,
+    alloc: Global,
+    length: usize,
+    objects: &[(u64, usize)],
+    end: ImageEnd,
+    shows: &'static str,
+) -> Result<(), Fail> {
+    let mut found = Vec::new(alloc);
+    let (bytes, _) = IMAGE.split_at(length.min(IMAGE.len()));
+    let ended = told(alloc, bytes, &mut found)?;
+    assert_list(rt, &found, objects, shows);
+    assert_same(rt, ended, Some(end), shows);
+    Ok(())
+}
+
+/// Writes "hi", a filemark and "odd".
+fn write_image(image: &mut Vec<u8>) -> Result<(), AllocError> {
+    write_block(image, b"hi")?;
+    write_mark(image)?;
+    write_block(image, b"odd")
 }
 
 #[test]
 fn an_image_is_written_as_simh_keeps_it(rt: HostRuntime) -> Result<(), Fail> {
     let mut image = Vec::with_capacity(rt.alloc(), IMAGE.len())?;
     let room = image.capacity();
-    write_block(&mut image, b"hi")?;
-    write_mark(&mut image)?;
-    write_block(&mut image, b"odd")?;
+    write_image(&mut image)?;
     assert_list(&rt, image.as_slice(), IMAGE, "as SIMH keeps it");
     assert_same(&rt, image.capacity(), room, "in the room for it");
+    Ok(())
+}
+
+const OBJECTS: [(u64, usize); 3] = [(0, 2), (10, 0), (14, 3)];
+
+const WHOLE_OBJECTS: [(u64, usize); 2] = [(0, 2), (10, 0)];
+
+const WHOLE: ImageEnd = ImageEnd::WholeEnd { whole: 26 };
+
+/// A tail that was cut is told at each place.
+fn assert_cuts(rt: &impl Abort, alloc: Global) -> Result<(), Fail> {
+    for length in 15..26usize {
+        let lost = length as u64 - 14;
+        let cut = ImageEnd::CutTail { whole: 14, lost };
+        assert_told(rt, alloc, length, &WHOLE_OBJECTS, cut, "what a cut leaves")?;
+    }
     Ok(())
 }
 
@@ -74,24 +108,15 @@ fn an_image_is_written_as_simh_keeps_it(rt: HostRuntime) -> Result<(), Fail> {
 fn an_image_is_read_object_by_object_though_reads_are_interrupted(
     rt: HostRuntime,
 ) -> Result<(), Fail> {
-    let (objects, end) = told(rt.alloc(), IMAGE)?;
-    assert_list(&rt, &objects, &[(0, 2), (10, 0), (14, 3)], "three objects");
-    let whole = Some(ImageEnd::WholeEnd { whole: 26 });
-    assert_same(&rt, end, whole, "and the end");
-    Ok(())
+    assert_told(&rt, rt.alloc(), 26, &OBJECTS, WHOLE, "three objects")?;
+    assert_cuts(&rt, rt.alloc())
 }
 
-#[test]
-fn a_tail_that_was_cut_is_told_at_each_place(rt: HostRuntime) -> Result<(), Fail> {
-    for length in 15..26usize {
-        let (objects, end) = told(rt.alloc(), &IMAGE[..length])?;
-        let lost = length as u64 - 14;
-        assert_list(&rt, &objects, &[(0, 2), (10, 0)], "what is whole");
-        let cut = Some(ImageEnd::CutTail { whole: 14, lost });
-        assert_same(&rt, end, cut, "and what is lost");
-    }
-    Ok(())
-}
+/// A gap, the image, and the beginning of a record of an unknown class.
+const FAULTY: &[u8] = &[
+    0xFE, 0xFF, 0xFF, 0xFF, 2, 0, 0, 0, b'h', b'i', 2, 0, 0, 0, 0, 0, 0, 0, 3, 0, 0, 0, b'o', b'd',
+    b'd', 0, 3, 0, 0, 0, 2, 0, 0, 0x80, b'h', b'i',
+];
 
 const BEFORE_A_FAULT: [IndexedObject; 3] = [
     IndexedObject::Block { offset: 4, size: 2 },
@@ -102,32 +127,28 @@ const BEFORE_A_FAULT: [IndexedObject; 3] = [
     },
 ];
 
+const FAULT: ImageEnd = ImageEnd::Faulty {
+    fault: ImageFault::UnknownClass,
+    objects: 3,
+    whole: 30,
+};
+
 #[test]
 fn an_index_has_each_object_before_a_fault(rt: HostRuntime) -> Result<(), Fail> {
-    let mut bytes = Vec::new(rt.alloc());
-    bytes.extend_from_slice(&[0xFE, 0xFF, 0xFF, 0xFF])?;
-    bytes.extend_from_slice(IMAGE)?;
-    bytes.extend_from_slice(&[2, 0, 0, 0x80, b'h', b'i'])?;
-    let mut reader = bytes.as_slice();
-    let index = index_image(rt.alloc(), &mut reader)?;
+    let mut bytes = FAULTY;
+    let index = index_image(rt.alloc(), &mut bytes)?;
     assert_list(&rt, &index.objects, &BEFORE_A_FAULT, "behind a gap");
-    let end = ImageEnd::Faulty {
-        fault: ImageFault::UnknownClass,
-        objects: 3,
-        whole: 30,
-    };
-    assert_same(&rt, index.end, end, "the fault");
+    assert_same(&rt, index.end, FAULT, "the fault");
     Ok(())
 }
 
+/// How an index fails, which takes an interrupted read for one that failed.
+fn fault_of_a_read(alloc: Global) -> Option<IndexFault> {
+    index_image(alloc, &mut trickle(IMAGE)).err()
+}
+
 #[test]
-fn an_image_whose_read_fails_has_no_index(rt: HostRuntime) -> Result<(), Fail> {
-    let mut reader = Trickle {
-        bytes: IMAGE,
-        reads: 0,
-    };
-    match index_image(rt.alloc(), &mut reader) {
-        Err(IndexFault::Read) => Ok(()),
-        _ => Err("the read failed".into()),
-    }
+fn an_image_whose_read_fails_has_no_index(rt: HostRuntime) {
+    let is_of_a_read = matches!(fault_of_a_read(rt.alloc()), Some(IndexFault::Read));
+    assert_same(&rt, is_of_a_read, true, "the read failed");
 }

@@ -20,37 +20,76 @@ const CUT: &[u8] = &[
     2, 0, 0, 0, b'h', b'i', 2, 0, 0, 0, 0, 0, 0, 0, 3, 0, 0, 0, b'o', b'd',
 ];
 
-/// What a file holds: its bytes, how long each object of the image is, a filemark 0, and how the image ends.
-type File = (&'static [u8], &'static [usize], ImageEnd);
+/// What a file holds.
+#[derive(Clone, Copy)]
+enum File {
+    Empty,
+    Old,
+    /// "hi", "new" and a filemark.
+    New,
+    /// "hi", and the first half of "new" and a filemark.
+    Half,
+    Cut,
+    /// "hi" and a filemark.
+    WholeOfCut,
+}
 
-const NO_FILE: File = (&[], &[], ImageEnd::WholeEnd { whole: 0 });
+/// Its bytes.
+const fn bytes_of(file: File) -> &'static [u8] {
+    match file {
+        File::Empty => &[],
+        File::Old => OLD,
+        File::New => &[
+            2, 0, 0, 0, b'h', b'i', 2, 0, 0, 0, 3, 0, 0, 0, b'n', b'e', b'w', 0, 3, 0, 0, 0, 0, 0,
+            0, 0,
+        ],
+        File::Half => &[
+            2, 0, 0, 0, b'h', b'i', 2, 0, 0, 0, 3, 0, 0, 0, b'n', b'e', b'w', 0,
+        ],
+        File::Cut => CUT,
+        File::WholeOfCut => &[2, 0, 0, 0, b'h', b'i', 2, 0, 0, 0, 0, 0, 0, 0],
+    }
+}
 
-const OLD_FILE: File = (OLD, &[2, 0, 3], ImageEnd::WholeEnd { whole: 26 });
+const HI: IndexedObject = IndexedObject::Block { offset: 0, size: 2 };
 
-/// "hi", "new" and a filemark.
-const NEW_FILE: File = (
-    &[
-        2, 0, 0, 0, b'h', b'i', 2, 0, 0, 0, 3, 0, 0, 0, b'n', b'e', b'w', 0, 3, 0, 0, 0, 0, 0, 0, 0,
-    ],
-    &[2, 3, 0],
-    ImageEnd::WholeEnd { whole: 26 },
-);
+const MARK: IndexedObject = IndexedObject::Mark { offset: 10 };
 
-/// "hi", and the first half of "new" and a filemark.
-const HALF_FILE: File = (
-    &[
-        2, 0, 0, 0, b'h', b'i', 2, 0, 0, 0, 3, 0, 0, 0, b'n', b'e', b'w', 0,
-    ],
-    &[2],
-    ImageEnd::CutTail { whole: 10, lost: 8 },
-);
+/// The objects of the image.
+const fn objects_of(file: File) -> &'static [IndexedObject] {
+    match file {
+        File::Empty => &[],
+        File::Old => &[
+            HI,
+            MARK,
+            IndexedObject::Block {
+                offset: 14,
+                size: 3,
+            },
+        ],
+        File::New => &[
+            HI,
+            IndexedObject::Block {
+                offset: 10,
+                size: 3,
+            },
+            IndexedObject::Mark { offset: 22 },
+        ],
+        File::Half => &[HI],
+        File::Cut | File::WholeOfCut => &[HI, MARK],
+    }
+}
 
-/// "hi" and a filemark.
-const WHOLE_OF_CUT: File = (
-    &[2, 0, 0, 0, b'h', b'i', 2, 0, 0, 0, 0, 0, 0, 0],
-    &[2, 0],
-    ImageEnd::WholeEnd { whole: 14 },
-);
+/// How the image ends.
+const fn end_of(file: File) -> ImageEnd {
+    match file {
+        File::Empty => ImageEnd::WholeEnd { whole: 0 },
+        File::Old | File::New => ImageEnd::WholeEnd { whole: 26 },
+        File::Half => ImageEnd::CutTail { whole: 10, lost: 8 },
+        File::Cut => ImageEnd::CutTail { whole: 14, lost: 6 },
+        File::WholeOfCut => ImageEnd::WholeEnd { whole: 14 },
+    }
+}
 
 /// Objects of a tape: blocks, or filemarks, which have no bytes.
 const OLD_OBJECTS: [&[u8]; 3] = [b"hi", b"", b"odd"];
@@ -62,6 +101,9 @@ const OBJECTS_BEHIND: [&[u8]; 2] = [b"new", b""];
 /// What is done, with the tape or its image.
 #[derive(Clone, Copy)]
 enum Act {
+    /// From here on the tape is empty, and its image is in the row's file, of which this call fails, counted from 1, or none. So many bytes
+    /// are lost.
+    Open(u32, u64),
     /// Nothing.
     Look,
     WriteOld,
@@ -154,37 +196,23 @@ fn sync(image: &mut ImageFile<FailingStore>) -> Result<(), FlushFault> {
     }
 }
 
-fn size_of(object: &IndexedObject) -> usize {
-    match object {
-        IndexedObject::Block { size, .. } => *size,
-        IndexedObject::Mark { .. } => 0,
-    }
-}
-
-/// How long each object is of an image, a filemark 0, and how it ends.
+/// The objects of an image, and how it ends.
 fn assert_read(
     rt: &impl Abort,
     alloc: Global,
     mut bytes: &[u8],
-    sizes: &[usize],
+    objects: &[IndexedObject],
     end: ImageEnd,
     shows: &'static str,
 ) -> Result<(), Fail> {
     let index = index_image(alloc, &mut bytes)?;
-    assert_same(
-        rt,
-        (index.objects.len(), index.end),
-        (sizes.len(), end),
-        shows,
-    );
-    for (object, size) in index.objects.iter().zip(sizes) {
-        assert_same(rt, size_of(object), *size, shows);
-    }
+    assert_list(rt, &index.objects, objects, shows);
+    assert_same(rt, index.end, end, shows);
     Ok(())
 }
 
 /// What is shown, what is done, what comes of it, how many objects are known to be in the image then, how many the tape has, how many
-/// of them count as unchanged, and what the file holds.
+/// of them count as unchanged, and what the file holds. What a part of rows shows stands where its tape begins.
 type Row = (
     &'static str,
     Act,
@@ -203,7 +231,7 @@ struct Scene {
 impl Scene {
     fn act(&mut self, alloc: Global, act: Act) -> Result<(), FlushFault> {
         match act {
-            Act::Look => Ok(()),
+            Act::Look | Act::Open(..) => Ok(()),
             Act::WriteOld => write(&mut self.tape, &OLD_OBJECTS),
             Act::WriteNew => write(&mut self.tape, &NEW_OBJECTS),
             Act::WriteOver => write_over(&mut self.tape),
@@ -231,123 +259,158 @@ impl Scene {
         file: File,
         shows: &'static str,
     ) -> Result<(), Fail> {
-        let (expected, sizes, end) = file;
         let bytes = self.image.store().bytes.as_slice();
-        assert_list(rt, bytes, expected, shows);
-        assert_read(rt, alloc, bytes, sizes, end, shows)
+        assert_list(rt, bytes, bytes_of(file), shows);
+        assert_read(rt, alloc, bytes, objects_of(file), end_of(file), shows)
     }
 
     fn go_on(&mut self, rt: &impl Abort, alloc: Global, row: Row) -> Result<(), Fail> {
         let (shows, act, told, counts, file) = row;
-        assert_same(rt, self.act(alloc, act), told, shows);
-        assert_same(rt, self.counts(), counts, shows);
+        if let Act::Open(fails_at, lost) = act {
+            *self = scene_of(rt, alloc, bytes_of(file), fails_at, lost)?;
+            return Ok(());
+        }
+        let found = (self.act(alloc, act), self.counts());
+        assert_same(rt, found, (told, counts), shows);
         self.assert_file(rt, alloc, file, shows)
+    }
+
+    fn assert_rows(&mut self, rt: &impl Abort, alloc: Global) -> Result<(), Fail> {
+        for row in &ROWS {
+            self.go_on(rt, alloc, *row)?;
+        }
+        Ok(())
     }
 }
 
-const WRITTEN_OVER: [Row; 6] = [
+const ROWS: [Row; 20] = [
+    (
+        "a tape is written over from an object on",
+        Act::Open(0, 0),
+        Ok(()),
+        (0, 0, 0),
+        File::Empty,
+    ),
     (
         "nothing is written before a flush",
         Act::WriteOld,
         Ok(()),
         (0, 3, 0),
-        NO_FILE,
+        File::Empty,
     ),
-    ("the old image", Act::Flush(0), Ok(()), (3, 3, 0), OLD_FILE),
+    ("the old image", Act::Flush(0), Ok(()), (3, 3, 0), File::Old),
     (
         "what is unchanged then",
         Act::Settle,
         Ok(()),
         (3, 3, 3),
-        OLD_FILE,
+        File::Old,
     ),
     (
         "what is unchanged behind that",
         Act::WriteOver,
         Ok(()),
         (3, 3, 1),
-        OLD_FILE,
+        File::Old,
     ),
     (
         "it is written over",
         Act::Flush(1),
         Ok(()),
         (3, 3, 1),
-        NEW_FILE,
+        File::New,
     ),
-    ("the new image", Act::Sync, Ok(()), (3, 3, 1), NEW_FILE),
-];
-
-const CUT_BACK: [Row; 1] = [(
-    "the tail is cut off",
-    Act::Look,
-    Ok(()),
-    (2, 0, 0),
-    WHOLE_OF_CUT,
-)];
-
-const TRUNCATE_FAILS: [Row; 3] = [
+    ("the new image", Act::Sync, Ok(()), (3, 3, 1), File::New),
+    (
+        "a tail that a crash cut is cut back and told",
+        Act::Open(0, 6),
+        Ok(()),
+        (0, 0, 0),
+        File::Cut,
+    ),
+    (
+        "the tail is cut off",
+        Act::Look,
+        Ok(()),
+        (2, 0, 0),
+        File::WholeOfCut,
+    ),
+    (
+        "a flush that fails in its truncate is mended by the next",
+        Act::Open(2, 0),
+        Ok(()),
+        (0, 0, 0),
+        File::Old,
+    ),
     (
         "a tape, and the old image",
         Act::WriteNew,
         Ok(()),
         (3, 3, 0),
-        OLD_FILE,
+        File::Old,
     ),
     (
         "a truncate that fails leaves the old tape",
         Act::Flush(1),
         Err(FlushFault::Store(StoreFault::Failed)),
         (1, 3, 0),
-        OLD_FILE,
+        File::Old,
     ),
     (
         "the next flush mends what a truncate left",
         Act::Flush(1),
         Ok(()),
         (3, 3, 0),
-        NEW_FILE,
+        File::New,
     ),
-];
-
-const APPEND_FAILS: [Row; 3] = [
+    (
+        "a flush that fails in its append is mended by the next",
+        Act::Open(3, 0),
+        Ok(()),
+        (0, 0, 0),
+        File::Old,
+    ),
     (
         "a tape, and the old image",
         Act::WriteNew,
         Ok(()),
         (3, 3, 0),
-        OLD_FILE,
+        File::Old,
     ),
     (
         "an append that fails leaves what stays, and a cut tail",
         Act::Flush(1),
         Err(FlushFault::Store(StoreFault::Full)),
         (1, 3, 0),
-        HALF_FILE,
+        File::Half,
     ),
     (
         "the next flush mends what an append left",
         Act::Flush(1),
         Ok(()),
         (3, 3, 0),
-        NEW_FILE,
+        File::New,
     ),
-];
-
-const SYNC_FAILS: [Row; 2] = [
+    (
+        "a sync that fails is told and tried again",
+        Act::Open(2, 0),
+        Ok(()),
+        (0, 0, 0),
+        File::Old,
+    ),
     (
         "the first sync fails",
         Act::Sync,
         Err(FlushFault::Store(StoreFault::Failed)),
         (3, 0, 0),
-        OLD_FILE,
+        File::Old,
     ),
     (
         "the second does not",
         Act::Sync,
         Ok(()),
         (3, 0, 0),
-        OLD_FILE,
+        File::Old,
     ),
 ];
 
@@ -367,41 +430,10 @@ fn scene_of(
     })
 }
 
-/// Goes on with such a scene, row by row.
-fn play(
-    rt: &impl Abort,
-    alloc: Global,
-    bytes: &[u8],
-    fails_at: u32,
-    lost: u64,
-    rows: &[Row],
-) -> Result<(), Fail> {
-    let mut scene = scene_of(rt, alloc, bytes, fails_at, lost)?;
-    for row in rows {
-        scene.go_on(rt, alloc, *row)?;
-    }
-    Ok(())
-}
-
 #[test]
-fn a_tape_is_written_over_from_an_object_on(rt: HostRuntime) -> Result<(), Fail> {
-    play(&rt, rt.alloc(), &[], 0, 0, &WRITTEN_OVER)
-}
-
-#[test]
-fn a_tail_that_a_crash_cut_is_cut_back_and_told(rt: HostRuntime) -> Result<(), Fail> {
-    play(&rt, rt.alloc(), CUT, 0, 6, &CUT_BACK)
-}
-
-#[test]
-fn a_flush_that_fails_is_mended_by_the_next(rt: HostRuntime) -> Result<(), Fail> {
-    play(&rt, rt.alloc(), OLD, 2, 0, &TRUNCATE_FAILS)?;
-    play(&rt, rt.alloc(), OLD, 3, 0, &APPEND_FAILS)
-}
-
-#[test]
-fn a_sync_that_fails_is_told_and_tried_again(rt: HostRuntime) -> Result<(), Fail> {
-    play(&rt, rt.alloc(), OLD, 2, 0, &SYNC_FAILS)
+fn tapes_and_their_images_do_what_rows_say(rt: HostRuntime) -> Result<(), Fail> {
+    let mut scene = scene_of(&rt, rt.alloc(), &[], 0, 0)?;
+    scene.assert_rows(&rt, rt.alloc())
 }
 
 #[test]
@@ -430,7 +462,72 @@ fn flush_large(alloc: Global, scene: &mut Scene) -> Result<(), FlushFault> {
     flush(alloc, &mut scene.image, &scene.tape, 0)
 }
 
-const SIXTEEN: [usize; 16] = [65_536; 16];
+const SIXTEEN: [IndexedObject; 16] = [
+    IndexedObject::Block {
+        offset: 0,
+        size: 65_536,
+    },
+    IndexedObject::Block {
+        offset: 65_544,
+        size: 65_536,
+    },
+    IndexedObject::Block {
+        offset: 131_088,
+        size: 65_536,
+    },
+    IndexedObject::Block {
+        offset: 196_632,
+        size: 65_536,
+    },
+    IndexedObject::Block {
+        offset: 262_176,
+        size: 65_536,
+    },
+    IndexedObject::Block {
+        offset: 327_720,
+        size: 65_536,
+    },
+    IndexedObject::Block {
+        offset: 393_264,
+        size: 65_536,
+    },
+    IndexedObject::Block {
+        offset: 458_808,
+        size: 65_536,
+    },
+    IndexedObject::Block {
+        offset: 524_352,
+        size: 65_536,
+    },
+    IndexedObject::Block {
+        offset: 589_896,
+        size: 65_536,
+    },
+    IndexedObject::Block {
+        offset: 655_440,
+        size: 65_536,
+    },
+    IndexedObject::Block {
+        offset: 720_984,
+        size: 65_536,
+    },
+    IndexedObject::Block {
+        offset: 786_528,
+        size: 65_536,
+    },
+    IndexedObject::Block {
+        offset: 852_072,
+        size: 65_536,
+    },
+    IndexedObject::Block {
+        offset: 917_616,
+        size: 65_536,
+    },
+    IndexedObject::Block {
+        offset: 983_160,
+        size: 65_536,
+    },
+];
 
 #[test]
 fn more_than_a_part_is_written_in_parts(rt: HostRuntime) -> Result<(), Fail> {
@@ -442,17 +539,19 @@ fn more_than_a_part_is_written_in_parts(rt: HostRuntime) -> Result<(), Fail> {
     assert_read(&rt, alloc, bytes, &SIXTEEN, end, "sixteen blocks")
 }
 
+/// Cuts a store back to two bytes, and appends one.
+fn cut_and_append(store: &mut MemoryStore) -> Result<(), StoreFault> {
+    store.truncate(2)?;
+    store.append(b"y")?;
+    store.sync()
+}
+
 #[test]
 fn a_file_in_memory_is_cut_back_and_written_on(rt: HostRuntime) -> Result<(), Fail> {
     let mut store = MemoryStore {
         bytes: Vec::from_slice(rt.alloc(), b"hello")?,
     };
-    let cut = store.truncate(2);
-    assert_same(&rt, cut, Ok(()), "it is cut back");
-    let written = store.append(b"y");
-    assert_same(&rt, written, Ok(()), "it is written on");
-    let synced = store.sync();
-    assert_same(&rt, synced, Ok(()), "it is synced");
+    assert_same(&rt, cut_and_append(&mut store), Ok(()), "all is done");
     assert_list(&rt, store.bytes.as_slice(), b"hey", "what it holds");
     Ok(())
 }

@@ -52,14 +52,6 @@ fn volumes(alloc: Global, named: &[Named]) -> Result<Vec<PlacedVolume>, Fail> {
     Ok(volumes)
 }
 
-fn tags(alloc: Global, names: &[&str]) -> Result<Vec<VolumeTag>, Fail> {
-    let mut tags = Vec::new(alloc);
-    for name in names {
-        tags.push(tag(name)?)?;
-    }
-    Ok(tags)
-}
-
 /// An inventory with volumes.
 fn inventory(alloc: Global, named: &[Named]) -> Result<Inventory, Fail> {
     let mut inventory = Inventory::new(alloc, SIZE);
@@ -81,14 +73,18 @@ fn assert_written(rt: &impl Abort, alloc: Global, inventory: &Inventory) -> Resu
     Ok(())
 }
 
+fn assert_read(rt: &impl Abort, alloc: Global, inventory: &Inventory) -> Result<(), Fail> {
+    let back = read_inventory(alloc, TEXT)?;
+    assert_same(rt, back.size(), SIZE, "the size");
+    assert_list(rt, back.volumes(), inventory.volumes(), "the volumes");
+    Ok(())
+}
+
 #[test]
 fn what_is_written_is_read_back(rt: HostRuntime) -> Result<(), Fail> {
     let inventory = inventory(rt.alloc(), WRITTEN)?;
     assert_written(&rt, rt.alloc(), &inventory)?;
-    let back = read_inventory(rt.alloc(), TEXT)?;
-    assert_same(&rt, back.size(), SIZE, "the size");
-    assert_list(&rt, back.volumes(), inventory.volumes(), "the volumes");
-    Ok(())
+    assert_read(&rt, rt.alloc(), &inventory)
 }
 
 const SIZE_TEXT: &str = "version = 1\ndrives = 1\nslots = 4\nportals = 1\n";
@@ -188,39 +184,48 @@ fn a_text_that_is_wrong_is_refused_with_what_is_wrong(rt: HostRuntime) -> Result
     assert_wrong(&rt, rt.alloc(), &WRONG)
 }
 
-#[test]
-fn options_that_disagree_are_refused_with_both_values(rt: HostRuntime) -> Result<(), Fail> {
-    let mut given = GivenLibrary {
+const OTHER_SLOTS: StartFault = StartFault::Disagrees {
+    option: SizeOption::Slots,
+    given: 5,
+    kept: 4,
+};
+
+/// A library of five slots, as the options say.
+const FIVE_SLOTS: LibrarySize = LibrarySize {
+    drives: 1,
+    slots: 5,
+    portals: 0,
+};
+
+/// How many slots an option gives, the size that is kept, what must come of it, and what that shows.
+const STARTS: [(
+    u16,
+    Option<LibrarySize>,
+    Result<LibrarySize, StartFault>,
+    &'static str,
+); 3] = [
+    (4, Some(SIZE), Ok(SIZE), "the same slots"),
+    (5, Some(SIZE), Err(OTHER_SLOTS), "other slots"),
+    (5, None, Ok(FIVE_SLOTS), "no inventory"),
+];
+
+/// The size of a library where an option gives so many slots.
+fn size_of(slots: u16, kept: Option<LibrarySize>) -> Result<LibrarySize, StartFault> {
+    let given = GivenLibrary {
         drives: None,
-        slots: Some(4),
+        slots: Some(slots),
         portals: None,
         volumes: None,
     };
-    assert_same(
-        &rt,
-        size_at_start(&given, Some(SIZE)),
-        Ok(SIZE),
-        "the same slots",
-    );
-    given.slots = Some(5);
-    let fault = StartFault::Disagrees {
-        option: SizeOption::Slots,
-        given: 5,
-        kept: 4,
-    };
-    assert_same(
-        &rt,
-        size_at_start(&given, Some(SIZE)),
-        Err(fault),
-        "other slots",
-    );
-    let size = LibrarySize {
-        drives: 1,
-        slots: 5,
-        portals: 0,
-    };
-    assert_same(&rt, size_at_start(&given, None), Ok(size), "no inventory");
-    Ok(())
+    size_at_start(&given, kept)
+}
+
+#[test]
+fn options_that_disagree_are_refused_with_both_values(rt: HostRuntime) {
+    for row in &STARTS {
+        let (slots, kept, expected, shows) = *row;
+        assert_same(&rt, size_of(slots, kept), expected, shows);
+    }
 }
 
 /// The volumes that an inventory names, and the images that are there.
@@ -244,60 +249,77 @@ const PLACED: &[Named] = &[
 /// Places five volumes in a library of so many storage elements.
 fn placed(alloc: Global, slots: u16) -> Result<Result<Start, StartFault>, Fail> {
     let named = volumes(alloc, NAMED)?;
-    let images = tags(alloc, IMAGES)?;
+    let mut images = Vec::new(alloc);
+    for name in IMAGES {
+        images.push(tag(name)?)?;
+    }
     Ok(place(alloc, slots, 5, &named, &images))
+}
+
+fn assert_placed(
+    rt: &impl Abort,
+    alloc: Global,
+    found: &[PlacedVolume],
+    named: &[Named],
+    shows: &'static str,
+) -> Result<(), Fail> {
+    let expected = volumes(alloc, named)?;
+    assert_list(rt, found, &expected, shows);
+    Ok(())
+}
+
+/// The volume that an inventory names, and that has no image.
+const MISSING: &[Named] = &[("VOL00001", Element::Storage(2))];
+
+fn assert_start(rt: &impl Abort, alloc: Global, start: &Start) -> Result<(), Fail> {
+    assert_placed(rt, alloc, &start.volumes, PLACED, "where they lie")?;
+    assert_placed(rt, alloc, &start.missing, MISSING, "what is missing")?;
+    assert_list(rt, &start.made, &[tag("VOL00003")?], "what is made");
+    Ok(())
 }
 
 #[test]
 fn volumes_lie_where_they_lay_and_others_in_the_first_free_elements(
     rt: HostRuntime,
 ) -> Result<(), Fail> {
-    let alloc = rt.alloc();
-    let start = placed(alloc, 4)??;
-    let lie = volumes(alloc, PLACED)?;
-    assert_list(&rt, &start.volumes, &lie, "where they lie");
-    let made = tags(alloc, &["VOL00003"])?;
-    assert_list(&rt, &start.made, &made, "what is made");
-    let missing = volumes(alloc, &[("VOL00001", Element::Storage(2))])?;
-    assert_list(&rt, &start.missing, &missing, "what is missing");
-    Ok(())
+    assert_start(&rt, rt.alloc(), &placed(rt.alloc(), 4)??)
 }
+
+/// Three volumes, and two elements.
+const TOO_MANY: StartFault = StartFault::MoreVolumes {
+    volumes: 3,
+    free: 2,
+};
 
 #[test]
 fn more_volumes_than_free_elements_are_refused(rt: HostRuntime) -> Result<(), Fail> {
-    let fault = StartFault::MoreVolumes {
-        volumes: 3,
-        free: 2,
-    };
     let told = placed(rt.alloc(), 3)?.err();
-    assert_same(&rt, told, Some(fault), "three volumes, and two elements");
+    assert_same(&rt, told, Some(TOO_MANY), "three volumes, and two elements");
     Ok(())
 }
 
-const NO_NAMES: [&str; 5] = ["", "a b", "a/b", "..", "123456789012345678901234567890123"];
+const PADDED: VolumeTag = VolumeTag(*b"VOL00001                        ");
+
+const BLANK: VolumeTag = VolumeTag([b' '; 32]);
+
+const NO_NAMES: [&'static str; 5] = ["", "a b", "a/b", "..", "123456789012345678901234567890123"];
 
 #[test]
 fn a_name_is_that_of_one_tag(rt: HostRuntime) {
-    let padded = VolumeTag(*b"VOL00001                        ");
     assert_same(
         &rt,
         tag_of_name("VOL00001"),
-        Some(padded),
+        Some(PADDED),
         "the tag of a name",
     );
     assert_same(
         &rt,
-        name_of_tag(&padded),
+        name_of_tag(&PADDED),
         Some("VOL00001"),
         "the name of a tag",
     );
-    for name in NO_NAMES {
+    assert_same(&rt, name_of_tag(&BLANK), None, "an empty tag");
+    for name in &NO_NAMES {
         assert_same(&rt, tag_of_name(name), None, name);
     }
-    assert_same(
-        &rt,
-        name_of_tag(&VolumeTag([b' '; 32])),
-        None,
-        "an empty tag",
-    );
 }

@@ -334,23 +334,34 @@ impl<'a, R: Wait> Scene<'a, R> {
     }
 
     fn go_on(&self, rt: &impl Abort, row: Row) {
-        let (shows, act, is_kept, events, bytes, synced) = row;
+        let (shows, act, is_kept, told, bytes, synced) = row;
         assert_same(rt, self.act(act), is_kept, shows);
-        self.assert_told(rt, events, shows);
+        self.assert_told(rt, events_of(told), shows);
         self.assert_file(rt, bytes, synced, shows);
     }
 }
 
 /// What is shown, what is done, whether it is kept, what was told by then, what the file has then, and how many bytes of it are on
 /// the disk.
-type Row = (
-    &'static str,
-    Act,
-    bool,
-    &'static [KeepEvent],
-    &'static [u8],
-    usize,
-);
+type Row = (&'static str, Act, bool, Told, &'static [u8], usize);
+
+/// What was told.
+#[derive(Clone, Copy)]
+enum Told {
+    Nothing,
+    /// The disk is full.
+    Full,
+    /// And then there is room again.
+    GoesOn,
+}
+
+const fn events_of(told: Told) -> &'static [KeepEvent] {
+    match told {
+        Told::Nothing => &[],
+        Told::Full => &[FULL],
+        Told::GoesOn => &[FULL, GOES_ON],
+    }
+}
 
 const FULL: KeepEvent = KeepEvent {
     thing: KeptThing::Volume(TAG),
@@ -363,15 +374,43 @@ const GOES_ON: KeepEvent = KeepEvent {
 };
 
 const OF_A_FILEMARK: [Row; 6] = [
-    ("a block is written", Act::Write, true, &[], &[], 0),
-    ("it isn't copied at once", Act::KeepWrite, true, &[], &[], 0),
-    ("it is copied behind", Act::WriteBehind, true, &[], BLOCK, 0),
-    ("a filemark is written", Act::WriteMark, true, &[], BLOCK, 0),
+    (
+        "a block is written",
+        Act::Write,
+        true,
+        Told::Nothing,
+        &[],
+        0,
+    ),
+    (
+        "it isn't copied at once",
+        Act::KeepWrite,
+        true,
+        Told::Nothing,
+        &[],
+        0,
+    ),
+    (
+        "it is copied behind",
+        Act::WriteBehind,
+        true,
+        Told::Nothing,
+        BLOCK,
+        0,
+    ),
+    (
+        "a filemark is written",
+        Act::WriteMark,
+        true,
+        Told::Nothing,
+        BLOCK,
+        0,
+    ),
     (
         "a REWIND brings nothing to the disk",
         Act::KeepRewind,
         true,
-        &[],
+        Told::Nothing,
         BLOCK,
         0,
     ),
@@ -379,23 +418,51 @@ const OF_A_FILEMARK: [Row; 6] = [
         "a filemark does",
         Act::KeepMark,
         true,
-        &[],
+        Told::Nothing,
         BLOCK_AND_MARK,
         14,
     ),
 ];
 
 const OF_A_FULL_DISK: [Row; 7] = [
-    ("the disk is full", Act::Fill(true), true, &[], &[], 0),
-    ("a block is written", Act::Write, true, &[], &[], 0),
-    ("a filemark is written", Act::WriteMark, true, &[], &[], 0),
-    ("it isn't kept", Act::KeepMark, false, &[FULL], &[], 0),
-    ("that is told once", Act::KeepMark, false, &[FULL], &[], 0),
+    (
+        "the disk is full",
+        Act::Fill(true),
+        true,
+        Told::Nothing,
+        &[],
+        0,
+    ),
+    (
+        "a block is written",
+        Act::Write,
+        true,
+        Told::Nothing,
+        &[],
+        0,
+    ),
+    (
+        "a filemark is written",
+        Act::WriteMark,
+        true,
+        Told::Nothing,
+        &[],
+        0,
+    ),
+    ("it isn't kept", Act::KeepMark, false, Told::Full, &[], 0),
+    (
+        "that is told once",
+        Act::KeepMark,
+        false,
+        Told::Full,
+        &[],
+        0,
+    ),
     (
         "there is room again",
         Act::Fill(false),
         true,
-        &[FULL],
+        Told::Full,
         &[],
         0,
     ),
@@ -403,19 +470,26 @@ const OF_A_FULL_DISK: [Row; 7] = [
         "all is kept at the end",
         Act::KeepAll,
         true,
-        &[FULL, GOES_ON],
+        Told::GoesOn,
         BLOCK_AND_MARK,
         14,
     ),
 ];
 
 const OF_A_HOST_THAT_WRITES_ON: [Row; 6] = [
-    ("a block is written", Act::Write, true, &[], &[], 0),
+    (
+        "a block is written",
+        Act::Write,
+        true,
+        Told::Nothing,
+        &[],
+        0,
+    ),
     (
         "a host is to write on meanwhile",
         Act::WriteOn,
         true,
-        &[],
+        Told::Nothing,
         &[],
         0,
     ),
@@ -423,7 +497,7 @@ const OF_A_HOST_THAT_WRITES_ON: [Row; 6] = [
         "nothing is copied at once",
         Act::KeepWrite,
         true,
-        &[],
+        Told::Nothing,
         &[],
         0,
     ),
@@ -431,7 +505,7 @@ const OF_A_HOST_THAT_WRITES_ON: [Row; 6] = [
         "what there was when the copy began",
         Act::WriteBehind,
         true,
-        &[],
+        Told::Nothing,
         BLOCK,
         0,
     ),
@@ -439,7 +513,7 @@ const OF_A_HOST_THAT_WRITES_ON: [Row; 6] = [
         "what came meanwhile is not copied at once",
         Act::KeepWrite,
         true,
-        &[],
+        Told::Nothing,
         BLOCK,
         0,
     ),
@@ -447,34 +521,39 @@ const OF_A_HOST_THAT_WRITES_ON: [Row; 6] = [
         "the filemark that came meanwhile is copied next",
         Act::WriteBehind,
         true,
-        &[],
+        Told::Nothing,
         BLOCK_AND_MARK,
         0,
     ),
 ];
 
 /// Has a drive with an empty volume, which is kept in an empty file, go through all rows.
-fn play<R: Abort + Wait>(rt: &R, alloc: Global, rows: &[Row]) -> Result<(), Fail> {
+fn play<R: Abort + Wait>(
+    rt: &R,
+    alloc: Global,
+    shows: &'static str,
+    rows: &[Row],
+) -> Result<(), Fail> {
     let file = empty_file(alloc);
     let bay = drive_with_volume(alloc);
     let scene = Scene::new(rt, alloc, &bay, &file)?;
+    scene.assert_file(rt, &[], 0, shows);
     for row in rows {
         scene.go_on(rt, *row);
     }
     Ok(())
 }
 
-#[test]
-fn a_filemark_is_on_the_disk_before_it_is_answered(rt: HostRuntime) -> Result<(), Fail> {
-    play(&rt, rt.alloc(), &OF_A_FILEMARK)
-}
+const FILEMARK: &str = "a filemark is on the disk before it is answered";
+
+const FULL_DISK: &str = "a full disk is told once and tried again";
+
+const WRITES_ON: &str = "a host writes on while a part is written";
 
 #[test]
-fn a_full_disk_is_told_once_and_tried_again(rt: HostRuntime) -> Result<(), Fail> {
-    play(&rt, rt.alloc(), &OF_A_FULL_DISK)
-}
-
-#[test]
-fn a_host_writes_on_while_a_part_is_written(rt: HostRuntime) -> Result<(), Fail> {
-    play(&rt, rt.alloc(), &OF_A_HOST_THAT_WRITES_ON)
+fn volumes_in_a_drive_are_kept_as_rows_say(rt: HostRuntime) -> Result<(), Fail> {
+    let alloc = rt.alloc();
+    play(&rt, alloc, FILEMARK, &OF_A_FILEMARK)?;
+    play(&rt, alloc, FULL_DISK, &OF_A_FULL_DISK)?;
+    play(&rt, alloc, WRITES_ON, &OF_A_HOST_THAT_WRITES_ON)
 }

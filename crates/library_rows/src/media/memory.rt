@@ -13,6 +13,9 @@ const LISTS: u64 = 1_024;
 /// What is done with a tape.
 #[derive(Clone, Copy)]
 enum Act {
+    /// From here on there are three blank tapes under another limit, or under none.
+    Limit(u64),
+    NoLimit,
     /// One more block of a byte is written.
     Grow,
     /// So many filemarks are.
@@ -35,7 +38,7 @@ fn change(tape: &mut Tape, act: Act) -> Result<u32, TapeFault> {
     match act {
         Act::Grow => tape.write_block(b"1")?,
         Act::Mark(count) => tape.write_marks(count)?,
-        Act::Look | Act::Drop => {}
+        _ => {}
     }
     Ok(tape.object_count())
 }
@@ -57,16 +60,37 @@ fn count_behind(tapes: &mut [Option<Tape>], place: usize, act: Act) -> Result<u3
 /// What is shown, with which tape what is done, and how many objects it has then.
 type Row = (&'static str, usize, Act, Result<u32, TapeFault>);
 
-fn play(rt: &impl Abort, alloc: Global, memory: &MemoryLimit, rows: &[Row]) -> Result<(), Fail> {
-    let mut tapes = blanks(alloc, memory)?;
-    for (shows, place, act, expected) in rows {
-        let found = count_behind(tapes.as_mut_slice(), *place, *act);
-        assert_same(rt, found, *expected, *shows);
+/// Three blank tapes, under a limit that an act says.
+fn blanks_within(alloc: Global, act: Act) -> Result<Vec<Option<Tape>>, Fail> {
+    let memory = match act {
+        Act::Limit(bytes) => MemoryLimit::new(alloc, bytes)?,
+        _ => MemoryLimit::none(),
+    };
+    blanks(alloc, &memory)
+}
+
+fn assert_row(
+    rt: &impl Abort,
+    alloc: Global,
+    tapes: &mut Vec<Option<Tape>>,
+    row: &Row,
+) -> Result<(), Fail> {
+    let (shows, place, act, expected) = *row;
+    if matches!(act, Act::Limit(_) | Act::NoLimit) {
+        *tapes = blanks_within(alloc, act)?;
     }
+    let found = count_behind(tapes.as_mut_slice(), place, act);
+    assert_same(rt, found, expected, shows);
     Ok(())
 }
 
-const SHARED: [Row; 6] = [
+const ROWS: [Row; 14] = [
+    (
+        "tapes that share a limit take no more",
+        0,
+        Act::Limit(2 * ROOM + LISTS),
+        Ok(0),
+    ),
     ("the first has room", 0, Act::Grow, Ok(1)),
     ("the second has room", 1, Act::Grow, Ok(1)),
     (
@@ -88,15 +112,7 @@ const SHARED: [Row; 6] = [
         Act::Grow,
         Ok(1),
     ),
-];
-
-#[test]
-fn tapes_that_share_a_limit_take_no_more(rt: HostRuntime) -> Result<(), Fail> {
-    let memory = MemoryLimit::new(rt.alloc(), 2 * ROOM + LISTS)?;
-    play(&rt, rt.alloc(), &memory, &SHARED)
-}
-
-const MARKS: [Row; 3] = [
+    ("lists of filemarks count", 0, Act::Limit(LISTS), Ok(0)),
     ("a filemark takes the list alone", 0, Act::Mark(1), Ok(1)),
     (
         "a thousand take more",
@@ -105,20 +121,21 @@ const MARKS: [Row; 3] = [
         Err(TapeFault::NoMemory),
     ),
     ("and none is written", 0, Act::Look, Ok(1)),
-];
-
-#[test]
-fn lists_of_filemarks_count(rt: HostRuntime) -> Result<(), Fail> {
-    let memory = MemoryLimit::new(rt.alloc(), LISTS)?;
-    play(&rt, rt.alloc(), &memory, &MARKS)
-}
-
-const UNLIMITED: [Row; 2] = [
+    (
+        "tapes without a limit take what there is",
+        0,
+        Act::NoLimit,
+        Ok(0),
+    ),
     ("one tape", 0, Act::Grow, Ok(1)),
     ("another", 1, Act::Grow, Ok(1)),
 ];
 
 #[test]
-fn tapes_without_a_limit_take_what_there_is(rt: HostRuntime) -> Result<(), Fail> {
-    play(&rt, rt.alloc(), &MemoryLimit::none(), &UNLIMITED)
+fn tapes_take_the_memory_that_rows_say(rt: HostRuntime) -> Result<(), Fail> {
+    let mut tapes = Vec::new(rt.alloc());
+    for row in &ROWS {
+        assert_row(&rt, rt.alloc(), &mut tapes, row)?;
+    }
+    Ok(())
 }

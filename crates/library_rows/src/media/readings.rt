@@ -1,6 +1,7 @@
 use crate::comparing::assert_same;
+use crate::trickle::Trickle;
 use std::alloc::Global;
-use std::io::{self, Read};
+use std::io::Read;
 use std::process::Abort;
 use std::test::Fail;
 use tape_flush::{ReadTape, ReadTapeFault, read_tape};
@@ -26,54 +27,14 @@ const CUT: &[u8] = &[
 /// A filemark, and then a record of an unknown class.
 const FAULTY: &[u8] = &[0, 0, 0, 0, 2, 0, 0, 0x80];
 
-/// A reader that gives a byte at a time, and fails behind the first so many.
-#[derive(Drop)]
-struct FailingReader<'a> {
-    bytes: &'a [u8],
-    left: usize,
-}
-
-impl Read for FailingReader<'_> {
-    fn read(&mut self, buf: &mut [u8]) -> io::Result<usize> {
-        if self.left == 0 {
-            return Err(io::Error::from(io::ErrorKind::Other));
-        }
-        self.left -= 1;
-        match (self.bytes.split_first(), buf.first_mut()) {
-            (Some((byte, rest)), Some(place)) => {
-                *place = *byte;
-                self.bytes = rest;
-                Ok(1)
-            }
-            _ => Ok(0),
-        }
-    }
-}
-
-/// What is seen of a tape that was read, and of the index of its image.
-#[derive(Clone, Copy, Debug, PartialEq, Eq)]
-struct Seen {
-    objects: u32,
-    /// Whether they are "hi", a filemark and "odd".
-    are_three: bool,
-    position: u32,
-    unchanged: u32,
-    capacity: u64,
-    indexed: usize,
-    end: ImageEnd,
-}
+/// What is seen of a tape that was read: how many objects it has, whether they are "hi", a filemark and "odd", how its image ends; and
+/// where it stands, how many objects count as unchanged, how many bytes of blocks it takes, and how many objects are in the index.
+type Seen = (u32, bool, ImageEnd, (u32, u32, u64, usize));
 
 /// A tape at its beginning, whose objects are all in the index and count as unchanged.
 fn at_its_beginning(objects: u32, are_three: bool, capacity: u64, end: ImageEnd) -> Seen {
-    Seen {
-        objects,
-        are_three,
-        position: 0,
-        unchanged: objects,
-        capacity,
-        indexed: objects as usize,
-        end,
-    }
+    let rest = (0, objects, capacity, objects as usize);
+    (objects, are_three, end, rest)
 }
 
 /// What is shown, an image, for how many bytes of blocks it is read, and what must be seen then: how many objects, whether they are "hi",
@@ -149,15 +110,14 @@ fn are_three(tape: &Tape) -> bool {
 }
 
 fn seen_of(read: &ReadTape) -> Seen {
-    Seen {
-        objects: read.tape.object_count(),
-        are_three: are_three(&read.tape),
-        position: read.tape.position(),
-        unchanged: read.tape.unchanged(),
-        capacity: read.tape.capacity(),
-        indexed: read.index.objects.len(),
-        end: read.index.end,
-    }
+    let tape = &read.tape;
+    let rest = (
+        tape.position(),
+        tape.unchanged(),
+        tape.capacity(),
+        read.index.objects.len(),
+    );
+    (tape.object_count(), are_three(tape), read.index.end, rest)
 }
 
 /// Reads an image as a tape, and says what is seen of that.
@@ -200,8 +160,13 @@ fn more_filemarks_than_a_tape_takes_are_refused(rt: HostRuntime) -> Result<(), F
 }
 
 /// What is seen where a read fails behind so many bytes of the image.
-fn seen_until(alloc: Global, left: usize) -> Result<Seen, ReadTapeFault> {
-    let mut reader = FailingReader { bytes: IMAGE, left };
+fn seen_until(alloc: Global, left: u64) -> Result<Seen, ReadTapeFault> {
+    let mut reader = Trickle {
+        bytes: IMAGE,
+        reads: 0,
+        fails_at: left.saturating_add(1),
+        is_interrupted: false,
+    };
     seen_in(alloc, &mut reader, 1_000)
 }
 

@@ -3,13 +3,13 @@
 ghost use Rattle.std.specs.Prelude.{◌<◌, ◌≤◌};
 
 use super::{TAG, assert_same};
+use crate::comparing::assert_list;
 use changer_server::Changer;
-use device_server::{BadPlace, DeviceServer, PutFault, TakeFault};
+use device_server::{BadPlace, DeviceServer, Outcome, PutFault, TakeFault};
 use element_map::Elements;
 use library_device::Device;
 use scsi_cdb::{Kind, Request};
-use scsi_sense::Sense;
-use std::alloc::Global;
+use std::alloc::{AllocError, Global};
 use std::process::Abort;
 use std::test::Fail;
 use tape_medium::{MapFault, Tape, Volume, VolumeTag};
@@ -17,9 +17,14 @@ use tape_server::TapeDrive;
 
 const OTHER: VolumeTag = VolumeTag([b'O'; 32]);
 
-/// What is done at a place.
+/// What is done at a place, or asked.
 #[derive(Clone, Copy)]
 enum Act {
+    /// From here on the places are those of a drive and two storage elements, those of two drives, three storage and two import/export
+    /// elements, or that of a drive itself: empty at first. The row's place is how many drives there are to a changer.
+    Anew,
+    AnewOfMore,
+    ADrive,
     /// A volume without data goes in, with TAG or with OTHER.
     PutTag,
     PutOther,
@@ -37,6 +42,8 @@ enum Act {
     Unmark,
     /// What these alone have: elements a move of 0400h to this place, a device a reset.
     Own,
+    /// A device is asked.
+    Ask(Ask),
 }
 
 /// How many bytes of blocks the volume takes that goes in.
@@ -78,8 +85,16 @@ fn volume_of(alloc: Global, act: Act) -> Volume {
 /// A word for what came of it, and a name of the volume that came back or that is there.
 type Found = (&'static str, &'static str);
 
-/// What it shows, what is done and where, and what must come of it.
-type Row = (&'static str, Act, u16, Found);
+/// What it shows, what is done and where, which data go along, a word for what must come of it, and the data of the answer or the name of
+/// a volume. What a part of rows shows stands where its places begin.
+type Row = (
+    &'static str,
+    Act,
+    u16,
+    &'static [u8],
+    &'static str,
+    &'static [u8],
+);
 
 fn name_of_tag(tag: Option<VolumeTag>) -> &'static str {
     match tag {
@@ -110,196 +125,12 @@ fn word_of(fault: MapFault) -> &'static str {
     }
 }
 
-/// Places of volumes, as rows see them: by what comes back alone.
-trait Bays {
-    fn put(&mut self, place: u16, volume: Volume) -> Found;
-
-    fn take(&mut self, place: u16) -> Found;
-
-    fn hold(&self, place: u16) -> Found;
-
-    fn mark(&mut self, place: u16, tag: Option<VolumeTag>) -> Found;
-
-    fn own(&mut self, place: u16) -> Found;
-}
-
-impl Bays for Elements {
-    fn put(&mut self, place: u16, volume: Volume) -> Found {
-        match Elements::put(self, place, volume) {
-            Ok(()) => ("in", "-"),
-            Err((back, fault)) => (word_of(fault), name_of(&back)),
-        }
-    }
-
-    fn take(&mut self, place: u16) -> Found {
-        match Elements::take(self, place) {
-            Ok(volume) => ("out", name_of(&volume)),
-            Err(fault) => (word_of(fault), "-"),
-        }
-    }
-
-    fn hold(&self, place: u16) -> Found {
-        match self.read(place) {
-            Ok(tag) => ("holds", name_of_tag(tag)),
-            Err(fault) => (word_of(fault), "-"),
-        }
-    }
-
-    fn mark(&mut self, place: u16, tag: Option<VolumeTag>) -> Found {
-        match Elements::mark(self, place, tag) {
-            Ok(()) => ("marked", name_of_tag(tag)),
-            Err(fault) => (word_of(fault), "-"),
-        }
-    }
-
-    fn own(&mut self, place: u16) -> Found {
-        match self.move_volume(0x400, place) {
-            Ok(()) => ("moved", "-"),
-            Err(fault) => (word_of(fault), "-"),
-        }
-    }
-}
-
-impl Bays for Device {
-    fn put(&mut self, place: u16, volume: Volume) -> Found {
-        match self.put_volume(place, volume) {
-            Ok(()) => ("in", "-"),
-            Err((back, PutFault::Full)) => ("full", name_of(&back)),
-            Err((back, PutFault::BadPlace)) => ("bad place", name_of(&back)),
-        }
-    }
-
-    fn take(&mut self, place: u16) -> Found {
-        match self.take_volume(place) {
-            Ok(volume) => ("out", name_of(&volume)),
-            Err(TakeFault::Empty) => ("empty", "-"),
-            Err(TakeFault::BadPlace) => ("bad place", "-"),
-        }
-    }
-
-    fn hold(&self, place: u16) -> Found {
-        ("holds", name_of_tag(self.held(place)))
-    }
-
-    fn mark(&mut self, place: u16, tag: Option<VolumeTag>) -> Found {
-        match DeviceServer::mark(self, place, tag) {
-            Ok(()) => ("marked", name_of_tag(tag)),
-            Err(BadPlace) => ("bad place", "-"),
-        }
-    }
-
-    fn own(&mut self, _place: u16) -> Found {
-        self.reset();
-        ("reset", "-")
-    }
-}
-
-fn done<B: Bays>(alloc: Global, bays: &mut B, act: Act, place: u16) -> Found {
-    match act {
-        Act::Take => bays.take(place),
-        Act::Hold => bays.hold(place),
-        Act::MarkTag => bays.mark(place, Some(TAG)),
-        Act::MarkOther => bays.mark(place, Some(OTHER)),
-        Act::Unmark => bays.mark(place, None),
-        Act::Own => bays.own(place),
-        _ => bays.put(place, volume_of(alloc, act)),
-    }
-}
-
-fn assert_done<B: Bays>(rt: &impl Abort, alloc: Global, bays: &mut B, rows: &[Row]) {
-    for row in rows {
-        let (shows, act, place, (word, name)) = *row;
-        let (found, volume) = done(alloc, bays, act, place);
-        assert_same(rt, found, word, shows);
-        assert_same(rt, volume, name, shows);
-    }
-}
-
-#[test]
-fn read_element_status_of_an_unknown_type_is_a_header_of_zeros(
-    rt: HostRuntime,
-) -> Result<(), Fail> {
-    let elements = Elements::new(rt.alloc(), 2, 3, 2)?;
-    let status = elements.status(rt.alloc(), 5, 0, 9, true)?;
-    assert_same(&rt, status.as_slice(), [0; 8].as_slice(), "a header");
-    Ok(())
-}
-
-/// A volume that goes into a drive leaves the elements.
-const MOVED: [Row; 3] = [
-    ("a volume", Act::PutTag, 0x400, ("in", "-")),
-    ("into a drive", Act::Own, 0x100, ("bad place", "-")),
-    (
-        "the volume is where it was",
-        Act::Hold,
-        0x400,
-        ("holds", "TAG"),
-    ),
-];
-
-#[test]
-fn move_volume_refuses_a_drive(rt: HostRuntime) -> Result<(), Fail> {
-    let mut elements = Elements::new(rt.alloc(), 1, 2, 0)?;
-    assert_done(&rt, rt.alloc(), &mut elements, &MOVED);
-    Ok(())
-}
-
-const FULL_ELEMENT: [Row; 3] = [
-    ("a volume", Act::PutTag, 0x400, ("in", "-")),
-    ("another", Act::PutOther, 0x400, ("full", "OTHER")),
-    (
-        "the first is where it was",
-        Act::Hold,
-        0x400,
-        ("holds", "TAG"),
-    ),
-];
-
-#[test]
-fn put_hands_back_the_volume_at_a_full_element(rt: HostRuntime) -> Result<(), Fail> {
-    let mut elements = Elements::new(rt.alloc(), 1, 2, 0)?;
-    assert_done(&rt, rt.alloc(), &mut elements, &FULL_ELEMENT);
-    Ok(())
-}
-
-const OF_ALL_TYPES: [Row; 14] = [
-    ("a marked drive", Act::MarkTag, 0x101, ("marked", "TAG")),
-    ("a volume", Act::PutTag, 0x201, ("in", "-")),
-    ("the transport", Act::Hold, 0, ("holds", "-")),
-    ("an empty drive", Act::Hold, 0x100, ("holds", "-")),
-    ("a drive", Act::Hold, 0x101, ("holds", "TAG")),
-    ("no drive", Act::Hold, 0x102, ("bad place", "-")),
-    (
-        "an import/export element",
-        Act::Hold,
-        0x201,
-        ("holds", "TAG"),
-    ),
-    ("out of the transport", Act::Take, 0, ("bad place", "-")),
-    ("out of a drive", Act::Take, 0x101, ("bad place", "-")),
-    ("out of an empty element", Act::Take, 0x400, ("empty", "-")),
-    ("taken out", Act::Take, 0x201, ("out", "TAG")),
-    ("it is gone", Act::Hold, 0x201, ("holds", "-")),
-    ("a drive is marked", Act::MarkTag, 0x100, ("marked", "TAG")),
-    ("a slot isn't", Act::MarkTag, 0x400, ("bad place", "-")),
-];
-
-fn drives_of(elements: &Elements) -> u16 {
-    elements.drives()
-}
-
-#[test]
-fn read_take_and_mark_go_by_the_kind_of_element(rt: HostRuntime) -> Result<(), Fail> {
-    let mut elements = Elements::new(rt.alloc(), 2, 3, 2)?;
-    assert_same(&rt, drives_of(&elements), 2, "drives");
-    assert_done(&rt, rt.alloc(), &mut elements, &OF_ALL_TYPES);
-    Ok(())
-}
-
 /// What a device is asked.
 #[derive(Clone, Copy)]
 enum Ask {
     Ready,
+    /// READ ELEMENT STATUS of the unknown type 5. Elements are asked this alone, and a device isn't.
+    StatusOfType5,
     Rewind,
     Erase,
     Unload,
@@ -372,7 +203,7 @@ const UNLOAD: Request = Request::LoadUnload {
 
 const fn request_of(ask: Ask) -> Request {
     match ask {
-        Ask::Ready => Request::TestUnitReady,
+        Ask::Ready | Ask::StatusOfType5 => Request::TestUnitReady,
         Ask::Rewind => Request::Rewind,
         Ask::Erase => Request::Erase,
         Ask::Unload => UNLOAD,
@@ -392,264 +223,621 @@ const fn request_of(ask: Ask) -> Request {
     }
 }
 
-/// What it shows, what a device is asked and with which data, and the data and the sense data that must come back.
-type Asked = (
-    &'static str,
-    Ask,
-    &'static [u8],
-    &'static [u8],
-    &'static [u8],
-);
+/// Sense data, whole, and a word for it.
+const SENSES: [(&'static str, &'static [u8]); 7] = [
+    ("no medium", b"\x70\0\x02\0\0\0\0\x0a\0\0\0\0\x3a\0\0\0\0\0"),
+    (
+        "write protected",
+        b"\x70\0\x07\0\0\0\0\x0a\0\0\0\0\x27\0\0\0\0\0",
+    ),
+    (
+        "overflow of 5",
+        b"\xf0\0\x4d\0\0\0\x05\x0a\0\0\0\0\0\x02\0\0\0\0",
+    ),
+    (
+        "overflow of 2",
+        b"\xf0\0\x4d\0\0\0\x02\x0a\0\0\0\0\0\x02\0\0\0\0",
+    ),
+    (
+        "destination full",
+        b"\x70\0\x05\0\0\0\0\x0a\0\0\0\0\x3b\x0d\0\0\0\0",
+    ),
+    (
+        "source empty",
+        b"\x70\0\x05\0\0\0\0\x0a\0\0\0\0\x3b\x0e\0\0\0\0",
+    ),
+    (
+        "internal failure",
+        b"\x70\0\x04\0\0\0\0\x0a\0\0\0\0\x44\0\0\0\0\0",
+    ),
+];
 
-const GOOD: &[u8] = &[0; 18];
+fn word_of_sense(found: &[u8]) -> &'static str {
+    for (word, sense) in &SENSES {
+        if found == *sense {
+            return *word;
+        }
+    }
+    "other sense data"
+}
 
-const NO_MEDIUM: &[u8] = b"\x70\0\x02\0\0\0\0\x0a\0\0\0\0\x3a\0\0\0\0\0";
-
-const WRITE_PROTECTED: &[u8] = b"\x70\0\x07\0\0\0\0\x0a\0\0\0\0\x27\0\0\0\0\0";
-
-const OVERFLOW_OF_5: &[u8] = b"\xf0\0\x4d\0\0\0\x05\x0a\0\0\0\0\0\x02\0\0\0\0";
-
-const OVERFLOW_OF_2: &[u8] = b"\xf0\0\x4d\0\0\0\x02\x0a\0\0\0\0\0\x02\0\0\0\0";
-
-const FULL: &[u8] = b"\x70\0\x05\0\0\0\0\x0a\0\0\0\0\x3b\x0d\0\0\0\0";
-
-const EMPTY: &[u8] = b"\x70\0\x05\0\0\0\0\x0a\0\0\0\0\x3b\x0e\0\0\0\0";
-
-const INTERNAL_FAILURE: &[u8] = b"\x70\0\x04\0\0\0\0\x0a\0\0\0\0\x44\0\0\0\0\0";
-
-/// Zeros where there is no sense data.
-fn bytes_of(sense: &Option<Sense>) -> [u8; 18] {
-    match sense {
-        None => [0; 18],
-        Some(found) => found.to_bytes(),
+fn word_of_outcome(outcome: &Outcome) -> &'static str {
+    match (&outcome.sense, outcome.mode_changed) {
+        (None, false) => "GOOD",
+        (None, true) => "GOOD, and the mode has changed",
+        (Some(sense), false) => word_of_sense(sense.to_bytes().as_slice()),
+        (Some(_), true) => "another answer",
     }
 }
 
-fn assert_asked(
+/// Places of volumes, as rows see them: by what comes back alone.
+trait Bays: Drop + Sized {
+    /// Those that an act begins.
+    fn begun(alloc: Global, act: Act) -> Result<Self, AllocError>;
+
+    /// What they are, and how many drives there are to them.
+    fn look(&self) -> (&'static str, u16);
+
+    /// A word for what is answered, and the data.
+    fn asked(
+        &mut self,
+        alloc: Global,
+        ask: Ask,
+        given: &[u8],
+    ) -> Result<(&'static str, Vec<u8>), AllocError>;
+
+    fn put(&mut self, place: u16, volume: Volume) -> Found;
+
+    fn take(&mut self, place: u16) -> Found;
+
+    fn hold(&self, place: u16) -> Found;
+
+    fn mark(&mut self, place: u16, tag: Option<VolumeTag>) -> Found;
+
+    fn own(&mut self, place: u16) -> Found;
+}
+
+impl Bays for Elements {
+    fn begun(alloc: Global, act: Act) -> Result<Elements, AllocError> {
+        match act {
+            Act::AnewOfMore => Elements::new(alloc, 2, 3, 2),
+            _ => Elements::new(alloc, 1, 2, 0),
+        }
+    }
+
+    fn look(&self) -> (&'static str, u16) {
+        ("elements", self.drives())
+    }
+
+    fn asked(
+        &mut self,
+        alloc: Global,
+        _ask: Ask,
+        _given: &[u8],
+    ) -> Result<(&'static str, Vec<u8>), AllocError> {
+        Ok(("GOOD", self.status(alloc, 5, 0, 9, true)?))
+    }
+
+    fn put(&mut self, place: u16, volume: Volume) -> Found {
+        match Elements::put(self, place, volume) {
+            Ok(()) => ("in", "-"),
+            Err((back, fault)) => (word_of(fault), name_of(&back)),
+        }
+    }
+
+    fn take(&mut self, place: u16) -> Found {
+        match Elements::take(self, place) {
+            Ok(volume) => ("out", name_of(&volume)),
+            Err(fault) => (word_of(fault), "-"),
+        }
+    }
+
+    fn hold(&self, place: u16) -> Found {
+        match self.read(place) {
+            Ok(tag) => ("holds", name_of_tag(tag)),
+            Err(fault) => (word_of(fault), "-"),
+        }
+    }
+
+    fn mark(&mut self, place: u16, tag: Option<VolumeTag>) -> Found {
+        match Elements::mark(self, place, tag) {
+            Ok(()) => ("marked", name_of_tag(tag)),
+            Err(fault) => (word_of(fault), "-"),
+        }
+    }
+
+    fn own(&mut self, place: u16) -> Found {
+        match self.move_volume(0x400, place) {
+            Ok(()) => ("moved", "-"),
+            Err(fault) => (word_of(fault), "-"),
+        }
+    }
+}
+
+impl Bays for Device {
+    fn begun(alloc: Global, act: Act) -> Result<Device, AllocError> {
+        match act {
+            Act::ADrive => Ok(Device::Tape(TapeDrive::new())),
+            _ => Ok(Device::Changer(Changer::new(Elements::new(alloc, 1, 2, 0)?))),
+        }
+    }
+
+    fn look(&self) -> (&'static str, u16) {
+        match self.kind() {
+            Kind::Drive => ("a drive", self.drives()),
+            Kind::Changer => ("a changer", self.drives()),
+        }
+    }
+
+    fn asked(
+        &mut self,
+        alloc: Global,
+        ask: Ask,
+        given: &[u8],
+    ) -> Result<(&'static str, Vec<u8>), AllocError> {
+        let outcome = self.perform(alloc, &request_of(ask), given)?;
+        let data = Vec::from_slice(alloc, outcome.payload.bytes())?;
+        Ok((word_of_outcome(&outcome), data))
+    }
+
+    fn put(&mut self, place: u16, volume: Volume) -> Found {
+        match self.put_volume(place, volume) {
+            Ok(()) => ("in", "-"),
+            Err((back, PutFault::Full)) => ("full", name_of(&back)),
+            Err((back, PutFault::BadPlace)) => ("bad place", name_of(&back)),
+        }
+    }
+
+    fn take(&mut self, place: u16) -> Found {
+        match self.take_volume(place) {
+            Ok(volume) => ("out", name_of(&volume)),
+            Err(TakeFault::Empty) => ("empty", "-"),
+            Err(TakeFault::BadPlace) => ("bad place", "-"),
+        }
+    }
+
+    fn hold(&self, place: u16) -> Found {
+        ("holds", name_of_tag(self.held(place)))
+    }
+
+    fn mark(&mut self, place: u16, tag: Option<VolumeTag>) -> Found {
+        match DeviceServer::mark(self, place, tag) {
+            Ok(()) => ("marked", name_of_tag(tag)),
+            Err(BadPlace) => ("bad place", "-"),
+        }
+    }
+
+    fn own(&mut self, _place: u16) -> Found {
+        self.reset();
+        ("reset", "-")
+    }
+}
+
+fn done<B: Bays>(alloc: Global, bays: &mut B, act: Act, place: u16) -> Found {
+    match act {
+        Act::Take => bays.take(place),
+        Act::Hold => bays.hold(place),
+        Act::MarkTag => bays.mark(place, Some(TAG)),
+        Act::MarkOther => bays.mark(place, Some(OTHER)),
+        Act::Unmark => bays.mark(place, None),
+        Act::Own => bays.own(place),
+        _ => bays.put(place, volume_of(alloc, act)),
+    }
+}
+
+fn assert_begun<B: Bays>(
     rt: &impl Abort,
     alloc: Global,
-    device: &mut Device,
-    row: &Asked,
+    bays: &mut B,
+    row: &Row,
 ) -> Result<(), Fail> {
-    let (shows, ask, bytes, data, sense) = *row;
-    let outcome = device.perform(alloc, &request_of(ask), bytes)?;
-    assert_same(rt, outcome.payload.bytes(), data, shows);
-    assert_same(rt, bytes_of(&outcome.sense).as_slice(), sense, shows);
-    let changes = matches!(ask, Ask::ModeSelect);
-    assert_same(rt, outcome.mode_changed, changes, shows);
+    let (shows, act, drives, _, kind, _) = *row;
+    *bays = B::begun(alloc, act)?;
+    assert_same(rt, bays.look(), (kind, drives), shows);
     Ok(())
 }
 
-fn assert_all_asked(
+fn assert_asked<B: Bays>(
     rt: &impl Abort,
     alloc: Global,
-    device: &mut Device,
-    rows: &[Asked],
+    bays: &mut B,
+    ask: Ask,
+    row: &Row,
 ) -> Result<(), Fail> {
+    let (shows, _, _, given, word, answer) = *row;
+    let (found, data) = bays.asked(alloc, ask, given)?;
+    assert_same(rt, found, word, shows);
+    assert_list(rt, &data, answer, shows);
+    Ok(())
+}
+
+fn assert_done<B: Bays>(rt: &impl Abort, alloc: Global, bays: &mut B, row: &Row) {
+    let (shows, act, place, _, word, name) = *row;
+    let (found, volume) = done(alloc, bays, act, place);
+    assert_same(rt, found, word, shows);
+    assert_list(rt, volume.as_bytes(), name, shows);
+}
+
+fn assert_row<B: Bays>(
+    rt: &impl Abort,
+    alloc: Global,
+    bays: &mut B,
+    row: &Row,
+) -> Result<(), Fail> {
+    match row.1 {
+        Act::Anew | Act::AnewOfMore | Act::ADrive => assert_begun(rt, alloc, bays, row)?,
+        Act::Ask(ask) => assert_asked(rt, alloc, bays, ask, row)?,
+        _ => assert_done(rt, alloc, bays, row),
+    }
+    Ok(())
+}
+
+fn assert_rows<B: Bays>(rt: &impl Abort, alloc: Global, rows: &[Row]) -> Result<(), Fail> {
+    let mut bays = B::begun(alloc, Act::Anew)?;
     for row in rows {
-        assert_asked(rt, alloc, device, row)?;
+        assert_row(rt, alloc, &mut bays, row)?;
     }
     Ok(())
 }
 
-/// What is done at a device's places, and what it is asked then.
-type Part = (&'static [Row], &'static [Asked]);
-
-fn kind_of(device: &Device) -> (Kind, u16) {
-    (device.kind(), device.drives())
-}
-
-/// A device of a kind that has so many drives, through all parts.
-fn assert_parts(
-    rt: &impl Abort,
-    alloc: Global,
-    device: &mut Device,
-    kind: (Kind, u16),
-    parts: &[Part],
-) -> Result<(), Fail> {
-    assert_same(rt, kind_of(device), kind, "the device");
-    for part in parts {
-        let (rows, asked) = *part;
-        assert_done(rt, alloc, device, rows);
-        assert_all_asked(rt, alloc, device, asked)?;
-    }
-    Ok(())
-}
-
-/// A drive that is empty at first.
-fn assert_at_a_drive(rt: &impl Abort, alloc: Global, parts: &[Part]) -> Result<(), Fail> {
-    let mut device = Device::Tape(TapeDrive::new());
-    assert_parts(rt, alloc, &mut device, (Kind::Drive, 0), parts)
-}
-
-/// A changer with one drive and two storage elements, which are empty at first.
-fn assert_at_a_changer(rt: &impl Abort, alloc: Global, parts: &[Part]) -> Result<(), Fail> {
-    let mut device = Device::Changer(Changer::new(Elements::new(alloc, 1, 2, 0)?));
-    assert_parts(rt, alloc, &mut device, (Kind::Changer, 1), parts)
-}
+/// A volume that goes into a drive leaves the elements.
+const ELEMENTS: [Row; 25] = [
+    (
+        "READ ELEMENT STATUS of an unknown type is a header of zeros",
+        Act::AnewOfMore,
+        2,
+        &[],
+        "elements",
+        &[],
+    ),
+    (
+        "a header",
+        Act::Ask(Ask::StatusOfType5),
+        0,
+        &[],
+        "GOOD",
+        &[0; 8],
+    ),
+    ("a move refuses a drive", Act::Anew, 1, &[], "elements", &[]),
+    ("a volume", Act::PutTag, 0x400, &[], "in", b"-"),
+    ("into a drive", Act::Own, 0x100, &[], "bad place", b"-"),
+    (
+        "the volume is where it was",
+        Act::Hold,
+        0x400,
+        &[],
+        "holds",
+        b"TAG",
+    ),
+    (
+        "put hands back the volume at a full element",
+        Act::Anew,
+        1,
+        &[],
+        "elements",
+        &[],
+    ),
+    ("a volume", Act::PutTag, 0x400, &[], "in", b"-"),
+    ("another", Act::PutOther, 0x400, &[], "full", b"OTHER"),
+    (
+        "the first is where it was",
+        Act::Hold,
+        0x400,
+        &[],
+        "holds",
+        b"TAG",
+    ),
+    (
+        "read, take and mark go by the kind of element",
+        Act::AnewOfMore,
+        2,
+        &[],
+        "elements",
+        &[],
+    ),
+    ("a marked drive", Act::MarkTag, 0x101, &[], "marked", b"TAG"),
+    ("a volume", Act::PutTag, 0x201, &[], "in", b"-"),
+    ("the transport", Act::Hold, 0, &[], "holds", b"-"),
+    ("an empty drive", Act::Hold, 0x100, &[], "holds", b"-"),
+    ("a drive", Act::Hold, 0x101, &[], "holds", b"TAG"),
+    ("no drive", Act::Hold, 0x102, &[], "bad place", b"-"),
+    (
+        "an import/export element",
+        Act::Hold,
+        0x201,
+        &[],
+        "holds",
+        b"TAG",
+    ),
+    ("out of the transport", Act::Take, 0, &[], "bad place", b"-"),
+    ("out of a drive", Act::Take, 0x101, &[], "bad place", b"-"),
+    (
+        "out of an empty element",
+        Act::Take,
+        0x400,
+        &[],
+        "empty",
+        b"-",
+    ),
+    ("taken out", Act::Take, 0x201, &[], "out", b"TAG"),
+    ("it is gone", Act::Hold, 0x201, &[], "holds", b"-"),
+    (
+        "a drive is marked",
+        Act::MarkTag,
+        0x100,
+        &[],
+        "marked",
+        b"TAG",
+    ),
+    ("a slot isn't", Act::MarkTag, 0x400, &[], "bad place", b"-"),
+];
 
 /// What goes into a drive or out of it is the target's to move, not the changer's.
-const MOVES: [Part; 4] = [
+const CHANGERS: [Row; 23] = [
     (
-        &[("a volume", Act::PutTag, 0x400, ("in", "-"))],
-        &[(
-            "into a drive without a mark",
-            Ask::IntoTheDrive,
-            &[],
-            &[],
-            INTERNAL_FAILURE,
-        )],
+        "MOVE MEDIUM goes by the marks of drives",
+        Act::Anew,
+        1,
+        &[],
+        "a changer",
+        &[],
+    ),
+    ("a volume", Act::PutTag, 0x400, &[], "in", b"-"),
+    (
+        "into a drive without a mark",
+        Act::Ask(Ask::IntoTheDrive),
+        0,
+        &[],
+        "internal failure",
+        &[],
     ),
     (
-        &[
-            (
-                "a drive is marked",
-                Act::MarkOther,
-                0x100,
-                ("marked", "OTHER"),
-            ),
-            ("no drive", Act::Unmark, 0x101, ("bad place", "-")),
-            ("a storage element", Act::Unmark, 0x400, ("bad place", "-")),
-            ("the mark", Act::Hold, 0x100, ("holds", "OTHER")),
-        ],
-        &[
-            ("into a marked drive", Ask::IntoTheDrive, &[], &[], FULL),
-            (
-                "out of a marked drive",
-                Ask::OutOfTheDrive,
-                &[],
-                &[],
-                INTERNAL_FAILURE,
-            ),
-        ],
+        "a drive is marked",
+        Act::MarkOther,
+        0x100,
+        &[],
+        "marked",
+        b"OTHER",
+    ),
+    ("no drive", Act::Unmark, 0x101, &[], "bad place", b"-"),
+    (
+        "a storage element",
+        Act::Unmark,
+        0x400,
+        &[],
+        "bad place",
+        b"-",
+    ),
+    ("the mark", Act::Hold, 0x100, &[], "holds", b"OTHER"),
+    (
+        "into a marked drive",
+        Act::Ask(Ask::IntoTheDrive),
+        0,
+        &[],
+        "destination full",
+        &[],
     ),
     (
-        &[("no mark", Act::Unmark, 0x100, ("marked", "-"))],
-        &[(
-            "out of a drive without a mark",
-            Ask::OutOfTheDrive,
-            &[],
-            &[],
-            EMPTY,
-        )],
+        "out of a marked drive",
+        Act::Ask(Ask::OutOfTheDrive),
+        0,
+        &[],
+        "internal failure",
+        &[],
+    ),
+    ("no mark", Act::Unmark, 0x100, &[], "marked", b"-"),
+    (
+        "out of a drive without a mark",
+        Act::Ask(Ask::OutOfTheDrive),
+        0,
+        &[],
+        "source empty",
+        &[],
     ),
     (
-        &[("the volume is there", Act::Hold, 0x400, ("holds", "TAG"))],
+        "the volume is there",
+        Act::Hold,
+        0x400,
+        &[],
+        "holds",
+        b"TAG",
+    ),
+    (
+        "put and take volume at the elements of a changer",
+        Act::Anew,
+        1,
+        &[],
+        "a changer",
+        &[],
+    ),
+    ("a volume", Act::PutTag, 0x400, &[], "in", b"-"),
+    ("out of an empty slot", Act::Take, 0x401, &[], "empty", b"-"),
+    ("out of a drive", Act::Take, 0x100, &[], "bad place", b"-"),
+    ("on another", Act::PutOther, 0x400, &[], "full", b"OTHER"),
+    (
+        "into a drive",
+        Act::PutOther,
+        0x100,
+        &[],
+        "bad place",
+        b"OTHER",
+    ),
+    ("out of a slot", Act::Take, 0x400, &[], "out", b"TAG"),
+    ("into an empty slot", Act::PutOther, 0x401, &[], "in", b"-"),
+    ("a reset", Act::Own, 0, &[], "reset", b"-"),
+    ("behind the reset", Act::Hold, 0x400, &[], "holds", b"-"),
+    ("and beside it", Act::Hold, 0x401, &[], "holds", b"OTHER"),
+];
+
+const MODE_PROTECTED: &[u8] = b"\x0b\0\x80\x08\0\0\0\0\0\0\0\0";
+
+/// A parameter list for blocks of 512 bytes.
+const BLOCKS_OF_512: &[u8] = b"\0\0\0\x08\0\0\0\0\0\0\x02\0";
+
+const DRIVES: [Row; 32] = [
+    (
+        "a WRITE of more than fits loses nothing",
+        Act::ADrive,
+        0,
+        &[],
+        "a drive",
+        &[],
+    ),
+    ("a volume goes in", Act::PutSmall, 0, &[], "in", b"-"),
+    (
+        "three bytes",
+        Act::Ask(Ask::Write3),
+        0,
+        &[1, 2, 3],
+        "GOOD",
+        &[],
+    ),
+    ("rewound", Act::Ask(Ask::Rewind), 0, &[], "GOOD", &[]),
+    (
+        "more than fits",
+        Act::Ask(Ask::Write5),
+        0,
+        &[9; 5],
+        "overflow of 5",
+        &[],
+    ),
+    (
+        "nothing is lost",
+        Act::Ask(Ask::Read3),
+        0,
+        &[],
+        "GOOD",
+        &[1, 2, 3],
+    ),
+    (
+        "WRITE and ERASE leave a protected volume",
+        Act::ADrive,
+        0,
+        &[],
+        "a drive",
+        &[],
+    ),
+    ("a volume goes in", Act::PutProtected, 0, &[], "in", b"-"),
+    (
+        "a WRITE",
+        Act::Ask(Ask::Write1),
+        0,
+        &[1],
+        "write protected",
+        &[],
+    ),
+    (
+        "a filemark",
+        Act::Ask(Ask::Filemark),
+        0,
+        &[],
+        "write protected",
+        &[],
+    ),
+    (
+        "no filemark",
+        Act::Ask(Ask::NoFilemark),
+        0,
+        &[],
+        "GOOD",
+        &[],
+    ),
+    (
+        "an ERASE",
+        Act::Ask(Ask::Erase),
+        0,
+        &[],
+        "write protected",
+        &[],
+    ),
+    ("unloaded", Act::Ask(Ask::Unload), 0, &[], "GOOD", &[]),
+    (
+        "all pages",
+        Act::Ask(Ask::AllPages),
+        0,
+        &[],
+        "GOOD",
+        MODE_PROTECTED,
+    ),
+    (
+        "a fixed WRITE of more than fits is a volume overflow",
+        Act::ADrive,
+        0,
+        &[],
+        "a drive",
+        &[],
+    ),
+    ("a volume goes in", Act::PutLarge, 0, &[], "in", b"-"),
+    (
+        "blocks of 512 bytes",
+        Act::Ask(Ask::ModeSelect),
+        0,
+        BLOCKS_OF_512,
+        "GOOD, and the mode has changed",
+        &[],
+    ),
+    (
+        "more than fits",
+        Act::Ask(Ask::Blocks2),
+        0,
+        &[9; 1024],
+        "overflow of 2",
+        &[],
+    ),
+    (
+        "what fits",
+        Act::Ask(Ask::Blocks1),
+        0,
+        &[9; 512],
+        "GOOD",
+        &[],
+    ),
+    (
+        "put and take volume at a drive",
+        Act::ADrive,
+        0,
+        &[],
+        "a drive",
+        &[],
+    ),
+    ("an empty drive", Act::Hold, 0, &[], "holds", b"-"),
+    ("its bay", Act::Take, 0, &[], "empty", b"-"),
+    ("no bay", Act::Take, 1, &[], "bad place", b"-"),
+    ("no mark", Act::MarkTag, 0, &[], "bad place", b"-"),
+    (
+        "into no bay",
+        Act::PutFirst,
+        1,
+        &[],
+        "bad place",
+        b"the first",
+    ),
+    ("a volume goes in", Act::PutFirst, 0, &[], "in", b"-"),
+    ("it is in the bay", Act::Hold, 0, &[], "holds", b"TAG"),
+    ("and in no other", Act::Hold, 1, &[], "holds", b"-"),
+    ("on another", Act::PutSecond, 0, &[], "full", b"the second"),
+    (
+        "to the end of the data",
+        Act::Ask(Ask::ToTheEnd),
+        0,
+        &[],
+        "GOOD",
+        &[],
+    ),
+    ("taken out", Act::Take, 0, &[], "out", b"the first, rewound"),
+    (
+        "it isn't ready",
+        Act::Ask(Ask::Ready),
+        0,
+        &[],
+        "no medium",
         &[],
     ),
 ];
 
 #[test]
-fn move_medium_goes_by_the_marks_of_drives(rt: HostRuntime) -> Result<(), Fail> {
-    assert_at_a_changer(&rt, rt.alloc(), &MOVES)
-}
-
-const AT_A_CHANGER: [Part; 1] = [(
-    &[
-        ("a volume", Act::PutTag, 0x400, ("in", "-")),
-        ("out of an empty slot", Act::Take, 0x401, ("empty", "-")),
-        ("out of a drive", Act::Take, 0x100, ("bad place", "-")),
-        ("on another", Act::PutOther, 0x400, ("full", "OTHER")),
-        ("into a drive", Act::PutOther, 0x100, ("bad place", "OTHER")),
-        ("out of a slot", Act::Take, 0x400, ("out", "TAG")),
-        ("into an empty slot", Act::PutOther, 0x401, ("in", "-")),
-        ("a reset", Act::Own, 0, ("reset", "-")),
-        ("behind the reset", Act::Hold, 0x400, ("holds", "-")),
-        ("and beside it", Act::Hold, 0x401, ("holds", "OTHER")),
-    ],
-    &[],
-)];
-
-#[test]
-fn put_and_take_volume_at_the_elements_of_a_changer(rt: HostRuntime) -> Result<(), Fail> {
-    assert_at_a_changer(&rt, rt.alloc(), &AT_A_CHANGER)
-}
-
-const TOO_MUCH: [Part; 1] = [(
-    &[("a volume goes in", Act::PutSmall, 0, ("in", "-"))],
-    &[
-        ("three bytes", Ask::Write3, &[1, 2, 3], &[], GOOD),
-        ("rewound", Ask::Rewind, &[], &[], GOOD),
-        ("more than fits", Ask::Write5, &[9; 5], &[], OVERFLOW_OF_5),
-        ("nothing is lost", Ask::Read3, &[], &[1, 2, 3], GOOD),
-    ],
-)];
-
-#[test]
-fn write_of_more_than_fits_loses_nothing(rt: HostRuntime) -> Result<(), Fail> {
-    assert_at_a_drive(&rt, rt.alloc(), &TOO_MUCH)
-}
-
-const MODE_PROTECTED: &[u8] = b"\x0b\0\x80\x08\0\0\0\0\0\0\0\0";
-
-const AT_A_PROTECTED_VOLUME: [Part; 1] = [(
-    &[("a volume goes in", Act::PutProtected, 0, ("in", "-"))],
-    &[
-        ("a WRITE", Ask::Write1, &[1], &[], WRITE_PROTECTED),
-        ("a filemark", Ask::Filemark, &[], &[], WRITE_PROTECTED),
-        ("no filemark", Ask::NoFilemark, &[], &[], GOOD),
-        ("an ERASE", Ask::Erase, &[], &[], WRITE_PROTECTED),
-        ("unloaded", Ask::Unload, &[], &[], GOOD),
-        ("all pages", Ask::AllPages, &[], MODE_PROTECTED, GOOD),
-    ],
-)];
-
-#[test]
-fn write_and_erase_leave_a_protected_volume(rt: HostRuntime) -> Result<(), Fail> {
-    assert_at_a_drive(&rt, rt.alloc(), &AT_A_PROTECTED_VOLUME)
-}
-
-/// A parameter list for blocks of 512 bytes.
-const BLOCKS_OF_512: &[u8] = b"\0\0\0\x08\0\0\0\0\0\0\x02\0";
-
-const FIXED: [Part; 1] = [(
-    &[("a volume goes in", Act::PutLarge, 0, ("in", "-"))],
-    &[
-        (
-            "blocks of 512 bytes",
-            Ask::ModeSelect,
-            BLOCKS_OF_512,
-            &[],
-            GOOD,
-        ),
-        (
-            "more than fits",
-            Ask::Blocks2,
-            &[9; 1024],
-            &[],
-            OVERFLOW_OF_2,
-        ),
-        ("what fits", Ask::Blocks1, &[9; 512], &[], GOOD),
-    ],
-)];
-
-#[test]
-fn fixed_write_of_more_than_fits_is_a_volume_overflow(rt: HostRuntime) -> Result<(), Fail> {
-    assert_at_a_drive(&rt, rt.alloc(), &FIXED)
-}
-
-const AT_A_DRIVE: [Part; 2] = [
-    (
-        &[
-            ("an empty drive", Act::Hold, 0, ("holds", "-")),
-            ("its bay", Act::Take, 0, ("empty", "-")),
-            ("no bay", Act::Take, 1, ("bad place", "-")),
-            ("no mark", Act::MarkTag, 0, ("bad place", "-")),
-            ("into no bay", Act::PutFirst, 1, ("bad place", "the first")),
-            ("a volume goes in", Act::PutFirst, 0, ("in", "-")),
-            ("it is in the bay", Act::Hold, 0, ("holds", "TAG")),
-            ("and in no other", Act::Hold, 1, ("holds", "-")),
-            ("on another", Act::PutSecond, 0, ("full", "the second")),
-        ],
-        &[("to the end of the data", Ask::ToTheEnd, &[], &[], GOOD)],
-    ),
-    (
-        &[("taken out", Act::Take, 0, ("out", "the first, rewound"))],
-        &[("it isn't ready", Ask::Ready, &[], &[], NO_MEDIUM)],
-    ),
-];
-
-#[test]
-fn put_and_take_volume_at_a_drive(rt: HostRuntime) -> Result<(), Fail> {
-    assert_at_a_drive(&rt, rt.alloc(), &AT_A_DRIVE)
+fn bays_do_and_answer_what_rows_say(rt: HostRuntime) -> Result<(), Fail> {
+    assert_rows::<Elements>(&rt, rt.alloc(), &ELEMENTS)?;
+    assert_rows::<Device>(&rt, rt.alloc(), &CHANGERS)?;
+    assert_rows::<Device>(&rt, rt.alloc(), &DRIVES)
 }

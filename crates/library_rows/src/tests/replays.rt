@@ -2,6 +2,7 @@
 //! that are too long or generated.
 
 use super::assert_same;
+use device_server::DeviceServer;
 use library_device::Device;
 use output_lines::{Audit, Explanations};
 use program_options::LibraryOptions;
@@ -19,9 +20,9 @@ mod full_volumes;
 mod spans;
 
 /// Replays in a library what a reader gives. Each replay of these rows comes through here.
-fn replay_in<R: Read, W: Write>(
+fn replay_in<D: DeviceServer, R: Read, W: Write>(
     alloc: Global,
-    core: &mut TargetCore<Device>,
+    core: &mut TargetCore<D>,
     reader: &mut R,
     writer: &mut W,
     audit: Audit,
@@ -31,9 +32,9 @@ fn replay_in<R: Read, W: Write>(
 }
 
 /// All that a replay writes of a script.
-fn replayed(
+fn replayed<D: DeviceServer>(
     alloc: Global,
-    core: &mut TargetCore<Device>,
+    core: &mut TargetCore<D>,
     audit: Audit,
     script: &str,
 ) -> Result<Vec<u8>, Fail> {
@@ -44,10 +45,10 @@ fn replayed(
 }
 
 /// Replays a script, and compares all that is written.
-fn assert_replayed(
+pub(super) fn assert_replayed<D: DeviceServer>(
     rt: &impl Abort,
     alloc: Global,
-    core: &mut TargetCore<Device>,
+    core: &mut TargetCore<D>,
     audit: Audit,
     script: &str,
     expected: &str,

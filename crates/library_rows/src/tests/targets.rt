@@ -5,7 +5,6 @@ use arrayvec::ArrayVec;
 use device_server::DeviceServer;
 use library_device::Device;
 use logical_unit::{LogicalUnit, named};
-use scsi_sense::Status;
 use std::alloc::{AllocError, Global};
 use std::test::Fail;
 use tape_medium::{Tape, Volume, VolumeTag};
@@ -47,38 +46,6 @@ pub(super) fn changer_after(alloc: Global, last: u64) -> Result<LogicalUnit<Devi
     unit_after(alloc, 0, Device::Changer(empty_changer(alloc)?), last)
 }
 
-/// A drive with a volume in it.
-fn loaded_drive(alloc: Global) -> Result<LogicalUnit<Device>, Fail> {
-    let mut unit = drive_after(alloc, 0)?;
-    match unit.medium_in(volume(alloc, TAG)) {
-        Ok(_) => Ok(unit),
-        Err(_) => Err("no volume went in".into()),
-    }
-}
-
-/// A changer whose data transfer element has the mark of a volume.
-fn changer_marked(alloc: Global) -> Result<LogicalUnit<Device>, Fail> {
-    let mut device = Device::Changer(empty_changer(alloc)?);
-    match device.mark(0x0100, Some(TAG)) {
-        Ok(()) => Ok(unit_after(alloc, 0, device, 0)?),
-        Err(_) => Err("no mark".into()),
-    }
-}
-
-pub(super) fn target<D: DeviceServer>(
-    alloc: Global,
-    changer: LogicalUnit<D>,
-    drive: LogicalUnit<D>,
-) -> Result<TargetCore<D>, Fail> {
-    let mut units = Vec::new(alloc);
-    units.push(changer)?;
-    units.push(drive)?;
-    match TargetCore::new(units) {
-        Ok(core) => Ok(core),
-        Err(_) => Err("no target".into()),
-    }
-}
-
 /// A unit that a target is to be made of.
 #[derive(Clone, Copy)]
 enum Unit {
@@ -90,19 +57,42 @@ enum Unit {
     LoadedDrive,
 }
 
-fn unit_of(alloc: Global, unit: Unit) -> Result<LogicalUnit<Device>, Fail> {
+/// The unit's number.
+const fn lun_of(unit: Unit) -> u8 {
     match unit {
-        Unit::Changer => Ok(changer_after(alloc, 0)?),
-        Unit::MarkedChanger => changer_marked(alloc),
-        Unit::EmptyDrive => Ok(drive_after(alloc, 0)?),
-        Unit::LoadedDrive => loaded_drive(alloc),
+        Unit::Changer | Unit::MarkedChanger => 0,
+        Unit::EmptyDrive | Unit::LoadedDrive => 1,
     }
 }
 
-fn units_of(alloc: Global, kinds: &[Unit]) -> Result<Vec<LogicalUnit<Device>>, Fail> {
+/// A changer or a drive, without a volume or a mark.
+fn empty_device(alloc: Global, unit: Unit) -> Result<Device, AllocError> {
+    if lun_of(unit) == 0 {
+        Ok(Device::Changer(empty_changer(alloc)?))
+    } else {
+        Ok(Device::Tape(TapeDrive::new()))
+    }
+}
+
+fn device_of(alloc: Global, unit: Unit) -> Result<Device, AllocError> {
+    let mut device = empty_device(alloc, unit)?;
+    match unit {
+        Unit::MarkedChanger => {
+            let _ = device.mark(0x0100, Some(TAG));
+        }
+        Unit::LoadedDrive => {
+            let _ = device.put_volume(0, volume(alloc, TAG));
+        }
+        Unit::Changer | Unit::EmptyDrive => {}
+    }
+    Ok(device)
+}
+
+fn units_of(alloc: Global, kinds: &[Unit]) -> Result<Vec<LogicalUnit<Device>>, AllocError> {
     let mut units = Vec::new(alloc);
     for kind in kinds {
-        units.push(unit_of(alloc, *kind)?)?;
+        let device = device_of(alloc, *kind)?;
+        units.push(unit_after(alloc, lun_of(*kind), device, 0)?)?;
     }
     Ok(units)
 }
@@ -197,21 +187,4 @@ pub(super) fn records_of<D: DeviceServer>(core: &TargetCore<D>) -> usize {
         count = count.saturating_add(unit.records().len());
     }
     count
-}
-
-/// The status and the number of the answer of a unit that isn't there.
-fn absent(alloc: Global, core: &mut TargetCore<Device>) -> Result<(Status, u64), Fail> {
-    let event = ready_at(alloc, 9)?;
-    let reply = core.step(alloc, &event);
-    Ok((reply.status, reply.number))
-}
-
-#[test]
-fn test_unit_ready_to_an_absent_unit_has_no_number(rt: HostRuntime) -> Result<(), Fail> {
-    let alloc = rt.alloc();
-    let mut core = target(alloc, changer_after(alloc, 0)?, drive_after(alloc, 0)?)?;
-    let answer = absent(alloc, &mut core)?;
-    assert_same(&rt, answer, (Status::CheckCondition, 0), "the answer");
-    assert_same(&rt, records_of(&core), 0, "records");
-    Ok(())
 }

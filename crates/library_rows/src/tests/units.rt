@@ -6,7 +6,7 @@ use library_device::Device;
 use logical_unit::{Busy, LogicalUnit, MediumFault, Reply};
 use scsi_nexus::Nexus;
 use scsi_sense::{Sense, Status};
-use std::alloc::Global;
+use std::alloc::{AllocError, Global};
 use std::process::Abort;
 use std::test::Fail;
 use tape_medium::{Volume, VolumeTag};
@@ -16,6 +16,9 @@ const OTHER: VolumeTag = VolumeTag([b'O'; 32]);
 /// What comes to a unit, or is looked at.
 #[derive(Clone, Copy)]
 enum Act {
+    /// The unit is an empty drive from here on, or a changer, whose first record is numbered after the row's number.
+    ADrive,
+    AChanger,
     /// TEST UNIT READY.
     Ready,
     Prevent,
@@ -118,11 +121,11 @@ fn sent(alloc: Global, unit: &mut LogicalUnit<Device>, nexus: Nexus, act: Act) -
     (word_of_reply(&reply), reply.number)
 }
 
+/// Behind a refusal 0 stands where the volume comes back, and 1 where another does.
 fn put_in(alloc: Global, unit: &mut LogicalUnit<Device>, tag: VolumeTag) -> Found {
     match unit.medium_in(volume(alloc, tag)) {
         Ok(number) => ("in", number),
-        Err((back, fault)) if back.tag == tag => (word_of_fault(fault), 0),
-        Err(_) => ("another volume comes back", 0),
+        Err((back, fault)) => (word_of_fault(fault), u64::from(back.tag != tag)),
     }
 }
 
@@ -192,31 +195,52 @@ fn done(alloc: Global, unit: &mut LogicalUnit<Device>, nexus: Nexus, act: Act) -
     }
 }
 
-fn assert_rows(rt: &impl Abort, alloc: Global, unit: &mut LogicalUnit<Device>, rows: &[Row]) {
-    for row in rows {
-        let (shows, nexus, act, word, number) = *row;
-        assert_same(rt, done(alloc, unit, nexus, act), (word, number), shows);
+/// An empty drive, or a changer.
+fn begun(alloc: Global, kind: Act, last: u64) -> Result<LogicalUnit<Device>, AllocError> {
+    match kind {
+        Act::AChanger => changer_after(alloc, last),
+        _ => drive_after(alloc, last),
     }
 }
 
-/// Rows of an empty drive, whose first record is numbered after `last`.
-fn assert_at_a_drive(rt: &impl Abort, alloc: Global, last: u64, rows: &[Row]) -> Result<(), Fail> {
-    assert_rows(rt, alloc, &mut drive_after(alloc, last)?, rows);
-    Ok(())
-}
-
-/// Rows of a changer.
-fn assert_at_a_changer(
+fn assert_row(
     rt: &impl Abort,
     alloc: Global,
-    last: u64,
-    rows: &[Row],
+    unit: &mut LogicalUnit<Device>,
+    row: &Row,
 ) -> Result<(), Fail> {
-    assert_rows(rt, alloc, &mut changer_after(alloc, last)?, rows);
+    let (shows, nexus, act, word, number) = *row;
+    match act {
+        Act::ADrive | Act::AChanger => *unit = begun(alloc, act, number)?,
+        _ => assert_same(rt, done(alloc, unit, nexus, act), (word, number), shows),
+    }
     Ok(())
 }
 
-const CHANGES: [Row; 11] = [
+/// Rows of units, one behind another.
+fn assert_rows(rt: &impl Abort, alloc: Global, rows: &[Row]) -> Result<(), Fail> {
+    let mut unit = drive_after(alloc, 0)?;
+    for row in rows {
+        assert_row(rt, alloc, &mut unit, row)?;
+    }
+    Ok(())
+}
+
+/// The last number that there is.
+const THE_LAST: u64 = 18_446_744_073_709_551_615;
+
+/// The next record has the last number.
+const BEFORE_THE_LAST: u64 = 18_446_744_073_709_551_614;
+
+/// Commands to a drive with a volume: each part begins with what it shows.
+const COMMANDS: [Row; 35] = [
+    (
+        "MODE SELECT is recorded as a change only where it is one",
+        A,
+        Act::ADrive,
+        "-",
+        0,
+    ),
     ("a volume", A, Act::In, "in", 1),
     ("A makes contact", A, Act::Ready, "power on", 2),
     ("B makes contact", B, Act::Ready, "power on", 3),
@@ -234,14 +258,13 @@ const CHANGES: [Row; 11] = [
     ("A is told of nothing", A, Act::Ready, "GOOD", 9),
     ("the fourth alone", A, Act::Changes, "alone", 4),
     ("records", A, Act::Look, "TAG", 9),
-];
-
-#[test]
-fn mode_select_is_recorded_as_a_change_only_where_it_is_one(rt: HostRuntime) -> Result<(), Fail> {
-    assert_at_a_drive(&rt, rt.alloc(), 0, &CHANGES)
-}
-
-const WRITING: [Row; 9] = [
+    (
+        "medium_out gives the volume as it was written",
+        A,
+        Act::ADrive,
+        "-",
+        0,
+    ),
     ("a volume", A, Act::In, "in", 1),
     ("A makes contact", A, Act::Ready, "power on", 2),
     ("B makes contact", B, Act::Ready, "power on", 3),
@@ -251,32 +274,13 @@ const WRITING: [Row; 9] = [
     ("read", A, Act::Read, "GOOD", 7),
     ("the volume", A, Act::Out, "TAG with two objects", 8),
     ("the drive is empty", A, Act::Look, "no volume", 8),
-];
-
-#[test]
-fn medium_out_gives_the_volume_as_it_was_written(rt: HostRuntime) -> Result<(), Fail> {
-    assert_at_a_drive(&rt, rt.alloc(), 0, &WRITING)
-}
-
-const FULL: [Row; 3] = [
-    ("a volume", A, Act::In, "in", 1),
-    ("on another", A, Act::OtherIn, "full", 0),
-    ("the drive is as it was", A, Act::Look, "TAG", 1),
-];
-
-const NOT_A_DRIVE: [Row; 3] = [
-    ("into a changer", A, Act::OtherIn, "not a drive", 0),
-    ("out of a changer", A, Act::Out, "not a drive", 0),
-    ("records of the changer", A, Act::Look, "no volume", 0),
-];
-
-#[test]
-fn medium_in_hands_back_what_it_refuses(rt: HostRuntime) -> Result<(), Fail> {
-    assert_at_a_drive(&rt, rt.alloc(), 0, &FULL)?;
-    assert_at_a_changer(&rt, rt.alloc(), 0, &NOT_A_DRIVE)
-}
-
-const PREVENTED: [Row; 12] = [
+    (
+        "medium_out is refused while removal is prevented",
+        A,
+        Act::ADrive,
+        "-",
+        0,
+    ),
     ("of an empty drive", A, Act::Out, "empty", 0),
     ("B makes contact", B, Act::Ready, "power on", 1),
     ("B prevents removal", B, Act::Prevent, "GOOD", 2),
@@ -291,69 +295,56 @@ const PREVENTED: [Row; 12] = [
     ("the drive is empty", A, Act::Look, "no volume", 6),
 ];
 
-#[test]
-fn medium_out_is_refused_while_removal_is_prevented(rt: HostRuntime) -> Result<(), Fail> {
-    assert_at_a_drive(&rt, rt.alloc(), 0, &PREVENTED)
-}
-
-const NO_NUMBER_FOR_IN: [Row; 4] = [
+/// What is refused, also behind the last number, and what outlasts a drain: a prevention of medium removal stands beside the records.
+const ENDS: [Row; 32] = [
     (
-        "the last number",
+        "medium_in hands back what a full drive refuses",
         A,
-        Act::Ready,
-        "power on",
-        18_446_744_073_709_551_615,
+        Act::ADrive,
+        "-",
+        0,
     ),
+    ("a volume", A, Act::In, "in", 1),
+    ("on another", A, Act::OtherIn, "full", 0),
+    ("the drive is as it was", A, Act::Look, "TAG", 1),
+    ("and what a changer does", A, Act::AChanger, "-", 0),
+    ("into a changer", A, Act::OtherIn, "not a drive", 0),
+    ("out of a changer", A, Act::Out, "not a drive", 0),
+    ("records of the changer", A, Act::Look, "no volume", 0),
+    (
+        "medium_in is busy behind the last number",
+        A,
+        Act::ADrive,
+        "-",
+        BEFORE_THE_LAST,
+    ),
+    ("the last number", A, Act::Ready, "power on", THE_LAST),
     ("no number is left", A, Act::In, "busy", 0),
     ("nothing went in", A, Act::Out, "empty", 0),
     ("the drive is empty", A, Act::Look, "no volume", 1),
-];
-
-#[test]
-fn medium_in_is_busy_behind_the_last_number(rt: HostRuntime) -> Result<(), Fail> {
-    assert_at_a_drive(&rt, rt.alloc(), BEFORE_THE_LAST, &NO_NUMBER_FOR_IN)
-}
-
-const NO_NUMBER_FOR_OUT: [Row; 3] = [
     (
-        "by the last number",
+        "medium_out is busy behind the last number",
         A,
-        Act::In,
-        "in",
-        18_446_744_073_709_551_615,
+        Act::ADrive,
+        "-",
+        BEFORE_THE_LAST,
     ),
+    ("by the last number", A, Act::In, "in", THE_LAST),
     ("no number is left", A, Act::Out, "busy", 0),
     ("the volume is there", A, Act::Look, "TAG", 1),
-];
-
-#[test]
-fn medium_out_is_busy_behind_the_last_number(rt: HostRuntime) -> Result<(), Fail> {
-    assert_at_a_drive(&rt, rt.alloc(), BEFORE_THE_LAST, &NO_NUMBER_FOR_OUT)
-}
-
-/// The next record has the last number that there is.
-const BEFORE_THE_LAST: u64 = 18_446_744_073_709_551_614;
-
-const NO_NUMBER: [Row; 5] = [
     (
-        "the last",
+        "TEST UNIT READY is busy behind the last number",
         A,
-        Act::Ready,
-        "power on",
-        18_446_744_073_709_551_615,
+        Act::AChanger,
+        "-",
+        BEFORE_THE_LAST,
     ),
+    ("the last", A, Act::Ready, "power on", THE_LAST),
     ("behind it", A, Act::Ready, "BUSY", 0),
     ("a loss", A, Act::Loss, "BUSY", 0),
     ("a reset", A, Act::Reset, "BUSY", 0),
     ("records", A, Act::Look, "no volume", 1),
-];
-
-#[test]
-fn test_unit_ready_is_busy_behind_the_last_number(rt: HostRuntime) -> Result<(), Fail> {
-    assert_at_a_changer(&rt, rt.alloc(), BEFORE_THE_LAST, &NO_NUMBER)
-}
-
-const DRAINED: [Row; 8] = [
+    ("a prevention outlasts a drain", A, Act::AChanger, "-", 0),
     ("A makes contact", A, Act::Ready, "power on", 1),
     ("B makes contact", B, Act::Ready, "power on", 2),
     ("at first", A, Act::Prevention, "allowed", 0),
@@ -364,8 +355,8 @@ const DRAINED: [Row; 8] = [
     ("allowed again", A, Act::Prevention, "allowed", 0),
 ];
 
-/// A prevention of medium removal stands beside the records.
 #[test]
-fn prevention_outlasts_a_drain(rt: HostRuntime) -> Result<(), Fail> {
-    assert_at_a_changer(&rt, rt.alloc(), 0, &DRAINED)
+fn units_answer_and_keep_what_rows_say(rt: HostRuntime) -> Result<(), Fail> {
+    assert_rows(&rt, rt.alloc(), &COMMANDS)?;
+    assert_rows(&rt, rt.alloc(), &ENDS)
 }

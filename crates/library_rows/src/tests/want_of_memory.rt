@@ -1,13 +1,13 @@
 //! A device that wants memory at chosen calls: BUSY, nothing has changed, and the numbers of records
 //! go on.
 
-use super::targets::{ready_at, records_of, target};
+use super::replays::assert_replayed;
+use super::targets::{ready_at, records_of};
 use super::{assert_same, empty_changer};
 use device_server::{BadPlace, DeviceServer, Outcome, PutFault, TakeFault};
 use library_device::{Device, unit_at};
 use logical_unit::{LogicalUnit, Reply};
-use output_lines::{Audit, Explanations};
-use replay::replay;
+use output_lines::Audit;
 use scsi_cdb::{Kind, Request};
 use scsi_sense::Status;
 use std::alloc::{AllocError, Global};
@@ -76,28 +76,40 @@ impl DeviceServer for WantingDevice {
     }
 }
 
-/// A device as a unit of two that wants memory at its calls of these numbers.
-fn wanting(
+/// Adds a device as a unit of two that wants memory at its calls of these numbers.
+fn push_wanting(
     alloc: Global,
+    units: &mut Vec<LogicalUnit<WantingDevice>>,
     lun: u8,
     device: Device,
     first: u64,
     last: u64,
-) -> Result<LogicalUnit<WantingDevice>, AllocError> {
+) -> Result<(), AllocError> {
     let device = WantingDevice {
         device,
         calls: 0,
         first,
         last,
     };
-    unit_at(alloc, lun, 2, device)
+    units.push(unit_at(alloc, lun, 2, device)?)?;
+    Ok(())
 }
 
-/// A target whose changer wants memory at its second call, and whose empty drive at every call.
+/// A changer that wants memory at its second call, and an empty drive that does at every call.
+fn wanting_units(alloc: Global) -> Result<Vec<LogicalUnit<WantingDevice>>, AllocError> {
+    let changer = Device::Changer(empty_changer(alloc)?);
+    let drive = Device::Tape(TapeDrive::new());
+    let mut units = Vec::new(alloc);
+    push_wanting(alloc, &mut units, 0, changer, 2, 2)?;
+    push_wanting(alloc, &mut units, 1, drive, 1, u64::MAX)?;
+    Ok(units)
+}
+
 fn wanting_target(alloc: Global) -> Result<TargetCore<WantingDevice>, Fail> {
-    let changer = wanting(alloc, 0, Device::Changer(empty_changer(alloc)?), 2, 2)?;
-    let drive = wanting(alloc, 1, Device::Tape(TapeDrive::new()), 1, u64::MAX)?;
-    target(alloc, changer, drive)
+    match TargetCore::new(wanting_units(alloc)?) {
+        Ok(core) => Ok(core),
+        Err(_) => Err("no target".into()),
+    }
 }
 
 /// Sends the changer so many TEST UNIT READYs of A.
@@ -198,20 +210,15 @@ const RESERVING_RECORDS: &str = "02 700006000000000a00000000290000000000 -\n\
 
 #[test]
 fn reservation_conflict_comes_before_want_of_memory(rt: HostRuntime) -> Result<(), Fail> {
-    let alloc = rt.alloc();
-    let mut core = wanting_target(alloc)?;
-    let mut reader = RESERVING.as_bytes();
-    let mut output = Vec::new(alloc);
-    replay(
-        alloc,
+    let mut core = wanting_target(rt.alloc())?;
+    let (script, expected) = (RESERVING, RESERVING_RECORDS);
+    assert_replayed(
+        &rt,
+        rt.alloc(),
         &mut core,
-        &mut reader,
-        &mut output,
-        Explanations::Off,
         Audit::Lines,
-        9,
-    )?;
-    let expected = RESERVING_RECORDS.as_bytes();
-    assert_same(&rt, output.as_slice(), expected, "replies and records");
-    Ok(())
+        script,
+        expected,
+        "replies, records",
+    )
 }

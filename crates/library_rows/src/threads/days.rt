@@ -5,7 +5,6 @@ ghost use Rattle.lun_router.specs.Opening.{IsSince};
 
 use super::gates::{Flags, TestGate};
 use super::playing::play;
-use super::scenes::Scene;
 use super::targets::two_drives;
 use kept_unit::UnitLedger;
 use library_device::Device;
@@ -38,7 +37,7 @@ fn day<
     blanks: Blanks,
     gate: TestGate<'_>,
     flags: &Flags,
-    scene: Scene,
+    scene: usize,
 ) -> Result<(), Fail>
     requires some { 0 < seats }
     requires zero { (blanks.zero.name ≡ L0.name) × (blanks.zero.parts ≡ L0.parts) × (L0.parts ≡ seats) }
@@ -62,7 +61,7 @@ pub(super) fn run<R: Abort + Clock + Threads + Wait + Sync>(
     alloc: Global,
     gate: TestGate<'_>,
     flags: &Flags,
-    scene: Scene,
+    scene: usize,
 ) -> Result<(), Fail> {
     let core = two_drives(alloc)?;
     let parts = SEATS as u64;

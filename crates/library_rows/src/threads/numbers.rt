@@ -1,15 +1,14 @@
 //! Record numbers from 1 to 128, as sets: number 1 is bit 0 of a `u128`.
 
 use crate::comparing::assert_same;
-use library_device::Device;
-use logical_unit::LogicalUnit;
+use audit_log::Record;
 use std::process::Abort;
 
 /// How many numbers a set may have.
 const BITS: u32 = 128;
 
 /// Adds a number, which has to be higher than those that are there.
-pub(super) fn with_number(rt: &impl Abort, numbers: u128, number: u64) -> u128 {
+fn with_number(rt: &impl Abort, numbers: u128, number: u64) -> u128 {
     let bit = match number {
         1..=128 => 1u128 << (number - 1),
         _ => 0,
@@ -19,14 +18,10 @@ pub(super) fn with_number(rt: &impl Abort, numbers: u128, number: u64) -> u128 {
     numbers | bit
 }
 
-/// Adds the numbers of the records that a drive still has.
-pub(super) fn with_numbers_left(
-    rt: &impl Abort,
-    numbers: u128,
-    drive: &LogicalUnit<Device>,
-) -> u128 {
+/// Adds the numbers of records.
+pub(super) fn with_numbers(rt: &impl Abort, numbers: u128, records: &[Record]) -> u128 {
     let mut all = numbers;
-    for entry in drive.records() {
+    for entry in records {
         all = with_number(rt, all, entry.number);
     }
     all

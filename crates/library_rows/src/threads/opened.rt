@@ -2,7 +2,7 @@
 
 use super::attending::Looks;
 use super::gates::TestGate;
-use super::numbers::with_number;
+use super::numbers::with_numbers;
 use kept_unit::{Done, EventKind, NumberRange, UnitLedger};
 use library_device::Device;
 use lun_router::{CloseFault, Histories, Library, Seat};
@@ -84,11 +84,7 @@ impl<'a, L0: UnitLedger, L1: UnitLedger, L2: UnitLedger, L3: UnitLedger, L4: Uni
 
     fn drained<R: Abort + Wait>(&self, rt: &R, alloc: Global, lun: u8) -> Option<u128> {
         let records = self.drain(rt, alloc, lun)?;
-        let mut numbers = 0;
-        for entry in &records {
-            numbers = with_number(rt, numbers, entry.number);
-        }
-        Some(numbers)
+        Some(with_numbers(rt, 0, &records))
     }
 
     fn close(

@@ -3,10 +3,10 @@
 use super::asking::{A, Ask, POWER_ON, Row, ask_all, ask_one};
 use super::attending::{Asked, assert_all_asked};
 use super::gates::Flags;
-use super::numbers::with_numbers_left;
+use super::numbers::with_numbers;
 use super::opened::Opened;
 use super::parts::{Part, play_in_threads};
-use super::scenes::{Scene, plan_of};
+use super::scenes::plan_at;
 use super::settling::{Settled, assert_settled};
 use crate::comparing::assert_same;
 use library_device::Device;
@@ -38,6 +38,8 @@ pub(super) enum Closing {
 /// What is done with an open library and its seats, in this order.
 #[derive(Clone, Copy)]
 pub(super) struct Plan {
+    /// What the scene shows.
+    pub(super) shows: &'static str,
     /// How many ports of A ask drive 1 first, each a nexus of its own.
     pub(super) ports: u16,
     pub(super) acts: &'static [Act],
@@ -46,6 +48,8 @@ pub(super) struct Plan {
     /// What each of two threads does.
     pub(super) part: Option<Part>,
     pub(super) closing: Closing,
+    /// Whether the gate holds logical unit 1.
+    pub(super) holds: bool,
     /// How many records the changer has at the end, and the numbers of those that were noted as handed out of each drive or that it
     /// still has.
     pub(super) records: (usize, u128, u128),
@@ -120,7 +124,7 @@ fn play_open<T: Opened + Sync, R: Abort + Clock + Threads + Wait + Sync>(
 where
     T::Seat: Send,
 {
-    assert_same(rt, library.units(), 3, "units");
+    assert_same(rt, library.units(), 3, plan.shows);
     fill_slots(rt, alloc, library, seats, plan.ports)?;
     play_acts(rt, alloc, library, seats, plan.acts)?;
     assert_rooms(rt, library, plan.rooms);
@@ -221,12 +225,13 @@ fn assert_drives(
     histories: &Histories<Device>,
     noted: (u128, u128),
     expected: (u128, u128),
+    shows: &'static str,
 ) {
-    let found = with_numbers_left(rt, noted.0, &histories.first);
-    assert_same(rt, found, expected.0, "numbers of drive 1");
+    let found = with_numbers(rt, noted.0, histories.first.records());
+    assert_same(rt, found, expected.0, shows);
     if let Some(drive) = &histories.second {
-        let found = with_numbers_left(rt, noted.1, drive);
-        assert_same(rt, found, expected.1, "numbers of drive 2");
+        let found = with_numbers(rt, noted.1, drive.records());
+        assert_same(rt, found, expected.1, shows);
     }
     let others = (histories.second.is_some(), histories.third.is_some());
     assert_same(rt, others, (true, false), "a second drive, and no third");
@@ -241,10 +246,10 @@ fn assert_histories<R: Abort + Wait>(
 ) {
     let (count, first, second) = plan.records;
     let found = histories.changer.records().len();
-    assert_same(rt, found, count, "records of the changer");
+    assert_same(rt, found, count, plan.shows);
     let noted = noted_in(rt, flags);
     assert_noted(rt, noted, plan.part);
-    assert_drives(rt, histories, noted, (first, second));
+    assert_drives(rt, histories, noted, (first, second), plan.shows);
 }
 
 /// Plays a scene, closes the library, and compares what it leaves.
@@ -254,12 +259,12 @@ pub(super) fn play<T: Opened + Sync, R: Abort + Clock + Threads + Wait + Sync>(
     library: T,
     mut seats: Vec<T::Seat>,
     flags: &Flags,
-    scene: Scene,
+    scene: usize,
 ) -> Result<(), Fail>
 where
     T::Seat: Send,
 {
-    let plan = plan_of(scene);
+    let plan = plan_at(scene);
     play_open(rt, alloc, &library, seats.as_mut_slice(), flags, &plan)?;
     let histories = closed_as_planned(rt, alloc, library, seats, plan.closing)?;
     assert_histories(rt, &histories, flags, &plan);

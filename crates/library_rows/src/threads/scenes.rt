@@ -17,12 +17,14 @@ const UP_TO_128: u128 = u128::MAX;
 
 /// A scene in which nothing is done, which leaves no record.
 const QUIET: Plan = Plan {
+    shows: "",
     ports: 0,
     acts: &[],
     rooms: &[],
     sights: &[],
     part: None,
     closing: Closing::AtOnce,
+    holds: false,
     records: (0, 0, 0),
 };
 
@@ -211,6 +213,7 @@ const ASKED: [Asked; 6] = [
 
 /// Both threads ask both drives. The trails have a record for each command, and agree.
 const TWO_DRIVES: Plan = Plan {
+    shows: "submit of two threads has a record for each command",
     part: Some(Part::Asks),
     records: (0, UP_TO_100, UP_TO_100),
     ..QUIET
@@ -218,6 +221,7 @@ const TWO_DRIVES: Plan = Plan {
 
 /// The same with drains of both drives in each thread.
 const DRAINS: Plan = Plan {
+    shows: "drain by two threads loses no number",
     part: Some(Part::Drains),
     records: (0, UP_TO_100, UP_TO_100),
     ..QUIET
@@ -225,13 +229,16 @@ const DRAINS: Plan = Plan {
 
 /// A command at each drive, of which one is held at its gate.
 const HELD_UNIT: Plan = Plan {
+    shows: "submit held at a drive holds no other drive",
     part: Some(Part::Waits),
+    holds: true,
     records: (0, 1, 1),
     ..QUIET
 };
 
 /// Both threads move a volume. The changer has a record of each command, each drive one of each move.
 const MOVING: Plan = Plan {
+    shows: "move medium of two threads is recorded at both units",
     part: Some(Part::Moves),
     records: (202, UP_TO_100, UP_TO_100),
     ..QUIET
@@ -239,6 +246,7 @@ const MOVING: Plan = Plan {
 
 /// A loss is told to the nexus, a reset to both, and neither reaches a unit that isn't there.
 const LOSS_AND_RESET: Plan = Plan {
+    shows: "lose and reset are told at units that are there",
     acts: &[
         (0, &FIRST_CONTACTS, &[]),
         (0, &LOST_AND_RESET, &[]),
@@ -251,6 +259,7 @@ const LOSS_AND_RESET: Plan = Plan {
 
 /// Two hosts of one drive: what one wrote stays as it is while the other's WRITE is denied by the reservation.
 const SHARED_DRIVE: Plan = Plan {
+    shows: "write of another host than the holder leaves the tape",
     acts: &[(0, &SHARING, &[])],
     records: (2, UP_TO_17, 0),
     ..QUIET
@@ -258,6 +267,7 @@ const SHARED_DRIVE: Plan = Plan {
 
 /// 128 nexuses have all slots of the drive. Another finds none there, and one at the changer.
 const FULL_SLOTS: Plan = Plan {
+    shows: "has room until 128 nexuses are known",
     ports: 128,
     acts: &[(0, &NO_SLOT, &[])],
     rooms: &ROOMS,
@@ -267,6 +277,7 @@ const FULL_SLOTS: Plan = Plan {
 
 /// A command at each seat; then the library is closed with one seat, which is refused, and with both.
 const EVERY_SEAT: Plan = Plan {
+    shows: "close refuses one seat of two",
     acts: &[(0, &AT_THE_FIRST, &[]), (1, &AT_THE_SECOND, &[])],
     closing: Closing::SeatMissing,
     records: (2, 0, 0),
@@ -276,6 +287,7 @@ const EVERY_SEAT: Plan = Plan {
 /// What each of two seats asks at one drive between its drains is settled, and what is settled has to be drained before the
 /// library is closed.
 const SETTLING: Plan = Plan {
+    shows: "settle makes drained entries into ranges",
     acts: &[
         (0, &A_FIRST, &[]),
         (1, &B_ONCE, &[]),
@@ -289,72 +301,39 @@ const SETTLING: Plan = Plan {
 
 /// A move is settled once both its units are drained.
 const SETTLED_MOVES: Plan = Plan {
+    shows: "settle of a move waits for the drain of both units",
     acts: &[(0, &A_MOVES, &MOVES_SETTLED)],
     ..QUIET
 };
 
 /// A volume is moved into one of the two drives, and an attendant is let at each unit.
 const ATTENDED: Plan = Plan {
+    shows: "attend asks the attendant once at each unit",
     acts: &[(0, &INTO_DRIVE_1, &[])],
     sights: &ASKED,
     records: (2, 1, 0),
     ..QUIET
 };
 
-#[derive(Clone, Copy)]
-pub(super) enum Scene {
-    TwoDrives,
-    Drains,
-    HeldUnit,
-    EverySeat,
-    Moving,
-    LossAndReset,
-    SharedDrive,
-    FullSlots,
-    Settling,
-    SettledMoves,
-    Attended,
-}
+pub(super) const SCENES: [&'static Plan; 11] = [
+    &TWO_DRIVES,
+    &DRAINS,
+    &HELD_UNIT,
+    &EVERY_SEAT,
+    &MOVING,
+    &LOSS_AND_RESET,
+    &SHARED_DRIVE,
+    &FULL_SLOTS,
+    &SETTLING,
+    &SETTLED_MOVES,
+    &ATTENDED,
+];
 
-// A function that names all tables costs the proof more than these, each with its own.
-const fn loss_and_reset() -> Plan {
-    LOSS_AND_RESET
-}
-
-const fn shared_drive() -> Plan {
-    SHARED_DRIVE
-}
-
-const fn settling() -> Plan {
-    SETTLING
-}
-
-const fn settled_moves() -> Plan {
-    SETTLED_MOVES
-}
-
-const fn attended() -> Plan {
-    ATTENDED
-}
-
-const fn seats_and_slots(scene: Scene) -> Plan {
-    match scene {
-        Scene::EverySeat => EVERY_SEAT,
-        _ => FULL_SLOTS,
-    }
-}
-
-pub(super) const fn plan_of(scene: Scene) -> Plan {
-    match scene {
-        Scene::TwoDrives => TWO_DRIVES,
-        Scene::Drains => DRAINS,
-        Scene::HeldUnit => HELD_UNIT,
-        Scene::Moving => MOVING,
-        Scene::LossAndReset => loss_and_reset(),
-        Scene::SharedDrive => shared_drive(),
-        Scene::Settling => settling(),
-        Scene::SettledMoves => settled_moves(),
-        Scene::Attended => attended(),
-        Scene::EverySeat | Scene::FullSlots => seats_and_slots(scene),
+/// The plan of the scene at a place. A scene goes to a library by its place, since a signature with a plan in it is none that the borrow
+/// checker covers there.
+pub(super) fn plan_at(scene: usize) -> Plan {
+    match SCENES.get(scene) {
+        Some(plan) => **plan,
+        None => QUIET,
     }
 }

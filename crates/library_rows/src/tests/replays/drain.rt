@@ -2,6 +2,7 @@
 
 use super::super::assert_same;
 use super::{assert_replayed, usual};
+use crate::comparing::assert_list;
 use library_device::Device;
 use output_lines::Audit;
 use std::alloc::Global;
@@ -38,62 +39,71 @@ fn push_drained(
     Ok(true)
 }
 
-/// A unit, whether it is there, and the numbers of the records that it hands out.
-type Drained = (u8, bool, &'static [u64]);
+/// What it shows, a script, all that it writes with the records; a unit, whether it is there, and the numbers of the records that it hands
+/// out then.
+type Row = (
+    &'static str,
+    &'static str,
+    &'static str,
+    u8,
+    bool,
+    &'static [u64],
+);
 
 fn assert_drained(
     rt: &impl Abort,
     alloc: Global,
     core: &mut TargetCore<Device>,
-    row: &Drained,
+    row: &Row,
 ) -> Result<(), Fail> {
-    let (lun, is_there, expected) = *row;
+    let (shows, _, _, lun, is_there, expected) = *row;
     let mut numbers = Vec::new(alloc);
     let found = push_drained(alloc, core, lun, &mut numbers)?;
-    assert_same(rt, found, is_there, "whether there is a unit");
-    let found = numbers.as_slice();
-    assert_same(rt, found, expected, "the numbers that are handed out");
+    assert_same(rt, found, is_there, shows);
+    assert_list(rt, &numbers, expected, shows);
     Ok(())
 }
 
-/// What it shows, a script, all that it writes with the records, and what the units hand out then.
-type Part = (&'static str, &'static str, &'static str, &'static [Drained]);
+fn assert_row(
+    rt: &impl Abort,
+    alloc: Global,
+    core: &mut TargetCore<Device>,
+    row: &Row,
+) -> Result<(), Fail> {
+    let (shows, script, expected, _, _, _) = *row;
+    assert_replayed(rt, alloc, core, Audit::Lines, script, expected, shows)?;
+    assert_drained(rt, alloc, core, row)
+}
 
-const PARTS: [Part; 2] = [
+const ROWS: [Row; 4] = [
     (
-        "before the drain",
+        "before the drain, and the records of the changer",
         BEFORE_THE_DRAIN,
         REPLIES_BEFORE_THE_DRAIN,
-        &[(0, true, &[1, 2]), (1, true, &[]), (2, false, &[])],
+        0,
+        true,
+        &[1, 2],
     ),
+    ("of the drive", "", "", 1, true, &[]),
+    ("of no unit", "", "", 2, false, &[]),
     (
         "behind the drain",
         BEHIND_THE_DRAIN,
         REPLIES_BEHIND_THE_DRAIN,
-        &[(0, true, &[3])],
+        0,
+        true,
+        &[3],
     ),
 ];
 
-fn assert_all_drained(
-    rt: &impl Abort,
-    alloc: Global,
-    core: &mut TargetCore<Device>,
-    rows: &[Drained],
-) -> Result<(), Fail> {
-    for row in rows {
-        assert_drained(rt, alloc, core, row)?;
+fn assert_rows(rt: &impl Abort, alloc: Global, core: &mut TargetCore<Device>) -> Result<(), Fail> {
+    for row in &ROWS {
+        assert_row(rt, alloc, core, row)?;
     }
     Ok(())
 }
 
 #[test]
 fn drain_leaves_the_numbers_going_on(rt: HostRuntime) -> Result<(), Fail> {
-    let mut core = usual(rt.alloc())?;
-    for part in &PARTS {
-        let (shows, script, expected, drained) = *part;
-        let (alloc, audit) = (rt.alloc(), Audit::Lines);
-        assert_replayed(&rt, alloc, &mut core, audit, script, expected, shows)?;
-        assert_all_drained(&rt, alloc, &mut core, drained)?;
-    }
-    Ok(())
+    assert_rows(&rt, rt.alloc(), &mut usual(rt.alloc())?)
 }

@@ -2,123 +2,134 @@
 
 use super::super::assert_same;
 use super::{replay_in, usual};
+use crate::trickle::Trickle;
 use output_lines::Audit;
 use replay::ReplayFault;
-use std::alloc::Global;
+use std::alloc::{AllocError, Global};
 use std::io;
-use std::io::{Read, Write};
+use std::io::Write;
 use std::process::Abort;
 use std::test::Fail;
 
-/// A reader of a comment, a byte at each read. It counts its reads, and fails at one of them.
+/// Forgets what is written, or fails at once.
 #[derive(Drop)]
-struct Trickle {
-    bytes: u64,
-    reads: u64,
-    fails_at: u64,
+struct Output {
+    is_closed: bool,
 }
 
-impl Read for Trickle {
-    fn read(&mut self, buffer: &mut [u8]) -> io::Result<usize> {
-        self.reads = self.reads.saturating_add(1);
-        if self.reads == self.fails_at {
+impl Write for Output {
+    fn write(&mut self, buffer: &[u8]) -> io::Result<usize> {
+        if self.is_closed {
             return Err(io::Error::from(io::ErrorKind::BrokenPipe));
         }
-        if self.bytes < self.reads {
-            return Ok(0);
-        }
-        match buffer.first_mut() {
-            Some(first) => {
-                *first = b'#';
-                Ok(1)
-            }
-            None => Ok(0),
-        }
-    }
-}
-
-#[derive(Drop)]
-struct Closed;
-
-impl Write for Closed {
-    fn write(&mut self, _buffer: &[u8]) -> io::Result<usize> {
-        Err(io::Error::from(io::ErrorKind::BrokenPipe))
+        Ok(buffer.len())
     }
 
     fn flush(&mut self) -> io::Result<()> {
-        Err(io::Error::from(io::ErrorKind::BrokenPipe))
+        if self.is_closed {
+            return Err(io::Error::from(io::ErrorKind::BrokenPipe));
+        }
+        Ok(())
     }
 }
 
-fn word_of(ended: Result<(), ReplayFault>) -> &'static str {
-    match ended {
-        Ok(()) => "to its end",
-        Err(ReplayFault::Read) => "by a read",
-        Err(ReplayFault::Write) => "by a write",
-        Err(_) => "by another fault",
-    }
-}
+/// What it shows, a script, how often it may be read, which read fails, whether each write does; what is told of the fault, the exit status
+/// by it, and how often the script is read, a byte each time, where that is looked at. Its end is a read of its own.
+type Row = (
+    &'static str,
+    &'static [u8],
+    u64,
+    u64,
+    bool,
+    &'static str,
+    u8,
+    Option<u64>,
+);
 
-/// How a replay ends in the usual library of what a reader gives, by at most so many reads.
-fn ended<R: Read, W: Write>(
-    alloc: Global,
-    reader: &mut R,
-    writer: &mut W,
-    turns: u64,
-) -> Result<&'static str, Fail> {
-    let mut core = usual(alloc)?;
-    let ended = replay_in(alloc, &mut core, reader, writer, Audit::Off, turns);
-    Ok(word_of(ended))
-}
+const OF_THE_SCRIPT: &str = "vtl: device fault\nvtl: the script could not be read";
 
-/// Replays a comment of three bytes, which may be read so often, and of which a read fails: how that ends, and how often it
-/// was read.
-fn trickled(alloc: Global, turns: u64, fails_at: u64) -> Result<(&'static str, u64), Fail> {
-    let mut reader = Trickle {
-        bytes: 3,
-        reads: 0,
-        fails_at,
-    };
-    let ended = ended(alloc, &mut reader, &mut Vec::new(alloc), turns)?;
-    Ok((ended, reader.reads))
-}
+const OF_THE_REPLIES: &str = "vtl: device fault\nvtl: the replies could not be written";
 
-/// How often the comment may be read, which read fails, how that ends, and how often it is read. Its end is a read of its
-/// own.
-const TURNS: [(u64, u64, &'static str, u64); 5] = [
-    (4, 0, "to its end", 4),
-    (5, 0, "to its end", 4),
-    (3, 0, "by a read", 3),
-    (0, 0, "by a read", 0),
-    (9, 2, "by a read", 2),
+const COMMENT: &[u8] = b"###";
+
+/// A line with a bad nexus.
+const BAD_LINE: &[u8] = b"x 0 000000000000\n";
+
+const ROWS: [Row; 7] = [
+    (
+        "it is read to its end",
+        COMMENT,
+        4,
+        0,
+        false,
+        "",
+        0,
+        Some(4),
+    ),
+    ("and no further", COMMENT, 5, 0, false, "", 0, Some(4)),
+    (
+        "no more often than it may",
+        COMMENT,
+        3,
+        0,
+        false,
+        OF_THE_SCRIPT,
+        4,
+        Some(3),
+    ),
+    (
+        "not at all",
+        COMMENT,
+        0,
+        0,
+        false,
+        OF_THE_SCRIPT,
+        4,
+        Some(0),
+    ),
+    (
+        "a read fails",
+        COMMENT,
+        9,
+        2,
+        false,
+        OF_THE_SCRIPT,
+        4,
+        Some(2),
+    ),
+    ("a write fails", b"", 9, 0, true, OF_THE_REPLIES, 4, Some(1)),
+    (
+        "a line has a fault",
+        BAD_LINE,
+        99,
+        0,
+        false,
+        "vtl: line 1: bad nexus",
+        2,
+        None,
+    ),
 ];
 
-#[test]
-fn replay_reads_no_more_often_than_it_may(rt: HostRuntime) -> Result<(), Fail> {
-    for row in &TURNS {
-        let (turns, fails_at, end, reads) = *row;
-        let found = trickled(rt.alloc(), turns, fails_at)?;
-        assert_same(&rt, found, (end, reads), "the end, and the reads");
-    }
-    Ok(())
-}
-
-#[test]
-fn replay_ends_by_a_write_that_fails(rt: HostRuntime) -> Result<(), Fail> {
-    let ended = ended(rt.alloc(), &mut b"".as_slice(), &mut Closed, 9)?;
-    assert_same(&rt, ended, "by a write", "a write fails");
-    Ok(())
-}
-
-/// The fault of a script whose first line has a bad nexus.
-fn fault_of_a_line(alloc: Global) -> Result<ReplayFault, Fail> {
-    let mut reader = b"x 0 000000000000\n".as_slice();
+/// How a replay ends in the usual library, and how often the script was read.
+fn replayed_by(alloc: Global, row: &Row) -> Result<(Result<(), ReplayFault>, u64), AllocError> {
+    let (_, bytes, turns, fails_at, is_closed, _, _, _) = *row;
     let mut core = usual(alloc)?;
-    let mut writer = Vec::new(alloc);
-    match replay_in(alloc, &mut core, &mut reader, &mut writer, Audit::Off, 9) {
-        Ok(()) => Err("no fault".into()),
-        Err(fault) => Ok(fault),
-    }
+    let mut reader = Trickle {
+        bytes,
+        reads: 0,
+        fails_at,
+        is_interrupted: false,
+    };
+    let mut writer = Output { is_closed };
+    let ended = replay_in(
+        alloc,
+        &mut core,
+        &mut reader,
+        &mut writer,
+        Audit::Off,
+        turns,
+    );
+    Ok((ended, reader.reads))
 }
 
 /// Compares what is told of a fault, and the exit status by it.
@@ -128,23 +139,34 @@ fn assert_told(
     fault: ReplayFault,
     text: &str,
     status: u8,
+    shows: &'static str,
 ) -> Result<(), Fail> {
     let shown = fault.to_string(alloc)?;
     let told = (shown.as_str(), fault.status());
-    assert_same(rt, told, (text, status), "what is told of a fault");
+    assert_same(rt, told, (text, status), shows);
     Ok(())
 }
 
-const OF_THE_SCRIPT: &str = "vtl: device fault\nvtl: the script could not be read";
+fn assert_row(rt: &impl Abort, alloc: Global, row: &Row) -> Result<(), Fail> {
+    let (shows, _, _, _, _, text, status, expected) = *row;
+    let (ended, reads) = replayed_by(alloc, row)?;
+    if let Some(expected) = expected {
+        assert_same(rt, reads, expected, shows);
+    }
+    match ended {
+        Ok(()) => assert_same(rt, ("", 0), (text, status), shows),
+        Err(fault) => assert_told(rt, alloc, fault, text, status, shows)?,
+    }
+    Ok(())
+}
 
-const OF_THE_REPLIES: &str = "vtl: device fault\nvtl: the replies could not be written";
-
+/// A replay reads no more often than it may, ends by a write that fails, and its faults have their lines.
 #[test]
-fn faults_of_a_replay_have_their_lines(rt: HostRuntime) -> Result<(), Fail> {
+fn replays_end_and_are_told_as_rows_say(rt: HostRuntime) -> Result<(), Fail> {
     let alloc = rt.alloc();
-    let fault = fault_of_a_line(alloc)?;
-    assert_told(&rt, alloc, fault, "vtl: line 1: bad nexus", 2)?;
-    assert_told(&rt, alloc, ReplayFault::NoMemory, "vtl: want of memory", 3)?;
-    assert_told(&rt, alloc, ReplayFault::Read, OF_THE_SCRIPT, 4)?;
-    assert_told(&rt, alloc, ReplayFault::Write, OF_THE_REPLIES, 4)
+    for row in &ROWS {
+        assert_row(&rt, alloc, row)?;
+    }
+    let fault = ReplayFault::NoMemory;
+    assert_told(&rt, alloc, fault, "vtl: want of memory", 3, "no memory")
 }

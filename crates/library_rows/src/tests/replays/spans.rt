@@ -38,8 +38,34 @@ enum Span {
     Group,
 }
 
-/// The parts of a line, one behind the other, and the line's fate.
-type Line = ([&'static str; 3], Fate);
+/// The three parts of a line, one behind the other, and the line's fate.
+type Line = (&'static str, &'static str, &'static str, Fate);
+
+/// A script, the same without the lines that are to be struck out, and the fate of each line.
+#[derive(Drop)]
+struct Scripts {
+    whole: String,
+    rest: String,
+    fates: Vec<Fate>,
+}
+
+fn push_line(script: &mut String, line: &Line) -> Result<(), AllocError> {
+    script.push_str(line.0)?;
+    script.push_str(line.1)?;
+    script.push_str(line.2)?;
+    script.push_str("\n")
+}
+
+impl Scripts {
+    fn push(&mut self, line: Line) -> Result<(), AllocError> {
+        push_line(&mut self.whole, &line)?;
+        if !matches!(line.3, Fate::Struck) {
+            push_line(&mut self.rest, &line)?;
+        }
+        self.fates.push(line.3)?;
+        Ok(())
+    }
+}
 
 const A: &str = "500000000000000a.1";
 
@@ -147,13 +173,13 @@ const AT_DRIVE_BESIDE: [&'static str; 5] = [
 
 /// Contact, and a volume in the drive, of which both are told.
 const CONTACTS: [Line; 7] = [
-    ([A, AT_CHANGER, "000000000000"], Fate::Same),
-    ([A, AT_DRIVE, "000000000000"], Fate::Same),
-    ([D, AT_CHANGER, "000000000000"], Fate::Same),
-    ([D, AT_DRIVE, "000000000000"], Fate::Same),
-    ([A, AT_CHANGER, "a50000000400010000000000"], Fate::Same),
-    ([A, AT_DRIVE, "000000000000"], Fate::Same),
-    ([D, AT_DRIVE, "000000000000"], Fate::Same),
+    (A, AT_CHANGER, "000000000000", Fate::Same),
+    (A, AT_DRIVE, "000000000000", Fate::Same),
+    (D, AT_CHANGER, "000000000000", Fate::Same),
+    (D, AT_DRIVE, "000000000000", Fate::Same),
+    (A, AT_CHANGER, "a50000000400010000000000", Fate::Same),
+    (A, AT_DRIVE, "000000000000", Fate::Same),
+    (D, AT_DRIVE, "000000000000", Fate::Same),
 ];
 
 const KEY_OF_A: &str = "5f000000000000001800 000000000000000000000000000000010000000000000000";
@@ -165,24 +191,36 @@ const EXCLUSIVE: &str = "5f010300000000001800 0000000000000001000000000000000000
 const EXCLUSIVE_OF_ALL: &str =
     "5f010800000000001800 000000000000000100000000000000000000000000000000";
 
+/// Who registers and reserves the unit, and by which command.
+const HOLDING: [(&'static str, &'static str); 2] = [(A, KEY_OF_A), (A, EXCLUSIVE)];
+
+const SHARING: [(&'static str, &'static str); 3] = [
+    (A, KEY_OF_A),
+    (D, KEY_OF_D),
+    (A, EXCLUSIVE_OF_ALL),
+];
+
+const fn reservation_of(span: Span) -> &'static [(&'static str, &'static str)] {
+    match span {
+        Span::Holder => &HOLDING,
+        Span::Group => &SHARING,
+    }
+}
+
 /// What stands between a line's sender and its command to a unit.
 fn at(unit: u8) -> &'static str {
     if unit == 0 { AT_CHANGER } else { AT_DRIVE }
 }
 
 /// Contact, a volume in the drive, and the reservation at the unit.
-fn begun(alloc: Global, span: Span, unit: u8) -> Result<Vec<Line>, AllocError> {
-    let mut lines = Vec::from_slice(alloc, &CONTACTS)?;
-    lines.push(([A, at(unit), KEY_OF_A], Fate::Same))?;
-    if matches!(span, Span::Group) {
-        lines.push(([D, at(unit), KEY_OF_D], Fate::Same))?;
+fn begin(scripts: &mut Scripts, span: Span, unit: u8) -> Result<(), AllocError> {
+    for line in &CONTACTS {
+        scripts.push(*line)?;
     }
-    let reserve = match span {
-        Span::Holder => EXCLUSIVE,
-        Span::Group => EXCLUSIVE_OF_ALL,
-    };
-    lines.push(([A, at(unit), reserve], Fate::Same))?;
-    Ok(lines)
+    for (sender, command) in reservation_of(span) {
+        scripts.push((*sender, at(unit), *command, Fate::Same))?;
+    }
+    Ok(())
 }
 
 /// Who of those inside sends the next command.
@@ -202,14 +240,14 @@ fn inside(numbers: &mut Numbers, span: Span, unit: u8) -> Line {
             Span::Holder => Fate::SameSense,
             Span::Group => Fate::Same,
         };
-        return ([sender, at(unit), command], fate);
+        return (sender, at(unit), command, fate);
     }
     let command = if unit == 0 {
         numbers.one_of(&INSIDE_AT_CHANGER)
     } else {
         numbers.one_of(&INSIDE_AT_DRIVE)
     };
-    ([sender, at(unit), command], Fate::Same)
+    (sender, at(unit), command, Fate::Same)
 }
 
 /// A line of another to the unit, which is struck out. In a group's span nobody else registers.
@@ -219,7 +257,17 @@ fn outside(numbers: &mut Numbers, span: Span, unit: u8) -> Line {
         Span::Holder if numbers.below(3) == 0 => numbers.one_of(&OUTSIDE_KEYS),
         _ => numbers.one_of(&OUTSIDE),
     };
-    ([sender, at(unit), command], Fate::Struck)
+    (sender, at(unit), command, Fate::Struck)
+}
+
+/// A line to the other unit.
+fn other_unit(numbers: &mut Numbers, sender: &'static str, unit: u8) -> Line {
+    let (at, commands) = if unit == 0 {
+        (AT_DRIVE, &AT_DRIVE_BESIDE)
+    } else {
+        (AT_CHANGER, &AT_CHANGER_BESIDE)
+    };
+    (sender, at, numbers.one_of(commands), Fate::Same)
 }
 
 /// A line that stays: of anybody to the other unit, or a loss or a reset.
@@ -230,14 +278,12 @@ fn beside(numbers: &mut Numbers, unit: u8) -> Line {
     } else {
         (" 1", "reset 1")
     };
-    let parts = match numbers.below(8) {
-        0 => ["loss ", sender, there],
-        1 => ["loss ", A, there],
-        2 => [reset, "", ""],
-        _ if unit == 0 => [sender, AT_DRIVE, numbers.one_of(&AT_DRIVE_BESIDE)],
-        _ => [sender, AT_CHANGER, numbers.one_of(&AT_CHANGER_BESIDE)],
-    };
-    (parts, Fate::Same)
+    match numbers.below(8) {
+        0 => ("loss ", sender, there, Fate::Same),
+        1 => ("loss ", A, there, Fate::Same),
+        2 => (reset, "", "", Fate::Same),
+        _ => other_unit(numbers, sender, unit),
+    }
 }
 
 fn next_line(numbers: &mut Numbers, span: Span, unit: u8) -> Line {
@@ -249,7 +295,7 @@ fn next_line(numbers: &mut Numbers, span: Span, unit: u8) -> Line {
 }
 
 /// Some sixty lines by a seed.
-fn generated(alloc: Global, seed: u64) -> Result<Vec<Line>, AllocError> {
+fn generate(scripts: &mut Scripts, seed: u64) -> Result<(), AllocError> {
     let mut numbers = Numbers { state: seed };
     let span = if numbers.below(2) == 0 {
         Span::Holder
@@ -257,38 +303,16 @@ fn generated(alloc: Global, seed: u64) -> Result<Vec<Line>, AllocError> {
         Span::Group
     };
     let unit = if numbers.below(3) == 0 { 0 } else { 1 };
-    let mut lines = begun(alloc, span, unit)?;
+    begin(scripts, span, unit)?;
     for _ in 0..50 {
-        lines.push(next_line(&mut numbers, span, unit))?;
+        scripts.push(next_line(&mut numbers, span, unit))?;
     }
-    Ok(lines)
+    Ok(())
 }
 
-/// Adds a line to a script, unless it is to be struck out and this is one.
-fn push_line(script: &mut String, line: &Line, strikes: bool) -> Result<(), AllocError> {
-    let (parts, fate) = *line;
-    if strikes && matches!(fate, Fate::Struck) {
-        return Ok(());
-    }
-    for part in &parts {
-        script.push_str(part)?;
-    }
-    script.push_str("\n")
-}
-
-/// The script of some lines, with those that may be struck out or without them.
-fn script_of(alloc: Global, lines: &[Line], strikes: bool) -> Result<String, AllocError> {
-    let mut script = String::new(alloc);
-    for line in lines {
-        push_line(&mut script, line, strikes)?;
-    }
-    Ok(script)
-}
-
-/// What some lines are answered, reply by reply.
-fn replies(alloc: Global, lines: &[Line], strikes: bool) -> Result<String, Fail> {
-    let script = script_of(alloc, lines, strikes)?;
-    let output = replayed(alloc, &mut library(alloc, &OPTIONS)?, Audit::Off, &script)?;
+/// What a script is answered, reply by reply.
+fn replies(alloc: Global, script: &str) -> Result<String, Fail> {
+    let output = replayed(alloc, &mut library(alloc, &OPTIONS)?, Audit::Off, script)?;
     match String::from_utf8(output) {
         Ok(text) => Ok(text),
         Err(_) => Err("no text".into()),
@@ -326,11 +350,11 @@ fn assert_stays(rt: &impl Abort, fate: Fate, line: &str, alone: Option<&str>) ->
 }
 
 /// The replies to the lines that aren't struck out are the same with the others and without.
-fn compare(rt: &impl Abort, lines: &[Line], whole: &str, rest: &str) -> Result<Struck, Fail> {
+fn compare(rt: &impl Abort, fates: &[Fate], whole: &str, rest: &str) -> Result<Struck, Fail> {
     let mut told = whole.lines();
     let mut alone = rest.lines();
     let mut struck = (0, 0);
-    for (_, fate) in lines {
+    for fate in fates {
         let Some(reply) = told.next() else {
             return Err("no reply".into());
         };
@@ -344,19 +368,28 @@ fn compare(rt: &impl Abort, lines: &[Line], whole: &str, rest: &str) -> Result<S
     Ok(struck)
 }
 
-/// Replays lines with those that may be struck out and without them, and compares the replies.
-fn assert_replayed(rt: &impl Abort, alloc: Global, lines: &[Line]) -> Result<Struck, Fail> {
-    let whole = replies(alloc, lines, false)?;
-    let rest = replies(alloc, lines, true)?;
-    compare(rt, lines, &whole, &rest)
+/// Replays lines with those that are to be struck out and without them, and compares the replies.
+fn assert_replayed(rt: &impl Abort, alloc: Global, scripts: &Scripts) -> Result<Struck, Fail> {
+    let whole = replies(alloc, &scripts.whole)?;
+    let rest = replies(alloc, &scripts.rest)?;
+    compare(rt, &scripts.fates, &whole, &rest)
+}
+
+fn struck_of_seed(rt: &impl Abort, alloc: Global, seed: u64) -> Result<Struck, Fail> {
+    let mut scripts = Scripts {
+        whole: String::new(alloc),
+        rest: String::new(alloc),
+        fates: Vec::new(alloc),
+    };
+    generate(&mut scripts, seed)?;
+    assert_replayed(rt, alloc, &scripts)
 }
 
 /// The sum over the scripts of many seeds.
 fn struck_of_seeds(rt: &impl Abort, alloc: Global) -> Result<Struck, Fail> {
     let mut sum: Struck = (0, 0);
     for seed in 0..300 {
-        let lines = generated(alloc, seed)?;
-        let (count, good) = assert_replayed(rt, alloc, &lines)?;
+        let (count, good) = struck_of_seed(rt, alloc, seed)?;
         sum = (sum.0.saturating_add(count), sum.1.saturating_add(good));
     }
     Ok(sum)
@@ -369,43 +402,5 @@ fn holder_and_group_see_no_difference_without_outsiders(rt: HostRuntime) -> Resu
     let are_many = count > 4_000 && good > 500;
     assert_same(&rt, are_many, true, "enough lines are struck out");
     assert_same(&rt, good < count, true, "some conflict");
-    Ok(())
-}
-
-const KEY_2: &str = "5f000000000000001800 000000000000000000000000000000020000000000000000";
-
-/// D writes, registers, and prevents and allows removal, while A holds the drive. D's WRITE and PREVENT conflict, its
-/// REGISTER and ALLOW are GOOD; A writes one block, sees where it stands, and reads it.
-const LINES: [Line; 8] = [
-    ([D, AT_DRIVE, "0a0000000100 09"], Fate::Struck),
-    ([A, AT_DRIVE, "0a0000000400 01020304"], Fate::Same),
-    ([D, AT_DRIVE, KEY_2], Fate::Struck),
-    ([D, AT_DRIVE, "1e0000000100"], Fate::Struck),
-    ([A, AT_DRIVE, "34000000000000000000"], Fate::Same),
-    ([D, AT_DRIVE, "1e0000000000"], Fate::Struck),
-    ([A, AT_DRIVE, "010000000000"], Fate::Same),
-    ([A, AT_DRIVE, "080000000400"], Fate::Same),
-];
-
-const REPLIES: &str = "18 - -\n00 - -\n00 - -\n18 - -\n\
-    00 - 0000000000000001000000010000000000000000\n\
-    00 - -\n00 - -\n00 - 01020304\n";
-
-/// These lines behind the reservation.
-fn reserved_lines(alloc: Global) -> Result<Vec<Line>, AllocError> {
-    let mut lines = begun(alloc, Span::Holder, 1)?;
-    for line in &LINES {
-        lines.push(*line)?;
-    }
-    Ok(lines)
-}
-
-#[test]
-fn replies_are_the_same_with_outsiders_struck_out(rt: HostRuntime) -> Result<(), Fail> {
-    let lines = reserved_lines(rt.alloc())?;
-    let struck = assert_replayed(&rt, rt.alloc(), &lines)?;
-    assert_same(&rt, struck, (4, 2), "struck out");
-    let told = replies(rt.alloc(), &lines, false)?;
-    assert_same(&rt, told.ends_with(REPLIES), true, "the replies");
     Ok(())
 }
