@@ -242,10 +242,8 @@ enum Act {
     KeepRewind,
     WriteBehind,
     KeepAll,
-    /// The disk is full from now on, or no longer.
-    Fill(bool),
-    /// A host is to write a filemark while the next part is written.
-    WriteOn,
+    /// Whether the disk is full from now on, and whether a host is to write a filemark while the next part is written.
+    Disk(bool, bool),
 }
 
 /// A drive whose volume is kept in a file.
@@ -297,13 +295,10 @@ impl<'a, R: Wait> Scene<'a, R> {
             .keep_all(self.rt, self.alloc, self.bay, &self.notes)
     }
 
-    fn fill(&self, is_full: bool) -> bool {
-        self.file.lock(self.rt).is_full = is_full;
-        true
-    }
-
-    fn write_on(&self) -> bool {
-        self.file.lock(self.rt).is_written_on = true;
+    fn set_disk(&self, is_full: bool, is_written_on: bool) -> bool {
+        let mut file = self.file.lock(self.rt);
+        file.is_full = is_full;
+        file.is_written_on = is_written_on;
         true
     }
 
@@ -317,8 +312,7 @@ impl<'a, R: Wait> Scene<'a, R> {
             Act::KeepRewind => self.keep(REWIND, 0),
             Act::WriteBehind => self.write_behind(),
             Act::KeepAll => self.keep_all(),
-            Act::Fill(is_full) => self.fill(is_full),
-            Act::WriteOn => self.write_on(),
+            Act::Disk(is_full, is_written_on) => self.set_disk(is_full, is_written_on),
         }
     }
 
@@ -427,7 +421,7 @@ const OF_A_FILEMARK: [Row; 6] = [
 const OF_A_FULL_DISK: [Row; 7] = [
     (
         "the disk is full",
-        Act::Fill(true),
+        Act::Disk(true, false),
         true,
         Told::Nothing,
         &[],
@@ -460,7 +454,7 @@ const OF_A_FULL_DISK: [Row; 7] = [
     ),
     (
         "there is room again",
-        Act::Fill(false),
+        Act::Disk(false, false),
         true,
         Told::Full,
         &[],
@@ -487,7 +481,7 @@ const OF_A_HOST_THAT_WRITES_ON: [Row; 6] = [
     ),
     (
         "a host is to write on meanwhile",
-        Act::WriteOn,
+        Act::Disk(false, true),
         true,
         Told::Nothing,
         &[],

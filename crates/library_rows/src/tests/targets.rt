@@ -179,12 +179,3 @@ pub(super) fn ready_at(alloc: Global, lun: u8) -> Result<Event, Fail> {
         bytes: Vec::new(alloc),
     })
 }
-
-/// How many records the units of a target have.
-pub(super) fn records_of<D: DeviceServer>(core: &TargetCore<D>) -> usize {
-    let mut count: usize = 0;
-    for unit in core.all() {
-        count = count.saturating_add(unit.records().len());
-    }
-    count
-}

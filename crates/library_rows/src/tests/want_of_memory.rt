@@ -2,16 +2,14 @@
 //! go on.
 
 use super::replays::assert_replayed;
-use super::targets::{ready_at, records_of};
+use super::targets::ready_at;
 use super::{assert_same, empty_changer};
 use device_server::{BadPlace, DeviceServer, Outcome, PutFault, TakeFault};
 use library_device::{Device, unit_at};
-use logical_unit::{LogicalUnit, Reply};
+use logical_unit::LogicalUnit;
 use output_lines::Audit;
 use scsi_cdb::{Kind, Request};
-use scsi_sense::Status;
 use std::alloc::{AllocError, Global};
-use std::process::Abort;
 use std::test::Fail;
 use tape_medium::{Volume, VolumeTag};
 use tape_server::TapeDrive;
@@ -112,58 +110,23 @@ fn wanting_target(alloc: Global) -> Result<TargetCore<WantingDevice>, Fail> {
     }
 }
 
-/// Sends the changer so many TEST UNIT READYs of A.
-fn run_ready(
-    alloc: Global,
-    core: &mut TargetCore<WantingDevice>,
-    count: u8,
-    replies: &mut Vec<Reply>,
-) -> Result<(), Fail> {
-    let mut events = Vec::new(alloc);
-    for _ in 0..count {
-        events.push(ready_at(alloc, 0)?)?;
-    }
-    core.run(alloc, &events, replies)?;
-    Ok(())
-}
+/// Five TEST UNIT READYs of A at the changer.
+const READY: &str = "500000000000000a.1 0 000000000000\n\
+    500000000000000a.1 0 000000000000\n\
+    500000000000000a.1 0 000000000000\n\
+    500000000000000a.1 0 000000000000\n\
+    500000000000000a.1 0 000000000000\n";
 
-/// The status of a reply, and the number of its record.
-fn answer_at(replies: &[Reply], place: usize) -> Option<(Status, u64)> {
-    match replies.get(place) {
-        Some(reply) => Some((reply.status, reply.number)),
-        None => None,
-    }
-}
-
-/// The place of a reply, its status, and the number of its record.
-const ANSWERS: [(usize, Status, u64); 5] = [
-    (0, Status::CheckCondition, 1),
-    (1, Status::Good, 2),
-    (2, Status::Busy, 0),
-    (3, Status::Good, 3),
-    (4, Status::Good, 4),
-];
-
-fn assert_replies(rt: &impl Abort, replies: &[Reply]) {
-    for row in &ANSWERS {
-        let (place, status, number) = *row;
-        let answer = answer_at(replies, place);
-        assert_same(rt, answer, Some((status, number)), "a reply");
-    }
-    assert_same(rt, replies.len(), 5, "replies");
-}
-
-#[test]
-fn execute_is_busy_for_want_of_memory(rt: HostRuntime) -> Result<(), Fail> {
-    let mut core = wanting_target(rt.alloc())?;
-    let mut replies = Vec::new(rt.alloc());
-    run_ready(rt.alloc(), &mut core, 5, &mut replies)?;
-    // No events have no replies, and change nothing.
-    run_ready(rt.alloc(), &mut core, 0, &mut replies)?;
-    assert_replies(&rt, &replies);
-    assert_same(&rt, records_of(&core), 4, "records");
-    Ok(())
-}
+/// The third is BUSY and has no record.
+const READY_RECORDS: &str = "02 700006000000000a00000000290000000000 -\n\
+    00 - -\n\
+    08 - -\n\
+    00 - -\n\
+    00 - -\n\
+    1 500000000000000a.1 TEST-UNIT-READY 2 - - 02\n\
+    2 500000000000000a.1 TEST-UNIT-READY 6 TEST-UNIT-READY/NONE/OTHER - 00\n\
+    3 500000000000000a.1 TEST-UNIT-READY 6 TEST-UNIT-READY/NONE/OTHER - 00\n\
+    4 500000000000000a.1 TEST-UNIT-READY 6 TEST-UNIT-READY/NONE/OTHER - 00\n";
 
 /// PERSISTENT RESERVE IN and OUT at the drive, which want no device, beside its own commands.
 const RESERVING: &str = "500000000000000a.1 1 000000000000\n\
@@ -208,17 +171,36 @@ const RESERVING_RECORDS: &str = "02 700006000000000a00000000290000000000 -\n\
     11 500000000000000b.1 WRITE(6) 3 WRITE(6)/WE/REGISTERED - 18\n\
     12 500000000000000b.1 PR-IN 6 PR-IN/WE/REGISTERED - 00\n";
 
+/// What it shows, a script, and the replies and records.
+const ROWS: [(&'static str, &'static str, &'static str); 2] = [
+    ("execute is BUSY for want of memory", READY, READY_RECORDS),
+    (
+        "a reservation conflict comes before want of memory",
+        RESERVING,
+        RESERVING_RECORDS,
+    ),
+];
+
+/// How many replies there are behind a run without events, which changes nothing, and behind one of a single event.
+fn replies_of_runs(alloc: Global) -> Result<(usize, usize), Fail> {
+    let mut core = wanting_target(alloc)?;
+    let mut events = Vec::new(alloc);
+    let mut replies = Vec::new(alloc);
+    core.run(alloc, &events, &mut replies)?;
+    let none = replies.len();
+    events.push(ready_at(alloc, 0)?)?;
+    core.run(alloc, &events, &mut replies)?;
+    Ok((none, replies.len()))
+}
+
 #[test]
-fn reservation_conflict_comes_before_want_of_memory(rt: HostRuntime) -> Result<(), Fail> {
-    let mut core = wanting_target(rt.alloc())?;
-    let (script, expected) = (RESERVING, RESERVING_RECORDS);
-    assert_replayed(
-        &rt,
-        rt.alloc(),
-        &mut core,
-        Audit::Lines,
-        script,
-        expected,
-        "replies, records",
-    )
+fn targets_that_want_memory_answer_as_rows_say(rt: HostRuntime) -> Result<(), Fail> {
+    let alloc = rt.alloc();
+    for row in &ROWS {
+        let (shows, script, expected) = *row;
+        let mut core = wanting_target(alloc)?;
+        assert_replayed(&rt, alloc, &mut core, Audit::Lines, script, expected, shows)?;
+    }
+    assert_same(&rt, replies_of_runs(alloc)?, (0, 1), "replies of runs");
+    Ok(())
 }
