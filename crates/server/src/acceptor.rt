@@ -14,7 +14,7 @@ use std::time::{Clock, Duration};
 const PAUSE: u64 = 500;
 
 /// How many sessions there are.
-#[derive(Clone, Copy, Debug, PartialEq, Eq)]
+#[derive(Clone, Copy)]
 pub enum ServeTerm {
     /// So many, whose faults are the server's.
     Sessions(u64),
@@ -23,7 +23,7 @@ pub enum ServeTerm {
 }
 
 /// How long hosts are waited for. `None`: for ever.
-#[derive(Clone, Copy, Debug, PartialEq, Eq)]
+#[derive(Clone, Copy)]
 pub struct WaitTimes {
     /// In which a connection's LOGIN, or the login phase of iSCSI, has to come to its end.
     pub login: Option<Duration>,

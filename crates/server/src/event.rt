@@ -7,7 +7,7 @@ use session::End;
 use std::fmt;
 
 /// A session that has ended.
-#[derive(Clone, Copy, Debug, PartialEq, Eq)]
+#[derive(Clone, Copy)]
 pub struct EndedSession {
     /// Its place in the order of accepting, from 1 on.
     pub number: u64,
@@ -21,7 +21,7 @@ pub struct EndedSession {
 }
 
 /// Records of a unit whose lines couldn't be written: they follow one another.
-#[derive(Clone, Copy, Debug, PartialEq, Eq)]
+#[derive(Clone, Copy)]
 pub struct UnwrittenRecords {
     pub lun: u8,
     pub count: u64,
@@ -31,7 +31,7 @@ pub struct UnwrittenRecords {
 }
 
 /// What happens while a library is served, and is told at once.
-#[derive(Clone, Copy, Debug, PartialEq, Eq)]
+#[derive(Clone, Copy)]
 pub enum Event {
     /// A connection was accepted, as the session of this number.
     Begins(u64),

@@ -136,6 +136,7 @@ impl RecordDrain {
         };
         is_due
     }
+
     /// Notes whether lines can't be written now. Whether they couldn't the last time.
     pub fn note_failing(&self, is_failing: bool) -> bool {
         self.is_failing.swap(is_failing, Ordering::SeqCst)

@@ -10,7 +10,7 @@ use std::sync::{Mutex, Wait};
 use tape_keeper::KeepEvent;
 
 /// How much is told of what happens while a library is served.
-#[derive(Clone, Copy, Debug, PartialEq, Eq)]
+#[derive(Clone, Copy)]
 pub enum Telling {
     /// Faults alone.
     Faults,

@@ -39,7 +39,7 @@ use tape_keeper::{TapeKeeper, TapeSource};
 use target_core::TargetCore;
 
 /// What is written of the records of a library that is served.
-#[derive(Clone, Copy, Debug, PartialEq, Eq)]
+#[derive(Clone, Copy)]
 pub enum RecordOutput {
     /// What is wanted of them at the end.
     AtTheEnd(Audit),
