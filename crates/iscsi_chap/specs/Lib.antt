@@ -3,3 +3,6 @@ pub mod Digests
 pub mod Binaries
 pub mod Entries
 pub mod Secrets
+pub mod Accesses
+pub mod Authentications
+pub mod Responses

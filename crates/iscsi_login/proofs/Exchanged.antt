@@ -9,8 +9,8 @@ use Rattle.iscsi_login.specs.Chaps.{shown}
 use Rattle.iscsi_login.specs.Exchanges.{ExchangeValue, started, refused_with, refused_after, is_out_of_turn, ready, judged, turn_in, kept, gone, taken_at, taken, end_progress, turn_progress, progress_at, progress_of}
 use Rattle.iscsi_login.specs.ExchangeRuns.{exchanged, texts_from, texts_of, IsAuthenticated, IsLetIn}
 use Rattle.iscsi_login.specs.Runs.{Coming}
-use Rattle.iscsi_login.specs.declared.challenge.Challenge.{Challenge}
-use Rattle.iscsi_login.specs.declared.chap.ChapPhase.TheVariants as phase
+use Rattle.iscsi_chap.specs.declared.challenge.Challenge.{Challenge}
+use Rattle.iscsi_chap.specs.declared.phase.ChapPhase.TheVariants as phase
 use Rattle.iscsi_login.specs.declared.target.LoginTarget.{LoginTarget}
 use Rattle.iscsi_login.specs.declared.login.Login.{Login}
 use Rattle.iscsi_login.specs.declared.login.Login.TheVariants.{Open, Ended}

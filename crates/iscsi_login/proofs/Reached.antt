@@ -13,13 +13,13 @@ use Rattle.iscsi_keys.specs.declared.answer.KeyAnswer.{KeyAnswer}
 use Rattle.iscsi_keys.specs.declared.fault.NegotiationFault.{NegotiationFault}
 use Rattle.iscsi_keys.specs.declared.negotiation.Negotiation.{Negotiation}
 use Rattle.iscsi_keys.proofs.Ranges.{all_stay, defaults_in_range}
-use Rattle.iscsi_login.specs.Accesses.{admitted}
+use Rattle.iscsi_chap.specs.Accesses.{admitted}
 use Rattle.iscsi_login.specs.Names.{declared, session_type_in}
 use Rattle.iscsi_login.specs.Offers.{negotiated_within, negotiated_at, unless_ended}
 use Rattle.iscsi_login.specs.Admissions.{entry_of, entry_if, entry_for, entry_as, unless_target_fault, target_fault, offered_by, offered_if, with_negotiation, says_the_same, names_free, admitted_by}
 use Rattle.iscsi_login.specs.Logins.{stepped, unless_fault, request_fault, taken, moved_if, moved_to, open_at, begun}
 use Rattle.iscsi_login.specs.Runs.{Coming, run, IsEntry, IsEntered}
-use Rattle.iscsi_login.specs.declared.access.Admission.{Admission}
+use Rattle.iscsi_chap.specs.declared.access.Admission.{Admission}
 use Rattle.iscsi_login.specs.declared.names.SessionType.{SessionType}
 use Rattle.iscsi_login.specs.declared.target.LoginTarget.{LoginTarget}
 use Rattle.iscsi_login.specs.declared.admitted.Admitted.{Admitted}

@@ -12,22 +12,24 @@ use Rattle.iscsi_chap.specs.Entries.{entry_among}
 use Rattle.iscsi_chap.specs.declared.algorithm.ChapAlgorithm.{ChapAlgorithm}
 use Rattle.iscsi_chap.specs.declared.entry.ChapEntry.{ChapEntry}
 use Rattle.iscsi_chap.specs.declared.entry.ChapSecrets.{ChapSecrets}
-use Rattle.iscsi_login.specs.Authentications.{is_passed, is_agreed, may_go_on, shown_by, verdict_by}
+use Rattle.iscsi_chap.specs.Authentications.{is_passed}
+use Rattle.iscsi_login.specs.Authentications.{is_agreed, may_go_on, shown_by, verdict_by}
 use Rattle.iscsi_login.specs.ChapKeys.{algorithm_key, identifier_key, challenge_key, name_key, response_key}
-use Rattle.iscsi_login.specs.Chaps.{Verdict, silent, unproven, phase_after, says, says_challenge, says_response, says_any, challenged, asked_for, asked, is_digest, is_response, shown, proven, answered_by, answered, chap_turn}
+use Rattle.iscsi_chap.specs.Responses.{is_digest, is_response}
+use Rattle.iscsi_login.specs.Chaps.{Verdict, silent, unproven, phase_after, says, says_challenge, says_response, says_any, challenged, asked_for, asked, shown, proven, answered_by, answered, chap_turn}
 use Rattle.iscsi_login.specs.Exchanges.{ExchangeValue}
 use Rattle.iscsi_login.specs.ExchangeRuns.{IsEntryOf, IsProof, IsAuthenticated}
 use Rattle.iscsi_login.specs.Names.{declared_as}
 use Rattle.iscsi_login.specs.Turns.{phase_or, judgement_at}
-use Rattle.iscsi_login.specs.declared.access.Admission.{Admission}
+use Rattle.iscsi_chap.specs.declared.access.Admission.{Admission}
 use Rattle.iscsi_login.specs.declared.admitted.Admitted.{Admitted}
-use Rattle.iscsi_login.specs.declared.challenge.Challenge.{Challenge}
-use Rattle.iscsi_login.specs.declared.chap.ChapPhase.{ChapPhase}
-use Rattle.iscsi_login.specs.declared.chap.ChapPhase.TheVariants as phase
+use Rattle.iscsi_chap.specs.declared.challenge.Challenge.{Challenge}
+use Rattle.iscsi_chap.specs.declared.phase.ChapPhase.{ChapPhase}
+use Rattle.iscsi_chap.specs.declared.phase.ChapPhase.TheVariants as phase
 use Rattle.iscsi_login.specs.declared.chap.ChapState.{ChapState}
 use Rattle.iscsi_login.specs.declared.names.SessionType.{SessionType}
-use Rattle.iscsi_login.specs.declared.target.Authentication.{Authentication}
-use Rattle.iscsi_login.specs.declared.target.Authentication.TheVariants as authentication
+use Rattle.iscsi_chap.specs.declared.authentication.Authentication.{Authentication}
+use Rattle.iscsi_chap.specs.declared.authentication.Authentication.TheVariants as authentication
 use Rattle.iscsi_login.specs.declared.target.LoginTarget.{LoginTarget}
 use Rattle.iscsi_login.specs.declared.login.Login.{Login}
 use Rattle.iscsi_login.specs.declared.login.Login.TheVariants.{Open, Ended}

@@ -7,7 +7,8 @@ use Rattle.iscsi_pdu.specs.declared.login_status.LoginStatus.{LoginStatus}
 use Rattle.iscsi_pdu.specs.declared.login_status.LoginStatus.TheVariants as status
 use Rattle.iscsi_keys.specs.declared.key.Key.TheVariants as key
 use Rattle.iscsi_login.specs.Admissions.{admitted_by, names_free, offered_by, says_the_same}
-use Rattle.iscsi_login.specs.Authentications.{is_free, shown_by, verdict_by}
+use Rattle.iscsi_chap.specs.Authentications.{is_free}
+use Rattle.iscsi_login.specs.Authentications.{shown_by, verdict_by}
 use Rattle.iscsi_login.specs.Chaps.{phase_after, shown}
 use Rattle.iscsi_login.specs.Exchanges.{ExchangeValue, refused_with, refused_after, is_out_of_turn, ready, name_unless, judged, turn_in, gone, taken_at, taken}
 use Rattle.iscsi_login.specs.ExchangeRuns.{IsEntryOf, IsAuthenticated}
@@ -16,15 +17,15 @@ use Rattle.iscsi_login.specs.Logins as logins
 use Rattle.iscsi_login.specs.Names.{declared}
 use Rattle.iscsi_login.specs.Runs.{IsEntry}
 use Rattle.iscsi_login.specs.Turns.{held, limit_of, turn_at, turn_if_fits, turn_by, phase_or, judgement_on, judgement_at, judgement}
-use Rattle.iscsi_login.specs.declared.access.Admission.{Admission}
+use Rattle.iscsi_chap.specs.declared.access.Admission.{Admission}
 use Rattle.iscsi_login.specs.declared.admitted.Admitted.{Admitted}
-use Rattle.iscsi_login.specs.declared.challenge.Challenge.{Challenge}
-use Rattle.iscsi_login.specs.declared.chap.ChapPhase.{ChapPhase}
-use Rattle.iscsi_login.specs.declared.chap.ChapPhase.TheVariants as phase
+use Rattle.iscsi_chap.specs.declared.challenge.Challenge.{Challenge}
+use Rattle.iscsi_chap.specs.declared.phase.ChapPhase.{ChapPhase}
+use Rattle.iscsi_chap.specs.declared.phase.ChapPhase.TheVariants as phase
 use Rattle.iscsi_login.specs.declared.chap.ChapState.{ChapState}
 use Rattle.iscsi_login.specs.declared.names.SessionType.{SessionType}
-use Rattle.iscsi_login.specs.declared.target.Authentication.{Authentication}
-use Rattle.iscsi_login.specs.declared.target.Authentication.TheVariants as authentication
+use Rattle.iscsi_chap.specs.declared.authentication.Authentication.{Authentication}
+use Rattle.iscsi_chap.specs.declared.authentication.Authentication.TheVariants as authentication
 use Rattle.iscsi_login.specs.declared.target.LoginTarget.{LoginTarget}
 use Rattle.iscsi_login.specs.declared.login.Login.{Login}
 use Rattle.iscsi_login.specs.declared.login.Login.TheVariants.{Open, Ended}

@@ -7,25 +7,18 @@ use Rattle.iscsi_keys.specs.Negotiations.{begun}
 use Rattle.iscsi_keys.specs.Keys.{key_place}
 use Rattle.iscsi_keys.specs.declared.key.Key.{Key}
 use Rattle.iscsi_keys.specs.declared.key.Key.TheVariants as key
-use Rattle.iscsi_keys.specs.declared.word.Word.{Word}
-use Rattle.iscsi_keys.specs.declared.word.Word.TheVariants as word
 use Rattle.iscsi_keys.specs.declared.answer.Terms.{Terms}
 use Rattle.iscsi_keys.specs.declared.negotiation.Negotiation.{Negotiation}
-use Rattle.iscsi_login.specs.Accesses.{admitted}
+use Rattle.iscsi_chap.specs.Accesses.{admitted}
+use Rattle.iscsi_chap.specs.Authentications.{method_of}
 use Rattle.iscsi_login.specs.Names.{declared, session_type_in}
 use Rattle.iscsi_login.specs.Offers.{negotiated_by}
-use Rattle.iscsi_login.specs.declared.access.Admission.{Admission}
-use Rattle.iscsi_login.specs.declared.access.Admission.TheVariants.{Listed, Other}
+use Rattle.iscsi_chap.specs.declared.access.Admission.{Admission}
+use Rattle.iscsi_chap.specs.declared.access.Admission.TheVariants.{Listed, Other}
 use Rattle.iscsi_login.specs.declared.names.SessionType.{SessionType}
 use Rattle.iscsi_login.specs.declared.names.SessionType.TheVariants.{Normal, Discovery}
-use Rattle.iscsi_login.specs.declared.target.Authentication.{Authentication}
-use Rattle.iscsi_login.specs.declared.target.Authentication.TheVariants as authentication
 use Rattle.iscsi_login.specs.declared.target.LoginTarget.{LoginTarget}
 use Rattle.iscsi_login.specs.declared.admitted.Admitted.{Admitted}
-
-abbrev pub method_of : Authentication → Word
-method_of authentication.None = word.None
-method_of (authentication.Chap secrets) = word.Chap
 
 abbrev pub is_discovery : SessionType → Bool
 is_discovery Normal = false

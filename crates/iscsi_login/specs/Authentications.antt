@@ -7,25 +7,16 @@ use Rattle.iscsi_pdu.specs.declared.login_status.LoginStatus.{LoginStatus}
 use Rattle.iscsi_pdu.specs.declared.login_status.LoginStatus.TheVariants as status
 use Rattle.iscsi_keys.specs.Negotiations.{was_offered}
 use Rattle.iscsi_keys.specs.declared.key.Key.TheVariants as key
+use Rattle.iscsi_chap.specs.Authentications.{is_passed}
 use Rattle.iscsi_login.specs.Chaps.{Verdict, silent, chap_turn}
 use Rattle.iscsi_login.specs.declared.admitted.Admitted.{Admitted}
-use Rattle.iscsi_login.specs.declared.chap.ChapPhase.{ChapPhase}
-use Rattle.iscsi_login.specs.declared.chap.ChapPhase.TheVariants as phase
+use Rattle.iscsi_chap.specs.declared.phase.ChapPhase.{ChapPhase}
+use Rattle.iscsi_chap.specs.declared.phase.ChapPhase.TheVariants as phase
 use Rattle.iscsi_login.specs.declared.chap.ChapState.{ChapState}
 use Rattle.iscsi_login.specs.declared.login.Login.{Login}
 use Rattle.iscsi_login.specs.declared.login.Login.TheVariants.{Open, Ended}
-use Rattle.iscsi_login.specs.declared.target.Authentication.{Authentication}
-use Rattle.iscsi_login.specs.declared.target.Authentication.TheVariants as authentication
-
-abbrev pub is_passed : ChapPhase → Bool
-is_passed phase.Unasked = false
-is_passed (phase.Challenged algorithm) = false
-is_passed phase.Passed = true
-
--- with no more to show
-abbrev pub is_free : Authentication → ChapPhase → Bool
-is_free authentication.None p = true
-is_free (authentication.Chap secrets) p = is_passed p
+use Rattle.iscsi_chap.specs.declared.authentication.Authentication.{Authentication}
+use Rattle.iscsi_chap.specs.declared.authentication.Authentication.TheVariants as authentication
 
 abbrev pub is_agreed_in : Option Admitted → Bool
 is_agreed_in None = false

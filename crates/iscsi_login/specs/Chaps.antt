@@ -11,14 +11,15 @@ use Rattle.iscsi_chap.specs.Algorithms.{algorithm_number, chosen_algorithm}
 use Rattle.iscsi_chap.specs.Binaries.{binary_value, hexadecimal}
 use Rattle.iscsi_chap.specs.Digests.{chap_digest}
 use Rattle.iscsi_chap.specs.Entries.{entry_among}
+use Rattle.iscsi_chap.specs.Responses.{is_response}
 use Rattle.iscsi_chap.specs.declared.algorithm.ChapAlgorithm.{ChapAlgorithm}
 use Rattle.iscsi_chap.specs.declared.entry.ChapEntry.{ChapEntry}
 use Rattle.iscsi_chap.specs.declared.entry.Credentials.{Credentials}
 use Rattle.iscsi_login.specs.ChapKeys.{algorithm_key, identifier_key, challenge_key, name_key, response_key}
 use Rattle.iscsi_login.specs.Names.{declared_as}
-use Rattle.iscsi_login.specs.declared.challenge.Challenge.{Challenge}
-use Rattle.iscsi_login.specs.declared.chap.ChapPhase.{ChapPhase}
-use Rattle.iscsi_login.specs.declared.chap.ChapPhase.TheVariants as phase
+use Rattle.iscsi_chap.specs.declared.challenge.Challenge.{Challenge}
+use Rattle.iscsi_chap.specs.declared.phase.ChapPhase.{ChapPhase}
+use Rattle.iscsi_chap.specs.declared.phase.ChapPhase.TheVariants as phase
 
 -- what a text comes to by its keys of CHAP: a phase and an answer
 pub record ChapStep : Type 0 where
@@ -76,15 +77,6 @@ asked_for challenge is_agreed (Some list) = if is_agreed then challenged challen
 abbrev pub asked : Option Challenge → (is_agreed : Bool) → (text : List ℕ) → Verdict
 asked challenge is_agreed text =
     if says_response text then unproven else asked_for challenge is_agreed (declared_as text algorithm_key)
-
--- a response is the digest that the secret makes of the challenge
-abbrev pub is_digest : Option (List ℕ) → (digest : List ℕ) → Bool
-is_digest None digest = false
-is_digest (Some bytes) digest = bytes_eq bytes digest
-
-abbrev pub is_response : ChapAlgorithm → Challenge → (secret value : List ℕ) → Bool
-is_response algorithm challenge secret value =
-    is_digest (binary_value value) (chap_digest algorithm challenge.identifier secret challenge.bytes)
 
 abbrev pub byte_in : Option ℕ → Option ℕ
 byte_in None = None

@@ -6,17 +6,17 @@ use Rattle.iscsi_chap.specs.Digests.{chap_digest}
 use Rattle.iscsi_chap.specs.Entries.{entry_among}
 use Rattle.iscsi_chap.specs.declared.algorithm.ChapAlgorithm.{ChapAlgorithm}
 use Rattle.iscsi_chap.specs.declared.entry.ChapEntry.{ChapEntry}
-use Rattle.iscsi_login.specs.Accesses.{admitted}
+use Rattle.iscsi_chap.specs.Accesses.{admitted}
 use Rattle.iscsi_login.specs.Admissions.{target_fault}
 use Rattle.iscsi_login.specs.ChapKeys.{name_key, response_key}
 use Rattle.iscsi_login.specs.Exchanges.{ExchangeValue, taken}
 use Rattle.iscsi_login.specs.Names.{declared, declared_as, session_type_in}
 use Rattle.iscsi_login.specs.Runs.{Coming}
-use Rattle.iscsi_login.specs.declared.access.Admission.{Admission}
-use Rattle.iscsi_login.specs.declared.challenge.Challenge.{Challenge}
+use Rattle.iscsi_chap.specs.declared.access.Admission.{Admission}
+use Rattle.iscsi_chap.specs.declared.challenge.Challenge.{Challenge}
 use Rattle.iscsi_login.specs.declared.names.SessionType.{SessionType}
-use Rattle.iscsi_login.specs.declared.target.Authentication.{Authentication}
-use Rattle.iscsi_login.specs.declared.target.Authentication.TheVariants as authentication
+use Rattle.iscsi_chap.specs.declared.authentication.Authentication.{Authentication}
+use Rattle.iscsi_chap.specs.declared.authentication.Authentication.TheVariants as authentication
 use Rattle.iscsi_login.specs.declared.target.LoginTarget.{LoginTarget}
 
 -- each request with its data segment

@@ -16,9 +16,9 @@ use Rattle.iscsi_login.specs.Names.{declared}
 use Rattle.iscsi_login.specs.Responses.{response_of}
 use Rattle.iscsi_login.specs.Turns.{Judgement, limit_of, judgement}
 use Rattle.iscsi_login.specs.declared.admitted.Admitted.{Admitted}
-use Rattle.iscsi_login.specs.declared.challenge.Challenge.{Challenge}
+use Rattle.iscsi_chap.specs.declared.challenge.Challenge.{Challenge}
 use Rattle.iscsi_login.specs.declared.chap.ChapState.{ChapState}
-use Rattle.iscsi_login.specs.declared.chap.ChapPhase.TheVariants as phase
+use Rattle.iscsi_chap.specs.declared.phase.ChapPhase.TheVariants as phase
 use Rattle.iscsi_login.specs.declared.target.LoginTarget.{LoginTarget}
 use Rattle.iscsi_login.specs.declared.login.Login.{Login}
 use Rattle.iscsi_login.specs.declared.login.Login.TheVariants.{Open, Ended}

@@ -1,4 +1,3 @@
-pub mod Accesses
 pub mod Identities
 pub mod Stages
 pub mod Names

@@ -2,11 +2,11 @@
 use Rattle.std.specs.Prelude.{◌≡◌, ℕ, List, [], ◌∷◌, Some, None, Any}
 use Rattle.iscsi_pdu.specs.declared.login_request.LoginRequest.{LoginRequest}
 use Rattle.iscsi_keys.specs.declared.key.Key.TheVariants as key
-use Rattle.iscsi_login.specs.Accesses.{admitted}
+use Rattle.iscsi_chap.specs.Accesses.{admitted}
 use Rattle.iscsi_login.specs.Names.{declared, session_type_in}
 use Rattle.iscsi_login.specs.Admissions.{target_fault}
 use Rattle.iscsi_login.specs.Logins.{stepped}
-use Rattle.iscsi_login.specs.declared.access.Admission.{Admission}
+use Rattle.iscsi_chap.specs.declared.access.Admission.{Admission}
 use Rattle.iscsi_login.specs.declared.names.SessionType.{SessionType}
 use Rattle.iscsi_login.specs.declared.target.LoginTarget.{LoginTarget}
 use Rattle.iscsi_login.specs.declared.login.Login.{Login}

@@ -3,13 +3,14 @@ use Rattle.std.specs.Prelude.{ℕ, Bool, false, nat_le, min, List, [], Option, S
 use Rattle.iscsi_pdu.specs.declared.login_request.LoginRequest.{LoginRequest}
 use Rattle.iscsi_pdu.specs.declared.login_status.LoginStatus.{LoginStatus}
 use Rattle.iscsi_keys.specs.declared.parameters.SessionParameters.{SessionParameters}
-use Rattle.iscsi_login.specs.Authentications.{is_free, shown_by, verdict_by}
+use Rattle.iscsi_chap.specs.Authentications.{is_free}
+use Rattle.iscsi_login.specs.Authentications.{shown_by, verdict_by}
 use Rattle.iscsi_login.specs.Chaps.{Verdict, phase_after, answer_in}
 use Rattle.iscsi_login.specs.Logins.{stepped}
 use Rattle.iscsi_login.specs.declared.admitted.Admitted.{Admitted}
-use Rattle.iscsi_login.specs.declared.chap.ChapPhase.{ChapPhase}
+use Rattle.iscsi_chap.specs.declared.phase.ChapPhase.{ChapPhase}
 use Rattle.iscsi_login.specs.declared.chap.ChapState.{ChapState}
-use Rattle.iscsi_login.specs.declared.target.Authentication.{Authentication}
+use Rattle.iscsi_chap.specs.declared.authentication.Authentication.{Authentication}
 use Rattle.iscsi_login.specs.declared.target.LoginTarget.{LoginTarget}
 use Rattle.iscsi_login.specs.declared.login.Login.{Login}
 use Rattle.iscsi_login.specs.declared.login.Login.TheVariants.{Open, Ended}

@@ -2,9 +2,10 @@ ghost use Rattle.std.specs.Prelude.{◌≡◌, ◌≤◌, ◌++◌, length, OnOk
 ghost use Rattle.iscsi_login.specs.Authentications.{shown_by, may_go_on, is_agreed, may_wait};
 ghost use Rattle.iscsi_login.specs.Chaps.{phase_after, answer_in};
 
-use crate::chap::{ChapPhase, ChapState, ChapVerdict, chap_turn};
+use crate::chap::{ChapState, ChapVerdict, chap_turn};
 use crate::login::Login;
-use crate::target::{Authentication, LoginTarget};
+use crate::target::LoginTarget;
+use iscsi_chap::{Authentication, ChapPhase};
 use iscsi_keys::Key;
 use iscsi_pdu::{LoginRequest, Stage};
 use std::alloc::AllocError;

@@ -2,39 +2,18 @@ ghost use Rattle.std.specs.Prelude.{◌≡◌, ◌≤◌, ◌++◌, length, OnOk
 ghost use Rattle.std.specs.Option.{option_copied, option_map};
 ghost use Rattle.iscsi_login.specs.ChapKeys.{identifier_key, challenge_key};
 ghost use Rattle.iscsi_login.specs.Names.{declared_as};
-ghost use Rattle.iscsi_login.specs.Chaps.{chap_turn, asked, answered, proven, shown, shown_as, says_challenge, says_response, says_any, is_response, is_own, identifier_in, phase_after, answer_in};
+ghost use Rattle.iscsi_login.specs.Chaps.{chap_turn, asked, answered, proven, shown, shown_as, says_challenge, says_response, says_any, is_own, identifier_in, phase_after, answer_in};
 
-use crate::challenge::Challenge;
 use crate::chap_answers::{write_challenge, write_response};
 use crate::chap_keys::{CHAP_A, CHAP_C, CHAP_I, CHAP_N, CHAP_R};
 use crate::names::value_named;
 use iscsi_chap::{
-    ChapAlgorithm, ChapEntry, ChapSecrets, Credentials, LONGEST_BINARY, are_same, binary_in,
-    chap_digest, chosen_algorithm,
+    Challenge, ChapAlgorithm, ChapEntry, ChapPhase, ChapSecrets, Credentials, LONGEST_BINARY,
+    binary_in, chosen_algorithm, is_response,
 };
 use iscsi_keys::number_in;
 use iscsi_pdu::LoginStatus;
-use std::alloc::{AllocError, Global};
-
-/// How far an initiator has come in authenticating itself by CHAP.
-#[derive(Clone, Copy)]
-pub enum ChapPhase {
-    /// It hasn't offered an algorithm.
-    Unasked,
-    /// It has the challenge, to be answered by the algorithm.
-    Challenged(ChapAlgorithm),
-    Passed,
-}
-
-impl ChapPhase {
-    ghost use Rattle.iscsi_login.specs.Authentications.{is_passed};
-
-    pub(crate) fn is_passed(self) -> bool
-        ensures { result ≡ is_passed self }
-    {
-        matches!(self, ChapPhase::Passed)
-    }
-}
+use std::alloc::AllocError;
 
 /// What CHAP goes by in a login.
 #[derive(Clone, Copy)]
@@ -163,23 +142,6 @@ fn proven(
         return Ok(Err(LoginStatus::AuthenticationFailure));
     }
     shown(&entry.target, challenge, algorithm, text, out)
-}
-
-/// Whether the value is the digest that the secret makes of the challenge.
-fn is_response(
-    alloc: Global,
-    algorithm: ChapAlgorithm,
-    challenge: Challenge,
-    secret: &[u8],
-    value: &[u8],
-) -> Result<bool, AllocError>
-    ensures { IfOk result (λ same. same ≡ is_response algorithm challenge secret.now value.now) }
-{
-    let Some(bytes) = binary_in(alloc, value)? else {
-        return Ok(false);
-    };
-    let digest = chap_digest(algorithm, challenge.identifier, secret, &challenge.bytes);
-    Ok(are_same(bytes.as_slice(), digest.as_bytes()))
 }
 
 /// Lets the initiator pass, once the target has proved itself where it is to.

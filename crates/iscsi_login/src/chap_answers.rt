@@ -4,9 +4,8 @@ ghost use Rattle.iscsi_chap.specs.Binaries.{hexadecimal};
 ghost use Rattle.iscsi_login.specs.Chaps.{challenge_items, response_items};
 
 use crate::answers::{write_number, write_pair};
-use crate::challenge::Challenge;
 use crate::chap_keys::{CHAP_A, CHAP_C, CHAP_I, CHAP_N, CHAP_R};
-use iscsi_chap::{ChapAlgorithm, Credentials, chap_digest, write_hexadecimal};
+use iscsi_chap::{Challenge, ChapAlgorithm, Credentials, chap_digest, write_hexadecimal};
 use std::alloc::AllocError;
 
 /// Adds a challenge, and by which algorithm it is to be answered.

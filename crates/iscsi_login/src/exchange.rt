@@ -1,13 +1,13 @@
 ghost use Rattle.std.specs.Prelude.{◌≡◌, ◌≤◌, ◌++◌, length, OnOk, OnErr, IfOk};
 ghost use Rattle.iscsi_login.specs.Exchanges.{started, response, responded, refused_with, refusal, accepted, last_response, is_out_of_turn, heard, noted, judged, turn_in, moved_on, gone, told, turn_progress, taken, answer_to, progress_of, taken_open, told_open, progress_open, HasFailed, IsRefused};
 
-use crate::challenge::Challenge;
-use crate::chap::{ChapPhase, ChapState};
+use crate::chap::ChapState;
 use crate::login::{Login, LoginEnd, LoginStep, OpenLogin};
 use crate::progress::LoginProgress;
 use crate::responding::{name_in, pass, window_end, write_response};
 use crate::target::LoginTarget;
 use crate::turn::{Turn, judge};
+use iscsi_chap::{Challenge, ChapPhase};
 use iscsi_pdu::{LoginRequest, LoginResponse, LoginStatus, SerialNumber};
 use std::alloc::{AllocError, Global};
 use std::marker::Model;

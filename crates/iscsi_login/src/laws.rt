@@ -8,7 +8,7 @@ ghost use Rattle.iscsi_login.specs.Logins.{begun, stepped, step_of};
 ghost use Rattle.iscsi_login.specs.Runs.{Coming, run, IsEntered};
 ghost use Rattle.iscsi_login.specs.Exchanges.{ExchangeValue, started, taken, progress_of};
 ghost use Rattle.iscsi_login.specs.ExchangeRuns.{exchanged, texts_of, IsLetIn};
-ghost use Rattle.iscsi_login.specs.declared.challenge.Challenge.{Challenge};
+ghost use Rattle.iscsi_chap.specs.declared.challenge.Challenge.{Challenge};
 ghost use Rattle.iscsi_login.specs.declared.progress.LoginProgress.TheVariants.{Begins};
 ghost use Rattle.iscsi_login.specs.declared.target.LoginTarget.{LoginTarget};
 ghost use Rattle.iscsi_login.specs.declared.login.Login.TheVariants.{Ended};

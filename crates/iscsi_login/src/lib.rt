@@ -1,11 +1,9 @@
 //! The login phase of an iSCSI session, from the first Login Request to full feature or a refusal, without input or output.
 #![tactic(auto)]
 
-mod access;
 mod admitted;
 mod answers;
 mod authentication;
-mod challenge;
 mod chap;
 mod chap_answers;
 mod chap_keys;
@@ -22,14 +20,13 @@ mod stages;
 mod target;
 mod turn;
 
-pub use access::{Access, Admission, Host, LONGEST_NAME};
 pub use admitted::Admitted;
-pub use challenge::Challenge;
-pub use chap::{ChapPhase, ChapState};
+pub use chap::ChapState;
 pub use exchange::LoginExchange;
 pub use identity::LoginIdentity;
+pub use iscsi_chap::{Access, Admission, Authentication, Challenge, ChapPhase, Host, LONGEST_NAME};
 pub use laws::{begins_by_name, end_stays, reached_by_name, stages_ascend, told_as_begun};
 pub use login::{FullFeature, Login, LoginEnd, LoginStep, OpenLogin};
 pub use names::{SessionType, declared_value};
 pub use progress::LoginProgress;
-pub use target::{Authentication, LoginTarget};
+pub use target::LoginTarget;

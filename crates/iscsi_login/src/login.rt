@@ -1,12 +1,12 @@
 ghost use Rattle.std.specs.Prelude.{◌≡◌, ◌≤◌, ◌++◌, length, OnOk, OnErr, IfOk};
 
-use crate::access::Admission;
 use crate::admitted::{Admitted, admitted_by};
 use crate::answers::write_answers;
 use crate::identity::LoginIdentity;
 use crate::names::SessionType;
 use crate::stages::{is_awaited, leads_to};
 use crate::target::LoginTarget;
+use iscsi_chap::Admission;
 use iscsi_keys::SessionParameters;
 use iscsi_pdu::{LoginRequest, LoginStatus, SerialNumber, Stage};
 use std::alloc::AllocError;

@@ -1,16 +1,4 @@
-use crate::access::Access;
-use crate::chap::ChapPhase;
-use iscsi_chap::ChapSecrets;
-use iscsi_keys::Word;
-
-/// What an initiator must show of itself before it is let in.
-#[derive(Drop)]
-pub enum Authentication {
-    /// Its name alone: AuthMethod None.
-    None,
-    /// That it has the secret of its name: AuthMethod CHAP.
-    Chap(ChapSecrets),
-}
+use iscsi_chap::{Access, Authentication};
 
 /// The target that a login comes to.
 #[derive(Drop)]
@@ -19,30 +7,4 @@ pub struct LoginTarget {
     pub name: Vec<u8>,
     pub access: Access,
     pub authentication: Authentication,
-}
-
-impl Authentication {
-    ghost use Rattle.std.specs.Prelude.{◌≡◌};
-    ghost use Rattle.iscsi_login.specs.Admissions.{method_of};
-    ghost use Rattle.iscsi_login.specs.Authentications.{is_free};
-
-    /// The authentication method that is asked for.
-    pub fn method(&self) -> Word
-        ensures { result ≡ method_of self.now }
-    {
-        match self {
-            Authentication::None => Word::None,
-            Authentication::Chap(_) => Word::Chap,
-        }
-    }
-
-    /// Whether an initiator that has come so far has no more to show.
-    pub(crate) fn is_free(&self, phase: ChapPhase) -> bool
-        ensures { result ≡ is_free self.now phase }
-    {
-        match self {
-            Authentication::None => true,
-            Authentication::Chap(_) => phase.is_passed(),
-        }
-    }
 }

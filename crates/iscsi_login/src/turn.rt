@@ -4,9 +4,10 @@ ghost use Rattle.iscsi_login.specs.Authentications.{verdict_by};
 ghost use Rattle.iscsi_login.specs.Turns.{held, judgement, judgement_on, turn_by, turn_when};
 
 use crate::authentication::{may_go_on, shown_by};
-use crate::chap::{ChapPhase, ChapState, ChapVerdict};
+use crate::chap::{ChapState, ChapVerdict};
 use crate::login::{Login, LoginEnd};
 use crate::target::LoginTarget;
+use iscsi_chap::ChapPhase;
 use iscsi_pdu::{LoginRequest, LoginStatus};
 use std::alloc::AllocError;
 

@@ -12,7 +12,7 @@ use Rattle.session.specs.Serving.{IsLostBelow}
 use Rattle.session.specs.Answering.{ComesByCalls}
 use Rattle.session.proofs.Read.{consumes_more}
 use Rattle.iscsi_login.specs.Exchanges.{ExchangeValue, started}
-use Rattle.iscsi_login.specs.declared.challenge.Challenge.{Challenge}
+use Rattle.iscsi_chap.specs.declared.challenge.Challenge.{Challenge}
 use Rattle.iscsi_login.specs.declared.login.FullFeature.{FullFeature}
 use Rattle.iscsi_login.specs.declared.names.SessionType.TheVariants.{Normal}
 use Rattle.iscsi_login.specs.declared.target.LoginTarget.{LoginTarget}

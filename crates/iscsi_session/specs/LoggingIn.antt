@@ -4,7 +4,7 @@ use Rattle.std.specs.Io.KnownBytes.{Consumes}
 use Rattle.scsi_nexus.specs.declared.nexus.Nexus.{Nexus}
 use Rattle.iscsi_pdu.specs.declared.initiator_header.InitiatorHeader.TheVariants as sent
 use Rattle.iscsi_pdu.specs.Pdus.{InitiatorPduValue}
-use Rattle.iscsi_login.specs.Accesses.{sas_of_admission}
+use Rattle.iscsi_chap.specs.Accesses.{sas_of_admission}
 use Rattle.iscsi_login.specs.ExchangeRuns.{exchanged}
 use Rattle.iscsi_login.specs.Exchanges.{ExchangeValue}
 use Rattle.iscsi_login.specs.Runs.{Coming}

@@ -6,7 +6,7 @@ use Rattle.iscsi_pdu.specs.Pdus.{TargetPduValue}
 use Rattle.iscsi_login.specs.ExchangeRuns.{exchanged}
 use Rattle.iscsi_login.specs.Exchanges.{started}
 use Rattle.iscsi_login.specs.Runs.{Coming}
-use Rattle.iscsi_login.specs.declared.challenge.Challenge.{Challenge}
+use Rattle.iscsi_chap.specs.declared.challenge.Challenge.{Challenge}
 use Rattle.iscsi_login.specs.declared.login.FullFeature.{FullFeature}
 use Rattle.iscsi_login.specs.declared.names.SessionType.TheVariants.{Normal}
 use Rattle.iscsi_login.specs.declared.target.LoginTarget.{LoginTarget}

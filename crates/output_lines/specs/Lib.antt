@@ -1,4 +1,5 @@
 pub mod Replies
 pub mod Explained
 pub mod AuditLines
+pub mod RecordOutputs
 pub mod Rows

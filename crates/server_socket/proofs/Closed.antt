@@ -5,9 +5,10 @@ use Rattle.logical_unit.specs.UnitView.{UnitView, last_number}
 use Rattle.lun_router.specs.Opening.{IsSince, LastIs}
 use Rattle.lun_router.specs.Seats.{SeatValue, IsUntold}
 use Rattle.output_lines.specs.declared.audit_lines.Audit.{Audit}
-use Rattle.server_socket.specs.declared.serving.RecordOutput.{RecordOutput}
-use Rattle.server_socket.specs.declared.serving.RecordOutput.TheVariants.{AtTheEnd, AsTheyCome}
-use Rattle.server_socket.specs.ServedLibrary.{IsClosed, ServesLibrary, WritesBefore, WritesOut, of_the_rest}
+use Rattle.output_lines.specs.declared.record_output.RecordOutput.{RecordOutput}
+use Rattle.output_lines.specs.declared.record_output.RecordOutput.TheVariants.{AtTheEnd, AsTheyCome}
+use Rattle.output_lines.specs.RecordOutputs.{of_the_rest}
+use Rattle.server_socket.specs.ServedLibrary.{IsClosed, ServesLibrary, WritesBefore, WritesOut}
 use Rattle.server_socket.specs.ServedSeats.{IsOfSessions, SeatsCome}
 use Rattle.server_socket.proofs.HandingOut.{hands_more, hands_none}
 use Rattle.server_socket.proofs.ServedSeats.{of_sessions}

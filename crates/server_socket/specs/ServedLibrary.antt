@@ -6,10 +6,10 @@ use Rattle.logical_unit.specs.UnitView.{UnitView}
 use Rattle.lun_router.specs.Opening.{IsSince}
 use Rattle.lun_router.specs.Seats.{SeatValue, notes_at}
 use Rattle.output_lines.specs.declared.audit_lines.Audit.{Audit}
-use Rattle.output_lines.specs.declared.audit_lines.Audit.TheVariants.{Lines}
 use Rattle.output_lines.specs.AuditLines.{audit_text}
-use Rattle.server_socket.specs.declared.serving.RecordOutput.{RecordOutput}
-use Rattle.server_socket.specs.declared.serving.RecordOutput.TheVariants.{AtTheEnd, AsTheyCome}
+use Rattle.output_lines.specs.RecordOutputs.{of_the_rest}
+use Rattle.output_lines.specs.declared.record_output.RecordOutput.{RecordOutput}
+use Rattle.output_lines.specs.declared.record_output.RecordOutput.TheVariants.{AtTheEnd, AsTheyCome}
 use Rattle.server_socket.specs.Batches.{HandsOut}
 use Rattle.server_socket.specs.ServedSeats.{IsOfSessions}
 
@@ -50,11 +50,6 @@ pub record ClosesOver (core : List UnitView) (count : ℕ) (audit : Audit) (writ
   pub served : All (IsOfSessions (length core)) seats
   pub since : IsSince core zero one two three four
   pub closed : IsClosed seats audit zero one two three four written written'
-
--- what is written of the records that are left at the end
-abbrev pub of_the_rest : RecordOutput → Audit
-of_the_rest (AtTheEnd audit) = audit
-of_the_rest AsTheyCome = Lines
 
 -- what is written before the end: nothing, or the lines of records as units handed them out, each time a legal trail
 abbrev pub WritesBefore : RecordOutput → (written written' : Option (List ℕ)) → Type 0

@@ -50,13 +50,27 @@ pub fn close_and_write<
     ensures missing { vec_len seats ≢ library.seats → result ≡ Err (fault.Close SeatMissing) }
     ensures none { IfErr result (λ f. (f ≡ fault.Write) ⊎ (W.contents writer.new ≡ W.contents writer.old)) }
 {
-    let histories = match library.close(alloc, seats) {
-        Ok(histories) => histories,
+    match library.close(alloc, seats) {
+        Ok(histories) => write_histories(rt, alloc, audit, histories, writer, teller),
         Err((fault, library, _)) => {
             tell_unwritten_at(rt, alloc, &library, teller);
-            return Err(ServerFault::Close(fault));
+            Err(ServerFault::Close(fault))
         }
-    };
+    }
+}
+
+/// Writes the lines that are wanted of the records of a library that was closed, LUN 0 first, or tells which aren't written.
+fn write_histories<R: Wait, W: Write, E: Write>(
+    rt: &R,
+    alloc: Global,
+    audit: Audit,
+    histories: Histories<Device>,
+    writer: &mut W,
+    teller: &Teller<E>,
+) -> Result<(), ServerFault>
+    ensures lines { OnOk result (Appends (W.contents writer.old) (W.contents writer.new) (audit_text audit (histories.changer.unit ∷ histories.first.unit ∷ if_there (option_map (λ u. u.unit) histories.second) ++ if_there (option_map (λ u. u.unit) histories.third) ++ if_there (option_map (λ u. u.unit) histories.fourth)))) }
+    ensures fault { IfErr result (λ f. (f ≡ fault.Write) ⊎ ((f ≡ fault.NoMemory) × (W.contents writer.new ≡ W.contents writer.old))) }
+{
     match units_in(alloc, histories) {
         Ok(units) => write_units(rt, alloc, audit, &units, writer, teller),
         Err(histories) => {

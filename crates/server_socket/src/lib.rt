@@ -25,6 +25,6 @@ pub use closing::close_and_write;
 pub use laws::{fault_rows, worked_rows};
 pub use library_service::LibraryService;
 pub use server_fault::{ServerFault, earlier};
-pub use serving::{RecordOutput, serve_library};
+pub use serving::serve_library;
 pub use socket::serve;
 pub use socket_fault::SocketFault;

@@ -217,8 +217,31 @@ pub(crate) fn services_of<
     Ok(services)
 }
 
+/// Puts the seats of services, in their order, behind those of a vector with room for them, which comes into the place of the seats that
+/// were taken.
+pub(crate) fn give_back<
+    'a,
+    L0: UnitLedger,
+    L1: UnitLedger,
+    L2: UnitLedger,
+    L3: UnitLedger,
+    L4: UnitLedger,
+    R: Wait,
+    K: TapeKeeper<Device>,
+>(
+    services: Vec<LibraryService<'a, L0, L1, L2, L3, L4, R, K>>,
+    mut back: Vec<Seat<L0, L1, L2, L3, L4>>,
+    seats: &mut Vec<Seat<L0, L1, L2, L3, L4>>,
+)
+    requires { vec_len back + vec_len services ≤ vec_capacity back }
+    ensures { seats.new.items ≡ back.items ++ map (λ s. s.seat) services.entry.items }
+{
+    leave_seats(services, &mut back);
+    *seats = back;
+}
+
 /// Puts the seats of services behind those that are there, in their order.
-pub(crate) fn leave_seats<
+fn leave_seats<
     'a,
     L0: UnitLedger,
     L1: UnitLedger,

@@ -1,8 +1,6 @@
 //! The file of the secrets by which initiators show who they are.
-ghost use Rattle.std.specs.Prelude.{◌≡◌, ◌==◌, ◌%◌, not};
-
 use crate::socket_fault::SocketFault;
-use iscsi_chap::{ChapSecrets, SecretsFault};
+use iscsi_chap::{ChapSecrets, SecretsFault, is_open_to_others};
 use std::alloc::AllocError;
 use std::fs::{self, Files, OpenFile};
 use std::io::{self, Read};
@@ -30,17 +28,10 @@ pub(crate) fn secrets_at<R: AllocGlobal + Files>(
 /// What a file holds, unless others than its owner may read or change it.
 fn read_closed<R: AllocGlobal + Files>(rt: &R, path: &str) -> io::Result<Option<Vec<u8>>> {
     let mut file = fs::open(rt, path)?;
-    if is_open(file.metadata()?.mode()) {
+    if is_open_to_others(file.metadata()?.mode()) {
         return Ok(None);
     }
     let mut text = Vec::new(rt.alloc());
     file.read_to_end(&mut text)?;
     Ok(Some(text))
-}
-
-/// Whether a mode lets others than the owner do anything with a file: its last two octal digits are theirs.
-fn is_open(mode: u32) -> bool
-    ensures { result ≡ not (mode % 64 == 0) }
-{
-    mode % 0o100 != 0
 }

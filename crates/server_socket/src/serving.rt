@@ -13,14 +13,14 @@ use crate::batch::Batch;
 use crate::closing::close_and_write;
 use crate::handing_out::hand_out_as_asked;
 use crate::keeping::keep_at_the_end;
-use crate::library_service::{leave_seats, services_of};
+use crate::library_service::{give_back, services_of};
 use crate::library_tapes::LibraryTapes;
 use crate::record_source::RecordSource;
 use crate::server_fault::{ServerFault, earlier, own_fault, told_of};
 use kept_unit::UnitLedger;
 use library_device::Device;
 use lun_router::{Blanks, Library, Pass, Seat};
-use output_lines::Audit;
+use output_lines::RecordOutput;
 use server::{
     Acceptor, Door, Event, FaultySession, RecordDrain, SeatService, ServeLimits, Teller, serve_all,
     serve_and_end,
@@ -37,31 +37,6 @@ use std::thread::{self, Threads};
 use std::time::Clock;
 use tape_keeper::{TapeKeeper, TapeSource};
 use target_core::TargetCore;
-
-/// What is written of the records of a library that is served.
-#[derive(Clone, Copy)]
-pub enum RecordOutput {
-    /// What is wanted of them at the end.
-    AtTheEnd(Audit),
-    /// A line for each record so far, LUN 0 first, behind each session and whenever a unit has 4,096 of them, by a thread of its
-    /// own. The units then no longer keep them. At the end a line for each that is left.
-    AsTheyCome,
-}
-
-impl RecordOutput {
-    ghost use Rattle.std.specs.Prelude.{◌≡◌};
-    ghost use Rattle.server_socket.specs.ServedLibrary.{of_the_rest};
-
-    /// What is wanted of the records that are left at the end.
-    fn of_the_rest(self) -> Audit
-        ensures { result ≡ of_the_rest self }
-    {
-        match self {
-            RecordOutput::AtTheEnd(audit) => audit,
-            RecordOutput::AsTheyCome => Audit::Lines,
-        }
-    }
-}
 
 /// Serves a target to connections of doors, each by a worker and as the nexus that its LOGIN names or its initiator is let in as, and
 /// tells what happens. A keeper keeps its tapes meanwhile, and all of them once the last has ended. Then the library is closed, and what
@@ -222,8 +197,7 @@ fn serve_seats<
         writer,
         teller,
     )?;
-    leave_seats(services, &mut back);
-    *seats = back;
+    give_back(services, back, seats);
     Ok(served)
 }
 

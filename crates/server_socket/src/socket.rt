@@ -1,21 +1,22 @@
 //! The library behind a Unix socket and portals of iSCSI.
 
 ghost use Rattle.std.specs.Prelude.{◌≡◌, ◌+◌, ◌<◌, ◌≤◌, vec_len};
+ghost use Rattle.tape_medium.specs.Limits.{capacity_limit};
 ghost use Rattle.command_line.specs.Tasks.{IsServeOptions, MakesServed};
 ghost use Rattle.program_options.specs.ServeUntil.{workers_of};
 ghost use Rattle.server_socket.specs.Places.{count_of};
-ghost use Rattle.server_socket.specs.Serving.{records_of, telling_of, term_of};
+ghost use Rattle.server_socket.specs.Serving.{telling_of, term_of};
 
 use crate::iscsi_target::{PortalTarget, target_of};
 use crate::kept_library::{KeptLibrary, kept_library};
 use crate::notice::{Notice, tell};
 use crate::places::{Places, open_places};
 use crate::server_fault::ServerFault;
-use crate::serving::{RecordOutput, serve_library};
+use crate::serving::serve_library;
 use crate::socket_fault::SocketFault;
-use command_line::ServeOptions;
+use command_line::{MediaOptions, ServeOptions};
 use library_device::Device;
-use output_lines::Audit;
+use output_lines::{Audit, RecordOutput};
 use program_options::{LibraryOptions, MAX_READS, ServeTimes, ServeUntil};
 use server::{LiveSessions, ServeLimits, ServeTerm, Teller, Telling, WaitTimes};
 use std::alloc::{AllocError, Global};
@@ -73,27 +74,56 @@ pub fn serve<
     let service = ServiceOptions {
         until,
         times,
-        records: records_of(drain, audit),
+        records: RecordOutput::new(drain, audit),
         telling: telling_of(log),
     };
     let memory = memory_limit(rt.alloc(), memory)?;
     match media {
         Some(media) => {
-            let KeptLibrary { core, keeper } = kept_library(
-                rt.alloc(),
-                files,
-                media,
-                options.volume_size,
-                &memory,
-                errors,
-            )?;
-            serve_at(rt, core, &keeper, socket, &made, service, errors)
+            let size = options.volume_size;
+            serve_kept(
+                rt, files, media, size, &memory, socket, &made, service, errors,
+            )
         }
         None => {
             let core = library_within(rt.alloc(), &options, &memory)?;
             serve_at(rt, core, &NoKeeper, socket, &made, service, errors)
         }
     }
+}
+
+/// Serves a library that is read from its folder, and kept there.
+fn serve_kept<
+    R: AllocGlobal
+        + Clock
+        + Files
+        + Input
+        + Net<Listener = TcpListener, Stream = TcpStream>
+        + Print
+        + RandomSource
+        + Sync
+        + Threads
+        + Wait,
+    E: Write + Send,
+>(
+    rt: &R,
+    files: &HostRuntime,
+    media: MediaOptions,
+    volume_size: u64,
+    memory: &MemoryLimit,
+    socket: Option<String>,
+    made: &PortalTarget,
+    service: ServiceOptions,
+    errors: &mut E,
+) -> Result<(), SocketFault>
+    requires size { (0 < volume_size) × (volume_size ≤ capacity_limit) }
+    requires some { 1 ≤ workers_of service.until }
+    requires some_places { 0 < vec_len made.now.portals + count_of socket }
+    requires few_places { vec_len made.now.portals + count_of socket ≤ 5 }
+{
+    let kept = kept_library(rt.alloc(), files, media, volume_size, memory, errors)?;
+    let KeptLibrary { core, keeper } = kept;
+    serve_at(rt, core, &keeper, socket, made, service, errors)
 }
 
 /// The limit on the memory of all volumes, where there is one.
@@ -152,17 +182,6 @@ fn serve_at<
     // What the sessions came to is told in any case.
     places.leave(rt);
     served
-}
-
-/// When records are written.
-fn records_of(drain: bool, audit: Audit) -> RecordOutput
-    ensures { result ≡ records_of drain audit }
-{
-    if drain {
-        RecordOutput::AsTheyCome
-    } else {
-        RecordOutput::AtTheEnd(audit)
-    }
 }
 
 /// What is told of sessions.

@@ -12,8 +12,8 @@ returns-in_err-reserve-clause-lines g c = writes_none c.args.records (g.W.Write.
 pub returns-in_err-services-clause-lines : goal.returns-in_err-services-clause-lines
 returns-in_err-services-clause-lines g c = writes_none c.args.records (g.W.Write.contents c.args.writer.now) _
 
-pub leave_seats-requires : goal.leave_seats-requires
-leave_seats-requires g c =
+pub give_back-requires : goal.give_back-requires
+give_back-requires g c =
     let came = as_many (ComesBySessions DoesToService SettlesService (λ x. x.units)) c.in_ok-services.services.items c.serve_services.new.services.items c.in_ok-served.ensures.served in
     let made : length c.in_ok-services.services.items ≡ length c.replace-taken.result.items =
     ap (λ (xs : List LibraryServiceValue). length xs) c.in_ok-services.ensures ∙ length-map c.replace-taken.result.items (service_at c.args.library.now.units) in
@@ -27,5 +27,5 @@ returns-clause-served g c =
     let value = c.replace-taken.ensures.value in
     let made = rw value at services in
     let empty : c.reserve.new.self.items ≡ [] = c.reserve.ensures.items ∙ c.new-back.ensures.items in
-    seats_left c.args.library.now.units c.args.seats.now.items c.leave_seats.new.seats.items c.reserve.new.self.items c.in_ok-services.services.items c.serve_services.new.services.items made
-    c.in_ok-served.ensures.served empty c.leave_seats.ensures
+    seats_left c.args.library.now.units c.args.seats.now.items c.give_back.new.seats.items c.reserve.new.self.items c.in_ok-services.services.items c.serve_services.new.services.items made
+    c.in_ok-served.ensures.served empty c.give_back.ensures

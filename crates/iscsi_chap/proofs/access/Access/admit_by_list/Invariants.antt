@@ -1,6 +1,6 @@
 use Rattle.std.proofs.Common.{◌≡◌, drop}
-use Rattle.iscsi_login.specs.Accesses.{admitted_among}
-use Rattle.iscsi_login.proofs.access.Access.admit_by_list.Given as goal
+use Rattle.iscsi_chap.specs.Accesses.{admitted_among}
+use Rattle.iscsi_chap.proofs.access.Access.admit_by_list.Given as goal
 
 -- none so far has the name
 abbrev pub invariant-loop-host : goal.invariant-loop-host

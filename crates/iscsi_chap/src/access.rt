@@ -1,5 +1,5 @@
 ghost use Rattle.std.specs.Prelude.{◌≡◌};
-ghost use Rattle.iscsi_login.specs.Accesses.{sas_of_name, sas_of_admission};
+ghost use Rattle.iscsi_chap.specs.Accesses.{sas_of_name, sas_of_admission};
 
 use byteorder::{BigEndian, ByteOrder};
 use sha2::{Digest, Sha256};
@@ -58,7 +58,7 @@ fn sas_of_name(name: &[u8]) -> u64
 const NAA: u64 = 0x5000_0000_0000_0000;
 
 impl Access {
-    ghost use Rattle.iscsi_login.specs.Accesses.{admitted, admitted_among};
+    ghost use Rattle.iscsi_chap.specs.Accesses.{admitted, admitted_among};
 
     /// As whom the initiator of the name is let in, if it is. None is whose name is empty or longer than an iSCSI name.
     pub fn admit(&self, name: &[u8]) -> Option<Admission>

@@ -3,10 +3,10 @@ use Rattle.std.specs.Prelude.{ℕ, ◌+◌, ◌*◌, ◌/◌, ◌^◌, ◌&&◌,
 use Rattle.std.specs.Str.{bytes_eq}
 use Rattle.byteorder.specs.Endian.{big_number}
 use Rattle.sha2.specs.Sha256.{sha256}
-use Rattle.iscsi_login.specs.declared.access.Host.{Host}
-use Rattle.iscsi_login.specs.declared.access.Access.{Access}
-use Rattle.iscsi_login.specs.declared.access.Admission.{Admission}
-use Rattle.iscsi_login.specs.declared.access.Admission.TheVariants.{Listed, Other}
+use Rattle.iscsi_chap.specs.declared.access.Host.{Host}
+use Rattle.iscsi_chap.specs.declared.access.Access.{Access}
+use Rattle.iscsi_chap.specs.declared.access.Admission.{Admission}
+use Rattle.iscsi_chap.specs.declared.access.Admission.TheVariants.{Listed, Other}
 
 -- the SAS address whose first digit is 5 and whose other 15 are the first 60 bits of the name's SHA-256: of the 64 bits of its
 -- first eight bytes all but the last four
