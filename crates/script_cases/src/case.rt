@@ -1,4 +1,4 @@
-ghost use Rattle.command_line.specs.Tasks.{MakesLibrary};
+ghost use Rattle.command_line.specs.Tasks.{IsDoable, MakesLibrary};
 
 use crate::case_fault::CaseFault;
 use command_line::{CommandLineFault, Task, task_of};
@@ -40,15 +40,30 @@ impl Case {
     /// Writes the heading as it stands, and then what a replay of the script writes, or the fault that it ends with.
     pub(crate) fn tell(&self, rt: &(impl AllocGlobal + Print)) -> Result<(), CaseFault> {
         println!(rt; "{}", self.heading)?;
-        match task_of(rt.alloc(), &words_of(rt.alloc(), &self.heading)?) {
-            Ok(Task::Replay(options, explanations, audit)) => {
+        let words = words_of(rt.alloc(), &self.heading)?;
+        match task_of(rt.alloc(), &words) {
+            Ok(task) => self.tell_task(rt, task),
+            Err(fault) => self.tell_refusal(rt, fault),
+        }
+    }
+
+    fn tell_task(&self, rt: &(impl AllocGlobal + Print), task: Task) -> Result<(), CaseFault>
+        requires { IsDoable task }
+    {
+        match task {
+            Task::Replay(options, explanations, audit) => {
                 let outcome = replay_script(rt, &self.script, options, explanations, audit);
                 Ok(tell_fault(rt, outcome)?)
             }
-            Ok(_) => Err(CaseFault::NoReplay(self.heading.clone()?)),
-            // Each option is in its range, so a case can show that they make no library together.
-            Err(CommandLineFault::Options(fault)) => Ok(println!(rt; "{fault}")?),
-            Err(what) => Err(CaseFault::Options {
+            _ => Err(CaseFault::NoReplay(self.heading.clone()?)),
+        }
+    }
+
+    /// Each option is in its range, so a case can show that they make no library together.
+    fn tell_refusal(&self, rt: &impl Print, fault: CommandLineFault) -> Result<(), CaseFault> {
+        match fault {
+            CommandLineFault::Options(fault) => Ok(println!(rt; "{fault}")?),
+            what => Err(CaseFault::Options {
                 heading: self.heading.clone()?,
                 what,
             }),

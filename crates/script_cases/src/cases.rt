@@ -9,16 +9,24 @@ const HEAD: &[u8] = b"== ";
 pub(crate) fn tell_all(rt: &(impl AllocGlobal + Input + Print)) -> Result<(), CaseFault> {
     let mut case = None;
     for line in BufReader::new(rt.alloc(), rt.reader())?.split(rt.alloc(), b'\n') {
-        let line = line?;
-        if line.starts_with(HEAD) {
-            tell(rt, &case)?;
-            case = Some(Case::new(rt.alloc(), line)?);
-        } else {
-            let current = case.as_mut().ok_or(CaseFault::NoHeading)?;
-            current.push_line(&line)?;
-        }
+        take_line(rt, &mut case, line?)?;
     }
     tell(rt, &case)
+}
+
+/// Takes a line of the case, or the heading of the next, where this one is told.
+fn take_line(
+    rt: &(impl AllocGlobal + Print),
+    case: &mut Option<Case>,
+    line: Vec<u8>,
+) -> Result<(), CaseFault> {
+    if line.starts_with(HEAD) {
+        tell(rt, case)?;
+        *case = Some(Case::new(rt.alloc(), line)?);
+        return Ok(());
+    }
+    let current = case.as_mut().ok_or(CaseFault::NoHeading)?;
+    Ok(current.push_line(&line)?)
 }
 
 /// Tells a case that has ended, if there is one.
