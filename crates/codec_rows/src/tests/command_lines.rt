@@ -3,172 +3,117 @@
 mod refused;
 
 use super::assert_same;
-use command_line::{CommandLineFault, IscsiOptions, Task, task_of};
+use command_line::{CommandLineFault, IscsiOptions, MediaOptions, ServeOptions, Task, task_of};
 use output_lines::{Audit, Explanations};
 use permit_tables::Class;
-use program_options::{GivenLibrary, ServeTimes, ServeUntil};
+use program_options::{GivenLibrary, LibraryOptions, ServeTimes, ServeUntil};
 use std::alloc::Global;
-use std::test::Fail;
+use std::process::Abort;
 use std::time::Duration;
 
 /// The words of a command line that stand apart by one blank.
-fn words_of(alloc: Global, line: &str) -> Result<Vec<String>, Fail> {
+fn words_of(rt: &impl Abort, alloc: Global, line: &str) -> Vec<String> {
     let mut words = Vec::new(alloc);
     for word in line.split(' ') {
-        words.push(String::from_str(alloc, word)?)?;
+        let word = String::from_str(alloc, word).expect(rt, "memory");
+        words.push(word).expect(rt, "memory");
     }
-    Ok(words)
+    words
 }
 
 /// The task that a line names, or its fault.
-fn asked(alloc: Global, line: &str) -> Result<Result<Task, CommandLineFault>, Fail> {
-    let words = words_of(alloc, line)?;
-    Ok(task_of(alloc, &words))
-}
-
-/// The task that a line names.
-fn task(alloc: Global, line: &str) -> Result<Task, Fail> {
-    match asked(alloc, line)? {
-        Ok(task) => Ok(task),
-        Err(_) => Err("no task".into()),
-    }
+fn asked(rt: &impl Abort, alloc: Global, line: &str) -> Result<Task, CommandLineFault> {
+    let words = words_of(rt, alloc, line);
+    task_of(alloc, &words)
 }
 
 /// How many drives, slots, portals and volumes a library has, and how many bytes of blocks a volume takes.
 type Made = (u8, u16, u8, u16, u64);
 
-/// What a library is made of, and what is printed of its replies and of its records.
-type Replayed = (Made, Explanations, Audit);
+fn made_of(library: &LibraryOptions) -> Option<Made> {
+    Some((
+        library.drives,
+        library.slots,
+        library.portals,
+        library.volumes,
+        library.volume_size,
+    ))
+}
 
-/// The replay that a line asks for.
-fn replayed(alloc: Global, line: &str) -> Result<Replayed, Fail> {
-    match task(alloc, line)? {
-        Task::Replay(library, explanations, audit) => {
-            let parts = (
-                library.drives,
-                library.slots,
-                library.portals,
-                library.volumes,
-                library.volume_size,
-            );
-            Ok((parts, explanations, audit))
-        }
-        _ => Err("another task".into()),
+/// What is compared of every task, where it has it: what its library is made of, what is printed of replies and of records, the address
+/// and the port of a host, and the class whose cells are printed.
+type Told = (
+    Option<Made>,
+    Option<Explanations>,
+    Option<Audit>,
+    Option<(u64, u16)>,
+    Option<Option<Class>>,
+);
+
+fn told(task: &Task) -> Told {
+    match task {
+        Task::Replay(library, explanations, audit) => (
+            made_of(library),
+            Some(*explanations),
+            Some(*audit),
+            None,
+            None,
+        ),
+        Task::Serve(library, _, audit) => (made_of(library), None, Some(*audit), None, None),
+        Task::Client(contact, explanations) => (
+            None,
+            Some(*explanations),
+            None,
+            Some((contact.nexus.sas, contact.nexus.port)),
+            None,
+        ),
+        Task::Cells(class) => (None, None, None, None, Some(*class)),
+    }
+}
+
+/// Stands for a text that isn't there.
+const NONE: &str = "none";
+
+fn text_of(text: &Option<String>) -> &str {
+    match text {
+        Some(text) => text.as_str(),
+        None => NONE,
+    }
+}
+
+/// The path of a task's socket, where it has one.
+fn socket_of(task: &Task) -> &str {
+    match task {
+        Task::Serve(_, serving, _) => text_of(&serving.socket),
+        Task::Client(contact, _) => contact.socket.as_str(),
+        _ => NONE,
     }
 }
 
 /// How many bytes of blocks a volume takes where nothing is said.
 const SIZE: u64 = 16_777_216;
 
-const REPLAYED: [(&'static str, Replayed); 10] = [
-    (
-        "vtl replay",
-        ((1, 8, 0, 1, SIZE), Explanations::Off, Audit::Off),
-    ),
-    (
-        "vtl replay --explain",
-        ((1, 8, 0, 1, SIZE), Explanations::On, Audit::Off),
-    ),
-    (
-        "vtl replay --audit",
-        ((1, 8, 0, 1, SIZE), Explanations::Off, Audit::Lines),
-    ),
-    (
-        "vtl replay --spans --explain",
-        ((1, 8, 0, 1, SIZE), Explanations::On, Audit::Spans),
-    ),
-    (
-        "vtl replay --drives 4 --slots 1024 --portals 16 --volumes 1024",
-        ((4, 1024, 16, 1024, SIZE), Explanations::Off, Audit::Off),
-    ),
-    (
-        "vtl replay --volumes=0 --audit --slots=1 --drives=2",
-        ((2, 1, 0, 0, SIZE), Explanations::Off, Audit::Lines),
-    ),
-    (
-        "vtl replay --volume-size 1M",
-        ((1, 8, 0, 1, 1_048_576), Explanations::Off, Audit::Off),
-    ),
-    (
-        "vtl replay --volume-size=64g --volumes 8",
-        ((1, 8, 0, 8, 68_719_476_736), Explanations::Off, Audit::Off),
-    ),
-    (
-        "vtl replay --volume-size 1024K",
-        ((1, 8, 0, 1, 1_048_576), Explanations::Off, Audit::Off),
-    ),
-    (
-        "vtl replay --volume-size 1048577",
-        ((1, 8, 0, 1, 1_048_577), Explanations::Off, Audit::Off),
-    ),
-];
+const OFF: Option<Explanations> = Some(Explanations::Off);
 
-#[test]
-fn task_of_reads_the_options_of_replay(rt: HostRuntime) -> Result<(), Fail> {
-    for row in &REPLAYED {
-        let (line, expected) = *row;
-        assert_same(&rt, replayed(rt.alloc(), line)?, expected, line);
-    }
-    Ok(())
-}
+const ON: Option<Explanations> = Some(Explanations::On);
 
-/// Until when a library is served, whether it is drained, whether its sessions are told of, and what is printed of its records.
-type Served = (ServeUntil, (bool, bool), Audit);
+const SILENT: Option<Audit> = Some(Audit::Off);
 
-/// How many drives and slots the library has that a line serves at a socket, how, and for how long it waits for hosts.
-fn served(
-    alloc: Global,
-    line: &str,
-    socket: &str,
-) -> Result<((u8, u16), Served, ServeTimes), Fail> {
-    let Task::Serve(library, serving, audit) = task(alloc, line)? else {
-        return Err("another task".into());
-    };
-    match &serving.socket {
-        Some(path) if path.as_str() == socket => {}
-        _ => return Err("another socket".into()),
-    }
-    if serving.media.is_some() {
-        return Err("kept".into());
-    }
-    let size = (library.drives, library.slots);
-    let served = (serving.until, (serving.drain, serving.log), audit);
-    Ok((size, served, serving.times))
-}
+const LINES: Option<Audit> = Some(Audit::Lines);
 
-const SERVED: [(&'static str, Served); 4] = [
-    (
-        "vtl serve --drives 2 --sessions 64 --spans --socket /run/vtl",
-        (ServeUntil::Sessions(64), (false, false), Audit::Spans),
-    ),
-    (
-        "vtl serve --socket /run/vtl --drives 2",
-        (ServeUntil::InputEnds(8), (false, false), Audit::Lines),
-    ),
-    (
-        "vtl serve --workers 3 --drain --socket /run/vtl --drives 2",
-        (ServeUntil::InputEnds(3), (true, false), Audit::Lines),
-    ),
-    (
-        "vtl serve --log --spans --socket /run/vtl --drives 2",
-        (ServeUntil::InputEnds(8), (false, true), Audit::Spans),
-    ),
-];
+const SPANS: Option<Audit> = Some(Audit::Spans);
 
-#[test]
-fn task_of_reads_where_and_until_when_to_serve(rt: HostRuntime) -> Result<(), Fail> {
-    for row in &SERVED {
-        let (line, expected) = *row;
-        let (size, found, _) = served(rt.alloc(), line, "/run/vtl")?;
-        assert_same(&rt, size, (2, 8), line);
-        assert_same(&rt, found, expected, line);
-    }
-    Ok(())
-}
+/// A library as usual, whose records are printed.
+const SERVED_ALONE: Told = (Some((1, 8, 0, 1, SIZE)), None, LINES, None, None);
+
+const HOST: Option<(u64, u16)> = Some((0x5000_0000_0000_000B, 4));
 
 /// The seconds of a grace, those after which a LOGIN, an idle host and a write are given up, and those after which an initiator of
 /// iSCSI is asked whether it is there.
 type Waits = (u64, Option<u64>, Option<u64>, Option<u64>, Option<u64>);
+
+/// Where none is given.
+const USUAL_WAITS: Waits = (10, Some(10), None, Some(30), Some(30));
 
 fn times_of(waits: Waits) -> ServeTimes {
     let (grace, login, idle, write, ping) = waits;
@@ -181,286 +126,394 @@ fn times_of(waits: Waits) -> ServeTimes {
     }
 }
 
-const WAITS: [(&'static str, Waits); 8] = [
-    (
-        "vtl serve --socket s",
-        (10, Some(10), None, Some(30), Some(30)),
-    ),
-    (
-        "vtl serve --socket s --grace 0 --login-timeout 0 --idle-timeout 0 --write-timeout 0 --idle-ping 0",
-        (0, None, None, None, None),
-    ),
-    (
-        "vtl serve --socket s --grace 3600 --login-timeout 86400 --idle-timeout 86400 --write-timeout 86400 --idle-ping 86400",
-        (3600, Some(86_400), Some(86_400), Some(86_400), Some(86_400)),
-    ),
-    (
-        "vtl serve --grace 1 --socket s",
-        (1, Some(10), None, Some(30), Some(30)),
-    ),
-    (
-        "vtl serve --socket s --login-timeout=2",
-        (10, Some(2), None, Some(30), Some(30)),
-    ),
-    (
-        "vtl serve --socket s --idle-timeout 3",
-        (10, Some(10), Some(3), Some(30), Some(30)),
-    ),
-    (
-        "vtl serve --socket s --write-timeout 4",
-        (10, Some(10), None, Some(4), Some(30)),
-    ),
-    (
-        "vtl serve --socket s --idle-ping 5",
-        (10, Some(10), None, Some(30), Some(5)),
-    ),
-];
-
-#[test]
-fn task_of_reads_how_long_hosts_are_waited_for(rt: HostRuntime) -> Result<(), Fail> {
-    for row in &WAITS {
-        let (line, waits) = *row;
-        let (_, _, times) = served(rt.alloc(), line, "s")?;
-        assert_same(&rt, times, times_of(waits), line);
-    }
-    Ok(())
+/// A line, and what is compared of its task.
+#[derive(Clone, Copy)]
+struct Row {
+    line: &'static str,
+    /// The path of the socket.
+    socket: &'static str,
+    told: Told,
+    /// Of a library that is served, from here on.
+    until: ServeUntil,
+    drain: bool,
+    log: bool,
+    waits: Waits,
+    memory: Option<u64>,
+    /// The path of the folder that it is kept in, and what was said of it then.
+    folder: &'static str,
+    given: GivenLibrary,
+    /// How many portals and hosts there are, and whether every other name is let in too.
+    reached: (usize, usize, bool),
+    /// The target's name, the file with secrets, the first portal, the first host's name and its address.
+    target: &'static str,
+    secrets: &'static str,
+    portal: &'static str,
+    host: &'static [u8],
+    sas: u64,
 }
 
-/// What is said of a library.
-type Said = (Option<u8>, Option<u16>, Option<u8>, Option<u16>);
+const NOTHING: GivenLibrary = GivenLibrary {
+    drives: None,
+    slots: None,
+    portals: None,
+    volumes: None,
+};
 
-/// What is said of a library that is kept in a folder, and how many slots and volumes one has that isn't there yet.
-fn kept(alloc: Global, line: &str, folder: &str) -> Result<(GivenLibrary, (u16, u16, u64)), Fail> {
-    let Task::Serve(library, serving, _) = task(alloc, line)? else {
-        return Err("another task".into());
+/// What the shortest line for a socket asks for.
+const USUAL: Row = Row {
+    line: "vtl serve --socket s",
+    socket: "s",
+    told: SERVED_ALONE,
+    until: ServeUntil::InputEnds(8),
+    drain: false,
+    log: false,
+    waits: USUAL_WAITS,
+    memory: None,
+    folder: NONE,
+    given: NOTHING,
+    reached: (0, 0, false),
+    target: NONE,
+    secrets: NONE,
+    portal: NONE,
+    host: b"",
+    sas: 0,
+};
+
+/// A task without a server.
+const UNSERVED: Row = Row {
+    socket: NONE,
+    ..USUAL
+};
+
+const TASKS: [Row; 15] = [
+    // `task_of` reads the options of replay.
+    Row {
+        line: "vtl replay",
+        told: (Some((1, 8, 0, 1, SIZE)), OFF, SILENT, None, None),
+        ..UNSERVED
+    },
+    Row {
+        line: "vtl replay --explain",
+        told: (Some((1, 8, 0, 1, SIZE)), ON, SILENT, None, None),
+        ..UNSERVED
+    },
+    Row {
+        line: "vtl replay --audit",
+        told: (Some((1, 8, 0, 1, SIZE)), OFF, LINES, None, None),
+        ..UNSERVED
+    },
+    Row {
+        line: "vtl replay --spans --explain",
+        told: (Some((1, 8, 0, 1, SIZE)), ON, SPANS, None, None),
+        ..UNSERVED
+    },
+    Row {
+        line: "vtl replay --drives 4 --slots 1024 --portals 16 --volumes 1024",
+        told: (Some((4, 1024, 16, 1024, SIZE)), OFF, SILENT, None, None),
+        ..UNSERVED
+    },
+    Row {
+        line: "vtl replay --volumes=0 --audit --slots=1 --drives=2",
+        told: (Some((2, 1, 0, 0, SIZE)), OFF, LINES, None, None),
+        ..UNSERVED
+    },
+    Row {
+        line: "vtl replay --volume-size 1M",
+        told: (Some((1, 8, 0, 1, 1_048_576)), OFF, SILENT, None, None),
+        ..UNSERVED
+    },
+    Row {
+        line: "vtl replay --volume-size=64g --volumes 8",
+        told: (Some((1, 8, 0, 8, 68_719_476_736)), OFF, SILENT, None, None),
+        ..UNSERVED
+    },
+    Row {
+        line: "vtl replay --volume-size 1024K",
+        told: (Some((1, 8, 0, 1, 1_048_576)), OFF, SILENT, None, None),
+        ..UNSERVED
+    },
+    Row {
+        line: "vtl replay --volume-size 1048577",
+        told: (Some((1, 8, 0, 1, 1_048_577)), OFF, SILENT, None, None),
+        ..UNSERVED
+    },
+    // It reads which host a client is.
+    Row {
+        line: "vtl client --port 4 --sas 500000000000000B --socket /run/vtl",
+        socket: "/run/vtl",
+        told: (None, OFF, None, HOST, None),
+        ..UNSERVED
+    },
+    Row {
+        line: "vtl client --explain --port 4 --sas 500000000000000B --socket /run/vtl",
+        socket: "/run/vtl",
+        told: (None, ON, None, HOST, None),
+        ..UNSERVED
+    },
+    // It reads which cells to print.
+    Row {
+        line: "vtl cells",
+        told: (None, None, None, None, Some(None)),
+        ..UNSERVED
+    },
+    Row {
+        line: "vtl cells WRITE(6)",
+        told: (None, None, None, None, Some(Some(Class::Write))),
+        ..UNSERVED
+    },
+    Row {
+        line: "vtl cells pr-in",
+        told: (
+            None,
+            None,
+            None,
+            None,
+            Some(Some(Class::PersistentReserveIn)),
+        ),
+        ..UNSERVED
+    },
+];
+
+const SERVED: [Row; 24] = [
+    // `task_of` reads where and until when to serve.
+    Row {
+        line: "vtl serve --drives 2 --sessions 64 --spans --socket /run/vtl",
+        socket: "/run/vtl",
+        told: (Some((2, 8, 0, 1, SIZE)), None, SPANS, None, None),
+        until: ServeUntil::Sessions(64),
+        ..USUAL
+    },
+    Row {
+        line: "vtl serve --socket /run/vtl --drives 2",
+        socket: "/run/vtl",
+        told: (Some((2, 8, 0, 1, SIZE)), None, LINES, None, None),
+        ..USUAL
+    },
+    Row {
+        line: "vtl serve --workers 3 --drain --socket /run/vtl --drives 2",
+        socket: "/run/vtl",
+        told: (Some((2, 8, 0, 1, SIZE)), None, LINES, None, None),
+        until: ServeUntil::InputEnds(3),
+        drain: true,
+        ..USUAL
+    },
+    Row {
+        line: "vtl serve --log --spans --socket /run/vtl --drives 2",
+        socket: "/run/vtl",
+        told: (Some((2, 8, 0, 1, SIZE)), None, SPANS, None, None),
+        log: true,
+        ..USUAL
+    },
+    // It reads how long hosts are waited for.
+    USUAL,
+    Row {
+        line: "vtl serve --socket s --grace 0 --login-timeout 0 --idle-timeout 0 --write-timeout 0 --idle-ping 0",
+        waits: (0, None, None, None, None),
+        ..USUAL
+    },
+    Row {
+        line: "vtl serve --socket s --grace 3600 --login-timeout 86400 --idle-timeout 86400 --write-timeout 86400 --idle-ping 86400",
+        waits: (3600, Some(86_400), Some(86_400), Some(86_400), Some(86_400)),
+        ..USUAL
+    },
+    Row {
+        line: "vtl serve --grace 1 --socket s",
+        waits: (1, Some(10), None, Some(30), Some(30)),
+        ..USUAL
+    },
+    Row {
+        line: "vtl serve --socket s --login-timeout=2",
+        waits: (10, Some(2), None, Some(30), Some(30)),
+        ..USUAL
+    },
+    Row {
+        line: "vtl serve --socket s --idle-timeout 3",
+        waits: (10, Some(10), Some(3), Some(30), Some(30)),
+        ..USUAL
+    },
+    Row {
+        line: "vtl serve --socket s --write-timeout 4",
+        waits: (10, Some(10), None, Some(4), Some(30)),
+        ..USUAL
+    },
+    Row {
+        line: "vtl serve --socket s --idle-ping 5",
+        waits: (10, Some(10), None, Some(30), Some(5)),
+        ..USUAL
+    },
+    // It reads how much memory volumes take.
+    Row {
+        line: "vtl serve --socket s --memory 1M",
+        memory: Some(1_048_576),
+        ..USUAL
+    },
+    Row {
+        line: "vtl serve --memory=3g --socket s",
+        memory: Some(3_221_225_472),
+        ..USUAL
+    },
+    Row {
+        line: "vtl serve --socket s --media d --memory 70368744177664",
+        folder: "d",
+        memory: Some(70_368_744_177_664),
+        ..USUAL
+    },
+    // It reads where a library is kept.
+    Row {
+        line: "vtl serve --socket s --media /var/lib/vtl",
+        folder: "/var/lib/vtl",
+        ..USUAL
+    },
+    Row {
+        line: "vtl serve --drives 1 --slots 8 --portals 0 --volumes 1 --media /var/lib/vtl --socket s",
+        folder: "/var/lib/vtl",
+        given: GivenLibrary {
+            drives: Some(1),
+            slots: Some(8),
+            portals: Some(0),
+            volumes: Some(1),
+        },
+        ..USUAL
+    },
+    Row {
+        line: "vtl serve --media /var/lib/vtl --socket s --volumes 9",
+        told: (Some((1, 8, 0, 9, SIZE)), None, LINES, None, None),
+        folder: "/var/lib/vtl",
+        given: GivenLibrary {
+            volumes: Some(9),
+            ..NOTHING
+        },
+        ..USUAL
+    },
+    Row {
+        line: "vtl serve --media=/var/lib/vtl --socket s --slots=1024 --volume-size 1G --drives 4",
+        told: (
+            Some((4, 1024, 0, 1, 1_073_741_824)),
+            None,
+            LINES,
+            None,
+            None,
+        ),
+        folder: "/var/lib/vtl",
+        given: GivenLibrary {
+            drives: Some(4),
+            slots: Some(1024),
+            ..NOTHING
+        },
+        ..USUAL
+    },
+    // It reads what initiators come to, addresses and names.
+    Row {
+        line: "vtl serve --iscsi 127.0.0.1:3260 --any-host",
+        socket: NONE,
+        target: "iqn.2026-11.localhost:vtl",
+        portal: "127.0.0.1:3260",
+        reached: (1, 0, true),
+        ..USUAL
+    },
+    Row {
+        line: "vtl serve --socket s --iscsi [::1]:3260 --iscsi 127.0.0.2:0 --host iqn.2026-11.a:b=500000000000000a --host eui.02004567A425678D=500000000000000b",
+        target: "iqn.2026-11.localhost:vtl",
+        portal: "[::1]:3260",
+        host: b"iqn.2026-11.a:b",
+        sas: 0x5000_0000_0000_000A,
+        reached: (2, 2, false),
+        ..USUAL
+    },
+    Row {
+        line: "vtl serve --iscsi 0.0.0.0:3260 --any-host --no-authentication --target-name iqn.2026-11.example:tapes",
+        socket: NONE,
+        target: "iqn.2026-11.example:tapes",
+        portal: "0.0.0.0:3260",
+        reached: (1, 0, true),
+        ..USUAL
+    },
+    Row {
+        line: "vtl serve --iscsi 192.0.2.1:3260 --chap secrets --any-host --host naa.52004567BA64678D=500000000000000a",
+        socket: NONE,
+        target: "iqn.2026-11.localhost:vtl",
+        secrets: "secrets",
+        portal: "192.0.2.1:3260",
+        host: b"naa.52004567BA64678D",
+        sas: 0x5000_0000_0000_000A,
+        reached: (1, 1, true),
+        ..USUAL
+    },
+    Row {
+        line: "vtl serve --iscsi [::1]:3260 --host iqn.2026-11.a:b=500000000000000a",
+        socket: NONE,
+        target: "iqn.2026-11.localhost:vtl",
+        portal: "[::1]:3260",
+        host: b"iqn.2026-11.a:b",
+        sas: 0x5000_0000_0000_000A,
+        reached: (1, 1, false),
+        ..USUAL
+    },
+];
+
+fn assert_media(rt: &impl Abort, media: &Option<MediaOptions>, row: &Row) {
+    let (folder, given) = match media {
+        Some(media) => (media.folder.as_str(), media.given),
+        None => (NONE, NOTHING),
     };
-    let Some(media) = &serving.media else {
-        return Err("not kept".into());
+    assert_same(rt, folder, row.folder, row.line);
+    assert_same(rt, given, row.given, row.line);
+}
+
+fn assert_first(rt: &impl Abort, alloc: Global, iscsi: &IscsiOptions, row: &Row) {
+    if let Some(portal) = iscsi.portals.first() {
+        let portal = portal.to_string(alloc).expect(rt, "memory");
+        assert_same(rt, portal.as_str(), row.portal, row.line);
+    }
+    if let Some(host) = iscsi.hosts.first() {
+        assert_same(rt, host.name.as_slice(), row.host, row.line);
+        assert_same(rt, host.sas, row.sas, row.line);
+    }
+}
+
+fn assert_iscsi(rt: &impl Abort, alloc: Global, iscsi: &Option<IscsiOptions>, row: &Row) {
+    let Some(iscsi) = iscsi else {
+        return assert_same(rt, NONE, row.target, row.line);
     };
-    if media.folder.as_str() != folder {
-        return Err("another folder".into());
-    }
-    let size = (library.slots, library.volumes, library.volume_size);
-    Ok((media.given, size))
+    let reached = (iscsi.portals.len(), iscsi.hosts.len(), iscsi.any_host);
+    assert_same(rt, reached, row.reached, row.line);
+    assert_same(rt, iscsi.target_name.as_str(), row.target, row.line);
+    assert_same(rt, text_of(&iscsi.chap), row.secrets, row.line);
+    assert_first(rt, alloc, iscsi, row);
 }
 
-const KEPT: [(&'static str, Said, (u16, u16, u64)); 4] = [
-    (
-        "vtl serve --socket s --media /var/lib/vtl",
-        (None, None, None, None),
-        (8, 1, SIZE),
-    ),
-    (
-        "vtl serve --drives 1 --slots 8 --portals 0 --volumes 1 --media /var/lib/vtl --socket s",
-        (Some(1), Some(8), Some(0), Some(1)),
-        (8, 1, SIZE),
-    ),
-    (
-        "vtl serve --media /var/lib/vtl --socket s --volumes 9",
-        (None, None, None, Some(9)),
-        (8, 9, SIZE),
-    ),
-    (
-        "vtl serve --media=/var/lib/vtl --socket s --slots=1024 --volume-size 1G --drives 4",
-        (Some(4), Some(1024), None, None),
-        (1024, 1, 1_073_741_824),
-    ),
-];
-
-#[test]
-fn task_of_reads_where_a_library_is_kept(rt: HostRuntime) -> Result<(), Fail> {
-    for row in &KEPT {
-        let (line, said, size) = *row;
-        let (drives, slots, portals, volumes) = said;
-        let expected = GivenLibrary {
-            drives,
-            slots,
-            portals,
-            volumes,
-        };
-        let (given, made) = kept(rt.alloc(), line, "/var/lib/vtl")?;
-        assert_same(&rt, given, expected, line);
-        assert_same(&rt, made, size, line);
-    }
-    Ok(())
+fn assert_serving(rt: &impl Abort, alloc: Global, serving: &ServeOptions, row: &Row) {
+    let found = (serving.until, serving.drain, serving.log, serving.memory);
+    let expected = (row.until, row.drain, row.log, row.memory);
+    assert_same(rt, found, expected, row.line);
+    assert_same(rt, serving.times, times_of(row.waits), row.line);
+    assert_media(rt, &serving.media, row);
+    assert_iscsi(rt, alloc, &serving.iscsi, row);
 }
 
-const MEMORY: [(&'static str, Option<u64>); 4] = [
-    ("vtl serve --socket s", None),
-    ("vtl serve --socket s --memory 1M", Some(1_048_576)),
-    ("vtl serve --memory=3g --socket s", Some(3_221_225_472)),
-    (
-        "vtl serve --socket s --media d --memory 70368744177664",
-        Some(70_368_744_177_664),
-    ),
-];
-
-#[test]
-fn task_of_reads_how_much_memory_volumes_take(rt: HostRuntime) -> Result<(), Fail> {
-    for row in &MEMORY {
-        let (line, expected) = *row;
-        let Task::Serve(_, serving, _) = task(rt.alloc(), line)? else {
-            return Err("another task".into());
-        };
-        assert_same(&rt, serving.memory, expected, line);
-    }
-    Ok(())
-}
-
-/// How many portals and hosts there are, whether every other name is let in too, and whether secrets are asked for.
-type Reached = (usize, usize, bool, bool);
-
-/// What initiators of iSCSI come to by a line, and whether there is a socket too.
-fn reached(alloc: Global, line: &str, target_name: &str) -> Result<(Reached, bool), Fail> {
-    let Task::Serve(_, serving, _) = task(alloc, line)? else {
-        return Err("another task".into());
-    };
-    let Some(iscsi) = &serving.iscsi else {
-        return Err("no portals".into());
-    };
-    if iscsi.target_name.as_str() != target_name {
-        return Err("another target".into());
-    }
-    let counts = (
-        iscsi.portals.len(),
-        iscsi.hosts.len(),
-        iscsi.any_host,
-        iscsi.chap.is_some(),
-    );
-    Ok((counts, serving.socket.is_some()))
-}
-
-const REACHED: [(&'static str, &'static str, Reached, bool); 4] = [
-    (
-        "vtl serve --iscsi 127.0.0.1:3260 --any-host",
-        "iqn.2026-11.localhost:vtl",
-        (1, 0, true, false),
-        false,
-    ),
-    (
-        "vtl serve --socket s --iscsi [::1]:3260 --iscsi 127.0.0.2:0 --host iqn.2026-11.a:b=500000000000000a --host eui.02004567A425678D=500000000000000b",
-        "iqn.2026-11.localhost:vtl",
-        (2, 2, false, false),
-        true,
-    ),
-    (
-        "vtl serve --iscsi 0.0.0.0:3260 --any-host --no-authentication --target-name iqn.2026-11.example:tapes",
-        "iqn.2026-11.example:tapes",
-        (1, 0, true, false),
-        false,
-    ),
-    (
-        "vtl serve --iscsi 192.0.2.1:3260 --chap secrets --any-host --host naa.52004567BA64678D=500000000000000a",
-        "iqn.2026-11.localhost:vtl",
-        (1, 1, true, true),
-        false,
-    ),
-];
-
-#[test]
-fn task_of_reads_what_initiators_come_to(rt: HostRuntime) -> Result<(), Fail> {
-    for row in &REACHED {
-        let (line, target_name, expected, has_socket) = *row;
-        let (counts, socket) = reached(rt.alloc(), line, target_name)?;
-        assert_same(&rt, counts, expected, line);
-        assert_same(&rt, socket, has_socket, line);
-    }
-    Ok(())
-}
-
-/// The portals and hosts that a line names.
-fn iscsi_of(alloc: Global, line: &str) -> Result<IscsiOptions, Fail> {
-    match task(alloc, line)? {
-        Task::Serve(_, serving, _) => Ok(serving.iscsi.ok_or("no portals")?),
-        _ => Err("another task".into()),
+fn assert_task(rt: &impl Abort, alloc: Global, task: &Task, row: &Row) {
+    assert_same(rt, told(task), row.told, row.line);
+    assert_same(rt, socket_of(task), row.socket, row.line);
+    if let Task::Serve(_, serving, _) = task {
+        assert_serving(rt, alloc, serving, row);
     }
 }
 
-/// The first portal of a line.
-fn first_portal(alloc: Global, line: &str) -> Result<String, Fail> {
-    let iscsi = iscsi_of(alloc, line)?;
-    let portal = *iscsi.portals.first().ok_or("no portal")?;
-    Ok(portal.to_string(alloc)?)
-}
-
-/// The name and the address of its first host.
-fn first_host(alloc: Global, line: &str) -> Result<(Vec<u8>, u64), Fail> {
-    let iscsi = iscsi_of(alloc, line)?;
-    let host = iscsi.hosts.first().ok_or("no host")?;
-    Ok((Vec::from_slice(alloc, &host.name)?, host.sas))
+fn assert_row(rt: &impl Abort, alloc: Global, row: &Row) {
+    let task = asked(rt, alloc, row.line).expect(rt, row.line);
+    assert_task(rt, alloc, &task, row);
 }
 
 #[test]
-fn task_of_reads_addresses_and_names(rt: HostRuntime) -> Result<(), Fail> {
-    let line = "vtl serve --iscsi [::1]:3260 --host iqn.2026-11.a:b=500000000000000a";
-    let portal = first_portal(rt.alloc(), line)?;
-    assert_same(&rt, portal.as_str() == "[::1]:3260", true, line);
-    let (name, sas) = first_host(rt.alloc(), line)?;
-    let expected = b"iqn.2026-11.a:b".as_slice();
-    assert_same(&rt, name.as_slice(), expected, line);
-    assert_same(&rt, sas, 0x5000_0000_0000_000A, line);
-    Ok(())
-}
-
-/// The options' times, where none is given, are those that a library has without a command line.
-#[test]
-fn task_of_reads_the_usual_times(rt: HostRuntime) -> Result<(), Fail> {
-    let (_, _, times) = served(rt.alloc(), "vtl serve --socket s", "s")?;
-    assert_same(&rt, times, ServeTimes::default(), "the usual times");
-    Ok(())
-}
-
-/// The address and the port of a host that comes to a socket, and what is printed of its replies.
-fn host(alloc: Global, line: &str, socket: &str) -> Result<((u64, u16), Explanations), Fail> {
-    let Task::Client(contact, explanations) = task(alloc, line)? else {
-        return Err("another task".into());
-    };
-    if contact.socket.as_str() != socket {
-        return Err("another socket".into());
+fn task_of_reads_tasks_and_their_options(rt: HostRuntime) {
+    for row in &TASKS {
+        assert_row(&rt, rt.alloc(), row);
     }
-    Ok(((contact.nexus.sas, contact.nexus.port), explanations))
-}
-
-const HOSTS: [(&'static str, Explanations); 2] = [
-    (
-        "vtl client --port 4 --sas 500000000000000B --socket /run/vtl",
-        Explanations::Off,
-    ),
-    (
-        "vtl client --explain --port 4 --sas 500000000000000B --socket /run/vtl",
-        Explanations::On,
-    ),
-];
-
-#[test]
-fn task_of_reads_which_host_a_client_is(rt: HostRuntime) -> Result<(), Fail> {
-    for row in &HOSTS {
-        let (line, explanations) = *row;
-        let expected = ((0x5000_0000_0000_000B, 4), explanations);
-        assert_same(&rt, host(rt.alloc(), line, "/run/vtl")?, expected, line);
+    for row in &SERVED {
+        assert_row(&rt, rt.alloc(), row);
     }
-    Ok(())
-}
-
-/// The class whose cells a line asks for.
-fn class(alloc: Global, line: &str) -> Result<Option<Class>, Fail> {
-    match task(alloc, line)? {
-        Task::Cells(class) => Ok(class),
-        _ => Err("another task".into()),
-    }
-}
-
-const CELLS: [(&'static str, Option<Class>); 3] = [
-    ("vtl cells", None),
-    ("vtl cells WRITE(6)", Some(Class::Write)),
-    ("vtl cells pr-in", Some(Class::PersistentReserveIn)),
-];
-
-#[test]
-fn task_of_reads_which_cells_to_print(rt: HostRuntime) -> Result<(), Fail> {
-    for row in &CELLS {
-        let (line, expected) = *row;
-        assert_same(&rt, class(rt.alloc(), line)?, expected, line);
-    }
-    Ok(())
+    // The options' times, where none is given, are those that a library has without a command line.
+    let times = times_of(USUAL_WAITS);
+    let shows = "task of reads the usual times";
+    assert_same(&rt, times, ServeTimes::default(), shows);
 }

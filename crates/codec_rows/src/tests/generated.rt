@@ -13,11 +13,26 @@ use scsi_cdb::OutServiceAction;
 use scsi_nexus::Nexus;
 use std::alloc::Global;
 use std::process::Abort;
-use std::test::Fail;
 use unit_attention::Queues;
 
 /// Bytes of scope and type, of which one is unknown.
 const SCOPE_TYPES: [u8; 8] = [0x01, 0x03, 0x05, 0x06, 0x07, 0x08, 0x07, 0x12];
+
+/// Service actions, as often as they are to come.
+const ACTIONS: [OutServiceAction; 12] = [
+    OutServiceAction::Register,
+    OutServiceAction::Register,
+    OutServiceAction::Register,
+    OutServiceAction::Reserve,
+    OutServiceAction::Reserve,
+    OutServiceAction::Release,
+    OutServiceAction::Clear,
+    OutServiceAction::Preempt,
+    OutServiceAction::Preempt,
+    OutServiceAction::PreemptAndAbort,
+    OutServiceAction::RegisterAndIgnoreExistingKey,
+    OutServiceAction::RegisterAndMove,
+];
 
 /// Numbers that follow from a seed, by Knuth's linear congruence.
 #[derive(Drop)]
@@ -41,25 +56,7 @@ impl Numbers {
         }
     }
 
-    fn act(&mut self) -> OutServiceAction {
-        match self.below(12) {
-            0 | 1 | 2 => OutServiceAction::Register,
-            3 | 4 => OutServiceAction::Reserve,
-            5 => OutServiceAction::Release,
-            6 => OutServiceAction::Clear,
-            7 | 8 => OutServiceAction::Preempt,
-            9 => OutServiceAction::PreemptAndAbort,
-            10 => OutServiceAction::RegisterAndIgnoreExistingKey,
-            _ => OutServiceAction::RegisterAndMove,
-        }
-    }
-
-    /// A byte of scope and type, seldom an unknown one.
-    fn scope_type(&mut self) -> u8 {
-        SCOPE_TYPES[self.below(8) as usize]
-    }
-
-    /// A command, mostly with its sender's key and mostly with the type that is held.
+    /// A command, mostly with its sender's key and mostly with the type that is held, seldom with an unknown one.
     fn command(&mut self, state: &PrState, sender: Nexus) -> OutParams {
         let rk = if self.below(8) == 0 {
             self.below(4)
@@ -68,9 +65,9 @@ impl Numbers {
         };
         let scope_type = match state.reservation() {
             Some((res_type, _)) if self.below(2) == 0 => res_type.code(),
-            Some(_) | None => self.scope_type(),
+            Some(_) | None => SCOPE_TYPES[self.below(8) as usize],
         };
-        let act = self.act();
+        let act = ACTIONS[self.below(12) as usize];
         let registers = matches!(
             act,
             OutServiceAction::Register | OutServiceAction::RegisterAndIgnoreExistingKey
@@ -98,39 +95,28 @@ impl Numbers {
 
 type Shown<'a> = (&'a [(Nexus, u64)], Option<(ResType, Nexus)>, u32);
 
-/// Walks on by the act of a command, if it has one.
-fn walk_on(
-    alloc: Global,
-    walked: &mut WalkedState,
-    sender: Nexus,
-    act: Option<ReservationAct<'_>>,
-) -> Result<(), Fail> {
-    if let Some(act) = act {
-        *walked = walked.after(alloc, sender, act)?;
-    }
-    Ok(())
-}
-
-/// Sends a command, and walks on where its act was accepted. Whether it was carried out.
+/// Sends a command, and walks on by its act where that was accepted. Whether it was carried out.
 fn sent(
+    rt: &impl Abort,
     alloc: Global,
     state: &mut PrState,
     walked: &mut WalkedState,
     sender: Nexus,
     params: &OutParams,
-) -> Result<bool, Fail> {
-    match state.judge(sender, params) {
-        Verdict::Allowed => {}
-        Verdict::Denied(_) | Verdict::Rule(_) => return Ok(false),
+) -> bool {
+    if !matches!(state.judge(sender, params), Verdict::Allowed) {
+        return false;
     }
     let mut named = ArrayVec::new();
     list_targets(&mut named, sender, params);
     let act = state.act_of(sender, params, named.as_slice());
     if state.apply(sender, params, &mut Queues::new()).is_err() {
-        return Ok(false);
+        return false;
     }
-    walk_on(alloc, walked, sender, act)?;
-    Ok(true)
+    if let Some(act) = act {
+        *walked = walked.after(alloc, sender, act).expect(rt, "memory");
+    }
+    true
 }
 
 /// What a walk shows: the registrations, the reservation and the generation.
@@ -159,52 +145,48 @@ fn compare(rt: &impl Abort, state: &PrState, walked: &WalkedState) {
     }
 }
 
-#[test]
-fn reservations_agree_with_a_plain_program_over_generated_commands(
-    rt: HostRuntime,
-) -> Result<(), Fail> {
-    let mut numbers = Numbers(1);
-    let mut carried_out = 0u32;
-    for _ in 0..50 {
-        let mut state = PrState::new();
-        let mut walked = WalkedState::after_all(rt.alloc(), &[])?;
-        for _ in 0..80 {
-            let sender = numbers.nexus();
-            let params = numbers.command(&state, sender);
-            if sent(rt.alloc(), &mut state, &mut walked, sender, &params)? {
-                carried_out = carried_out.saturating_add(1);
-            }
-            compare(&rt, &state, &walked);
+/// Sends eighty commands from power on, and says how many were carried out.
+fn carried_out(rt: &impl Abort, alloc: Global, numbers: &mut Numbers) -> u32 {
+    let mut state = PrState::new();
+    let mut walked = WalkedState::after_all(alloc, &[]).expect(rt, "memory");
+    let mut count = 0u32;
+    for _ in 0..80 {
+        let sender = numbers.nexus();
+        let params = numbers.command(&state, sender);
+        if sent(rt, alloc, &mut state, &mut walked, sender, &params) {
+            count = count.saturating_add(1);
         }
+        compare(rt, &state, &walked);
     }
-    assert!(rt; carried_out > 1000, "{carried_out}");
-    Ok(())
+    count
 }
 
 const FIRST: Nexus = Nexus { sas: 10, port: 1 };
 
 const SECOND: Nexus = Nexus { sas: 11, port: 1 };
 
-/// The walk over what two do with one key.
-fn walked_with_a_shared_key(alloc: Global) -> Result<WalkedState, Fail> {
-    let alone = [FIRST];
-    let both = [SECOND, FIRST];
-    let acts = [
-        (FIRST, ReservationAct::Register(7, &alone)),
-        (SECOND, ReservationAct::Register(7, &both)),
-        (FIRST, ReservationAct::Reserve(ResType::Ea)),
-        (SECOND, ReservationAct::Preempt(7, 0x05)),
-    ];
-    Ok(WalkedState::after_all(alloc, &acts)?)
-}
+/// What two do with one key.
+static ACTS: [(Nexus, ReservationAct<'static>); 4] = [
+    (FIRST, ReservationAct::Register(7, &[FIRST])),
+    (SECOND, ReservationAct::Register(7, &[SECOND, FIRST])),
+    (FIRST, ReservationAct::Reserve(ResType::Ea)),
+    (SECOND, ReservationAct::Preempt(7, 0x05)),
+];
 
 const REGISTERED: &[(Nexus, u64)] = &[(SECOND, 7)];
 
 const SHOWN: Shown<'static> = (REGISTERED, Some((ResType::Wero, SECOND)), 3);
 
 #[test]
-fn reservations_agree_with_a_plain_program_over_a_shared_key(rt: HostRuntime) -> Result<(), Fail> {
-    let walked = walked_with_a_shared_key(rt.alloc())?;
-    assert_same(&rt, shown_of(&walked), SHOWN, "what is shown");
-    Ok(())
+fn reservations_agree_with_a_plain_program(rt: HostRuntime) {
+    let walked = WalkedState::after_all(rt.alloc(), &ACTS).expect(&rt, "memory");
+    let shows = "reservations agree with a plain program over a shared key";
+    assert_same(&rt, shown_of(&walked), SHOWN, shows);
+    let mut numbers = Numbers(1);
+    let mut count = 0u32;
+    for _ in 0..50 {
+        count = count.saturating_add(carried_out(&rt, rt.alloc(), &mut numbers));
+    }
+    let shows = "reservations agree with a plain program over generated commands";
+    assert_same(&rt, count > 1000, true, shows);
 }

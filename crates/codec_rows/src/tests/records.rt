@@ -1,66 +1,43 @@
-ghost use Rattle.std.specs.Prelude.{◌≡◌};
+//! Records, and trails that they are added to and handed out from.
 
-use super::assert_same;
+use super::{A, POWER_ON, assert_same};
 use audit_log::*;
-use permit_tables::{Cell, ResType, Role};
+use permit_tables::{Cell, KeptParams, ResType, Role};
 use pr_core::KeyRule;
 use pr_params::read_out;
 use scsi_cdb::{Class, OutServiceAction};
 use scsi_nexus::Nexus;
-use scsi_sense::{Condition, Sense, Status};
-use std::alloc::{AllocError, Global};
+use scsi_sense::{Sense, Status};
+use std::alloc::Global;
 use std::process::Abort;
-use std::test::Fail;
 
-const A: Nexus = Nexus {
-    sas: 0x5000_0000_0000_000a,
-    port: 1,
-};
+/// A REGISTER list with SPEC_I_PT, key 7 and the SAS address 500000000000000Ch.
+pub(super) const LISTING: &[u8] = &[
+    0, 0, 0, 0, 0, 0, 0, 0, 0, 0, 0, 0, 0, 0, 0, 7, 0, 0, 0, 0, 8, 0, 0, 0, 0, 0, 0, 0x18, 6, 0, 0,
+    0, 0x50, 0, 0, 0, 0, 0, 0, 0x0c, 0, 0, 0, 0, 0, 0, 0, 0, 0, 0, 0, 0,
+];
 
-/// The record of A's first TEST UNIT READY, which meets the condition of its first contact.
-fn first_contact() -> Record
-    ensures { result.number ≡ 1 }
-{
-    Record {
-        number: 1,
-        nexus: Some(A),
-        act: Act::Command(Class::TestUnitReady),
-        stage: Stage::ResetAttention,
-        cell: None,
-        rule: None,
-        status: Status::CheckCondition,
-        sense: Some(Sense::of(Condition::PowerOnOrResetOccurred)),
-        mode_changed: false,
-    }
-}
+/// A basic list with reservation key 5 and service action reservation key 6.
+const BASIC: &[u8] = &[
+    0, 0, 0, 0, 0, 0, 0, 5, 0, 0, 0, 0, 0, 0, 0, 6, 0, 0, 0, 0, 0, 0, 0, 0,
+];
 
-/// The record of a REGISTER by A with a reservation key that it doesn't have.
-fn wrong_key(rt: &impl Abort, alloc: Global) -> Result<Record, AllocError> {
-    let list = [
-        0, 0, 0, 0, 0, 0, 0, 5, 0, 0, 0, 0, 0, 0, 0, 6, 0, 0, 0, 0, 0, 0, 0, 0,
-    ];
-    let params = read_out(OutServiceAction::Register, 0, 24, &list).expect(rt, "a basic list");
-    Ok(Record {
-        number: 2,
-        nexus: Some(A),
-        act: Act::ReserveOut(params.keep(alloc)?),
-        stage: Stage::ReservationCheck,
-        cell: Some(Cell {
-            class: Class::Register,
-            res_type: ResType::None,
-            role: Role::Other,
-        }),
-        rule: Some(KeyRule::K1),
-        status: Status::ReservationConflict,
-        sense: None,
-        mode_changed: false,
-    })
+/// A REGISTER list as it is kept, which is the same command when it is opened again.
+pub(super) fn kept(rt: &impl Abort, alloc: Global, length: u32, list: &[u8]) -> KeptParams {
+    let params = read_out(OutServiceAction::Register, 0, length, list).expect(rt, "a length");
+    let kept = params.keep(alloc).expect(rt, "memory");
+    let found = (kept.act(), kept.open() == params);
+    assert_same(
+        rt,
+        found,
+        (OutServiceAction::Register, true),
+        "keep has the listed addresses: the same list",
+    );
+    kept
 }
 
 /// An event that isn't a command.
-fn event(number: u64, nexus: Option<Nexus>, act: Act) -> Record
-    ensures { result.number ≡ number }
-{
+pub(super) fn event(number: u64, nexus: Option<Nexus>, act: Act) -> Record {
     Record {
         number,
         nexus,
@@ -74,102 +51,214 @@ fn event(number: u64, nexus: Option<Nexus>, act: Act) -> Record
     }
 }
 
-#[test]
-fn line_of_the_last_number(rt: HostRuntime) -> Result<(), Fail> {
-    let text = line(rt.alloc(), &event(u64::MAX, None, Act::MediumOut))?;
-    let expected = "18446744073709551615 - MEDIUM-OUT 6 - - 00";
-    assert_same(&rt, text.as_str(), expected, "a line");
-    Ok(())
+/// What is done with a trail of records.
+#[derive(Clone, Copy)]
+enum Step {
+    /// From here on the trail is another, without records, beside a vector with room for a hundred.
+    Begin,
+    /// A record is added: of A's first TEST UNIT READY, which meets the condition of its first contact, of a REGISTER by A with a
+    /// reservation key that it doesn't have, of bytes that are no command, of a loss, or of a reset.
+    FirstContact,
+    WrongKey,
+    Invalid,
+    Loss,
+    Reset,
+    /// The records are handed out, in place of the vector.
+    Drain,
+    /// They are handed out into the vector.
+    DrainInto,
+    /// The record at this place of those handed out is looked at.
+    Look(usize),
 }
 
-#[test]
-fn write_line_adds_to_a_text(rt: HostRuntime) -> Result<(), Fail> {
-    let mut text = String::from_str(rt.alloc(), "7\n")?;
-    write_line(rt.alloc(), &mut text, &event(8, None, Act::Reset))?;
-    assert_same(&rt, text.as_str(), "7\n8 - RESET 6 - - 00", "two lines");
-    Ok(())
+/// The record that is added by a step, still without its number.
+fn record_of(rt: &impl Abort, alloc: Global, step: Step) -> Record {
+    match step {
+        Step::FirstContact => Record {
+            stage: Stage::ResetAttention,
+            status: Status::CheckCondition,
+            sense: Some(POWER_ON),
+            ..event(0, Some(A), Act::Command(Class::TestUnitReady))
+        },
+        Step::WrongKey => Record {
+            stage: Stage::ReservationCheck,
+            cell: Some(Cell {
+                class: Class::Register,
+                res_type: ResType::None,
+                role: Role::Other,
+            }),
+            rule: Some(KeyRule::K1),
+            status: Status::ReservationConflict,
+            ..event(0, Some(A), Act::ReserveOut(kept(rt, alloc, 24, BASIC)))
+        },
+        Step::Loss => event(0, Some(A), Act::Loss),
+        Step::Reset => event(0, None, Act::Reset),
+        _ => event(0, Some(A), Act::Invalid),
+    }
 }
 
-/// Adds a record to a trail, with the next number.
-fn add(trail: &mut Trail, record: Record) -> Result<(), Fail> {
-    let Some(number) = trail.last().checked_add(1) else {
-        return Err("no number is left".into());
-    };
-    trail.reserve_one()?;
-    trail.push(Record { number, ..record });
-    Ok(())
+/// The last number of the trail, how many records it has, how many are handed out, and whether their vector has the room that a scene
+/// begins with.
+type Counts = (u64, usize, usize, bool);
+
+/// What a record is compared by: its number, class, rule and sense data.
+type Key = (u64, Option<Class>, Option<KeyRule>, Option<Sense>);
+
+/// Where no record is looked at.
+const NONE: Key = (0, None, None, None);
+
+/// A trail, and the records that it handed out last.
+#[derive(Drop)]
+struct Scene {
+    trail: Trail,
+    handed_out: Vec<Record>,
 }
 
-/// The last number of a trail, and how many records it has.
-fn counts(trail: &Trail) -> (u64, usize) {
-    (trail.last(), trail.records().len())
+impl Scene {
+    fn new(rt: &impl Abort, alloc: Global) -> Scene {
+        Scene {
+            trail: Trail::new(alloc, 0),
+            handed_out: Vec::with_capacity(alloc, 100).expect(rt, "memory"),
+        }
+    }
+
+    /// Adds a record, with the next number. Where the trail has room, none is made.
+    fn add(&mut self, rt: &impl Abort, record: Record) {
+        let number = self.trail.last().checked_add(1).expect(rt, "a number");
+        self.trail.reserve_one().expect(rt, "memory");
+        self.trail.push(Record { number, ..record });
+    }
+
+    fn go_on(&mut self, rt: &impl Abort, alloc: Global, step: Step) {
+        match step {
+            Step::Begin => *self = Scene::new(rt, alloc),
+            Step::Look(_) => {}
+            Step::Drain => self.handed_out = self.trail.drain(alloc),
+            Step::DrainInto => {
+                self.handed_out.clear();
+                self.trail.drain_into(&mut self.handed_out);
+            }
+            _ => self.add(rt, record_of(rt, alloc, step)),
+        }
+    }
+
+    /// What is seen behind a step.
+    fn seen(&self, step: Step) -> (Counts, Key) {
+        let counts = (
+            self.trail.last(),
+            self.trail.records().len(),
+            self.handed_out.len(),
+            self.handed_out.capacity() >= 100,
+        );
+        let Step::Look(place) = step else {
+            return (counts, NONE);
+        };
+        match self.handed_out.get(place) {
+            Some(record) => {
+                let class = record.act.class();
+                (counts, (record.number, class, record.rule, record.sense))
+            }
+            None => (counts, NONE),
+        }
+    }
 }
 
-/// What a record is compared by: its number, class and rule.
-type Key = (u64, Option<Class>, Option<KeyRule>);
+/// What is shown, what is done, and what is seen then.
+type Row = (&'static str, Step, Counts, Key);
 
-fn key_of(record: &Record) -> Key {
-    (record.number, record.act.class(), record.rule)
-}
-
-const DRAINED: [Key; 2] = [
-    (1, Some(Class::TestUnitReady), None),
-    (2, Some(Class::Register), Some(KeyRule::K1)),
+const ROWS: [Row; 25] = [
+    (
+        "drain hands out records and goes on counting",
+        Step::Begin,
+        (0, 0, 0, true),
+        NONE,
+    ),
+    ("one record", Step::FirstContact, (1, 1, 0, true), NONE),
+    ("two records", Step::WrongKey, (2, 2, 0, true), NONE),
+    ("drained", Step::Drain, (2, 0, 2, false), NONE),
+    ("the first record", Step::Look(0), (2, 0, 2, false), CONTACT),
+    ("the second", Step::Look(1), (2, 0, 2, false), REGISTER),
+    ("one more", Step::Loss, (3, 1, 2, false), NONE),
+    (
+        "drain into goes on in the room of the vector",
+        Step::Begin,
+        (0, 0, 0, true),
+        NONE,
+    ),
+    (
+        "a record in other room",
+        Step::FirstContact,
+        (1, 1, 0, true),
+        NONE,
+    ),
+    (
+        "the vector is given up",
+        Step::DrainInto,
+        (1, 0, 1, false),
+        NONE,
+    ),
+    ("its record", Step::Look(0), (1, 0, 1, false), CONTACT),
+    ("a second record", Step::Loss, (2, 1, 1, false), NONE),
+    ("a third", Step::Reset, (3, 2, 1, false), NONE),
+    (
+        "the vector comes back with both",
+        Step::DrainInto,
+        (3, 0, 2, true),
+        NONE,
+    ),
+    (
+        "the second record",
+        Step::Look(0),
+        (3, 0, 2, true),
+        (2, None, None, None),
+    ),
+    (
+        "the third",
+        Step::Look(1),
+        (3, 0, 2, true),
+        (3, None, None, None),
+    ),
+    ("a fourth record", Step::Reset, (4, 1, 2, true), NONE),
+    (
+        "act has a class only of a command",
+        Step::Begin,
+        (0, 0, 0, true),
+        NONE,
+    ),
+    ("TEST UNIT READY", Step::FirstContact, (1, 1, 0, true), NONE),
+    ("no command", Step::Invalid, (2, 2, 0, true), NONE),
+    ("a reset", Step::Reset, (3, 3, 0, true), NONE),
+    ("all three", Step::Drain, (3, 0, 3, false), NONE),
+    (
+        "the class of TEST UNIT READY",
+        Step::Look(0),
+        (3, 0, 3, false),
+        CONTACT,
+    ),
+    (
+        "no command has none",
+        Step::Look(1),
+        (3, 0, 3, false),
+        (2, None, None, None),
+    ),
+    (
+        "a reset has none",
+        Step::Look(2),
+        (3, 0, 3, false),
+        (3, None, None, None),
+    ),
 ];
 
+const CONTACT: Key = (1, Some(Class::TestUnitReady), None, Some(POWER_ON));
+
+const REGISTER: Key = (2, Some(Class::Register), Some(KeyRule::K1), None);
+
 #[test]
-fn drain_hands_out_records_and_goes_on_counting(rt: HostRuntime) -> Result<(), Fail> {
-    let mut trail = Trail::new(rt.alloc(), 0);
-    assert_same(&rt, counts(&trail), (0, 0), "at the start");
-    add(&mut trail, first_contact())?;
-    add(&mut trail, wrong_key(&rt, rt.alloc())?)?;
-    assert_same(&rt, counts(&trail), (2, 2), "with two records");
-    let drained = trail.drain(rt.alloc());
-    assert_same(&rt, drained.len(), 2, "records handed out");
-    for (record, expected) in drained.iter().zip(&DRAINED) {
-        assert_same(&rt, key_of(record), *expected, "a record");
+fn trails_number_their_records_and_hand_them_out(rt: HostRuntime) {
+    let mut scene = Scene::new(&rt, rt.alloc());
+    for row in &ROWS {
+        let (shows, step, counts, key) = *row;
+        scene.go_on(&rt, rt.alloc(), step);
+        assert_same(&rt, scene.seen(step), (counts, key), shows);
     }
-    let sense = drained.first().and_then(|record| record.sense);
-    assert_same(&rt, sense, first_contact().sense, "its sense data");
-    assert_same(&rt, counts(&trail), (2, 0), "drained");
-    add(&mut trail, event(3, Some(A), Act::Loss))?;
-    assert_same(&rt, counts(&trail), (3, 1), "with one more");
-    Ok(())
-}
-
-#[test]
-fn drain_into_goes_on_in_the_room_of_the_vector(rt: HostRuntime) -> Result<(), Fail> {
-    let mut trail = Trail::new(rt.alloc(), 0);
-    trail.reserve_one()?;
-    trail.push(first_contact());
-    let mut handed_out = Vec::with_capacity(rt.alloc(), 2)?;
-    trail.drain_into(&mut handed_out);
-    assert_numbers(&rt, handed_out.as_slice(), &[1]);
-    trail.push(event(2, Some(A), Act::Loss));
-    trail.push(event(3, None, Act::Reset));
-    handed_out.clear();
-    trail.drain_into(&mut handed_out);
-    assert_numbers(&rt, handed_out.as_slice(), &[2, 3]);
-    trail.push(event(4, None, Act::Reset));
-    assert_same(&rt, trail.last(), 4, "the last number");
-    Ok(())
-}
-
-/// Compares the numbers of records.
-fn assert_numbers(rt: &impl Abort, records: &[Record], numbers: &[u64]) {
-    assert_same(rt, records.len(), numbers.len(), "records");
-    for (record, number) in records.iter().zip(numbers) {
-        assert_same(rt, record.number, *number, "a number");
-    }
-}
-
-#[test]
-fn act_has_a_class_only_of_a_command(rt: HostRuntime) -> Result<(), Fail> {
-    let register = wrong_key(&rt, rt.alloc())?.act.class();
-    let contact = first_contact().act.class();
-    assert_same(&rt, register, Some(Class::Register), "REGISTER");
-    assert_same(&rt, contact, Some(Class::TestUnitReady), "TEST UNIT READY");
-    assert_same(&rt, Act::Invalid.class(), None, "no command");
-    assert_same(&rt, Act::Reset.class(), None, "a reset");
-    Ok(())
 }

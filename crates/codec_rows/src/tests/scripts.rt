@@ -1,185 +1,302 @@
-use super::assert_same;
+//! Lines of scripts, and the events and requests that they are.
+
+use super::{A, assert_same};
 use script_lines::{ClientRequest, LineFault, ScriptFault, events_of, requests_of};
 use scsi_nexus::Nexus;
 use std::alloc::Global;
 use std::process::Abort;
-use std::test::Fail;
 use target_core::Event;
-
-const A: Nexus = Nexus {
-    sas: 0x5000_0000_0000_000A,
-    port: 1,
-};
-
-/// A fault of a line.
-const fn fault_at(number: u64, what: LineFault) -> Option<ScriptFault> {
-    Some(ScriptFault::Line { number, what })
-}
-
-#[test]
-fn events_of_refuses_a_comment_above_the_longest_line(rt: HostRuntime) -> Result<(), Fail> {
-    let longest = vec![in rt.alloc(); b'#'; 270_000]?;
-    let fault = events_of(rt.alloc(), &longest).err();
-    assert_same(&rt, fault, None, "the longest line");
-    let longer = vec![in rt.alloc(); b'#'; 270_001]?;
-    let fault = events_of(rt.alloc(), &longer).err();
-    assert_same(&rt, fault, fault_at(1, LineFault::TooLong), "a longer line");
-    Ok(())
-}
-
-/// A command of a script: the nexus and the unit, the CDB, and the data.
-type Command = ((Nexus, u8), &'static [u8], &'static [u8]);
-
-/// Compares an event, which has to be a command.
-fn assert_command(rt: &impl Abort, event: &Event, expected: &Command) -> Result<(), Fail> {
-    let Event::Command {
-        nexus,
-        lun,
-        cdb,
-        bytes,
-    } = event
-    else {
-        return Err("no command".into());
-    };
-    assert_same(rt, (*nexus, *lun), expected.0, "the nexus and the unit");
-    assert_same(rt, cdb.as_slice(), expected.1, "the CDB");
-    assert_same(rt, bytes.as_slice(), expected.2, "the data");
-    Ok(())
-}
 
 const TWO_COMMANDS: &str =
     "500000000000000A.1 255 5F0000000000000018aB 00fF\n500000000000000a.2 0 00";
 
-const COMMANDS: [Command; 2] = [
-    ((A, 255), b"\x5f\0\0\0\0\0\0\0\x18\xab", b"\0\xff"),
-    ((Nexus { port: 2, ..A }, 0), b"\0", b""),
-];
-
-#[test]
-fn events_of_takes_commands_with_and_without_data(rt: HostRuntime) -> Result<(), Fail> {
-    let pieces = events_of(rt.alloc(), TWO_COMMANDS.as_bytes())?.into_pieces();
-    assert_same(&rt, pieces.len(), 1, "pieces");
-    for events in &pieces {
-        assert_same(&rt, events.len(), 2, "events");
-        for (event, expected) in events.iter().zip(&COMMANDS) {
-            assert_command(&rt, event, expected)?;
-        }
-    }
-    Ok(())
-}
-
-/// Which unit an event resets, if it is a reset.
-fn unit_reset(event: Option<&Event>) -> Option<u8> {
-    match event {
-        Some(Event::Reset { lun }) => Some(*lun),
-        _ => None,
-    }
-}
-
-/// A script of so many resets, each of unit 0 but those that begin a piece.
-fn resets(alloc: Global, count: u32) -> Result<String, Fail> {
-    let mut text = String::new(alloc);
-    for number in 0..count {
-        text.push_str(if number % 4_096 == 0 {
-            "reset 1\n"
-        } else {
-            "reset 0\n"
-        })?;
-    }
-    Ok(text)
-}
-
-/// Compares how many events a piece has, and which is its first.
-fn assert_piece(rt: &impl Abort, piece: &[Event], len: usize) {
-    assert_same(rt, piece.len(), len, "events of a piece");
-    assert_same(rt, unit_reset(piece.first()), Some(1), "its first event");
-}
-
-#[test]
-fn events_of_takes_more_events_than_a_piece_has(rt: HostRuntime) -> Result<(), Fail> {
-    let text = resets(rt.alloc(), 8_193)?;
-    let pieces = events_of(rt.alloc(), text.as_bytes())?.into_pieces();
-    assert_same(&rt, pieces.len(), 3, "pieces");
-    for (piece, len) in pieces.iter().zip(&[4_096, 4_096, 1]) {
-        assert_piece(&rt, piece.as_slice(), *len);
-    }
-    Ok(())
-}
-
-/// A request: the unit and, of a command, its CDB and its data.
-type Asked = (u8, Option<(&'static [u8], &'static [u8])>);
-
-/// Compares a request.
-fn assert_request(rt: &impl Abort, request: &ClientRequest, expected: &Asked) -> Result<(), Fail> {
-    match (request, expected) {
-        (ClientRequest::Command { lun, cdb, bytes }, (unit, Some((command, data)))) => {
-            assert_same(rt, *lun, *unit, "the unit of a command");
-            assert_same(rt, cdb.as_slice(), *command, "the CDB");
-            assert_same(rt, bytes.as_slice(), *data, "the data");
-            Ok(())
-        }
-        (ClientRequest::Reset { lun }, (unit, None)) => {
-            assert_same(rt, *lun, *unit, "the unit of a reset");
-            Ok(())
-        }
-        _ => Err("another request".into()),
-    }
-}
-
 const OF_A_HOST: &str = "# a comment\n\n1 0a0000000200 00fF\nreset 255\n0 000000000000";
 
-const ASKED: [Asked; 3] = [
-    (1, Some((b"\x0a\0\0\0\x02\0", b"\0\xff"))),
-    (255, None),
-    (0, Some((&[0; 6], b""))),
-];
-
-#[test]
-fn requests_of_takes_the_lines_of_a_host(rt: HostRuntime) -> Result<(), Fail> {
-    let requests = requests_of(rt.alloc(), OF_A_HOST.as_bytes())?;
-    assert_same(&rt, requests.len(), 3, "requests");
-    for (request, expected) in requests.iter().zip(&ASKED) {
-        assert_request(&rt, request, expected)?;
+/// A script of so many number signs, these lines, and so many resets, each of unit 0 but those that begin a piece.
+fn script_of(rt: &impl Abort, alloc: Global, signs: usize, lines: &str, resets: u32) -> Vec<u8> {
+    let mut text = vec![in alloc; b'#'; signs].expect(rt, "memory");
+    text.extend_from_slice(lines.as_bytes())
+        .expect(rt, "memory");
+    for number in 0..resets {
+        let line = if number % 4_096 == 0 {
+            b"reset 1\n"
+        } else {
+            b"reset 0\n"
+        };
+        text.extend_from_slice(line).expect(rt, "memory");
     }
-    Ok(())
+    text
 }
 
-/// What it shows, a line, and its fault.
-type Faulty = (&'static str, &'static str, LineFault);
+/// What an event or a request is compared by: its nexus, where it has one, its unit, and a command's CDB and data.
+type Asked<'a> = (Option<Nexus>, u8, &'a [u8], &'a [u8]);
 
-const FAULTY: [Faulty; 10] = [
-    ("one word", "0", LineFault::WordCount),
-    ("four words", "256 x 00 00", LineFault::WordCount),
-    ("a reset of no unit", "reset 256", LineFault::BadUnit),
-    ("three words of a reset", "reset 0 0", LineFault::WordCount),
-    ("a loss", "loss 0", LineFault::BadUnit),
+/// In place of the CDB of what is no command.
+const LOSS: &[u8] = b"loss";
+
+const RESET: &[u8] = b"reset";
+
+fn of_event(event: &Event) -> Asked<'_> {
+    match event {
+        Event::Command {
+            nexus,
+            lun,
+            cdb,
+            bytes,
+        } => (Some(*nexus), *lun, cdb.as_slice(), bytes.as_slice()),
+        Event::Loss { nexus, lun } => (Some(*nexus), *lun, LOSS, b""),
+        Event::Reset { lun } => (None, *lun, RESET, b""),
+    }
+}
+
+fn of_request(request: &ClientRequest) -> Asked<'_> {
+    match request {
+        ClientRequest::Command { lun, cdb, bytes } => {
+            (None, *lun, cdb.as_slice(), bytes.as_slice())
+        }
+        ClientRequest::Reset { lun } => (None, *lun, RESET, b""),
+    }
+}
+
+/// One event or request of a script.
+#[derive(Clone, Copy)]
+struct Row {
+    shows: &'static str,
+    /// Its lines, or how many resets it is of.
+    lines: &'static str,
+    resets: u32,
+    /// How many pieces there are of the events, in which piece it stands, of how many, and at which place.
+    pieces: usize,
+    piece: usize,
+    count: usize,
+    place: usize,
+    nexus: Option<Nexus>,
+    lun: u8,
+    cdb: &'static [u8],
+    bytes: &'static [u8],
+}
+
+const FIRST_RESET: Row = Row {
+    shows: "events of takes more events than a piece has",
+    lines: "",
+    resets: 8_193,
+    pieces: 3,
+    piece: 0,
+    count: 4_096,
+    place: 0,
+    nexus: None,
+    lun: 1,
+    cdb: RESET,
+    bytes: b"",
+};
+
+const EVENTS: [Row; 5] = [
+    Row {
+        shows: "events of takes commands with and without data",
+        lines: TWO_COMMANDS,
+        resets: 0,
+        pieces: 1,
+        count: 2,
+        nexus: Some(A),
+        lun: 255,
+        cdb: b"\x5f\0\0\0\0\0\0\0\x18\xab",
+        bytes: b"\0\xff",
+        ..FIRST_RESET
+    },
+    Row {
+        shows: "a command without data",
+        lines: TWO_COMMANDS,
+        resets: 0,
+        pieces: 1,
+        count: 2,
+        place: 1,
+        nexus: Some(Nexus { port: 2, ..A }),
+        lun: 0,
+        cdb: b"\0",
+        ..FIRST_RESET
+    },
+    FIRST_RESET,
+    Row {
+        shows: "the first event of the second piece",
+        piece: 1,
+        ..FIRST_RESET
+    },
+    Row {
+        shows: "the one event of the third piece",
+        piece: 2,
+        count: 1,
+        ..FIRST_RESET
+    },
+];
+
+const FIRST_REQUEST: Row = Row {
+    shows: "requests of takes the lines of a host",
+    lines: OF_A_HOST,
+    resets: 0,
+    pieces: 1,
+    count: 3,
+    cdb: b"\x0a\0\0\0\x02\0",
+    bytes: b"\0\xff",
+    ..FIRST_RESET
+};
+
+const REQUESTS: [Row; 3] = [
+    FIRST_REQUEST,
+    Row {
+        shows: "a reset",
+        place: 1,
+        lun: 255,
+        cdb: RESET,
+        bytes: b"",
+        ..FIRST_REQUEST
+    },
+    Row {
+        shows: "a command without data",
+        place: 2,
+        lun: 0,
+        cdb: &[0; 6],
+        bytes: b"",
+        ..FIRST_REQUEST
+    },
+];
+
+fn assert_asked(rt: &impl Abort, found: Asked<'_>, row: &Row) {
+    let (nexus, lun, cdb, bytes) = found;
+    let expected = (row.nexus, row.lun, row.cdb);
+    assert_same(rt, (nexus, lun, cdb), expected, row.shows);
+    assert_same(rt, bytes, row.bytes, row.shows);
+}
+
+fn assert_event(rt: &impl Abort, alloc: Global, row: &Row) {
+    let text = script_of(rt, alloc, 0, row.lines, row.resets);
+    let events = events_of(alloc, &text).expect(rt, row.shows);
+    let pieces = events.into_pieces();
+    let piece = pieces.get(row.piece).expect(rt, row.shows);
+    let counts = (pieces.len(), piece.len());
+    assert_same(rt, counts, (row.pieces, row.count), row.shows);
+    let event = piece.get(row.place).expect(rt, row.shows);
+    assert_asked(rt, of_event(event), row);
+}
+
+fn assert_request(rt: &impl Abort, alloc: Global, row: &Row) {
+    let text = script_of(rt, alloc, 0, row.lines, row.resets);
+    let requests = requests_of(alloc, &text).expect(rt, row.shows);
+    assert_same(rt, requests.len(), row.count, row.shows);
+    let request = requests.get(row.place).expect(rt, row.shows);
+    assert_asked(rt, of_request(request), row);
+}
+
+#[test]
+fn scripts_are_the_events_and_requests_that_they_say(rt: HostRuntime) {
+    for row in &EVENTS {
+        assert_event(&rt, rt.alloc(), row);
+    }
+    for row in &REQUESTS {
+        assert_request(&rt, rt.alloc(), row);
+    }
+}
+
+const WORD_COUNT: Option<ScriptFault> = Some(ScriptFault::Line {
+    number: 3,
+    what: LineFault::WordCount,
+});
+
+const BAD_UNIT: Option<ScriptFault> = Some(ScriptFault::Line {
+    number: 3,
+    what: LineFault::BadUnit,
+});
+
+const BAD_HEX: Option<ScriptFault> = Some(ScriptFault::Line {
+    number: 3,
+    what: LineFault::BadHex,
+});
+
+const TOO_LONG: Option<ScriptFault> = Some(ScriptFault::Line {
+    number: 1,
+    what: LineFault::TooLong,
+});
+
+/// What is shown, whether a script is a host's, how many number signs it begins with, how it goes on, and its fault.
+type Faulty = (&'static str, bool, usize, &'static str, Option<ScriptFault>);
+
+const FAULTY: [Faulty; 13] = [
+    (
+        "events of refuses a comment above the longest line: the longest",
+        false,
+        270_000,
+        "",
+        None,
+    ),
+    ("a longer line", false, 270_001, "", TOO_LONG),
+    (
+        "requests of refuses the first faulty line: one word",
+        true,
+        0,
+        "reset 0\n\n0",
+        WORD_COUNT,
+    ),
+    ("four words", true, 0, "reset 0\n\n256 x 00 00", WORD_COUNT),
+    (
+        "a reset of no unit",
+        true,
+        0,
+        "reset 0\n\nreset 256",
+        BAD_UNIT,
+    ),
+    (
+        "three words of a reset",
+        true,
+        0,
+        "reset 0\n\nreset 0 0",
+        WORD_COUNT,
+    ),
+    ("a loss", true, 0, "reset 0\n\nloss 0", BAD_UNIT),
     (
         "a nexus",
-        "500000000000000a.1 0 000000000000",
-        LineFault::BadUnit,
+        true,
+        0,
+        "reset 0\n\n500000000000000a.1 0 000000000000",
+        BAD_UNIT,
     ),
-    ("a leading zero", "01 000000000000", LineFault::BadUnit),
-    ("an odd digit", "0 00000000000", LineFault::BadHex),
-    ("empty data", "0 000000000000 ", LineFault::BadHex),
-    ("a carriage return", "0 000000000000\r", LineFault::BadHex),
+    (
+        "a leading zero",
+        true,
+        0,
+        "reset 0\n\n01 000000000000",
+        BAD_UNIT,
+    ),
+    ("an odd digit", true, 0, "reset 0\n\n0 00000000000", BAD_HEX),
+    ("empty data", true, 0, "reset 0\n\n0 000000000000 ", BAD_HEX),
+    (
+        "a carriage return",
+        true,
+        0,
+        "reset 0\n\n0 000000000000\r",
+        BAD_HEX,
+    ),
+    ("a longer line of a host", true, 270_001, "", TOO_LONG),
 ];
 
-/// Reads a script whose third line is faulty.
-fn assert_faulty(rt: &impl Abort, alloc: Global, row: &Faulty) -> Result<(), Fail> {
-    let (name, line, what) = *row;
-    let text = format!(in alloc; "reset 0\n\n{line}")?;
-    let fault = requests_of(alloc, text.as_bytes()).err();
-    assert_same(rt, fault, fault_at(3, what), name);
-    Ok(())
+fn fault_of(
+    rt: &impl Abort,
+    alloc: Global,
+    is_of_a_host: bool,
+    signs: usize,
+    lines: &str,
+) -> Option<ScriptFault> {
+    let text = script_of(rt, alloc, signs, lines, 0);
+    if is_of_a_host {
+        requests_of(alloc, &text).err()
+    } else {
+        events_of(alloc, &text).err()
+    }
 }
 
 #[test]
-fn requests_of_refuses_the_first_faulty_line(rt: HostRuntime) -> Result<(), Fail> {
+fn scripts_are_refused_for_their_first_fault(rt: HostRuntime) {
     for row in &FAULTY {
-        assert_faulty(&rt, rt.alloc(), row)?;
+        let (shows, is_of_a_host, signs, lines, expected) = *row;
+        let found = fault_of(&rt, rt.alloc(), is_of_a_host, signs, lines);
+        assert_same(&rt, found, expected, shows);
     }
-    let longer = vec![in rt.alloc(); b'#'; 270_001]?;
-    let fault = requests_of(rt.alloc(), &longer).err();
-    assert_same(&rt, fault, fault_at(1, LineFault::TooLong), "a longer line");
-    Ok(())
 }

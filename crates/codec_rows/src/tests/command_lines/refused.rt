@@ -1,22 +1,14 @@
 //! Lines that name no task: how the program ends by each, and what it tells.
+
 use super::asked;
 use crate::tests::assert_same;
 use std::alloc::Global;
 use std::process::Abort;
-use std::test::Fail;
-
-/// The exit status by the fault of a line, and what is told of it.
-fn refused(alloc: Global, line: &str) -> Result<(u8, String), Fail> {
-    match asked(alloc, line)? {
-        Ok(_) => Err("a task".into()),
-        Err(fault) => Ok((fault.status(), fault.to_string(alloc)?)),
-    }
-}
 
 /// A line that names no task, the exit status, and some words of what is told.
 type Refused = (&'static str, u8, &'static str);
 
-/// Lines that ask for help or the version.
+/// `task_of` shows help and the version.
 const SHOWN: [Refused; 29] = [
     ("vtl --help", 0, "Usage: vtl <COMMAND>"),
     ("vtl replay --help", 0, "Usage: vtl replay"),
@@ -105,7 +97,7 @@ const SHOWN: [Refused; 29] = [
     ("vtl serve --help", 0, "--memory <SIZE>"),
 ];
 
-/// Wrong lines of `vtl serve`.
+/// `task_of` refuses wrong lines of serve.
 const SERVE_REFUSED: [Refused; 17] = [
     ("vtl server", 2, "unrecognized subcommand 'server'"),
     ("vtl serve --sessions 1", 2, "--socket <PATH>"),
@@ -178,7 +170,7 @@ const SERVE_REFUSED: [Refused; 17] = [
     ),
 ];
 
-/// Wrong portals, and hosts that can't be let in there.
+/// `task_of` refuses wrong portals, and hosts that can't be let in there.
 const PORTALS_REFUSED: [Refused; 24] = [
     ("vtl serve", 2, "--iscsi <ADDRESS:PORT>"),
     (
@@ -282,7 +274,7 @@ const PORTALS_REFUSED: [Refused; 24] = [
     ("vtl client --any-host", 2, "unexpected argument"),
 ];
 
-/// Wrong sizes of volumes and of memory, and folders of volumes.
+/// `task_of` refuses wrong sizes of volumes and of memory, and folders of volumes.
 const SIZES_REFUSED: [Refused; 21] = [
     (
         "vtl replay --volume-size 1023K",
@@ -339,7 +331,7 @@ const SIZES_REFUSED: [Refused; 21] = [
     ),
 ];
 
-/// Wrong lines of the other tasks, and of none.
+/// `task_of` refuses wrong lines of the other tasks, and of none.
 const REFUSED: [Refused; 28] = [
     ("vtl", 2, "requires a subcommand"),
     ("vtl replay --grace 1", 2, "unexpected argument '--grace'"),
@@ -411,42 +403,27 @@ const REFUSED: [Refused; 28] = [
     ("vtl cells READ(6) WRITE(6)", 2, "unexpected argument"),
 ];
 
-fn assert_refused(rt: &impl Abort, alloc: Global, row: &Refused) -> Result<(), Fail> {
-    let (line, expected, text) = *row;
-    let (status, shown) = refused(alloc, line)?;
-    assert_same(rt, status, expected, line);
-    assert_same(rt, shown.contains(text), true, text);
-    Ok(())
+/// The exit status by the fault of a line, and what is told of it.
+fn refused(rt: &impl Abort, alloc: Global, line: &str) -> (u8, String) {
+    let fault = asked(rt, alloc, line).err().expect(rt, "no task");
+    let told = fault.to_string(alloc).expect(rt, "memory");
+    (fault.status(), told)
 }
 
-fn assert_all_refused(rt: &impl Abort, alloc: Global, rows: &[Refused]) -> Result<(), Fail> {
+fn assert_all_refused(rt: &impl Abort, alloc: Global, rows: &[Refused]) {
     for row in rows {
-        assert_refused(rt, alloc, row)?;
+        let (line, expected, text) = *row;
+        let (status, told) = refused(rt, alloc, line);
+        assert_same(rt, status, expected, line);
+        assert_same(rt, told.contains(text), true, text);
     }
-    Ok(())
 }
 
 #[test]
-fn task_of_shows_help_and_the_version(rt: HostRuntime) -> Result<(), Fail> {
-    assert_all_refused(&rt, rt.alloc(), &SHOWN)
-}
-
-#[test]
-fn task_of_refuses_wrong_lines_of_serve(rt: HostRuntime) -> Result<(), Fail> {
-    assert_all_refused(&rt, rt.alloc(), &SERVE_REFUSED)
-}
-
-#[test]
-fn task_of_refuses_wrong_portals_and_hosts(rt: HostRuntime) -> Result<(), Fail> {
-    assert_all_refused(&rt, rt.alloc(), &PORTALS_REFUSED)
-}
-
-#[test]
-fn task_of_refuses_wrong_sizes_and_folders(rt: HostRuntime) -> Result<(), Fail> {
-    assert_all_refused(&rt, rt.alloc(), &SIZES_REFUSED)
-}
-
-#[test]
-fn task_of_refuses_wrong_lines(rt: HostRuntime) -> Result<(), Fail> {
-    assert_all_refused(&rt, rt.alloc(), &REFUSED)
+fn task_of_refuses_wrong_lines(rt: HostRuntime) {
+    assert_all_refused(&rt, rt.alloc(), &SHOWN);
+    assert_all_refused(&rt, rt.alloc(), &SERVE_REFUSED);
+    assert_all_refused(&rt, rt.alloc(), &PORTALS_REFUSED);
+    assert_all_refused(&rt, rt.alloc(), &SIZES_REFUSED);
+    assert_all_refused(&rt, rt.alloc(), &REFUSED);
 }
