@@ -7,6 +7,5 @@ mod offers;
 mod pdus;
 mod serial_numbers;
 mod stages;
-mod statuses;
 
 use crate::comparing::assert_same;

@@ -1,4 +1,5 @@
 mod hosts;
 mod sessions;
+mod streams;
 
 use crate::comparing::assert_same;

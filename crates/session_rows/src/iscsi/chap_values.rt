@@ -4,58 +4,57 @@ use iscsi_chap::{
     ChapAlgorithm, ChapSecrets, LineFault, SecretsFault, are_same, binary_in, chap_digest,
     chosen_algorithm, write_hexadecimal,
 };
-use std::alloc::Global;
+use std::alloc::{AllocError, Global};
 use std::process::Abort;
-use std::test::Fail;
+
+/// A text whose third line has a fault, which one it is, and what is told of it, without a secret.
+type Faulty = (&'static [u8], LineFault, &'static str);
+
+const NO_LINE: &str =
+    "line 3: expected NAME USER SECRET, or NAME USER SECRET TARGET-USER TARGET-SECRET";
+
+const NO_SECRET: &str = "line 3: a secret has 12 to 128 bytes";
 
 /// Lines with a fault, behind two that have none.
-const FAULTY: [(&[u8], LineFault); 6] = [
-    (b"iqn.a user", LineFault::FieldCount),
-    (b"iqn.a user a-secret-of-16-b target", LineFault::FieldCount),
+const FAULTY: [Faulty; 6] = [
+    (b"# none\n\niqn.a user", LineFault::FieldCount, NO_LINE),
     (
-        b"iqn.a user a-secret-of-16-b target the-targets-secret more",
+        b"# none\n\niqn.a user a-secret-of-16-b target",
         LineFault::FieldCount,
+        NO_LINE,
     ),
-    (b"iqn.a user eleven-byte", LineFault::SecretLength),
     (
-        b"iqn.a user a-secret-of-16-b target short",
-        LineFault::SecretLength,
+        b"# none\n\niqn.a user a-secret-of-16-b target the-targets-secret more",
+        LineFault::FieldCount,
+        NO_LINE,
     ),
-    (b"iqn.a user # a-secret-of-16-b", LineFault::FieldCount),
+    (
+        b"# none\n\niqn.a user eleven-byte",
+        LineFault::SecretLength,
+        NO_SECRET,
+    ),
+    (
+        b"# none\n\niqn.a user a-secret-of-16-b target short",
+        LineFault::SecretLength,
+        NO_SECRET,
+    ),
+    (
+        b"# none\n\niqn.a user # a-secret-of-16-b",
+        LineFault::FieldCount,
+        NO_LINE,
+    ),
 ];
 
-/// The fault of a text that ends with the line.
-fn fault_of(alloc: Global, line: &[u8]) -> Result<SecretsFault, Fail> {
-    let text = [b"# none\n\n".as_slice(), line].concat(alloc)?;
-    match ChapSecrets::parse(alloc, text.as_slice()) {
-        Ok(_) => Err("no fault".into()),
-        Err(fault) => Ok(fault),
+fn assert_fault(rt: &impl Abort, alloc: Global, row: &Faulty) {
+    let (text, what, told) = *row;
+    let fault = SecretsFault::Line { number: 3, what };
+    let found = ChapSecrets::parse(alloc, text).err();
+    let shows = "a line with a fault is told by its number";
+    assert_same(rt, found, Some(fault), shows);
+    match format!(in alloc; "{fault}") {
+        Ok(shown) => assert_same(rt, shown.as_str(), told, "a fault shows no secret"),
+        Err(_) => assert_same(rt, "want of memory", told, told),
     }
-}
-
-#[test]
-fn a_line_with_a_fault_is_told_by_its_number(rt: HostRuntime) -> Result<(), Fail> {
-    for (line, what) in &FAULTY {
-        let expected = SecretsFault::Line {
-            number: 3,
-            what: *what,
-        };
-        let found = fault_of(rt.alloc(), line)?;
-        assert_same(&rt, found, expected, "a line with a fault");
-    }
-    Ok(())
-}
-
-#[test]
-fn a_fault_shows_no_secret(rt: HostRuntime) -> Result<(), Fail> {
-    let fault = SecretsFault::Line {
-        number: 3,
-        what: LineFault::SecretLength,
-    };
-    let shown = format!(in rt.alloc(); "{fault}")?;
-    let expected = "line 3: a secret has 12 to 128 bytes";
-    assert_same(&rt, shown.as_str(), expected, "what is told");
-    Ok(())
 }
 
 /// Two entries, with blanks and comments.
@@ -103,94 +102,189 @@ fn assert_entry(rt: &impl Abort, secrets: &ChapSecrets, entry: &Entry) {
     assert_same(rt, found_secret, target_secret, "the target's secret");
 }
 
-#[test]
-fn words_are_parted_by_blanks(rt: HostRuntime) -> Result<(), Fail> {
-    let secrets = ChapSecrets::parse(rt.alloc(), PARTED)?;
-    assert_same(&rt, secrets.entries.len(), 2, "two entries");
+/// Words are parted by blanks.
+fn assert_entries(rt: &impl Abort, alloc: Global) -> Result<(), SecretsFault> {
+    let secrets = ChapSecrets::parse(alloc, PARTED)?;
+    let shows = "words are parted by blanks: two entries";
+    assert_same(rt, secrets.entries.len(), 2, shows);
     for entry in &ENTRIES {
-        assert_entry(&rt, &secrets, entry);
+        assert_entry(rt, &secrets, entry);
     }
     Ok(())
 }
 
 #[test]
-fn a_digest_is_that_of_hashlib(rt: HostRuntime) -> Result<(), Fail> {
-    let by_md5 = chap_digest(
-        ChapAlgorithm::Md5,
-        66,
+fn secrets_are_read_as_rows_say(rt: HostRuntime) {
+    let read = assert_entries(&rt, rt.alloc());
+    assert_same(&rt, read, Ok(()), "words are parted by blanks");
+    for row in &FAULTY {
+        assert_fault(&rt, rt.alloc(), row);
+    }
+}
+
+/// What is done with values.
+#[derive(Clone, Copy)]
+enum Act {
+    /// The digest of a secret and a challenge is made by MD5, by the identifier 66, and written in hexadecimal.
+    Digest,
+    /// The bytes of a binary value are taken.
+    Binary,
+    /// Two values are compared.
+    Compare,
+    /// An algorithm is chosen from a list.
+    Choose,
+}
+
+/// Writes the digest by MD5 of a secret and a challenge by the identifier 66.
+fn write_digest(out: &mut Vec<u8>, secret: &[u8], challenge: &[u8]) -> Result<(), AllocError> {
+    let digest = chap_digest(ChapAlgorithm::Md5, 66, secret, challenge);
+    write_hexadecimal(out, digest.as_bytes())
+}
+
+/// The bytes of a binary value. Says whether it is one.
+fn take_binary(alloc: Global, out: &mut Vec<u8>, value: &[u8]) -> Result<bool, AllocError> {
+    match binary_in(alloc, value)? {
+        Some(bytes) => {
+            *out = bytes;
+            Ok(true)
+        }
+        None => Ok(false),
+    }
+}
+
+fn name_of(algorithm: Option<ChapAlgorithm>) -> &'static [u8] {
+    match algorithm {
+        Some(ChapAlgorithm::Md5) => b"MD5",
+        Some(ChapAlgorithm::Sha256) => b"SHA-256",
+        None => b"",
+    }
+}
+
+/// What is shown, what is done with which values, whether it comes to something, and to which bytes.
+type Row = (
+    &'static str,
+    Act,
+    &'static [u8],
+    &'static [u8],
+    bool,
+    &'static [u8],
+);
+
+/// Adds the bytes that come of a row, and says whether something does.
+fn is_done(alloc: Global, out: &mut Vec<u8>, row: &Row) -> Result<bool, AllocError> {
+    let (_, act, first, second, ..) = *row;
+    match act {
+        Act::Digest => write_digest(out, first, second)?,
+        Act::Binary => return take_binary(alloc, out, first),
+        Act::Compare => return Ok(are_same(first, second)),
+        Act::Choose => out.extend_from_slice(name_of(chosen_algorithm(first)))?,
+    }
+    Ok(!out.is_empty())
+}
+
+fn assert_row(rt: &impl Abort, alloc: Global, row: &Row) {
+    let mut out = Vec::new(alloc);
+    let is_done = is_done(alloc, &mut out, row).ok();
+    assert_same(rt, is_done, Some(row.4), row.0);
+    assert_same(rt, out.as_slice(), row.5, row.0);
+}
+
+const ROWS: [Row; 17] = [
+    (
+        "a digest is that of hashlib",
+        Act::Digest,
         b"the-targets-secret",
         &[
             0xA0, 0xA1, 0xA2, 0xA3, 0xA4, 0xA5, 0xA6, 0xA7, 0xA8, 0xA9, 0xAA, 0xAB, 0xAC, 0xAD,
             0xAE, 0xAF,
         ],
-    );
-    let mut text = Vec::new(rt.alloc());
-    write_hexadecimal(&mut text, by_md5.as_bytes())?;
-    let expected = b"0x122c8e3c6f74a2427797d92615c92190".as_slice();
-    assert_same(&rt, text.as_slice(), expected, "a digest by MD5");
-    Ok(())
-}
-
-/// Values, and the two bytes that each is to have.
-const BINARY: [&[u8]; 4] = [b"0xA1b2", b"0XA1B2", b"0bobI=", b"0BobI="];
-
-const NO_BINARY: [&[u8]; 5] = [b"", b"0", b"a1b2", b"0xA1b", b"0bobI"];
-
-/// The bytes of a binary value.
-fn bytes_in(alloc: Global, value: &[u8]) -> Result<Vec<u8>, Fail> {
-    match binary_in(alloc, value)? {
-        Some(bytes) => Ok(bytes),
-        None => Err("no binary value".into()),
-    }
-}
-
-fn is_binary(alloc: Global, value: &[u8]) -> Result<bool, Fail> {
-    Ok(binary_in(alloc, value)?.is_some())
-}
-
-#[test]
-fn binary_values_are_hexadecimal_or_base64(rt: HostRuntime) -> Result<(), Fail> {
-    for value in &BINARY {
-        let bytes = bytes_in(rt.alloc(), value)?;
-        assert_same(&rt, bytes.as_slice(), &[0xA1, 0xB2], "a binary value");
-    }
-    Ok(())
-}
-
-#[test]
-fn other_values_are_not_binary(rt: HostRuntime) -> Result<(), Fail> {
-    for value in &NO_BINARY {
-        let is_binary = is_binary(rt.alloc(), value)?;
-        assert_same(&rt, is_binary, false, "no binary value");
-    }
-    Ok(())
-}
-
-/// Bytes, and whether both are the same.
-const COMPARED: [(&[u8], &[u8], bool); 4] = [
-    (b"digest", b"digest", true),
-    (b"digest", b"digesT", false),
-    (b"Digest", b"digest", false),
-    (b"digest", b"digests", false),
+        true,
+        b"0x122c8e3c6f74a2427797d92615c92190",
+    ),
+    (
+        "binary values are hexadecimal or base64",
+        Act::Binary,
+        b"0xA1b2",
+        b"",
+        true,
+        b"\xA1\xB2",
+    ),
+    (
+        "in capital letters",
+        Act::Binary,
+        b"0XA1B2",
+        b"",
+        true,
+        b"\xA1\xB2",
+    ),
+    ("in base64", Act::Binary, b"0bobI=", b"", true, b"\xA1\xB2"),
+    (
+        "in base64, with a capital B",
+        Act::Binary,
+        b"0BobI=",
+        b"",
+        true,
+        b"\xA1\xB2",
+    ),
+    (
+        "other values are not binary",
+        Act::Binary,
+        b"",
+        b"",
+        false,
+        b"",
+    ),
+    ("a digit", Act::Binary, b"0", b"", false, b""),
+    ("without 0x", Act::Binary, b"a1b2", b"", false, b""),
+    ("half a byte", Act::Binary, b"0xA1b", b"", false, b""),
+    ("a part of base64", Act::Binary, b"0bobI", b"", false, b""),
+    (
+        "bytes are compared whole",
+        Act::Compare,
+        b"digest",
+        b"digest",
+        true,
+        b"",
+    ),
+    (
+        "another last byte",
+        Act::Compare,
+        b"digest",
+        b"digesT",
+        false,
+        b"",
+    ),
+    (
+        "another first byte",
+        Act::Compare,
+        b"Digest",
+        b"digest",
+        false,
+        b"",
+    ),
+    (
+        "another length",
+        Act::Compare,
+        b"digest",
+        b"digests",
+        false,
+        b"",
+    ),
+    (
+        "an algorithm is chosen from a list: SHA-256 first",
+        Act::Choose,
+        b"5,0x7",
+        b"",
+        true,
+        b"SHA-256",
+    ),
+    ("MD5 alone", Act::Choose, b"5,6", b"", true, b"MD5"),
+    ("neither", Act::Choose, b"55,8", b"", false, b""),
 ];
 
 #[test]
-fn bytes_are_compared_whole(rt: HostRuntime) {
-    for (left, right, same) in &COMPARED {
-        assert_same(&rt, are_same(left, right), *same, "bytes");
-    }
-}
-
-/// What it shows, a list of algorithms, and the one that is chosen.
-const CHOSEN: [(&'static str, &'static [u8], Option<ChapAlgorithm>); 3] = [
-    ("SHA-256 first", b"5,0x7", Some(ChapAlgorithm::Sha256)),
-    ("MD5 alone", b"5,6", Some(ChapAlgorithm::Md5)),
-    ("neither", b"55,8", None),
-];
-
-#[test]
-fn an_algorithm_is_chosen_from_a_list(rt: HostRuntime) {
-    for (shows, list, expected) in &CHOSEN {
-        assert_same(&rt, chosen_algorithm(list), *expected, shows);
+fn values_are_as_rows_say(rt: HostRuntime) {
+    for row in &ROWS {
+        assert_row(&rt, rt.alloc(), row);
     }
 }

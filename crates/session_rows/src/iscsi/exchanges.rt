@@ -1,44 +1,37 @@
 //! Logins as an initiator has them: its requests, and the bytes of the responses.
 use super::assert_same;
+use super::chap_logins::{AFTER_MD5, AFTER_SHA256, CHALLENGE, chap_target};
 use super::logins::target;
-use iscsi_chap::ChapSecrets;
-use iscsi_login::{Authentication, Challenge, LoginExchange, LoginProgress, LoginTarget};
+use super::stages::AFTER_NAMES;
+use iscsi_login::{Challenge, LoginExchange, LoginProgress, LoginTarget};
 use iscsi_pdu::{LoginRequest, LoginStatus, SerialNumber, Stage};
-use std::alloc::Global;
+use std::alloc::{AllocError, Global};
 use std::process::Abort;
-use std::test::Fail;
 
-/// A request and its response: byte 1 of the request's header, which is T, C, CSG and NSG, and its text; byte 1 of the response's header,
-/// Status-Class with Status-Detail, and its text.
+/// What a login has come through before the request of a row.
 #[derive(Clone, Copy)]
-pub(super) struct Turn<'a>(
-    pub(super) u8,
-    pub(super) &'a [u8],
-    pub(super) u8,
-    pub(super) u16,
-    pub(super) &'a [u8],
-);
-
-/// What it shows, and the turns of a login.
-pub(super) type Exchange = (&'static str, &'static [Turn<'static>]);
-
-/// Which secrets the target has, if it asks for CHAP, its challenge, and how it refuses a session that is to begin, if it does; and the turns
-/// that a login begins with, before those of the rows.
-#[derive(Clone, Copy)]
-pub(super) struct Setting {
-    pub(super) first: &'static [Turn<'static>],
-    pub(super) secrets: Option<&'static [u8]>,
-    pub(super) challenge: Option<Challenge>,
-    pub(super) refused: Option<LoginStatus>,
+pub(super) enum Before {
+    /// The rows above.
+    Rows,
+    /// Nothing: a login begins, of a target without CHAP.
+    Plain,
+    /// The names: operational negotiation has begun.
+    Names,
+    /// Nothing, and the session that is to begin is refused.
+    Refused(LoginStatus),
+    /// Nothing: a login begins, of a target that asks for CHAP.
+    Chap,
+    /// The same, where no challenge could be made.
+    NoChallenge,
+    /// The challenge, by either algorithm.
+    Sha256,
+    Md5,
 }
 
-/// Without CHAP. Sessions begin.
-pub(super) const PLAIN: Setting = Setting {
-    first: &[],
-    secrets: None,
-    challenge: None,
-    refused: None,
-};
+/// What a login shows that begins with this row or with what comes before it, and nothing where it goes on; what comes before; a request,
+/// by byte 1 of its header, which is T, C, CSG and NSG, and its text; and the response, by byte 1 of its header, Status-Class with
+/// Status-Detail, and its text.
+pub(super) type Turn<'a> = (&'static str, Before, u8, &'a [u8], u8, u16, &'a [u8]);
 
 /// The first text of a host that is let in.
 pub(super) const NAMES: &[u8] = b"InitiatorName=iqn.1993-08.org.debian:01:abc\0\
@@ -47,8 +40,11 @@ pub(super) const NAMES: &[u8] = b"InitiatorName=iqn.1993-08.org.debian:01:abc\0\
 /// What the host is told with the first response.
 pub(super) const GROUP: &[u8] = b"TargetPortalGroupTag=1\0";
 
+/// The last request of a login and its response, from operational negotiation.
+pub(super) const LAST: Turn<'static> = ("", Before::Rows, 0x87, b"", 0x87, 0, b"");
+
 /// The number of a session that begins.
-const SESSION: u16 = 7;
+const SESSION: u8 = 7;
 
 /// A request with that byte 1, by ISID 00023D000001h and CmdSN 1.
 pub(super) fn request_of(flags: u8) -> LoginRequest {
@@ -68,157 +64,188 @@ pub(super) fn request_of(flags: u8) -> LoginRequest {
     }
 }
 
-/// The words of the header of a Login Response with this StatSN. The one with which full feature begins, and no other, tells the number of
-/// the session.
-fn header_of(stat_sn: u32, turn: &Turn<'_>) -> [u32; 12] {
-    let Turn(_, _, flags, status, text) = *turn;
-    let start = 0x2300_0000 | u32::from(flags) << 16;
-    let length = u32::try_from(text.len()).unwrap_or(0);
+/// The header of a Login Response with this StatSN, to a text of so many bytes. The one with which full feature begins, and no other, tells
+/// the number of the session.
+fn header_of(stat_sn: u8, flags: u8, status: u16, length: u16) -> [u8; 48] {
     let session = if flags & 0x83 == 0x83 { SESSION } else { 0 };
-    let isid = 0x0001_0000 | u32::from(session);
-    let status = u32::from(status) << 16;
+    let [class, detail] = status.to_be_bytes();
+    let [upper, lower] = length.to_be_bytes();
     [
-        start,
-        length,
-        0x0002_3D00,
-        isid,
-        0,
-        0,
-        stat_sn,
-        1,
-        32,
-        status,
-        0,
+        0x23, flags, 0, 0, 0, 0, upper, lower, 0, 2, 0x3D, 0, 0, 1, 0, session, 0, 0, 0, 0, 0, 0,
+        0, 0, 0, 0, 0, stat_sn, 0, 0, 0, 1, 0, 0, 0, 32, class, detail, 0, 0, 0, 0, 0, 0, 0, 0, 0,
         0,
     ]
 }
 
-/// Adds words of four bytes.
-fn add_words(out: &mut Vec<u8>, words: &[u32]) -> Result<(), Fail> {
-    for word in words {
-        out.extend_from_slice(&word.to_be_bytes())?;
+/// What pads so many bytes to words of four.
+const fn pad_of(length: u16) -> &'static [u8] {
+    match length % 4 {
+        0 => b"",
+        1 => b"\0\0\0",
+        2 => b"\0\0",
+        _ => b"\0",
     }
-    Ok(())
 }
 
-/// Pads what is there to words of four bytes.
-fn pad(out: &mut Vec<u8>) -> Result<(), Fail> {
-    for _pad in 0..3u8 {
-        if out.len() % 4 != 0 {
-            out.push(0)?;
+/// Adds the bytes of the response of a row.
+fn add_response(out: &mut Vec<u8>, stat_sn: u8, turn: &Turn<'_>) -> Result<(), AllocError> {
+    let length = u16::try_from(turn.6.len()).unwrap_or(0);
+    out.extend_from_slice(&header_of(stat_sn, turn.4, turn.5, length))?;
+    out.extend_from_slice(turn.6)?;
+    out.extend_from_slice(pad_of(length))
+}
+
+/// Whether the target asks for CHAP.
+const fn is_by_chap(before: Before) -> bool {
+    matches!(
+        before,
+        Before::Chap | Before::NoChallenge | Before::Sha256 | Before::Md5
+    )
+}
+
+const fn challenge_of(before: Before) -> Option<Challenge> {
+    match before {
+        Before::Chap | Before::Sha256 | Before::Md5 => Some(CHALLENGE),
+        _ => None,
+    }
+}
+
+const fn refused_by(before: Before) -> Option<LoginStatus> {
+    match before {
+        Before::Refused(status) => Some(status),
+        _ => None,
+    }
+}
+
+/// The turns that come before a row's.
+const fn turns_of(before: Before) -> &'static [Turn<'static>] {
+    match before {
+        Before::Names => &AFTER_NAMES,
+        Before::Sha256 => &AFTER_SHA256,
+        Before::Md5 => &AFTER_MD5,
+        _ => &[],
+    }
+}
+
+/// A target without CHAP, and one that asks for it.
+#[derive(Drop)]
+struct Targets {
+    plain: LoginTarget,
+    by_chap: LoginTarget,
+}
+
+impl Targets {
+    /// None where memory is refused.
+    fn new(alloc: Global) -> Option<Targets> {
+        Some(Targets {
+            plain: target(alloc).ok()?,
+            by_chap: chap_target(alloc)?,
+        })
+    }
+
+    fn one(&self, is_by_chap: bool) -> &LoginTarget {
+        if is_by_chap {
+            &self.by_chap
+        } else {
+            &self.plain
         }
     }
-    Ok(())
 }
 
-/// Adds the bytes of a Login Response with this StatSN.
-fn add_response(out: &mut Vec<u8>, stat_sn: u32, turn: &Turn<'_>) -> Result<(), Fail> {
-    add_words(out, &header_of(stat_sn, turn))?;
-    out.extend_from_slice(turn.4)?;
-    pad(out)
-}
-
-/// Takes a request, and lets the session begin where the login asks for that, or refuses it.
-fn take(
-    exchange: &mut LoginExchange,
-    target: &LoginTarget,
-    refused: Option<LoginStatus>,
-    turn: &Turn<'_>,
-    out: &mut Vec<u8>,
-) -> Result<(), Fail> {
-    let progress = exchange.take(target, &request_of(turn.0), turn.1, out)?;
-    match (progress, refused) {
-        (LoginProgress::Begins(_), None) => exchange.accept(SESSION, out)?,
-        (LoginProgress::Begins(_), Some(status)) => exchange.refuse(status, out)?,
-        _ => {}
-    }
-    Ok(())
-}
-
-fn take_all(
-    exchange: &mut LoginExchange,
-    target: &LoginTarget,
-    refused: Option<LoginStatus>,
-    turns: &[Turn<'_>],
-    out: &mut Vec<u8>,
-) -> Result<(), Fail> {
-    for turn in turns {
-        take(exchange, target, refused, turn, out)?;
-    }
-    Ok(())
-}
-
-/// The target of a setting.
-fn target_in(alloc: Global, setting: &Setting) -> Result<LoginTarget, Fail> {
-    let mut target = target(alloc, false)?;
-    if let Some(secrets) = setting.secrets {
-        target.authentication = Authentication::Chap(ChapSecrets::parse(alloc, secrets)?);
-    }
-    Ok(target)
-}
-
-/// The responses of a target to the requests.
-fn responses(
-    alloc: Global,
-    target: &LoginTarget,
-    setting: &Setting,
-    turns: &[Turn<'_>],
-) -> Result<Vec<u8>, Fail> {
-    let mut exchange = LoginExchange::new(alloc, 1, setting.challenge);
-    let mut out = Vec::new(alloc);
-    let refused = setting.refused;
-    take_all(&mut exchange, target, refused, setting.first, &mut out)?;
-    take_all(&mut exchange, target, refused, turns, &mut out)?;
-    Ok(out)
-}
-
-/// The responses to the requests.
-fn found(alloc: Global, setting: &Setting, turns: &[Turn<'_>]) -> Result<Vec<u8>, Fail> {
-    let target = target_in(alloc, setting)?;
-    responses(alloc, &target, setting, turns)
-}
-
-/// Adds the responses of turns from a StatSN on, and gives the one behind theirs.
-fn add_responses(out: &mut Vec<u8>, first: u32, turns: &[Turn<'_>]) -> Result<u32, Fail> {
-    let mut stat_sn = first;
-    for turn in turns {
-        add_response(out, stat_sn, turn)?;
-        stat_sn = stat_sn.wrapping_add(1);
-    }
-    Ok(stat_sn)
-}
-
-/// The responses that are expected.
-fn expected(alloc: Global, setting: &Setting, turns: &[Turn<'_>]) -> Result<Vec<u8>, Fail> {
-    let mut out = Vec::new(alloc);
-    let next = add_responses(&mut out, 0, setting.first)?;
-    add_responses(&mut out, next, turns)?;
-    Ok(out)
-}
-
-/// Compares the responses to the requests with those that are expected.
-pub(super) fn assert_exchange(
-    rt: &impl Abort,
-    alloc: Global,
-    setting: &Setting,
+/// A login, as far as it has come.
+#[derive(Drop)]
+struct Scene {
+    /// What it shows.
     shows: &'static str,
-    turns: &[Turn<'_>],
-) -> Result<(), Fail> {
-    let found = found(alloc, setting, turns)?;
-    let expected = expected(alloc, setting, turns)?;
-    assert_same(rt, found.as_slice(), expected.as_slice(), shows);
-    Ok(())
+    targets: Targets,
+    /// Whether the login's target asks for CHAP.
+    is_by_chap: bool,
+    exchange: LoginExchange,
+    /// How the session that is to begin is refused, if it is.
+    refused: Option<LoginStatus>,
+    /// StatSN of the next response.
+    stat_sn: u8,
+    /// The response that came last, and the one that is expected.
+    response: Vec<u8>,
+    expected: Vec<u8>,
 }
 
-/// The same of several logins.
-pub(super) fn assert_exchanges(
-    rt: &impl Abort,
-    alloc: Global,
-    setting: &Setting,
-    rows: &[Exchange],
-) -> Result<(), Fail> {
-    for (shows, turns) in rows {
-        assert_exchange(rt, alloc, setting, shows, turns)?;
+impl Scene {
+    /// None where memory is refused.
+    fn new(alloc: Global) -> Option<Scene> {
+        Some(Scene {
+            shows: "",
+            targets: Targets::new(alloc)?,
+            is_by_chap: false,
+            exchange: LoginExchange::new(alloc, 1, None),
+            refused: None,
+            stat_sn: 0,
+            response: Vec::new(alloc),
+            expected: Vec::new(alloc),
+        })
     }
-    Ok(())
+
+    /// Another login begins.
+    fn begin(&mut self, alloc: Global, shows: &'static str, before: Before) {
+        self.shows = shows;
+        self.is_by_chap = is_by_chap(before);
+        self.exchange = LoginExchange::new(alloc, 1, challenge_of(before));
+        self.refused = refused_by(before);
+        self.stat_sn = 0;
+    }
+
+    /// Takes a request, and lets the session begin where the login asks for that, or refuses it.
+    fn take(&mut self, flags: u8, text: &[u8]) -> Result<(), AllocError> {
+        let target = self.targets.one(self.is_by_chap);
+        let out = &mut self.response;
+        out.clear();
+        let progress = self.exchange.take(target, &request_of(flags), text, out)?;
+        match (progress, self.refused) {
+            (LoginProgress::Begins(_), None) => self.exchange.accept(u16::from(SESSION), out),
+            (LoginProgress::Begins(_), Some(status)) => self.exchange.refuse(status, out),
+            _ => Ok(()),
+        }
+    }
+
+    /// Makes the response that is expected.
+    fn expect(&mut self, turn: &Turn<'_>) -> Result<(), AllocError> {
+        self.expected.clear();
+        add_response(&mut self.expected, self.stat_sn, turn)?;
+        self.stat_sn = self.stat_sn.wrapping_add(1);
+        Ok(())
+    }
+
+    /// Compares the response to a request with the one that is expected.
+    fn go_on(&mut self, rt: &impl Abort, turn: &Turn<'_>) {
+        let has_memory = self.take(turn.2, turn.3).is_ok() && self.expect(turn).is_ok();
+        assert_same(rt, has_memory, true, self.shows);
+        assert_same(
+            rt,
+            self.response.as_slice(),
+            self.expected.as_slice(),
+            self.shows,
+        );
+    }
+
+    fn assert_turn(&mut self, rt: &impl Abort, alloc: Global, turn: &Turn<'_>) {
+        if !matches!(turn.1, Before::Rows) {
+            self.begin(alloc, turn.0, turn.1);
+            for first in turns_of(turn.1) {
+                self.go_on(rt, first);
+            }
+        }
+        self.go_on(rt, turn);
+    }
+}
+
+/// Logins, one behind another.
+pub(super) fn assert_turns(rt: &impl Abort, alloc: Global, turns: &[Turn<'_>]) {
+    match Scene::new(alloc) {
+        Some(mut scene) => {
+            for turn in turns {
+                scene.assert_turn(rt, alloc, turn);
+            }
+        }
+        None => assert_same(rt, "want of memory", "", "logins"),
+    }
 }

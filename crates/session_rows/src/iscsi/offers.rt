@@ -1,8 +1,8 @@
 //! Each key: offered in its range, at its ends, out of it and malformed.
-use super::exchanges::{GROUP, NAMES, PLAIN, Turn, assert_exchange};
-use std::alloc::Global;
+use super::assert_same;
+use super::exchanges::{Before, GROUP, NAMES, assert_turns};
+use std::alloc::{AllocError, Global};
 use std::process::Abort;
-use std::test::Fail;
 
 /// A key as it is offered, how it is answered, if it is, and the status.
 type Offer = (&'static str, &'static str, u16);
@@ -180,9 +180,9 @@ const OFFERS_IN_DISCOVERY: [Offer; 20] = [
 ];
 
 /// A text, and behind it an item, if there is one.
-fn text_of(alloc: Global, first: &[u8], item: &str) -> Result<Vec<u8>, Fail> {
+fn text_of(alloc: Global, first: &[u8], item: &str) -> Result<Vec<u8>, AllocError> {
     let end: &[u8] = if item.is_empty() { b"" } else { b"\0" };
-    Ok([first, item.as_bytes(), end].concat(alloc)?)
+    [first, item.as_bytes(), end].concat(alloc)
 }
 
 /// Compares the response to an offer with the one that is expected, where the answers to the names come first.
@@ -192,50 +192,43 @@ fn assert_offer(
     names: &[u8],
     first: &[u8],
     offer: &Offer,
-) -> Result<(), Fail> {
+) -> Result<(), AllocError> {
     let (offered, answer, status) = *offer;
     let text = text_of(alloc, names, offered)?;
     let told = if status == 0 { first } else { b"" };
     let told = text_of(alloc, told, answer)?;
-    let turn = Turn(0x04, text.as_slice(), 0x04, status, told.as_slice());
-    assert_exchange(rt, alloc, &PLAIN, offered, &[turn])
-}
-
-/// Compares the responses to logins whose first texts have one of these offers more each.
-fn assert_offers(
-    rt: &impl Abort,
-    alloc: Global,
-    names: &[u8],
-    first: &[u8],
-    offers: &[Offer],
-) -> Result<(), Fail> {
-    for offer in offers {
-        assert_offer(rt, alloc, names, first, offer)?;
-    }
+    let turn = (
+        offered,
+        Before::Plain,
+        0x04,
+        text.as_slice(),
+        0x04,
+        status,
+        told.as_slice(),
+    );
+    assert_turns(rt, alloc, &[turn]);
     Ok(())
 }
 
-#[test]
-fn keys_of_the_login_are_answered_by_their_ranges(rt: HostRuntime) -> Result<(), Fail> {
-    assert_offers(&rt, rt.alloc(), NAMES, GROUP, &LOGIN_OFFERS)
+/// Compares the responses to logins whose first texts have one of these offers more each.
+fn assert_offers(rt: &impl Abort, alloc: Global, names: &[u8], first: &[u8], offers: &[Offer]) {
+    for offer in offers {
+        let has_memory = assert_offer(rt, alloc, names, first, offer).is_ok();
+        assert_same(rt, has_memory, true, offer.0);
+    }
 }
 
-#[test]
-fn keys_of_data_are_answered_by_their_ranges(rt: HostRuntime) -> Result<(), Fail> {
-    assert_offers(&rt, rt.alloc(), NAMES, GROUP, &DATA_OFFERS)
-}
+const TABLES: [&'static [Offer]; 4] = [
+    &LOGIN_OFFERS,
+    &DATA_OFFERS,
+    &RECOVERY_OFFERS,
+    &OTHER_OFFERS,
+];
 
 #[test]
-fn keys_of_recovery_are_answered_by_their_ranges(rt: HostRuntime) -> Result<(), Fail> {
-    assert_offers(&rt, rt.alloc(), NAMES, GROUP, &RECOVERY_OFFERS)
-}
-
-#[test]
-fn other_keys_are_answered_by_their_ranges(rt: HostRuntime) -> Result<(), Fail> {
-    assert_offers(&rt, rt.alloc(), NAMES, GROUP, &OTHER_OFFERS)
-}
-
-#[test]
-fn a_discovery_session_has_no_use_for_keys_of_data(rt: HostRuntime) -> Result<(), Fail> {
-    assert_offers(&rt, rt.alloc(), DISCOVERY, b"", &OFFERS_IN_DISCOVERY)
+fn keys_are_answered_by_their_ranges(rt: HostRuntime) {
+    for offers in &TABLES {
+        assert_offers(&rt, rt.alloc(), NAMES, GROUP, offers);
+    }
+    assert_offers(&rt, rt.alloc(), DISCOVERY, b"", &OFFERS_IN_DISCOVERY);
 }

@@ -1,9 +1,9 @@
 //! Logins beside a session that lives.
 use super::streams::{ALONE, Scene};
-use super::words::{BEFORE_ALL, CLOSED, Ending, LET_IN, LOST, NAMES, Pdu, assert_endings};
+use super::words::Line::{BeginsIn, Closed, Ends, Lost, SentWhole, ToldWhole};
+use super::words::{LET_IN, Line, NAMES};
 use iscsi_pdu::LoginStatus;
 use iscsi_session::{IscsiFault, SessionIdentity};
-use std::test::Fail;
 
 /// A session of the logins' ISID.
 const LIVING: SessionIdentity = SessionIdentity {
@@ -38,143 +38,132 @@ const BESIDE_OTHER: Scene = Scene {
     ..ALONE
 };
 
-/// Logins with TSIH and CID. The session that begins is 7, and the nexus is lost only where one has begun.
-const ROWS: [Ending; 9] = [
-    (
+pub(super) const ROWS: [Line; 39] = [
+    // Logins with TSIH and CID. The session that begins is 7, and the nexus is lost only where one has begun.
+    BeginsIn(
         ENDS,
-        CLOSED,
-        "the place of its session",
-        &[Pdu(
-            [0x4387_0000, 56, 0x0002_3D00, 0x0001_0000, 1],
-            [0x0001_0000, 1, 0, 0, 0, 0, 0],
-            NAMES,
-        )],
-        &[LET_IN],
-        &[LOST],
+        "a login takes the place of its session: the place of its session",
     ),
-    (
+    SentWhole(
+        [0x4387_0000, 56, 0x0002_3D00, 0x0001_0000, 1],
+        [0x0001_0000, 1, 0, 0, 0, 0, 0],
+        NAMES,
+    ),
+    LET_IN,
+    Lost,
+    Closed,
+    BeginsIn(
         ENDS,
-        CLOSED,
-        "by another connection",
-        &[Pdu(
-            [0x4387_0000, 56, 0x0002_3D00, 0x0001_0000, 1],
-            [0x0002_0000, 1, 0, 0, 0, 0, 0],
-            NAMES,
-        )],
-        &[LET_IN],
-        &[LOST],
+        "a login takes the place of its session: by another connection",
     ),
-    (
+    SentWhole(
+        [0x4387_0000, 56, 0x0002_3D00, 0x0001_0000, 1],
+        [0x0002_0000, 1, 0, 0, 0, 0, 0],
+        NAMES,
+    ),
+    LET_IN,
+    Lost,
+    Closed,
+    BeginsIn(
         ENDS,
-        CLOSED,
-        "by its number too",
-        &[Pdu(
-            [0x4387_0000, 56, 0x0002_3D00, 0x0001_0007, 1],
-            [0x0001_0000, 1, 0, 0, 0, 0, 0],
-            NAMES,
-        )],
-        &[LET_IN],
-        &[LOST],
+        "a login takes the place of its session: by its number too",
     ),
-    (
+    SentWhole(
+        [0x4387_0000, 56, 0x0002_3D00, 0x0001_0007, 1],
+        [0x0001_0000, 1, 0, 0, 0, 0, 0],
+        NAMES,
+    ),
+    LET_IN,
+    Lost,
+    Closed,
+    BeginsIn(
         STAYS,
-        Err(IscsiFault::Refused(LoginStatus::TargetError)),
-        "a session that doesn't end",
-        &[Pdu(
-            [0x4387_0000, 56, 0x0002_3D00, 0x0001_0000, 1],
-            [0x0001_0000, 1, 0, 0, 0, 0, 0],
-            NAMES,
-        )],
-        &[Pdu(
-            [0x2304_0000, 0, 0x0002_3D00, 0x0001_0000, 1],
-            [0, 0, 1, 32, 0x0300_0000, 0, 0],
-            b"",
-        )],
-        &[],
+        "a login takes the place of its session: a session that doesn't end",
     ),
-    (
+    SentWhole(
+        [0x4387_0000, 56, 0x0002_3D00, 0x0001_0000, 1],
+        [0x0001_0000, 1, 0, 0, 0, 0, 0],
+        NAMES,
+    ),
+    ToldWhole(
+        [0x2304_0000, 0, 0x0002_3D00, 0x0001_0000, 1],
+        [0, 0, 1, 32, 0x0300_0000, 0, 0],
+        "",
+    ),
+    Ends(Err(IscsiFault::Refused(LoginStatus::TargetError))),
+    BeginsIn(
         STAYS,
-        Err(IscsiFault::Refused(LoginStatus::TargetError)),
-        "a connection that doesn't end",
-        &[Pdu(
-            [0x4387_0000, 56, 0x0002_3D00, 0x0001_0007, 1],
-            [0x0001_0000, 1, 0, 0, 0, 0, 0],
-            NAMES,
-        )],
-        &[Pdu(
-            [0x2304_0000, 0, 0x0002_3D00, 0x0001_0007, 1],
-            [0, 0, 1, 32, 0x0300_0000, 0, 0],
-            b"",
-        )],
-        &[],
+        "a login takes the place of its session: a connection that doesn't end",
     ),
-    (
+    SentWhole(
+        [0x4387_0000, 56, 0x0002_3D00, 0x0001_0007, 1],
+        [0x0001_0000, 1, 0, 0, 0, 0, 0],
+        NAMES,
+    ),
+    ToldWhole(
+        [0x2304_0000, 0, 0x0002_3D00, 0x0001_0007, 1],
+        [0, 0, 1, 32, 0x0300_0000, 0, 0],
+        "",
+    ),
+    Ends(Err(IscsiFault::Refused(LoginStatus::TargetError))),
+    BeginsIn(
         ENDS,
-        Err(IscsiFault::Refused(LoginStatus::TooManyConnections)),
-        "a second connection",
-        &[Pdu(
-            [0x4387_0000, 56, 0x0002_3D00, 0x0001_0007, 1],
-            [0x0002_0000, 1, 0, 0, 0, 0, 0],
-            NAMES,
-        )],
-        &[Pdu(
-            [0x2304_0000, 0, 0x0002_3D00, 0x0001_0007, 1],
-            [0, 0, 1, 32, 0x0206_0000, 0, 0],
-            b"",
-        )],
-        &[],
+        "a login takes the place of its session: a second connection",
     ),
-    (
+    SentWhole(
+        [0x4387_0000, 56, 0x0002_3D00, 0x0001_0007, 1],
+        [0x0002_0000, 1, 0, 0, 0, 0, 0],
+        NAMES,
+    ),
+    ToldWhole(
+        [0x2304_0000, 0, 0x0002_3D00, 0x0001_0007, 1],
+        [0, 0, 1, 32, 0x0206_0000, 0, 0],
+        "",
+    ),
+    Ends(Err(IscsiFault::Refused(LoginStatus::TooManyConnections))),
+    BeginsIn(
         ENDS,
-        Err(IscsiFault::Refused(LoginStatus::SessionDoesNotExist)),
-        "another session's number",
-        &[Pdu(
-            [0x4387_0000, 56, 0x0002_3D00, 0x0001_0008, 1],
-            [0x0001_0000, 1, 0, 0, 0, 0, 0],
-            NAMES,
-        )],
-        &[Pdu(
-            [0x2304_0000, 0, 0x0002_3D00, 0x0001_0008, 1],
-            [0, 0, 1, 32, 0x020A_0000, 0, 0],
-            b"",
-        )],
-        &[],
+        "a login takes the place of its session: another session's number",
     ),
-    (
+    SentWhole(
+        [0x4387_0000, 56, 0x0002_3D00, 0x0001_0008, 1],
+        [0x0001_0000, 1, 0, 0, 0, 0, 0],
+        NAMES,
+    ),
+    ToldWhole(
+        [0x2304_0000, 0, 0x0002_3D00, 0x0001_0008, 1],
+        [0, 0, 1, 32, 0x020A_0000, 0, 0],
+        "",
+    ),
+    Ends(Err(IscsiFault::Refused(LoginStatus::SessionDoesNotExist))),
+    BeginsIn(
         BESIDE_OTHER,
-        Err(IscsiFault::Refused(LoginStatus::SessionDoesNotExist)),
-        "the number of a session of another ISID",
-        &[Pdu(
-            [0x4387_0000, 56, 0x0002_3D00, 0x0001_0007, 1],
-            [0x0001_0000, 1, 0, 0, 0, 0, 0],
-            NAMES,
-        )],
-        &[Pdu(
-            [0x2304_0000, 0, 0x0002_3D00, 0x0001_0007, 1],
-            [0, 0, 1, 32, 0x020A_0000, 0, 0],
-            b"",
-        )],
-        &[],
+        "a login takes the place of its session: the number of a session of another ISID",
     ),
-    (
+    SentWhole(
+        [0x4387_0000, 56, 0x0002_3D00, 0x0001_0007, 1],
+        [0x0001_0000, 1, 0, 0, 0, 0, 0],
+        NAMES,
+    ),
+    ToldWhole(
+        [0x2304_0000, 0, 0x0002_3D00, 0x0001_0007, 1],
+        [0, 0, 1, 32, 0x020A_0000, 0, 0],
+        "",
+    ),
+    Ends(Err(IscsiFault::Refused(LoginStatus::SessionDoesNotExist))),
+    BeginsIn(
         BESIDE_OTHER,
-        Err(IscsiFault::Refused(LoginStatus::OutOfResources)),
-        "a second session of the nexus",
-        &[Pdu(
-            [0x4387_0000, 56, 0x0002_3D00, 0x0001_0000, 1],
-            [0x0001_0000, 1, 0, 0, 0, 0, 0],
-            NAMES,
-        )],
-        &[Pdu(
-            [0x2304_0000, 0, 0x0002_3D00, 0x0001_0000, 1],
-            [0, 0, 1, 32, 0x0302_0000, 0, 0],
-            b"",
-        )],
-        &[],
+        "a login takes the place of its session: a second session of the nexus",
     ),
+    SentWhole(
+        [0x4387_0000, 56, 0x0002_3D00, 0x0001_0000, 1],
+        [0x0001_0000, 1, 0, 0, 0, 0, 0],
+        NAMES,
+    ),
+    ToldWhole(
+        [0x2304_0000, 0, 0x0002_3D00, 0x0001_0000, 1],
+        [0, 0, 1, 32, 0x0302_0000, 0, 0],
+        "",
+    ),
+    Ends(Err(IscsiFault::Refused(LoginStatus::OutOfResources))),
 ];
-
-#[test]
-fn a_login_takes_the_place_of_its_session(rt: HostRuntime) -> Result<(), Fail> {
-    assert_endings(&rt, rt.alloc(), &BEFORE_ALL, &ROWS)
-}

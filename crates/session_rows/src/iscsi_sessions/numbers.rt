@@ -1,429 +1,251 @@
 //! The order of commands by CmdSN, and its circle.
-use super::streams::ALONE;
-use super::words::{
-    ANSWER, BEFORE_ALL, Call, DATA, Ending, GROUP, LOST, NAMES, Pdu, READY, Row, WRITE, WRITTEN,
-    assert_endings_of_a_session, assert_rows, assert_rows_of_a_session,
+use super::words::Line::{
+    Begins, Called, CalledTimes, Closed, Data, Ends, LogsIn, Lost, Sent, SentWhole, SentWith,
+    ToldWhole, ToldWith, Writes, Written,
 };
+use super::words::{ANSWER, GROUP, Line, NAMES};
 use iscsi_session::IscsiFault;
-use std::test::Fail;
-
-/// What is expected first is 1.
-const ORDER: [Row; 6] = [
-    (
-        "one after the other",
-        &[
-            Pdu([0x0181_0000, 0, 0, 0, 2], [0, 1, 1, 0, 0, 0, 0], b""),
-            Pdu([0x0181_0000, 0, 0, 0, 3], [0, 2, 1, 0, 0, 0, 0], b""),
-        ],
-        &[
-            Pdu([0x2180_0002, 20, 0, 0, 2], [0, 1, 2, 33, 0, 0, 0], ANSWER),
-            Pdu([0x2180_0002, 20, 0, 0, 3], [0, 2, 3, 34, 0, 0, 0], ANSWER),
-        ],
-        &[Call(b"c\0\0c\0\0", 1)],
-    ),
-    (
-        "above, below, and half the circle away",
-        &[
-            Pdu([0x0181_0000, 0, 0, 0, 2], [0, 2, 1, 0, 0, 0, 0], b""),
-            Pdu([0x0181_0000, 0, 0, 0, 3], [0, 0, 1, 0, 0, 0, 0], b""),
-            Pdu([0x0181_0000, 0, 0, 0, 4], [0, 33, 1, 0, 0, 0, 0], b""),
-            Pdu(
-                [0x0181_0000, 0, 0, 0, 5],
-                [0, 0x8000_0001, 1, 0, 0, 0, 0],
-                b"",
-            ),
-            Pdu(
-                [0x0181_0000, 0, 0, 0, 6],
-                [0, 0xFFFF_FFFF, 1, 0, 0, 0, 0],
-                b"",
-            ),
-            Pdu([0x0181_0000, 0, 0, 0, 7], [0, 1, 1, 0, 0, 0, 0], b""),
-        ],
-        &[Pdu([0x2180_0002, 20, 0, 0, 7], [0, 1, 2, 33, 0, 0, 0], ANSWER)],
-        &[Call(b"c\0\0", 1)],
-    ),
-    (
-        "the same twice",
-        &[
-            Pdu([0x0181_0000, 0, 0, 0, 2], [0, 1, 1, 0, 0, 0, 0], b""),
-            Pdu([0x0181_0000, 0, 0, 0, 2], [0, 1, 1, 0, 0, 0, 0], b""),
-        ],
-        &[Pdu([0x2180_0002, 20, 0, 0, 2], [0, 1, 2, 33, 0, 0, 0], ANSWER)],
-        &[Call(b"c\0\0", 1)],
-    ),
-    (
-        "an immediate command takes up no number",
-        &[
-            Pdu([0x4181_0000, 0, 0, 0, 2], [0, 1, 1, 0, 0, 0, 0], b""),
-            Pdu([0x0181_0000, 0, 0, 0, 3], [0, 1, 1, 0, 0, 0, 0], b""),
-        ],
-        &[
-            Pdu([0x2180_0002, 20, 0, 0, 2], [0, 1, 1, 32, 0, 0, 0], ANSWER),
-            Pdu([0x2180_0002, 20, 0, 0, 3], [0, 2, 2, 33, 0, 0, 0], ANSWER),
-        ],
-        &[Call(b"c\0\0c\0\0", 1)],
-    ),
-    (
-        "commands wait behind a write whose data are awaited, an immediate one at the place where it came",
-        &[
-            WRITE,
-            Pdu([0x4181_0000, 0, 0, 0, 3], [0, 2, 1, 0, 0, 0, 0], b""),
-            Pdu(
-                [0x0181_0000, 0, 0x0001_0000, 0, 4],
-                [0, 2, 1, 0, 0, 0, 0],
-                b"",
-            ),
-            DATA,
-        ],
-        &[
-            READY,
-            Pdu([0x2180_0002, 20, 0, 0, 2], [0, 1, 3, 33, 0, 0, 0], ANSWER),
-            Pdu([0x2180_0002, 20, 0, 0, 3], [0, 2, 3, 33, 0, 0, 0], ANSWER),
-            Pdu([0x2180_0002, 20, 0, 0, 4], [0, 3, 3, 34, 0, 0, 0], ANSWER),
-        ],
-        &[Call(b"c\0\x0Aabcdc\0\0c\x01\0", 1)],
-    ),
-    (
-        "a NOP-Out out of turn is passed over too",
-        &[
-            Pdu(
-                [0x0080_0000, 0, 0, 0, 2],
-                [0xFFFF_FFFF, 2, 1, 0, 0, 0, 0],
-                b"",
-            ),
-            Pdu(
-                [0x0080_0000, 4, 0, 0, 3],
-                [0xFFFF_FFFF, 1, 1, 0, 0, 0, 0],
-                b"ping",
-            ),
-        ],
-        &[Pdu(
-            [0x2080_0000, 4, 0, 0, 3],
-            [0xFFFF_FFFF, 1, 2, 33, 0, 0, 0],
-            b"ping",
-        )],
-        &[],
-    ),
-];
-
-#[test]
-fn commands_are_executed_in_the_order_of_their_numbers(rt: HostRuntime) -> Result<(), Fail> {
-    assert_rows_of_a_session(&rt, rt.alloc(), &ORDER)
-}
 
 /// Logins with the CmdSN before the last and with the last, and their responses.
-const LOGIN_BEFORE_LAST: Pdu<'static> = Pdu(
+const LOGIN_BEFORE_LAST: Line = SentWhole(
     [0x4387_0000, 56, 0x0002_3D00, 0x0001_0000, 1],
     [0x0002_0000, 0xFFFF_FFFE, 0, 0, 0, 0, 0],
     NAMES,
 );
 
-const LET_IN_BEFORE_LAST: Pdu<'static> = Pdu(
+const LET_IN_BEFORE_LAST: Line = ToldWhole(
     [0x2387_0000, 23, 0x0002_3D00, 0x0001_0007, 1],
     [0, 0, 0xFFFF_FFFE, 29, 0, 0, 0],
     GROUP,
 );
 
-const LOGIN_LAST: Pdu<'static> = Pdu(
+const LOGIN_LAST: Line = SentWhole(
     [0x4387_0000, 56, 0x0002_3D00, 0x0001_0000, 1],
     [0x0002_0000, 0xFFFF_FFFF, 0, 0, 0, 0, 0],
     NAMES,
 );
 
-const LET_IN_LAST: Pdu<'static> = Pdu(
+const LET_IN_LAST: Line = ToldWhole(
     [0x2387_0000, 23, 0x0002_3D00, 0x0001_0007, 1],
     [0, 0, 0xFFFF_FFFF, 30, 0, 0, 0],
     GROUP,
 );
 
-/// In the second the window begins before 0 and ends behind it, and closes while a write waits.
-const ROUND: [Row; 2] = [
-    (
-        "round the circle",
-        &[
-            LOGIN_BEFORE_LAST,
-            Pdu([0x0181_0000, 0, 0, 0, 2], [0, 0, 1, 0, 0, 0, 0], b""),
-            Pdu(
-                [0x0181_0000, 0, 0, 0, 3],
-                [0, 0xFFFF_FFFE, 1, 0, 0, 0, 0],
-                b"",
-            ),
-            Pdu(
-                [0x0181_0000, 0, 0, 0, 4],
-                [0, 0xFFFF_FFFF, 1, 0, 0, 0, 0],
-                b"",
-            ),
-            Pdu([0x0181_0000, 0, 0, 0, 5], [0, 0, 1, 0, 0, 0, 0], b""),
-            Pdu([0x0181_0000, 0, 0, 0, 6], [0, 1, 1, 0, 0, 0, 0], b""),
-        ],
-        &[
-            LET_IN_BEFORE_LAST,
-            Pdu(
-                [0x2180_0002, 20, 0, 0, 3],
-                [0, 1, 0xFFFF_FFFF, 30, 0, 0, 0],
-                ANSWER,
-            ),
-            Pdu([0x2180_0002, 20, 0, 0, 4], [0, 2, 0, 31, 0, 0, 0], ANSWER),
-            Pdu([0x2180_0002, 20, 0, 0, 5], [0, 3, 1, 32, 0, 0, 0], ANSWER),
-            Pdu([0x2180_0002, 20, 0, 0, 6], [0, 4, 2, 33, 0, 0, 0], ANSWER),
-        ],
-        &[Call(b"c\0\0c\0\0c\0\0c\0\0", 1), LOST],
-    ),
-    (
-        "a write waits round the circle",
-        &[
-            LOGIN_LAST,
-            Pdu(
-                [0x01A1_0000, 0, 0, 0, 2],
-                [4, 0xFFFF_FFFF, 1, 0x0A00_0000, 0, 0, 0],
-                b"",
-            ),
-            Pdu([0x0181_0000, 0, 0, 0, 3], [0, 0, 1, 0, 0, 0, 0], b""),
-            DATA,
-        ],
-        &[
-            LET_IN_LAST,
-            Pdu([0x3180_0000, 0, 0, 0, 2], [0, 1, 0, 30, 0, 0, 4], b""),
-            Pdu([0x2180_0002, 20, 0, 0, 2], [0, 1, 1, 31, 0, 0, 0], ANSWER),
-            Pdu([0x2180_0002, 20, 0, 0, 3], [0, 2, 1, 32, 0, 0, 0], ANSWER),
-        ],
-        &[Call(b"c\0\x0Aabcdc\0\0", 1), LOST],
-    ),
-];
-
-#[test]
-fn command_numbers_go_round_the_circle(rt: HostRuntime) -> Result<(), Fail> {
-    assert_rows(&rt, rt.alloc(), &BEFORE_ALL, &ROUND)
-}
-
 /// A write by task 1, whose data are awaited, its R2T and its data.
-const WRITE_FIRST: Pdu<'static> = Pdu(
-    [0x01A1_0000, 0, 0, 0, 1],
-    [4, 1, 1, 0x0A00_0000, 0, 0, 0],
-    b"",
-);
+const WRITE_FIRST: Line = Sent([0x01A1_0000, 0, 1], [4, 1, 1, 0x0A00_0000]);
 
-const READY_FIRST: Pdu<'static> = Pdu([0x3180_0000, 0, 0, 0, 1], [0, 1, 2, 32, 0, 0, 4], b"");
+const READY_FIRST: Line = ToldWhole([0x3180_0000, 0, 0, 0, 1], [0, 1, 2, 32, 0, 0, 4], "");
 
-const DATA_FIRST: Pdu<'static> = Pdu([0x0580_0000, 4, 0, 0, 1], [0, 0, 1, 0, 0, 0, 0], b"abcd");
+const DATA_FIRST: Line = SentWith([0x0580_0000, 4, 1], [0, 0, 1, 0], "abcd");
 
-/// Behind it 31 commands wait, and with each answer the window opens by one.
-const WAITING: [Row; 1] = [(
-    "32 commands wait",
-    &[
-        WRITE_FIRST,
-        Pdu([0x0181_0000, 0, 0, 0, 2], [0, 2, 1, 0, 0, 0, 0], b""),
-        Pdu([0x0181_0000, 0, 0, 0, 3], [0, 3, 1, 0, 0, 0, 0], b""),
-        Pdu([0x0181_0000, 0, 0, 0, 4], [0, 4, 1, 0, 0, 0, 0], b""),
-        Pdu([0x0181_0000, 0, 0, 0, 5], [0, 5, 1, 0, 0, 0, 0], b""),
-        Pdu([0x0181_0000, 0, 0, 0, 6], [0, 6, 1, 0, 0, 0, 0], b""),
-        Pdu([0x0181_0000, 0, 0, 0, 7], [0, 7, 1, 0, 0, 0, 0], b""),
-        Pdu([0x0181_0000, 0, 0, 0, 8], [0, 8, 1, 0, 0, 0, 0], b""),
-        Pdu([0x0181_0000, 0, 0, 0, 9], [0, 9, 1, 0, 0, 0, 0], b""),
-        Pdu([0x0181_0000, 0, 0, 0, 10], [0, 10, 1, 0, 0, 0, 0], b""),
-        Pdu([0x0181_0000, 0, 0, 0, 11], [0, 11, 1, 0, 0, 0, 0], b""),
-        Pdu([0x0181_0000, 0, 0, 0, 12], [0, 12, 1, 0, 0, 0, 0], b""),
-        Pdu([0x0181_0000, 0, 0, 0, 13], [0, 13, 1, 0, 0, 0, 0], b""),
-        Pdu([0x0181_0000, 0, 0, 0, 14], [0, 14, 1, 0, 0, 0, 0], b""),
-        Pdu([0x0181_0000, 0, 0, 0, 15], [0, 15, 1, 0, 0, 0, 0], b""),
-        Pdu([0x0181_0000, 0, 0, 0, 16], [0, 16, 1, 0, 0, 0, 0], b""),
-        Pdu([0x0181_0000, 0, 0, 0, 17], [0, 17, 1, 0, 0, 0, 0], b""),
-        Pdu([0x0181_0000, 0, 0, 0, 18], [0, 18, 1, 0, 0, 0, 0], b""),
-        Pdu([0x0181_0000, 0, 0, 0, 19], [0, 19, 1, 0, 0, 0, 0], b""),
-        Pdu([0x0181_0000, 0, 0, 0, 20], [0, 20, 1, 0, 0, 0, 0], b""),
-        Pdu([0x0181_0000, 0, 0, 0, 21], [0, 21, 1, 0, 0, 0, 0], b""),
-        Pdu([0x0181_0000, 0, 0, 0, 22], [0, 22, 1, 0, 0, 0, 0], b""),
-        Pdu([0x0181_0000, 0, 0, 0, 23], [0, 23, 1, 0, 0, 0, 0], b""),
-        Pdu([0x0181_0000, 0, 0, 0, 24], [0, 24, 1, 0, 0, 0, 0], b""),
-        Pdu([0x0181_0000, 0, 0, 0, 25], [0, 25, 1, 0, 0, 0, 0], b""),
-        Pdu([0x0181_0000, 0, 0, 0, 26], [0, 26, 1, 0, 0, 0, 0], b""),
-        Pdu([0x0181_0000, 0, 0, 0, 27], [0, 27, 1, 0, 0, 0, 0], b""),
-        Pdu([0x0181_0000, 0, 0, 0, 28], [0, 28, 1, 0, 0, 0, 0], b""),
-        Pdu([0x0181_0000, 0, 0, 0, 29], [0, 29, 1, 0, 0, 0, 0], b""),
-        Pdu([0x0181_0000, 0, 0, 0, 30], [0, 30, 1, 0, 0, 0, 0], b""),
-        Pdu([0x0181_0000, 0, 0, 0, 31], [0, 31, 1, 0, 0, 0, 0], b""),
-        Pdu([0x0181_0000, 0, 0, 0, 32], [0, 32, 1, 0, 0, 0, 0], b""),
-        DATA_FIRST,
-    ],
-    &[
-        READY_FIRST,
-        Pdu([0x2180_0002, 20, 0, 0, 1], [0, 1, 33, 33, 0, 0, 0], ANSWER),
-        Pdu([0x2180_0002, 20, 0, 0, 2], [0, 2, 33, 34, 0, 0, 0], ANSWER),
-        Pdu([0x2180_0002, 20, 0, 0, 3], [0, 3, 33, 35, 0, 0, 0], ANSWER),
-        Pdu([0x2180_0002, 20, 0, 0, 4], [0, 4, 33, 36, 0, 0, 0], ANSWER),
-        Pdu([0x2180_0002, 20, 0, 0, 5], [0, 5, 33, 37, 0, 0, 0], ANSWER),
-        Pdu([0x2180_0002, 20, 0, 0, 6], [0, 6, 33, 38, 0, 0, 0], ANSWER),
-        Pdu([0x2180_0002, 20, 0, 0, 7], [0, 7, 33, 39, 0, 0, 0], ANSWER),
-        Pdu([0x2180_0002, 20, 0, 0, 8], [0, 8, 33, 40, 0, 0, 0], ANSWER),
-        Pdu([0x2180_0002, 20, 0, 0, 9], [0, 9, 33, 41, 0, 0, 0], ANSWER),
-        Pdu(
-            [0x2180_0002, 20, 0, 0, 10],
-            [0, 10, 33, 42, 0, 0, 0],
-            ANSWER,
-        ),
-        Pdu(
-            [0x2180_0002, 20, 0, 0, 11],
-            [0, 11, 33, 43, 0, 0, 0],
-            ANSWER,
-        ),
-        Pdu(
-            [0x2180_0002, 20, 0, 0, 12],
-            [0, 12, 33, 44, 0, 0, 0],
-            ANSWER,
-        ),
-        Pdu(
-            [0x2180_0002, 20, 0, 0, 13],
-            [0, 13, 33, 45, 0, 0, 0],
-            ANSWER,
-        ),
-        Pdu(
-            [0x2180_0002, 20, 0, 0, 14],
-            [0, 14, 33, 46, 0, 0, 0],
-            ANSWER,
-        ),
-        Pdu(
-            [0x2180_0002, 20, 0, 0, 15],
-            [0, 15, 33, 47, 0, 0, 0],
-            ANSWER,
-        ),
-        Pdu(
-            [0x2180_0002, 20, 0, 0, 16],
-            [0, 16, 33, 48, 0, 0, 0],
-            ANSWER,
-        ),
-        Pdu(
-            [0x2180_0002, 20, 0, 0, 17],
-            [0, 17, 33, 49, 0, 0, 0],
-            ANSWER,
-        ),
-        Pdu(
-            [0x2180_0002, 20, 0, 0, 18],
-            [0, 18, 33, 50, 0, 0, 0],
-            ANSWER,
-        ),
-        Pdu(
-            [0x2180_0002, 20, 0, 0, 19],
-            [0, 19, 33, 51, 0, 0, 0],
-            ANSWER,
-        ),
-        Pdu(
-            [0x2180_0002, 20, 0, 0, 20],
-            [0, 20, 33, 52, 0, 0, 0],
-            ANSWER,
-        ),
-        Pdu(
-            [0x2180_0002, 20, 0, 0, 21],
-            [0, 21, 33, 53, 0, 0, 0],
-            ANSWER,
-        ),
-        Pdu(
-            [0x2180_0002, 20, 0, 0, 22],
-            [0, 22, 33, 54, 0, 0, 0],
-            ANSWER,
-        ),
-        Pdu(
-            [0x2180_0002, 20, 0, 0, 23],
-            [0, 23, 33, 55, 0, 0, 0],
-            ANSWER,
-        ),
-        Pdu(
-            [0x2180_0002, 20, 0, 0, 24],
-            [0, 24, 33, 56, 0, 0, 0],
-            ANSWER,
-        ),
-        Pdu(
-            [0x2180_0002, 20, 0, 0, 25],
-            [0, 25, 33, 57, 0, 0, 0],
-            ANSWER,
-        ),
-        Pdu(
-            [0x2180_0002, 20, 0, 0, 26],
-            [0, 26, 33, 58, 0, 0, 0],
-            ANSWER,
-        ),
-        Pdu(
-            [0x2180_0002, 20, 0, 0, 27],
-            [0, 27, 33, 59, 0, 0, 0],
-            ANSWER,
-        ),
-        Pdu(
-            [0x2180_0002, 20, 0, 0, 28],
-            [0, 28, 33, 60, 0, 0, 0],
-            ANSWER,
-        ),
-        Pdu(
-            [0x2180_0002, 20, 0, 0, 29],
-            [0, 29, 33, 61, 0, 0, 0],
-            ANSWER,
-        ),
-        Pdu(
-            [0x2180_0002, 20, 0, 0, 30],
-            [0, 30, 33, 62, 0, 0, 0],
-            ANSWER,
-        ),
-        Pdu(
-            [0x2180_0002, 20, 0, 0, 31],
-            [0, 31, 33, 63, 0, 0, 0],
-            ANSWER,
-        ),
-        Pdu(
-            [0x2180_0002, 20, 0, 0, 32],
-            [0, 32, 33, 64, 0, 0, 0],
-            ANSWER,
-        ),
-    ],
-    &[WRITTEN, Call(b"c\0\0", 31)],
-)];
-
-#[test]
-fn as_many_as_32_commands_wait_in_their_order(rt: HostRuntime) -> Result<(), Fail> {
-    assert_rows_of_a_session(&rt, rt.alloc(), &WAITING)
-}
-
-const TOO_MANY: [Ending; 1] = [(
-    ALONE,
-    Err(IscsiFault::TooManyWaiting),
-    "33 commands",
-    &[
-        WRITE_FIRST,
-        Pdu([0x0181_0000, 0, 0, 0, 2], [0, 2, 1, 0, 0, 0, 0], b""),
-        Pdu([0x0181_0000, 0, 0, 0, 3], [0, 3, 1, 0, 0, 0, 0], b""),
-        Pdu([0x0181_0000, 0, 0, 0, 4], [0, 4, 1, 0, 0, 0, 0], b""),
-        Pdu([0x0181_0000, 0, 0, 0, 5], [0, 5, 1, 0, 0, 0, 0], b""),
-        Pdu([0x0181_0000, 0, 0, 0, 6], [0, 6, 1, 0, 0, 0, 0], b""),
-        Pdu([0x0181_0000, 0, 0, 0, 7], [0, 7, 1, 0, 0, 0, 0], b""),
-        Pdu([0x0181_0000, 0, 0, 0, 8], [0, 8, 1, 0, 0, 0, 0], b""),
-        Pdu([0x0181_0000, 0, 0, 0, 9], [0, 9, 1, 0, 0, 0, 0], b""),
-        Pdu([0x0181_0000, 0, 0, 0, 10], [0, 10, 1, 0, 0, 0, 0], b""),
-        Pdu([0x0181_0000, 0, 0, 0, 11], [0, 11, 1, 0, 0, 0, 0], b""),
-        Pdu([0x0181_0000, 0, 0, 0, 12], [0, 12, 1, 0, 0, 0, 0], b""),
-        Pdu([0x0181_0000, 0, 0, 0, 13], [0, 13, 1, 0, 0, 0, 0], b""),
-        Pdu([0x0181_0000, 0, 0, 0, 14], [0, 14, 1, 0, 0, 0, 0], b""),
-        Pdu([0x0181_0000, 0, 0, 0, 15], [0, 15, 1, 0, 0, 0, 0], b""),
-        Pdu([0x0181_0000, 0, 0, 0, 16], [0, 16, 1, 0, 0, 0, 0], b""),
-        Pdu([0x0181_0000, 0, 0, 0, 17], [0, 17, 1, 0, 0, 0, 0], b""),
-        Pdu([0x0181_0000, 0, 0, 0, 18], [0, 18, 1, 0, 0, 0, 0], b""),
-        Pdu([0x0181_0000, 0, 0, 0, 19], [0, 19, 1, 0, 0, 0, 0], b""),
-        Pdu([0x0181_0000, 0, 0, 0, 20], [0, 20, 1, 0, 0, 0, 0], b""),
-        Pdu([0x0181_0000, 0, 0, 0, 21], [0, 21, 1, 0, 0, 0, 0], b""),
-        Pdu([0x0181_0000, 0, 0, 0, 22], [0, 22, 1, 0, 0, 0, 0], b""),
-        Pdu([0x0181_0000, 0, 0, 0, 23], [0, 23, 1, 0, 0, 0, 0], b""),
-        Pdu([0x0181_0000, 0, 0, 0, 24], [0, 24, 1, 0, 0, 0, 0], b""),
-        Pdu([0x0181_0000, 0, 0, 0, 25], [0, 25, 1, 0, 0, 0, 0], b""),
-        Pdu([0x0181_0000, 0, 0, 0, 26], [0, 26, 1, 0, 0, 0, 0], b""),
-        Pdu([0x0181_0000, 0, 0, 0, 27], [0, 27, 1, 0, 0, 0, 0], b""),
-        Pdu([0x0181_0000, 0, 0, 0, 28], [0, 28, 1, 0, 0, 0, 0], b""),
-        Pdu([0x0181_0000, 0, 0, 0, 29], [0, 29, 1, 0, 0, 0, 0], b""),
-        Pdu([0x0181_0000, 0, 0, 0, 30], [0, 30, 1, 0, 0, 0, 0], b""),
-        Pdu([0x0181_0000, 0, 0, 0, 31], [0, 31, 1, 0, 0, 0, 0], b""),
-        Pdu([0x0181_0000, 0, 0, 0, 32], [0, 32, 1, 0, 0, 0, 0], b""),
-        Pdu([0x0181_0000, 0, 0, 0, 33], [0, 33, 1, 0, 0, 0, 0], b""),
-    ],
-    &[READY_FIRST],
-    &[],
-)];
-
-#[test]
-fn one_more_command_that_waits_ends_the_session(rt: HostRuntime) -> Result<(), Fail> {
-    assert_endings_of_a_session(&rt, rt.alloc(), &TOO_MANY)
-}
+pub(super) const ROWS: [Line; 194] = [
+    // What is expected first is 1.
+    Begins("commands are executed in the order of their numbers: one after the other"),
+    LogsIn,
+    Sent([0x0181_0000, 0, 2], [0, 1, 1, 0]),
+    Sent([0x0181_0000, 0, 3], [0, 2, 1, 0]),
+    ToldWith([0x2180_0002, 20, 2], [0, 1, 2, 33], ANSWER),
+    ToldWith([0x2180_0002, 20, 3], [0, 2, 3, 34], ANSWER),
+    Called("c\0\0c\0\0"),
+    Lost,
+    Closed,
+    Begins(
+        "commands are executed in the order of their numbers: above, below, and half the circle away",
+    ),
+    LogsIn,
+    Sent([0x0181_0000, 0, 2], [0, 2, 1, 0]),
+    Sent([0x0181_0000, 0, 3], [0, 0, 1, 0]),
+    Sent([0x0181_0000, 0, 4], [0, 33, 1, 0]),
+    Sent([0x0181_0000, 0, 5], [0, 0x8000_0001, 1, 0]),
+    Sent([0x0181_0000, 0, 6], [0, 0xFFFF_FFFF, 1, 0]),
+    Sent([0x0181_0000, 0, 7], [0, 1, 1, 0]),
+    ToldWith([0x2180_0002, 20, 7], [0, 1, 2, 33], ANSWER),
+    Called("c\0\0"),
+    Lost,
+    Closed,
+    Begins("commands are executed in the order of their numbers: the same twice"),
+    LogsIn,
+    Sent([0x0181_0000, 0, 2], [0, 1, 1, 0]),
+    Sent([0x0181_0000, 0, 2], [0, 1, 1, 0]),
+    ToldWith([0x2180_0002, 20, 2], [0, 1, 2, 33], ANSWER),
+    Called("c\0\0"),
+    Lost,
+    Closed,
+    Begins(
+        "commands are executed in the order of their numbers: an immediate command takes up no number",
+    ),
+    LogsIn,
+    Sent([0x4181_0000, 0, 2], [0, 1, 1, 0]),
+    Sent([0x0181_0000, 0, 3], [0, 1, 1, 0]),
+    ToldWith([0x2180_0002, 20, 2], [0, 1, 1, 32], ANSWER),
+    ToldWith([0x2180_0002, 20, 3], [0, 2, 2, 33], ANSWER),
+    Called("c\0\0c\0\0"),
+    Lost,
+    Closed,
+    Begins(
+        "commands are executed in the order of their numbers: commands wait behind a write whose data are awaited, an immediate one at the place where it came",
+    ),
+    LogsIn,
+    Writes,
+    Sent([0x4181_0000, 0, 3], [0, 2, 1, 0]),
+    SentWhole(
+        [0x0181_0000, 0, 0x0001_0000, 0, 4],
+        [0, 2, 1, 0, 0, 0, 0],
+        "",
+    ),
+    Data,
+    ToldWith([0x2180_0002, 20, 2], [0, 1, 3, 33], ANSWER),
+    ToldWith([0x2180_0002, 20, 3], [0, 2, 3, 33], ANSWER),
+    ToldWith([0x2180_0002, 20, 4], [0, 3, 3, 34], ANSWER),
+    Called("c\0\x0Aabcdc\0\0c\x01\0"),
+    Lost,
+    Closed,
+    Begins(
+        "commands are executed in the order of their numbers: a NOP-Out out of turn is passed over too",
+    ),
+    LogsIn,
+    Sent([0x0080_0000, 0, 2], [0xFFFF_FFFF, 2, 1, 0]),
+    SentWith([0x0080_0000, 4, 3], [0xFFFF_FFFF, 1, 1, 0], "ping"),
+    ToldWith([0x2080_0000, 4, 3], [0xFFFF_FFFF, 1, 2, 33], "ping"),
+    Lost,
+    Closed,
+    // In the second the window begins before 0 and ends behind it, and closes while a write waits.
+    Begins("command numbers go round the circle: round the circle"),
+    LOGIN_BEFORE_LAST,
+    LET_IN_BEFORE_LAST,
+    Sent([0x0181_0000, 0, 2], [0, 0, 1, 0]),
+    Sent([0x0181_0000, 0, 3], [0, 0xFFFF_FFFE, 1, 0]),
+    Sent([0x0181_0000, 0, 4], [0, 0xFFFF_FFFF, 1, 0]),
+    Sent([0x0181_0000, 0, 5], [0, 0, 1, 0]),
+    Sent([0x0181_0000, 0, 6], [0, 1, 1, 0]),
+    ToldWith([0x2180_0002, 20, 3], [0, 1, 0xFFFF_FFFF, 30], ANSWER),
+    ToldWith([0x2180_0002, 20, 4], [0, 2, 0, 31], ANSWER),
+    ToldWith([0x2180_0002, 20, 5], [0, 3, 1, 32], ANSWER),
+    ToldWith([0x2180_0002, 20, 6], [0, 4, 2, 33], ANSWER),
+    Called("c\0\0c\0\0c\0\0c\0\0"),
+    Lost,
+    Closed,
+    Begins("command numbers go round the circle: a write waits round the circle"),
+    LOGIN_LAST,
+    LET_IN_LAST,
+    Sent([0x01A1_0000, 0, 2], [4, 0xFFFF_FFFF, 1, 0x0A00_0000]),
+    Sent([0x0181_0000, 0, 3], [0, 0, 1, 0]),
+    Data,
+    ToldWhole([0x3180_0000, 0, 0, 0, 2], [0, 1, 0, 30, 0, 0, 4], ""),
+    ToldWith([0x2180_0002, 20, 2], [0, 1, 1, 31], ANSWER),
+    ToldWith([0x2180_0002, 20, 3], [0, 2, 1, 32], ANSWER),
+    Called("c\0\x0Aabcdc\0\0"),
+    Lost,
+    Closed,
+    // Behind it 31 commands wait, and with each answer the window opens by one.
+    Begins("as many as 32 commands wait in their order: 32 commands wait"),
+    LogsIn,
+    WRITE_FIRST,
+    READY_FIRST,
+    Sent([0x0181_0000, 0, 2], [0, 2, 1, 0]),
+    Sent([0x0181_0000, 0, 3], [0, 3, 1, 0]),
+    Sent([0x0181_0000, 0, 4], [0, 4, 1, 0]),
+    Sent([0x0181_0000, 0, 5], [0, 5, 1, 0]),
+    Sent([0x0181_0000, 0, 6], [0, 6, 1, 0]),
+    Sent([0x0181_0000, 0, 7], [0, 7, 1, 0]),
+    Sent([0x0181_0000, 0, 8], [0, 8, 1, 0]),
+    Sent([0x0181_0000, 0, 9], [0, 9, 1, 0]),
+    Sent([0x0181_0000, 0, 10], [0, 10, 1, 0]),
+    Sent([0x0181_0000, 0, 11], [0, 11, 1, 0]),
+    Sent([0x0181_0000, 0, 12], [0, 12, 1, 0]),
+    Sent([0x0181_0000, 0, 13], [0, 13, 1, 0]),
+    Sent([0x0181_0000, 0, 14], [0, 14, 1, 0]),
+    Sent([0x0181_0000, 0, 15], [0, 15, 1, 0]),
+    Sent([0x0181_0000, 0, 16], [0, 16, 1, 0]),
+    Sent([0x0181_0000, 0, 17], [0, 17, 1, 0]),
+    Sent([0x0181_0000, 0, 18], [0, 18, 1, 0]),
+    Sent([0x0181_0000, 0, 19], [0, 19, 1, 0]),
+    Sent([0x0181_0000, 0, 20], [0, 20, 1, 0]),
+    Sent([0x0181_0000, 0, 21], [0, 21, 1, 0]),
+    Sent([0x0181_0000, 0, 22], [0, 22, 1, 0]),
+    Sent([0x0181_0000, 0, 23], [0, 23, 1, 0]),
+    Sent([0x0181_0000, 0, 24], [0, 24, 1, 0]),
+    Sent([0x0181_0000, 0, 25], [0, 25, 1, 0]),
+    Sent([0x0181_0000, 0, 26], [0, 26, 1, 0]),
+    Sent([0x0181_0000, 0, 27], [0, 27, 1, 0]),
+    Sent([0x0181_0000, 0, 28], [0, 28, 1, 0]),
+    Sent([0x0181_0000, 0, 29], [0, 29, 1, 0]),
+    Sent([0x0181_0000, 0, 30], [0, 30, 1, 0]),
+    Sent([0x0181_0000, 0, 31], [0, 31, 1, 0]),
+    Sent([0x0181_0000, 0, 32], [0, 32, 1, 0]),
+    DATA_FIRST,
+    ToldWith([0x2180_0002, 20, 1], [0, 1, 33, 33], ANSWER),
+    ToldWith([0x2180_0002, 20, 2], [0, 2, 33, 34], ANSWER),
+    ToldWith([0x2180_0002, 20, 3], [0, 3, 33, 35], ANSWER),
+    ToldWith([0x2180_0002, 20, 4], [0, 4, 33, 36], ANSWER),
+    ToldWith([0x2180_0002, 20, 5], [0, 5, 33, 37], ANSWER),
+    ToldWith([0x2180_0002, 20, 6], [0, 6, 33, 38], ANSWER),
+    ToldWith([0x2180_0002, 20, 7], [0, 7, 33, 39], ANSWER),
+    ToldWith([0x2180_0002, 20, 8], [0, 8, 33, 40], ANSWER),
+    ToldWith([0x2180_0002, 20, 9], [0, 9, 33, 41], ANSWER),
+    ToldWith([0x2180_0002, 20, 10], [0, 10, 33, 42], ANSWER),
+    ToldWith([0x2180_0002, 20, 11], [0, 11, 33, 43], ANSWER),
+    ToldWith([0x2180_0002, 20, 12], [0, 12, 33, 44], ANSWER),
+    ToldWith([0x2180_0002, 20, 13], [0, 13, 33, 45], ANSWER),
+    ToldWith([0x2180_0002, 20, 14], [0, 14, 33, 46], ANSWER),
+    ToldWith([0x2180_0002, 20, 15], [0, 15, 33, 47], ANSWER),
+    ToldWith([0x2180_0002, 20, 16], [0, 16, 33, 48], ANSWER),
+    ToldWith([0x2180_0002, 20, 17], [0, 17, 33, 49], ANSWER),
+    ToldWith([0x2180_0002, 20, 18], [0, 18, 33, 50], ANSWER),
+    ToldWith([0x2180_0002, 20, 19], [0, 19, 33, 51], ANSWER),
+    ToldWith([0x2180_0002, 20, 20], [0, 20, 33, 52], ANSWER),
+    ToldWith([0x2180_0002, 20, 21], [0, 21, 33, 53], ANSWER),
+    ToldWith([0x2180_0002, 20, 22], [0, 22, 33, 54], ANSWER),
+    ToldWith([0x2180_0002, 20, 23], [0, 23, 33, 55], ANSWER),
+    ToldWith([0x2180_0002, 20, 24], [0, 24, 33, 56], ANSWER),
+    ToldWith([0x2180_0002, 20, 25], [0, 25, 33, 57], ANSWER),
+    ToldWith([0x2180_0002, 20, 26], [0, 26, 33, 58], ANSWER),
+    ToldWith([0x2180_0002, 20, 27], [0, 27, 33, 59], ANSWER),
+    ToldWith([0x2180_0002, 20, 28], [0, 28, 33, 60], ANSWER),
+    ToldWith([0x2180_0002, 20, 29], [0, 29, 33, 61], ANSWER),
+    ToldWith([0x2180_0002, 20, 30], [0, 30, 33, 62], ANSWER),
+    ToldWith([0x2180_0002, 20, 31], [0, 31, 33, 63], ANSWER),
+    ToldWith([0x2180_0002, 20, 32], [0, 32, 33, 64], ANSWER),
+    Written,
+    CalledTimes(31, "c\0\0"),
+    Lost,
+    Closed,
+    Begins("one more command that waits ends the session: 33 commands"),
+    LogsIn,
+    WRITE_FIRST,
+    READY_FIRST,
+    Sent([0x0181_0000, 0, 2], [0, 2, 1, 0]),
+    Sent([0x0181_0000, 0, 3], [0, 3, 1, 0]),
+    Sent([0x0181_0000, 0, 4], [0, 4, 1, 0]),
+    Sent([0x0181_0000, 0, 5], [0, 5, 1, 0]),
+    Sent([0x0181_0000, 0, 6], [0, 6, 1, 0]),
+    Sent([0x0181_0000, 0, 7], [0, 7, 1, 0]),
+    Sent([0x0181_0000, 0, 8], [0, 8, 1, 0]),
+    Sent([0x0181_0000, 0, 9], [0, 9, 1, 0]),
+    Sent([0x0181_0000, 0, 10], [0, 10, 1, 0]),
+    Sent([0x0181_0000, 0, 11], [0, 11, 1, 0]),
+    Sent([0x0181_0000, 0, 12], [0, 12, 1, 0]),
+    Sent([0x0181_0000, 0, 13], [0, 13, 1, 0]),
+    Sent([0x0181_0000, 0, 14], [0, 14, 1, 0]),
+    Sent([0x0181_0000, 0, 15], [0, 15, 1, 0]),
+    Sent([0x0181_0000, 0, 16], [0, 16, 1, 0]),
+    Sent([0x0181_0000, 0, 17], [0, 17, 1, 0]),
+    Sent([0x0181_0000, 0, 18], [0, 18, 1, 0]),
+    Sent([0x0181_0000, 0, 19], [0, 19, 1, 0]),
+    Sent([0x0181_0000, 0, 20], [0, 20, 1, 0]),
+    Sent([0x0181_0000, 0, 21], [0, 21, 1, 0]),
+    Sent([0x0181_0000, 0, 22], [0, 22, 1, 0]),
+    Sent([0x0181_0000, 0, 23], [0, 23, 1, 0]),
+    Sent([0x0181_0000, 0, 24], [0, 24, 1, 0]),
+    Sent([0x0181_0000, 0, 25], [0, 25, 1, 0]),
+    Sent([0x0181_0000, 0, 26], [0, 26, 1, 0]),
+    Sent([0x0181_0000, 0, 27], [0, 27, 1, 0]),
+    Sent([0x0181_0000, 0, 28], [0, 28, 1, 0]),
+    Sent([0x0181_0000, 0, 29], [0, 29, 1, 0]),
+    Sent([0x0181_0000, 0, 30], [0, 30, 1, 0]),
+    Sent([0x0181_0000, 0, 31], [0, 31, 1, 0]),
+    Sent([0x0181_0000, 0, 32], [0, 32, 1, 0]),
+    Sent([0x0181_0000, 0, 33], [0, 33, 1, 0]),
+    Lost,
+    Ends(Err(IscsiFault::TooManyWaiting)),
+];

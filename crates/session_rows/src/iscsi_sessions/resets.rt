@@ -1,9 +1,9 @@
 //! Units that another session resets where commands wait.
 use super::streams::{ALONE, Scene};
-use super::words::{
-    ANSWER, CLOSED, Call, DATA, Ending, Pdu, READY, WRITE, WRITTEN, assert_endings_of_a_session,
+use super::words::Line::{
+    BeginsIn, Called, Closed, Data, LogsIn, Lost, Sent, SentWhole, ToldWith, Writes, Written,
 };
-use std::test::Fail;
+use super::words::{ANSWER, Line};
 
 /// Bytes come one by one.
 const PIECEMEAL: Scene = Scene { size: 1, ..ALONE };
@@ -48,93 +48,91 @@ const OTHER_BEHIND_148: Scene = Scene {
 };
 
 /// TEST UNIT READY at unit 1, and at unit 0.
-const AT_ONE: Pdu<'static> = Pdu(
+const AT_ONE: Line = SentWhole(
     [0x0181_0000, 0, 0x0001_0000, 0, 3],
     [0, 2, 1, 0, 0, 0, 0],
-    b"",
+    "",
 );
 
-const AT_ZERO: Pdu<'static> = Pdu([0x0181_0000, 0, 0, 0, 3], [0, 2, 1, 0, 0, 0, 0], b"");
+const AT_ZERO: Line = Sent([0x0181_0000, 0, 3], [0, 2, 1, 0]);
 
-/// It looks before the first byte behind the login (0) and behind each byte that is read. A command has 48 bytes, and the data have 52;
-/// those of a write that is gone are passed over.
-const RESETS: [Ending; 7] = [
-    (
+pub(super) const ROWS: [Line; 55] = [
+    // It looks before the first byte behind the login (0) and behind each byte that is read. A command has 48 bytes, and the data have 52;
+    // those of a write that is gone are passed over.
+    BeginsIn(
         BEHIND_96,
-        CLOSED,
-        "a write that waits for its data goes, and the command behind it is executed",
-        &[WRITE, AT_ONE],
-        &[
-            READY,
-            Pdu([0x2180_0002, 20, 0, 0, 3], [0, 1, 3, 34, 0, 0, 0], ANSWER),
-        ],
-        &[Call(b"c\x01\0", 1)],
+        "commands at a unit that another session resets are not executed: a write that waits for its data goes, and the command behind it is executed",
     ),
-    (
+    LogsIn,
+    Writes,
+    AT_ONE,
+    ToldWith([0x2180_0002, 20, 3], [0, 1, 3, 34], ANSWER),
+    Called("c\x01\0"),
+    Lost,
+    Closed,
+    BeginsIn(
         OTHER_BEHIND_148,
-        CLOSED,
-        "a command that waits for its turn goes, and the write before it is executed",
-        &[WRITE, AT_ONE, DATA],
-        &[
-            READY,
-            Pdu([0x2180_0002, 20, 0, 0, 2], [0, 1, 3, 34, 0, 0, 0], ANSWER),
-        ],
-        &[WRITTEN],
+        "commands at a unit that another session resets are not executed: a command that waits for its turn goes, and the write before it is executed",
     ),
-    (
+    LogsIn,
+    Writes,
+    AT_ONE,
+    Data,
+    ToldWith([0x2180_0002, 20, 2], [0, 1, 3, 34], ANSWER),
+    Written,
+    Lost,
+    Closed,
+    BeginsIn(
         BEHIND_148,
-        CLOSED,
-        "both are at the unit",
-        &[WRITE, AT_ZERO, DATA],
-        &[READY],
-        &[],
+        "commands at a unit that another session resets are not executed: both are at the unit",
     ),
-    (
+    LogsIn,
+    Writes,
+    AT_ZERO,
+    Data,
+    Lost,
+    Closed,
+    BeginsIn(
         BEHIND_100,
-        CLOSED,
-        "the last of its data come, and it isn't executed",
-        &[WRITE, DATA],
-        &[READY],
-        &[],
+        "commands at a unit that another session resets are not executed: the last of its data come, and it isn't executed",
     ),
-    (
+    LogsIn,
+    Writes,
+    Data,
+    Lost,
+    Closed,
+    BeginsIn(
         BEHIND_60,
-        CLOSED,
-        "a command that comes behind the reset is executed",
-        &[WRITE, DATA, AT_ZERO],
-        &[
-            READY,
-            Pdu([0x2180_0002, 20, 0, 0, 3], [0, 1, 3, 34, 0, 0, 0], ANSWER),
-        ],
-        &[Call(b"c\0\0", 1)],
+        "commands at a unit that another session resets are not executed: a command that comes behind the reset is executed",
     ),
-    (
+    LogsIn,
+    Writes,
+    Data,
+    AT_ZERO,
+    ToldWith([0x2180_0002, 20, 3], [0, 1, 3, 34], ANSWER),
+    Called("c\0\0"),
+    Lost,
+    Closed,
+    BeginsIn(
         AT_FIRST,
-        CLOSED,
-        "a reset before all",
-        &[WRITE, DATA],
-        &[
-            READY,
-            Pdu([0x2180_0002, 20, 0, 0, 2], [0, 1, 2, 33, 0, 0, 0], ANSWER),
-        ],
-        &[WRITTEN],
+        "commands at a unit that another session resets are not executed: a reset before all",
     ),
-    (
+    LogsIn,
+    Writes,
+    Data,
+    ToldWith([0x2180_0002, 20, 2], [0, 1, 2, 33], ANSWER),
+    Written,
+    Lost,
+    Closed,
+    BeginsIn(
         OTHER_BEHIND_100,
-        CLOSED,
-        "a reset of another unit",
-        &[WRITE, DATA],
-        &[
-            READY,
-            Pdu([0x2180_0002, 20, 0, 0, 2], [0, 1, 2, 33, 0, 0, 0], ANSWER),
-        ],
-        &[WRITTEN],
+        "commands at a unit that another session resets are not executed: a reset of another unit",
     ),
+    LogsIn,
+    Writes,
+    Data,
+    ToldWith([0x2180_0002, 20, 2], [0, 1, 2, 33], ANSWER),
+    Written,
+    Lost,
+    Closed,
 ];
-
-#[test]
-fn commands_at_a_unit_that_another_session_resets_are_not_executed(
-    rt: HostRuntime,
-) -> Result<(), Fail> {
-    assert_endings_of_a_session(&rt, rt.alloc(), &RESETS)
-}

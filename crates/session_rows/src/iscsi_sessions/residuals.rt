@@ -1,27 +1,17 @@
 //! What is told as missing, or over, and data in several Data-In.
-use super::assert_same;
-use super::words::{ANSWER, Call, Pdu, READY, Row, assert_rows_of_a_session, bytes_of};
+use super::words::Line::{
+    Answered, Answers, Begins, Called, Closed, LogsIn, Lost, Sent, SentWhole, Told, ToldWhole,
+    ToldWith,
+};
+use super::words::{ANSWER, Line};
 use iscsi_answers::{
     AnsweredCommand, SequenceNumbers, TransferLimits, UnitAnswer, write_command_answer,
 };
 use iscsi_pdu::SerialNumber;
 use scsi_sense::{Sense, Status};
-use std::alloc::Global;
-use std::process::Abort;
 use std::test::Fail;
 
-/// What it shows, R and W of a command, how much it expects, and how much of its data its unit was handed; how that answers, by its status
-/// and data; and the PDUs of the answer.
-type Answered = (
-    &'static str,
-    u8,
-    u32,
-    u32,
-    Status,
-    &'static [u8],
-    &'static [Pdu<'static>],
-);
-
+/// R and W of a command.
 const READ: u8 = 0x40;
 
 const WRITE: u8 = 0x20;
@@ -42,266 +32,150 @@ const CONFLICT: Status = Status::ReservationConflict;
 const DATA: &[u8] = b"abcdefgh";
 
 /// MEDIUM ERROR, UNRECOVERED READ ERROR, which go with CHECK CONDITION.
-const SENSE: &[u8] = b"\0\x12\x70\0\x03\0\0\0\0\x0A\0\0\0\0\x11\0\0\0\0\0";
+const SENSE: &str = "\0\x12\x70\0\x03\0\0\0\0\x0A\0\0\0\0\x11\0\0\0\0\0";
 
 /// The greatest number.
 const LAST: u32 = 0xFFFF_FFFF;
 
 /// Data with the status, or a SCSI Response behind the data that go out. Only the PDU with the status tells the StatSN.
-const ANSWERED: [Answered; 24] = [
-    (
-        "all",
-        READ,
-        8,
-        0,
-        GOOD,
-        DATA,
-        &[Pdu(
-            [0x2581_0000, 8, 0, 0, 2],
-            [LAST, LAST, 5, 36, 0, 0, 0],
-            b"abcdefgh",
-        )],
+/// The last two are answered with 1,025 bytes, of which the initiator takes 512 at once. F ends the burst, and the data.
+pub(super) const ANSWERED: [Line; 112] = [
+    Begins("what is missing or over is told with each status: all"),
+    Answers(READ, 8, 0, GOOD, DATA),
+    ToldWith([0x2581_0000, 8, 2], [LAST, LAST, 5, 36], "abcdefgh"),
+    Answered,
+    Begins("what is missing or over is told with each status: less"),
+    Answers(READ, 10, 0, GOOD, DATA),
+    ToldWhole(
+        [0x2583_0000, 8, 0, 0, 2],
+        [LAST, LAST, 5, 36, 0, 0, 2],
+        "abcdefgh",
     ),
-    (
-        "less",
-        READ,
-        10,
-        0,
-        GOOD,
-        DATA,
-        &[Pdu(
-            [0x2583_0000, 8, 0, 0, 2],
-            [LAST, LAST, 5, 36, 0, 0, 2],
-            b"abcdefgh",
-        )],
+    Answered,
+    Begins("what is missing or over is told with each status: more"),
+    Answers(READ, 5, 0, GOOD, DATA),
+    ToldWhole(
+        [0x2585_0000, 5, 0, 0, 2],
+        [LAST, LAST, 5, 36, 0, 0, 3],
+        "abcde",
     ),
-    (
-        "more",
-        READ,
-        5,
-        0,
-        GOOD,
-        DATA,
-        &[Pdu(
-            [0x2585_0000, 5, 0, 0, 2],
-            [LAST, LAST, 5, 36, 0, 0, 3],
-            b"abcde",
-        )],
+    Answered,
+    Begins("what is missing or over is told with each status: no data"),
+    Answers(READ, 8, 0, GOOD, b""),
+    ToldWhole([0x2182_0000, 0, 0, 0, 2], [0, LAST, 5, 36, 0, 0, 8], ""),
+    Answered,
+    Begins("what is missing or over is told with each status: none expected"),
+    Answers(READ, 0, 0, GOOD, DATA),
+    ToldWhole([0x2184_0000, 0, 0, 0, 2], [0, LAST, 5, 36, 0, 0, 8], ""),
+    Answered,
+    Begins("what is missing or over is told with each status: none at all"),
+    Answers(READ, 0, 0, GOOD, b""),
+    Told([0x2180_0000, 0, 2], [0, LAST, 5, 36]),
+    Answered,
+    Begins("what is missing or over is told with each status: the most"),
+    Answers(READ, 0xFFFF_FFFF, 0, GOOD, DATA),
+    ToldWhole(
+        [0x2583_0000, 8, 0, 0, 2],
+        [LAST, LAST, 5, 36, 0, 0, 0xFFFF_FFF7],
+        "abcdefgh",
     ),
-    (
-        "no data",
-        READ,
-        8,
-        0,
-        GOOD,
-        b"",
-        &[Pdu([0x2182_0000, 0, 0, 0, 2], [0, LAST, 5, 36, 0, 0, 8], b"")],
+    Answered,
+    Begins("what is missing or over is told with each status: all, checked"),
+    Answers(READ, 8, 0, CHECKED, DATA),
+    ToldWith([0x2580_0000, 8, 2], [LAST, 0, 5, 36], "abcdefgh"),
+    ToldWhole([0x2180_0002, 20, 0, 0, 2], [0, LAST, 5, 36, 1, 0, 0], SENSE),
+    Answered,
+    Begins("what is missing or over is told with each status: less, checked"),
+    Answers(READ, 10, 0, CHECKED, DATA),
+    ToldWith([0x2580_0000, 8, 2], [LAST, 0, 5, 36], "abcdefgh"),
+    ToldWhole([0x2182_0002, 20, 0, 0, 2], [0, LAST, 5, 36, 1, 0, 2], SENSE),
+    Answered,
+    Begins("what is missing or over is told with each status: more, checked"),
+    Answers(READ, 5, 0, CHECKED, DATA),
+    ToldWith([0x2580_0000, 5, 2], [LAST, 0, 5, 36], "abcde"),
+    ToldWhole([0x2184_0002, 20, 0, 0, 2], [0, LAST, 5, 36, 1, 0, 3], SENSE),
+    Answered,
+    Begins("what is missing or over is told with each status: checked"),
+    Answers(READ, 8, 0, CHECKED, b""),
+    ToldWhole([0x2182_0002, 20, 0, 0, 2], [0, LAST, 5, 36, 0, 0, 8], SENSE),
+    Answered,
+    Begins("what is missing or over is told with each status: none expected, checked"),
+    Answers(READ, 0, 0, CHECKED, DATA),
+    ToldWhole([0x2184_0002, 20, 0, 0, 2], [0, LAST, 5, 36, 0, 0, 8], SENSE),
+    Answered,
+    Begins("what is missing or over is told with each status: a busy unit"),
+    Answers(READ, 8, 0, BUSY, b""),
+    ToldWhole([0x2182_0008, 0, 0, 0, 2], [0, LAST, 5, 36, 0, 0, 8], ""),
+    Answered,
+    Begins("what is missing or over is told with each status: a conflict"),
+    Answers(READ, 8, 0, CONFLICT, b""),
+    ToldWhole([0x2182_0018, 0, 0, 0, 2], [0, LAST, 5, 36, 0, 0, 8], ""),
+    Answered,
+    Begins("what is missing or over is told with each status: a write"),
+    Answers(WRITE, 8, 8, GOOD, b""),
+    Told([0x2180_0000, 0, 2], [0, LAST, 5, 36]),
+    Answered,
+    Begins("what is missing or over is told with each status: a part of a write"),
+    Answers(WRITE, 9, 7, GOOD, b""),
+    ToldWhole([0x2182_0000, 0, 0, 0, 2], [0, LAST, 5, 36, 0, 0, 2], ""),
+    Answered,
+    Begins("what is missing or over is told with each status: a write, checked"),
+    Answers(WRITE, 8, 8, CHECKED, b""),
+    ToldWith([0x2180_0002, 20, 2], [0, LAST, 5, 36], SENSE),
+    Answered,
+    Begins("what is missing or over is told with each status: a part, checked"),
+    Answers(WRITE, 9, 7, CHECKED, b""),
+    ToldWhole([0x2182_0002, 20, 0, 0, 2], [0, LAST, 5, 36, 0, 0, 2], SENSE),
+    Answered,
+    Begins("what is missing or over is told with each status: nothing of a write"),
+    Answers(WRITE, 8, 0, CHECKED, b""),
+    ToldWhole([0x2182_0002, 20, 0, 0, 2], [0, LAST, 5, 36, 0, 0, 8], SENSE),
+    Answered,
+    Begins("what is missing or over is told with each status: a busy unit at a write"),
+    Answers(WRITE, 8, 8, BUSY, b""),
+    Told([0x2180_0008, 0, 2], [0, LAST, 5, 36]),
+    Answered,
+    Begins("what is missing or over is told with each status: a conflict at a write"),
+    Answers(WRITE, 8, 8, CONFLICT, b""),
+    Told([0x2180_0018, 0, 2], [0, LAST, 5, 36]),
+    Answered,
+    Begins("what is missing or over is told with each status: data of a write"),
+    Answers(BOTH, 8, 8, GOOD, DATA),
+    Told([0x2180_0000, 0, 2], [0, LAST, 5, 36]),
+    Answered,
+    Begins("what is missing or over is told with each status: neither"),
+    Answers(NEITHER, 0, 0, GOOD, b""),
+    Told([0x2180_0000, 0, 2], [0, LAST, 5, 36]),
+    Answered,
+    Begins("what is missing or over is told with each status: data of neither"),
+    Answers(NEITHER, 0, 0, GOOD, DATA),
+    ToldWhole([0x2184_0000, 0, 0, 0, 2], [0, LAST, 5, 36, 0, 0, 8], ""),
+    Answered,
+    Begins("long data go out in segments and bursts: GOOD in the last of three"),
+    Answers(READ, 1025, 0, GOOD, &[b'd'; 1025]),
+    ToldWith([0x2500_0000, 512, 2], [LAST, 0, 5, 36], "d"),
+    ToldWhole(
+        [0x2580_0000, 512, 0, 0, 2],
+        [LAST, 0, 5, 36, 1, 512, 0],
+        "d",
     ),
-    (
-        "none expected",
-        READ,
-        0,
-        0,
-        GOOD,
-        DATA,
-        &[Pdu([0x2184_0000, 0, 0, 0, 2], [0, LAST, 5, 36, 0, 0, 8], b"")],
+    ToldWhole(
+        [0x2581_0000, 1, 0, 0, 2],
+        [LAST, LAST, 5, 36, 2, 1024, 0],
+        "d",
     ),
-    (
-        "none at all",
-        READ,
-        0,
-        0,
-        GOOD,
-        b"",
-        &[Pdu([0x2180_0000, 0, 0, 0, 2], [0, LAST, 5, 36, 0, 0, 0], b"")],
+    Answered,
+    Begins("long data go out in segments and bursts: CHECK CONDITION behind three"),
+    Answers(READ, 1025, 0, CHECKED, &[b'd'; 1025]),
+    ToldWith([0x2500_0000, 512, 2], [LAST, 0, 5, 36], "d"),
+    ToldWhole(
+        [0x2580_0000, 512, 0, 0, 2],
+        [LAST, 0, 5, 36, 1, 512, 0],
+        "d",
     ),
-    (
-        "the most",
-        READ,
-        0xFFFF_FFFF,
-        0,
-        GOOD,
-        DATA,
-        &[Pdu(
-            [0x2583_0000, 8, 0, 0, 2],
-            [LAST, LAST, 5, 36, 0, 0, 0xFFFF_FFF7],
-            b"abcdefgh",
-        )],
-    ),
-    (
-        "all, checked",
-        READ,
-        8,
-        0,
-        CHECKED,
-        DATA,
-        &[
-            Pdu(
-                [0x2580_0000, 8, 0, 0, 2],
-                [LAST, 0, 5, 36, 0, 0, 0],
-                b"abcdefgh",
-            ),
-            Pdu([0x2180_0002, 20, 0, 0, 2], [0, LAST, 5, 36, 1, 0, 0], SENSE),
-        ],
-    ),
-    (
-        "less, checked",
-        READ,
-        10,
-        0,
-        CHECKED,
-        DATA,
-        &[
-            Pdu(
-                [0x2580_0000, 8, 0, 0, 2],
-                [LAST, 0, 5, 36, 0, 0, 0],
-                b"abcdefgh",
-            ),
-            Pdu([0x2182_0002, 20, 0, 0, 2], [0, LAST, 5, 36, 1, 0, 2], SENSE),
-        ],
-    ),
-    (
-        "more, checked",
-        READ,
-        5,
-        0,
-        CHECKED,
-        DATA,
-        &[
-            Pdu(
-                [0x2580_0000, 5, 0, 0, 2],
-                [LAST, 0, 5, 36, 0, 0, 0],
-                b"abcde",
-            ),
-            Pdu([0x2184_0002, 20, 0, 0, 2], [0, LAST, 5, 36, 1, 0, 3], SENSE),
-        ],
-    ),
-    (
-        "checked",
-        READ,
-        8,
-        0,
-        CHECKED,
-        b"",
-        &[Pdu([0x2182_0002, 20, 0, 0, 2], [0, LAST, 5, 36, 0, 0, 8], SENSE)],
-    ),
-    (
-        "none expected, checked",
-        READ,
-        0,
-        0,
-        CHECKED,
-        DATA,
-        &[Pdu([0x2184_0002, 20, 0, 0, 2], [0, LAST, 5, 36, 0, 0, 8], SENSE)],
-    ),
-    (
-        "a busy unit",
-        READ,
-        8,
-        0,
-        BUSY,
-        b"",
-        &[Pdu([0x2182_0008, 0, 0, 0, 2], [0, LAST, 5, 36, 0, 0, 8], b"")],
-    ),
-    (
-        "a conflict",
-        READ,
-        8,
-        0,
-        CONFLICT,
-        b"",
-        &[Pdu([0x2182_0018, 0, 0, 0, 2], [0, LAST, 5, 36, 0, 0, 8], b"")],
-    ),
-    (
-        "a write",
-        WRITE,
-        8,
-        8,
-        GOOD,
-        b"",
-        &[Pdu([0x2180_0000, 0, 0, 0, 2], [0, LAST, 5, 36, 0, 0, 0], b"")],
-    ),
-    (
-        "a part of a write",
-        WRITE,
-        9,
-        7,
-        GOOD,
-        b"",
-        &[Pdu([0x2182_0000, 0, 0, 0, 2], [0, LAST, 5, 36, 0, 0, 2], b"")],
-    ),
-    (
-        "a write, checked",
-        WRITE,
-        8,
-        8,
-        CHECKED,
-        b"",
-        &[Pdu([0x2180_0002, 20, 0, 0, 2], [0, LAST, 5, 36, 0, 0, 0], SENSE)],
-    ),
-    (
-        "a part, checked",
-        WRITE,
-        9,
-        7,
-        CHECKED,
-        b"",
-        &[Pdu([0x2182_0002, 20, 0, 0, 2], [0, LAST, 5, 36, 0, 0, 2], SENSE)],
-    ),
-    (
-        "nothing of a write",
-        WRITE,
-        8,
-        0,
-        CHECKED,
-        b"",
-        &[Pdu([0x2182_0002, 20, 0, 0, 2], [0, LAST, 5, 36, 0, 0, 8], SENSE)],
-    ),
-    (
-        "a busy unit at a write",
-        WRITE,
-        8,
-        8,
-        BUSY,
-        b"",
-        &[Pdu([0x2180_0008, 0, 0, 0, 2], [0, LAST, 5, 36, 0, 0, 0], b"")],
-    ),
-    (
-        "a conflict at a write",
-        WRITE,
-        8,
-        8,
-        CONFLICT,
-        b"",
-        &[Pdu([0x2180_0018, 0, 0, 0, 2], [0, LAST, 5, 36, 0, 0, 0], b"")],
-    ),
-    (
-        "data of a write",
-        BOTH,
-        8,
-        8,
-        GOOD,
-        DATA,
-        &[Pdu([0x2180_0000, 0, 0, 0, 2], [0, LAST, 5, 36, 0, 0, 0], b"")],
-    ),
-    (
-        "neither",
-        NEITHER,
-        0,
-        0,
-        GOOD,
-        b"",
-        &[Pdu([0x2180_0000, 0, 0, 0, 2], [0, LAST, 5, 36, 0, 0, 0], b"")],
-    ),
-    (
-        "data of neither",
-        NEITHER,
-        0,
-        0,
-        GOOD,
-        DATA,
-        &[Pdu([0x2184_0000, 0, 0, 0, 2], [0, LAST, 5, 36, 0, 0, 8], b"")],
-    ),
+    ToldWhole([0x2580_0000, 1, 0, 0, 2], [LAST, 0, 5, 36, 2, 1024, 0], "d"),
+    ToldWhole([0x2180_0002, 20, 0, 0, 2], [0, LAST, 5, 36, 3, 0, 0], SENSE),
+    Answered,
 ];
 
 /// The greatest StatSN.
@@ -323,9 +197,15 @@ fn sense_of(status: Status) -> Option<Sense> {
     }
 }
 
-/// The PDUs that answer a command, in segments of 512 bytes and bursts of 1,024.
-fn found(alloc: Global, row: &Answered) -> Result<Vec<u8>, Fail> {
-    let (_, kind, expected_data_transfer_length, handed_over, status, data, _) = *row;
+/// Adds the PDUs that answer a command, in segments of 512 bytes and bursts of 1,024.
+pub(super) fn add_answer(
+    out: &mut Vec<u8>,
+    kind: u8,
+    expected_data_transfer_length: u32,
+    handed_over: u32,
+    status: Status,
+    data: &[u8],
+) -> Result<(), Fail> {
     if data.len() > 1025 {
         return Err("too long".into());
     }
@@ -336,147 +216,79 @@ fn found(alloc: Global, row: &Answered) -> Result<Vec<u8>, Fail> {
         expected_data_transfer_length,
         handed_over,
     };
-    let sense = sense_of(status);
     let answer = UnitAnswer {
         status,
-        sense,
+        sense: sense_of(status),
         data,
     };
     let limits = TransferLimits::new(512, 1024);
-    let mut out = Vec::new(alloc);
-    write_command_answer(&mut out, limits, NUMBERS, command, &answer)?;
-    Ok(out)
-}
-
-fn assert_answers(rt: &impl Abort, alloc: Global, rows: &[Answered]) -> Result<(), Fail> {
-    for row in rows {
-        let found = found(alloc, row)?;
-        let expected = bytes_of(alloc, row.6)?;
-        assert_same(rt, found.as_slice(), expected.as_slice(), row.0);
-    }
+    write_command_answer(out, limits, NUMBERS, command, &answer)?;
     Ok(())
 }
 
-#[test]
-fn what_is_missing_or_over_is_told_with_each_status(rt: HostRuntime) -> Result<(), Fail> {
-    assert_answers(&rt, rt.alloc(), &ANSWERED)
-}
-
-/// 1,025 bytes, of which the initiator takes 512 at once. F ends the burst, and the data.
-const LONG: [Answered; 2] = [
-    (
-        "GOOD in the last of three",
-        READ,
-        1025,
-        0,
-        GOOD,
-        &[b'd'; 1025],
-        &[
-            Pdu([0x2500_0000, 512, 0, 0, 2], [LAST, 0, 5, 36, 0, 0, 0], b"d"),
-            Pdu(
-                [0x2580_0000, 512, 0, 0, 2],
-                [LAST, 0, 5, 36, 1, 512, 0],
-                b"d",
-            ),
-            Pdu(
-                [0x2581_0000, 1, 0, 0, 2],
-                [LAST, LAST, 5, 36, 2, 1024, 0],
-                b"d",
-            ),
-        ],
+pub(super) const ROWS: [Line; 35] = [
+    // INQUIRY data of 36 bytes, and TEST UNIT READY, which has none.
+    Begins("residuals are told in sessions: as much as is expected"),
+    LogsIn,
+    SentWhole(
+        [0x01C1_0000, 0, 0, 0, 2],
+        [36, 1, 1, 0x1200_0000, 0xFF00_0000, 0, 0],
+        "",
     ),
-    (
-        "CHECK CONDITION behind three",
-        READ,
-        1025,
-        0,
-        CHECKED,
-        &[b'd'; 1025],
-        &[
-            Pdu([0x2500_0000, 512, 0, 0, 2], [LAST, 0, 5, 36, 0, 0, 0], b"d"),
-            Pdu(
-                [0x2580_0000, 512, 0, 0, 2],
-                [LAST, 0, 5, 36, 1, 512, 0],
-                b"d",
-            ),
-            Pdu(
-                [0x2580_0000, 1, 0, 0, 2],
-                [LAST, 0, 5, 36, 2, 1024, 0],
-                b"d",
-            ),
-            Pdu([0x2180_0002, 20, 0, 0, 2], [0, LAST, 5, 36, 3, 0, 0], SENSE),
-        ],
+    ToldWith(
+        [0x2581_0000, 36, 2],
+        [0xFFFF_FFFF, 1, 2, 33],
+        "\x7F\0\x06\x02\x1F\0\0\0                            ",
     ),
+    Called("c\0\x12"),
+    Lost,
+    Closed,
+    Begins("residuals are told in sessions: more than is expected"),
+    LogsIn,
+    SentWhole(
+        [0x01C1_0000, 0, 0, 0, 2],
+        [5, 1, 1, 0x1200_0000, 0xFF00_0000, 0, 0],
+        "",
+    ),
+    ToldWhole(
+        [0x2585_0000, 5, 0, 0, 2],
+        [0xFFFF_FFFF, 1, 2, 33, 0, 0, 31],
+        "\x7F\0\x06\x02\x1F",
+    ),
+    Called("c\0\x12"),
+    Lost,
+    Closed,
+    Begins("residuals are told in sessions: the most that can be expected"),
+    LogsIn,
+    SentWhole(
+        [0x01C1_0000, 0, 0, 0, 2],
+        [0xFFFF_FFFF, 1, 1, 0x1200_0000, 0x0400_0000, 0, 0],
+        "",
+    ),
+    ToldWhole(
+        [0x2583_0000, 4, 0, 0, 2],
+        [0xFFFF_FFFF, 1, 2, 33, 0, 0, 0xFFFF_FFFB],
+        "\x7F\0\x06\x02",
+    ),
+    Called("c\0\x12"),
+    Lost,
+    Closed,
+    Begins("residuals are told in sessions: a read that fails"),
+    LogsIn,
+    Sent([0x01C1_0000, 0, 2], [8, 1, 1, 0]),
+    ToldWhole([0x2182_0002, 20, 0, 0, 2], [0, 1, 2, 33, 0, 0, 8], ANSWER),
+    Called("c\0\0"),
+    Lost,
+    Closed,
+    Begins("residuals are told in sessions: a write that is GOOD"),
+    LogsIn,
+    SentWhole(
+        [0x01A1_0000, 4, 0, 0, 2],
+        [4, 1, 1, 0x1200_0000, 0xFF00_0000, 0, 0],
+        "abcd",
+    ),
+    Told([0x2180_0000, 0, 2], [0, 1, 2, 33]),
+    Called("c\0\x12abcd"),
+    Lost,
+    Closed,
 ];
-
-#[test]
-fn long_data_go_out_in_segments_and_bursts(rt: HostRuntime) -> Result<(), Fail> {
-    assert_answers(&rt, rt.alloc(), &LONG)
-}
-
-/// INQUIRY data of 36 bytes, and TEST UNIT READY, which has none.
-const IN_SESSIONS: [Row; 5] = [
-    (
-        "as much as is expected",
-        &[Pdu(
-            [0x01C1_0000, 0, 0, 0, 2],
-            [36, 1, 1, 0x1200_0000, 0xFF00_0000, 0, 0],
-            b"",
-        )],
-        &[Pdu(
-            [0x2581_0000, 36, 0, 0, 2],
-            [0xFFFF_FFFF, 1, 2, 33, 0, 0, 0],
-            b"\x7F\0\x06\x02\x1F\0\0\0                            ",
-        )],
-        &[Call(b"c\0\x12", 1)],
-    ),
-    (
-        "more than is expected",
-        &[Pdu(
-            [0x01C1_0000, 0, 0, 0, 2],
-            [5, 1, 1, 0x1200_0000, 0xFF00_0000, 0, 0],
-            b"",
-        )],
-        &[Pdu(
-            [0x2585_0000, 5, 0, 0, 2],
-            [0xFFFF_FFFF, 1, 2, 33, 0, 0, 31],
-            b"\x7F\0\x06\x02\x1F",
-        )],
-        &[Call(b"c\0\x12", 1)],
-    ),
-    (
-        "the most that can be expected",
-        &[Pdu(
-            [0x01C1_0000, 0, 0, 0, 2],
-            [0xFFFF_FFFF, 1, 1, 0x1200_0000, 0x0400_0000, 0, 0],
-            b"",
-        )],
-        &[Pdu(
-            [0x2583_0000, 4, 0, 0, 2],
-            [0xFFFF_FFFF, 1, 2, 33, 0, 0, 0xFFFF_FFFB],
-            b"\x7F\0\x06\x02",
-        )],
-        &[Call(b"c\0\x12", 1)],
-    ),
-    (
-        "a read that fails",
-        &[Pdu([0x01C1_0000, 0, 0, 0, 2], [8, 1, 1, 0, 0, 0, 0], b"")],
-        &[Pdu([0x2182_0002, 20, 0, 0, 2], [0, 1, 2, 33, 0, 0, 8], ANSWER)],
-        &[Call(b"c\0\0", 1)],
-    ),
-    (
-        "a write that is GOOD",
-        &[Pdu(
-            [0x01A1_0000, 4, 0, 0, 2],
-            [4, 1, 1, 0x1200_0000, 0xFF00_0000, 0, 0],
-            b"abcd",
-        )],
-        &[Pdu([0x2180_0000, 0, 0, 0, 2], [0, 1, 2, 33, 0, 0, 0], b"")],
-        &[Call(b"c\0\x12abcd", 1)],
-    ),
-];
-
-#[test]
-fn residuals_are_told_in_sessions(rt: HostRuntime) -> Result<(), Fail> {
-    assert_rows_of_a_session(&rt, rt.alloc(), &IN_SESSIONS)
-}

@@ -175,6 +175,8 @@ pub(super) struct Served {
     pub(super) calls: Vec<u8>,
 }
 
+const PORTALS: [(&str, u16); 2] = [("0.0.0.0:3260", 1), ("10.0.0.2:3260", 2)];
+
 /// The host `iqn.a`.
 fn host(alloc: Global) -> Result<Host, Fail> {
     Ok(Host {
@@ -195,18 +197,16 @@ fn target(alloc: Global) -> Result<LoginTarget, Fail> {
     })
 }
 
-fn portal_address(alloc: Global, address: &str, group: u16) -> Result<PortalAddress, Fail> {
-    Ok(PortalAddress {
-        address: String::from_str(alloc, address)?,
-        group,
-    })
-}
-
 /// The portals of groups 1 and 2.
 fn portals(alloc: Global) -> Result<Vec<PortalAddress>, Fail> {
-    let first = portal_address(alloc, "0.0.0.0:3260", 1)?;
-    let second = portal_address(alloc, "10.0.0.2:3260", 2)?;
-    Ok(Vec::from_array(alloc, [first, second])?)
+    let mut portals = Vec::new(alloc);
+    for (address, group) in &PORTALS {
+        portals.push(PortalAddress {
+            address: String::from_str(alloc, address)?,
+            group: *group,
+        })?;
+    }
+    Ok(portals)
 }
 
 /// Serves what is sent in a scene, at the portal of group 1.

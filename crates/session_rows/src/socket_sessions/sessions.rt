@@ -1,13 +1,13 @@
 ghost use Rattle.std.specs.Prelude.{◌<◌};
 
 use super::assert_same;
+use super::streams::{Failing, Trickle};
 use kept_unit::Done;
 use scsi_nexus::Nexus;
-use session::{Directory, End, Service, SessionFault, Splitter, serve};
+use session::{Directory, End, Frame, Service, SessionFault, Splitter, serve};
 use std::alloc::Global;
-use std::io::{self, Read, Write};
+use std::io::{Read, Write};
 use std::process::Abort;
-use std::test::Fail;
 
 const A: Nexus = Nexus {
     sas: 0x5000_0000_0000_000A,
@@ -28,6 +28,10 @@ const ACCEPTED: &[u8] = b"\0\0\0\x02\x81\0";
 const REPLIES: &[u8] = b"\0\0\0\x02\x81\0\
     \0\0\0\x1d\x82\x02\x12\x70\0\x05\0\0\0\0\x0a\0\0\0\0\x25\0\0\0\0\0\0\0\0\0\0\0\0\0\
     \0\0\0\x01\x84";
+
+/// The first two replies.
+const TWO_REPLIES: &[u8] = b"\0\0\0\x02\x81\0\
+    \0\0\0\x1d\x82\x02\x12\x70\0\x05\0\0\0\0\x0a\0\0\0\0\x25\0\0\0\0\0\0\0\0\0\0\0\0\0";
 
 /// A service whose units are absent. It counts what was lost, and may have a session of the nexus already.
 #[derive(Drop)]
@@ -76,53 +80,19 @@ impl Service for Empty {
     fn logout(&mut self, _key: usize) {}
 }
 
-/// Gives its bytes one by one, and fails at one of its reads.
-#[derive(Drop)]
-struct Trickle<'a> {
-    bytes: &'a [u8],
-    reads: u64,
-    fails_at: u64,
-}
+/// What it shows, whether the nexus has a session already, a stream, which read of it fails, counted from 1, or 0 where none does, how the
+/// session must end, what it must be answered, and how often the nexus must be lost.
+type Row = (
+    &'static str,
+    bool,
+    &'static [u8],
+    u64,
+    Result<End, SessionFault>,
+    &'static [u8],
+    u64,
+);
 
-impl<'a> Read for Trickle<'a> {
-    fn read(&mut self, buffer: &mut [u8]) -> io::Result<usize> {
-        self.reads = self.reads.saturating_add(1);
-        if self.reads == self.fails_at {
-            return Err(io::Error::from(io::ErrorKind::BrokenPipe));
-        }
-        match (self.bytes.split_first(), buffer.first_mut()) {
-            (Some((byte, rest)), Some(first)) => {
-                *first = *byte;
-                self.bytes = rest;
-                Ok(1)
-            }
-            _ => Ok(0),
-        }
-    }
-}
-
-/// Takes writes up to one that fails.
-#[derive(Drop)]
-struct Failing {
-    writes: u64,
-    fails_at: u64,
-}
-
-impl Write for Failing {
-    fn write(&mut self, buffer: &[u8]) -> io::Result<usize> {
-        self.writes = self.writes.saturating_add(1);
-        if self.writes == self.fails_at {
-            return Err(io::Error::from(io::ErrorKind::BrokenPipe));
-        }
-        Ok(buffer.len())
-    }
-
-    fn flush(&mut self) -> io::Result<()> {
-        Ok(())
-    }
-}
-
-/// Serves a stream at a service: how it ends, and how often the nexus was lost.
+/// Serves a stream at a service: how that ends, and how often the nexus was lost.
 fn served<R: Read, W: Write>(
     alloc: Global,
     is_connected: bool,
@@ -138,165 +108,193 @@ fn served<R: Read, W: Write>(
     (ended, service.losses)
 }
 
-/// The same of a stream that comes byte by byte, and what it is answered.
-fn trickled(
-    alloc: Global,
-    bytes: &[u8],
-    fails_at: u64,
-) -> (Result<End, SessionFault>, u64, Vec<u8>) {
-    let mut reader = Trickle {
-        bytes,
-        reads: 0,
-        fails_at,
-    };
+/// Compares a session whose stream a reader gives, which is read so often at most.
+fn assert_read<R: Read>(rt: &impl Abort, alloc: Global, reader: &mut R, turns: u64, row: &Row) {
     let mut output = Vec::new(alloc);
-    let (ended, losses) = served(alloc, false, &mut reader, &mut output, 99);
-    (ended, losses, output)
+    let (ended, losses) = served(alloc, row.1, reader, &mut output, turns);
+    let found = (ended, output.as_slice(), losses);
+    assert_same(rt, found, (row.4, row.5, row.6), row.0);
 }
 
-/// The same of a stream that comes at once.
-fn poured(
-    alloc: Global,
-    is_connected: bool,
-    bytes: &[u8],
-    turns: u64,
-) -> (Result<End, SessionFault>, u64, Vec<u8>) {
-    let mut reader = bytes;
-    let mut output = Vec::new(alloc);
-    let (ended, losses) = served(alloc, is_connected, &mut reader, &mut output, turns);
-    (ended, losses, output)
-}
-
-/// How a session must end, what it must be answered, and how often the nexus must be lost.
-type Ending<'a> = (Result<End, SessionFault>, &'a [u8], u64);
-
-/// Serves a stream that comes at once, and one that comes byte by byte, and compares how each ends.
-fn assert_session(rt: &impl Abort, alloc: Global, input: &[u8], expected: Ending<'_>) {
-    let (ended, losses, output) = poured(alloc, false, input, 9);
-    assert_same(rt, (ended, output.as_slice(), losses), expected, "at once");
-    let (ended, losses, output) = trickled(alloc, input, 0);
-    assert_same(
-        rt,
-        (ended, output.as_slice(), losses),
-        expected,
-        "byte by byte",
-    );
-}
-
-#[test]
-fn serve_answers_login_test_unit_ready_and_logout(rt: HostRuntime) {
-    assert_session(&rt, rt.alloc(), ONE_SESSION, (Ok(End::Logout), REPLIES, 2));
-}
-
-#[test]
-fn serve_answers_a_reset_and_ends_without_logout(rt: HostRuntime) {
-    let input = b"\0\0\0\x0b\x01\x50\0\0\0\0\0\0\x0a\0\x01\0\0\0\x02\x03\0";
-    let replies = b"\0\0\0\x02\x81\0\0\0\0\x02\x83\x02".as_slice();
-    assert_session(&rt, rt.alloc(), input, (Ok(End::Closed), replies, 2));
-}
-
-/// The first two replies.
-const TWO_REPLIES: &[u8] = b"\0\0\0\x02\x81\0\
-    \0\0\0\x1d\x82\x02\x12\x70\0\x05\0\0\0\0\x0a\0\0\0\0\x25\0\0\0\0\0\0\0\0\0\0\0\0\0";
-
-/// How a prefix of a session ends, what it is answered, and whether the nexus is lost.
-fn end_of_prefix(length: usize) -> Ending<'static> {
-    let end = if length == 0 || length == 15 || length == 28 {
-        End::Closed
-    } else {
-        End::Cut
-    };
-    let (replies, losses) = if length < 15 {
-        (b"".as_slice(), 0)
-    } else if length < 28 {
-        (ACCEPTED, 2)
-    } else {
-        (TWO_REPLIES, 2)
-    };
-    (Ok(end), replies, losses)
-}
-
-/// Each proper prefix of a session ends within a frame or between two.
-#[test]
-fn serve_ends_each_prefix_of_a_session_closed_or_cut(rt: HostRuntime) {
-    for length in 0..ONE_SESSION.len() {
-        let prefix = &ONE_SESSION[..length];
-        assert_session(&rt, rt.alloc(), prefix, end_of_prefix(length));
+/// Compares a session whose stream comes byte by byte, and where no read fails another, whose stream comes all at once.
+fn assert_row(rt: &impl Abort, alloc: Global, row: &Row) {
+    if row.3 == 0 {
+        let mut at_once = row.2;
+        assert_read(rt, alloc, &mut at_once, 9, row);
     }
+    let mut reader = Trickle::new(row.2, row.3);
+    assert_read(rt, alloc, &mut reader, 99, row);
 }
+
+const READ: Result<End, SessionFault> = Err(SessionFault::Read);
+
+const WRITE: Result<End, SessionFault> = Err(SessionFault::Write);
 
 const BAD_FRAME: Result<End, SessionFault> = Err(SessionFault::BadFrame);
 
 const TOO_LONG: Result<End, SessionFault> = Err(SessionFault::TooLong);
 
-/// A LOGIN by target port 0.
-const PORT_0: &[u8] = b"\0\0\0\x0b\x01\x50\0\0\0\0\0\0\x0a\0\0";
+const REFUSED: Result<End, SessionFault> = Err(SessionFault::AlreadyConnected);
 
-const SECOND_LOGIN: &[u8] = b"\0\0\0\x0b\x01\x50\0\0\0\0\0\0\x0a\0\x01\0\0\0\x0b\x01";
-
-const LONG_CDB: &[u8] = b"\0\0\0\x0b\x01\x50\0\0\0\0\0\0\x0a\0\x01\0\0\0\x13\x02\0\x11";
-
-/// A stream, and how its session ends.
-type Invalid = (&'static [u8], Ending<'static>);
-
-const FAULTY: [Invalid; 6] = [
-    (b"\0\0\0\0", (BAD_FRAME, b"", 0)),
-    (b"\0\x02\0\x01", (TOO_LONG, b"", 0)),
-    (b"\0\0\0\x05\x09", (BAD_FRAME, b"", 0)),
-    (PORT_0, (BAD_FRAME, b"", 0)),
-    (SECOND_LOGIN, (BAD_FRAME, ACCEPTED, 2)),
-    (LONG_CDB, (BAD_FRAME, ACCEPTED, 2)),
+const ROWS: [Row; 3] = [
+    (
+        "serve answers login, test unit ready and logout",
+        false,
+        ONE_SESSION,
+        0,
+        Ok(End::Logout),
+        REPLIES,
+        2,
+    ),
+    (
+        "serve answers a reset and ends without logout",
+        false,
+        b"\0\0\0\x0b\x01\x50\0\0\0\0\0\0\x0a\0\x01\0\0\0\x02\x03\0",
+        0,
+        Ok(End::Closed),
+        b"\0\0\0\x02\x81\0\0\0\0\x02\x83\x02",
+        2,
+    ),
+    (
+        "login of a nexus with a session is refused",
+        true,
+        ONE_SESSION,
+        0,
+        REFUSED,
+        b"\0\0\0\x02\x81\x01",
+        0,
+    ),
 ];
 
-#[test]
-fn serve_stops_at_the_first_fault_of_a_stream(rt: HostRuntime) {
-    for row in &FAULTY {
-        let (input, expected) = *row;
-        assert_session(&rt, rt.alloc(), input, expected);
+/// Streams with a fault.
+const FAULTY: [Row; 6] = [
+    (
+        "serve stops at the first fault of a stream: no body",
+        false,
+        b"\0\0\0\0",
+        0,
+        BAD_FRAME,
+        b"",
+        0,
+    ),
+    (
+        "serve stops at the first fault of a stream: a body that is too long",
+        false,
+        b"\0\x02\0\x01",
+        0,
+        TOO_LONG,
+        b"",
+        0,
+    ),
+    (
+        "serve stops at the first fault of a stream: no frame",
+        false,
+        b"\0\0\0\x05\x09",
+        0,
+        BAD_FRAME,
+        b"",
+        0,
+    ),
+    (
+        "serve stops at the first fault of a stream: a LOGIN by target port 0",
+        false,
+        b"\0\0\0\x0b\x01\x50\0\0\0\0\0\0\x0a\0\0",
+        0,
+        BAD_FRAME,
+        b"",
+        0,
+    ),
+    (
+        "serve stops at the first fault of a stream: a second LOGIN",
+        false,
+        b"\0\0\0\x0b\x01\x50\0\0\0\0\0\0\x0a\0\x01\0\0\0\x0b\x01",
+        0,
+        BAD_FRAME,
+        ACCEPTED,
+        2,
+    ),
+    (
+        "serve stops at the first fault of a stream: a CDB that is too long",
+        false,
+        b"\0\0\0\x0b\x01\x50\0\0\0\0\0\0\x0a\0\x01\0\0\0\x13\x02\0\x11",
+        0,
+        BAD_FRAME,
+        ACCEPTED,
+        2,
+    ),
+];
+
+/// What is answered behind so many bytes of a session, and how often the nexus is lost.
+fn told_of(length: usize) -> (&'static [u8], u64) {
+    if length < 15 {
+        (b"", 0)
+    } else if length < 28 {
+        (ACCEPTED, 2)
+    } else {
+        (TWO_REPLIES, 2)
     }
 }
 
-/// How a session ends a read of which fails, and how often the nexus was lost.
-fn read_in_vain(alloc: Global, fails_at: u64) -> (Result<End, SessionFault>, u64) {
-    let (ended, losses, _) = trickled(alloc, ONE_SESSION, fails_at);
-    (ended, losses)
-}
-
-/// How a session ends that is read once, and how often the nexus was lost.
-fn read_once(alloc: Global) -> (Result<End, SessionFault>, u64) {
-    let (ended, losses, _) = poured(alloc, false, LOGIN, 1);
-    (ended, losses)
-}
-
-/// A read that fails at each place, and one read too few, end a session as its input's fault.
-#[test]
-fn serve_ends_by_a_read_that_fails(rt: HostRuntime) {
-    for fails_at in 1..34 {
-        let losses = if fails_at < 16 { 0 } else { 2 };
-        let found = read_in_vain(rt.alloc(), fails_at);
-        assert_same(
-            &rt,
-            found,
-            (Err(SessionFault::Read), losses),
-            "a read fails",
-        );
+/// How a session ends whose stream has so many bytes: between two frames, or within one.
+fn end_of(length: usize) -> End {
+    match length {
+        0 | 15 | 28 => End::Closed,
+        _ => End::Cut,
     }
-    let found = read_once(rt.alloc());
-    assert_same(&rt, found, (Err(SessionFault::Read), 2), "one read too few");
 }
+
+/// The stream ends, or a read fails, behind so many bytes of a session.
+fn assert_end_behind(rt: &impl Abort, alloc: Global, length: usize) {
+    let (prefix, _) = ONE_SESSION.split_at(length.min(ONE_SESSION.len()));
+    let (replies, losses) = told_of(length);
+    let cut = (
+        "serve ends each prefix of a session closed or cut",
+        false,
+        prefix,
+        0,
+        Ok(end_of(length)),
+        replies,
+        losses,
+    );
+    let failed = (
+        "serve ends by a read that fails",
+        false,
+        ONE_SESSION,
+        (length as u64).saturating_add(1),
+        READ,
+        replies,
+        losses,
+    );
+    assert_row(rt, alloc, &cut);
+    assert_row(rt, alloc, &failed);
+}
+
+const ONE_READ: Row = (
+    "serve ends by a read that fails: one read too few",
+    false,
+    LOGIN,
+    0,
+    READ,
+    ACCEPTED,
+    2,
+);
 
 /// How a session ends whose writes fail from one on, and how often the nexus was lost.
 fn cut_off(alloc: Global, fails_at: u64) -> (Result<End, SessionFault>, u64) {
-    let mut reader = Trickle {
-        bytes: ONE_SESSION,
-        reads: 0,
-        fails_at: 0,
-    };
-    let mut writer = Failing {
-        writes: 0,
-        fails_at,
-    };
-    served(alloc, false, &mut reader, &mut writer, 99)
+    let mut reader = Trickle::new(ONE_SESSION, 0);
+    served(alloc, false, &mut reader, &mut Failing::new(fails_at), 99)
+}
+
+#[test]
+fn serve_does_what_rows_say(rt: HostRuntime) {
+    for row in &ROWS {
+        assert_row(&rt, rt.alloc(), row);
+    }
+    for length in 0..ONE_SESSION.len() {
+        assert_end_behind(&rt, rt.alloc(), length);
+    }
+    let mut reader = LOGIN;
+    assert_read(&rt, rt.alloc(), &mut reader, 1, &ONE_READ);
 }
 
 /// A write that fails ends a session, and the nexus is lost all the same.
@@ -304,79 +302,87 @@ fn cut_off(alloc: Global, fails_at: u64) -> (Result<End, SessionFault>, u64) {
 fn serve_loses_the_nexus_where_a_write_fails(rt: HostRuntime) {
     for fails_at in 1..4 {
         let found = cut_off(rt.alloc(), fails_at);
-        assert_same(&rt, found, (Err(SessionFault::Write), 2), "a write fails");
+        assert_same(&rt, found, (WRITE, 2), "a write fails");
     }
 }
 
-#[test]
-fn login_of_a_nexus_with_a_session_is_refused(rt: HostRuntime) {
-    let (ended, losses, output) = poured(rt.alloc(), true, ONE_SESSION, 9);
-    let refused = Err(SessionFault::AlreadyConnected);
-    let reply = b"\0\0\0\x02\x81\x01".as_slice();
-    let found = (ended, output.as_slice(), losses);
-    assert_same(&rt, found, (refused, reply, 0), "a second session");
+/// How a second session of A is refused, whether another nexus has another key, and whether A has its key again behind a logout.
+type Keys = (Option<SessionFault>, bool, bool);
+
+const KEYS: Keys = (Some(SessionFault::AlreadyConnected), true, true);
+
+fn keys_of(directory: &mut Directory) -> Result<Keys, SessionFault> {
+    let key = directory.login(A)?;
+    let again = directory.login(A).err();
+    let other = directory.login(Nexus { port: 2, ..A })?;
+    directory.logout(key);
+    Ok((again, key != other, directory.login(A)? == key))
 }
 
 #[test]
-fn logout_frees_a_nexus_of_the_directory(rt: HostRuntime) -> Result<(), Fail> {
+fn logout_frees_a_nexus_of_the_directory(rt: HostRuntime) {
     let mut directory = Directory::new(rt.alloc());
-    let key = directory.login(A)?;
-    let again = directory.login(A).err();
-    let refused = Some(SessionFault::AlreadyConnected);
-    assert_same(&rt, again, refused, "a second session");
-    let other = directory.login(Nexus { port: 2, ..A })?;
-    assert_same(&rt, key != other, true, "another key");
-    directory.logout(key);
-    assert_same(&rt, directory.login(A).ok(), Some(key), "the key again");
-    Ok(())
+    let shows = "a second session, another key, and the key again";
+    assert_same(&rt, keys_of(&mut directory), Ok(KEYS), shows);
 }
 
 /// What is shown of the frames of a session.
 const FRAMES: &str = "[Login { nexus: Nexus { sas: 5764607523034234890, port: 1 } }, \
     Command { lun: 0, cdb: [0, 0, 0, 0, 0, 0], bytes: [] }, Logout]";
 
-/// Feeds the session to a splitter in pieces of a length, and compares the frames.
-fn assert_split(rt: &impl Abort, alloc: Global, length: usize) -> Result<(), Fail>
+/// Feeds the session to a splitter in pieces of a length.
+fn split(alloc: Global, length: usize, frames: &mut Vec<Frame>) -> Result<(), SessionFault>
     requires { 0 < length }
 {
     let mut splitter = Splitter::new(alloc);
-    let mut frames = Vec::new(alloc);
     for piece in ONE_SESSION.chunks(length) {
-        splitter.feed(piece, &mut frames)?;
+        splitter.feed(piece, frames)?;
     }
-    let shown = format!(in alloc; "{frames:?}")?;
-    assert_same(rt, shown.as_str(), FRAMES, "the frames");
     Ok(())
+}
+
+fn assert_split(rt: &impl Abort, alloc: Global, length: usize)
+    requires { 0 < length }
+{
+    let mut frames = Vec::new(alloc);
+    let fed = split(alloc, length, &mut frames);
+    assert_same(rt, fed, Ok(()), "no fault");
+    match format!(in alloc; "{frames:?}") {
+        Ok(shown) => assert_same(rt, shown.as_str(), FRAMES, "the frames"),
+        Err(_) => assert_same(rt, "want of memory", FRAMES, "the frames"),
+    }
 }
 
 /// A session has the same frames in pieces of any length.
 #[test]
-fn splitter_gives_the_same_frames_in_pieces_of_any_length(rt: HostRuntime) -> Result<(), Fail> {
+fn splitter_gives_the_same_frames_in_pieces_of_any_length(rt: HostRuntime) {
     for length in 1..34 {
-        assert_split(&rt, rt.alloc(), length)?;
+        assert_split(&rt, rt.alloc(), length);
     }
-    Ok(())
 }
 
-/// Feeds a faulty stream to a splitter and then a session, and compares the fault, which comes at both, and how many frames there
-/// are.
-fn assert_stuck(rt: &impl Abort, alloc: Global, input: &[u8], fault: SessionFault, frames: usize) {
+/// Feeds a faulty stream to a splitter and then a session: the fault at each, and how many frames there are.
+fn stuck(alloc: Global, stream: &[u8]) -> (Option<SessionFault>, Option<SessionFault>, usize) {
     let mut splitter = Splitter::new(alloc);
-    let mut split = Vec::new(alloc);
-    for piece in [input, ONE_SESSION] {
-        let found = splitter.feed(piece, &mut split).err();
-        assert_same(rt, found, Some(fault), "the fault");
-    }
-    assert_same(rt, split.len(), frames, "frames");
+    let mut frames = Vec::new(alloc);
+    let first = splitter.feed(stream, &mut frames).err();
+    let second = splitter.feed(ONE_SESSION, &mut frames).err();
+    (first, second, frames.len())
 }
 
-/// A fault comes behind the frames before it, and again at each later piece.
+/// A LOGIN stands before some faults.
+fn assert_stuck(rt: &impl Abort, alloc: Global, row: &Row) {
+    let fault = row.4.err();
+    let expected = (fault, fault, usize::from(row.6 > 0));
+    let shows = "splitter repeats its fault";
+    assert_same(rt, stuck(alloc, row.2), expected, shows);
+}
+
+/// Serve stops at the first fault of a stream. In a splitter a fault comes behind the frames before it, and again at each later piece.
 #[test]
-fn splitter_repeats_its_fault(rt: HostRuntime) {
+fn faults_of_a_stream_stop_what_follows(rt: HostRuntime) {
     for row in &FAULTY {
-        let (input, (end, _, losses)) = *row;
-        if let Err(fault) = end {
-            assert_stuck(&rt, rt.alloc(), input, fault, usize::from(losses > 0));
-        }
+        assert_row(&rt, rt.alloc(), row);
+        assert_stuck(&rt, rt.alloc(), row);
     }
 }
