@@ -20,7 +20,6 @@ use scenes::{SCENES, plan_at};
 use std::process::Abort;
 use std::sync::Wait;
 use std::sync::atomic::Ordering;
-use std::test::Fail;
 use std::thread::Threads;
 use std::time::Clock;
 
@@ -37,7 +36,7 @@ fn play<R: Abort + AllocGlobal + Clock + Threads + Wait + Sync>(
     rt: &R,
     clock: &HostRuntime,
     scene: usize,
-) -> Result<(), Fail> {
+) {
     let plan = plan_at(scene);
     let flags = Flags::new();
     let gate = TestGate {
@@ -45,15 +44,13 @@ fn play<R: Abort + AllocGlobal + Clock + Threads + Wait + Sync>(
         flags: &flags,
         holds: plan.holds,
     };
-    run(rt, rt.alloc(), gate, &flags, scene)?;
+    run(rt, rt.alloc(), gate, &flags, scene);
     assert_gate(rt, &flags, &plan);
-    Ok(())
 }
 
 #[test]
-fn scenes_at_a_library_leave_what_they_must(rt: HostRuntime) -> Result<(), Fail> {
+fn scenes_at_a_library_leave_what_they_must(rt: HostRuntime) {
     for scene in 0..SCENES.len() {
-        play(&rt, &rt, scene)?;
+        play(&rt, &rt, scene);
     }
-    Ok(())
 }

@@ -2,7 +2,6 @@ use crate::comparing::{assert_list, assert_same};
 use crate::trickle::Trickle;
 use std::alloc::{AllocError, Global};
 use std::process::Abort;
-use std::test::Fail;
 use tape_image::{
     ImageEnd, ImageFault, ImagePart, ImageReader, IndexFault, IndexedObject, index_image,
     write_block, write_mark,
@@ -35,23 +34,24 @@ fn push_part(image: &ImageReader, objects: &mut Vec<(u64, usize)>) -> Result<(),
 
 /// Adds what a reader of an image gives, a line for each object, and says how the image ends.
 fn told(
+    rt: &impl Abort,
     alloc: Global,
     bytes: &[u8],
     objects: &mut Vec<(u64, usize)>,
-) -> Result<Option<ImageEnd>, Fail> {
+) -> Option<ImageEnd> {
     let mut reader = trickle(bytes);
-    let mut image = ImageReader::new(alloc)?;
+    let mut image = ImageReader::new(alloc).expect(rt, "memory");
     for _ in 0..200 {
         if image.await_part(&mut reader).is_err() {
             continue;
         }
         if image.end().is_some() {
-            return Ok(image.end());
+            return image.end();
         }
-        push_part(&image, objects)?;
-        image.pass()?;
+        push_part(&image, objects).expect(rt, "memory");
+        image.pass().expect(rt, "an object");
     }
-    Ok(None)
+    None
 }
 
 /// Compares what is told of the first so many bytes of the image.
@@ -62,13 +62,12 @@ fn assert_told(
     objects: &[(u64, usize)],
     end: ImageEnd,
     shows: &'static str,
-) -> Result<(), Fail> {
+) {
     let mut found = Vec::new(alloc);
     let (bytes, _) = IMAGE.split_at(length.min(IMAGE.len()));
-    let ended = told(alloc, bytes, &mut found)?;
+    let ended = told(rt, alloc, bytes, &mut found);
     assert_list(rt, &found, objects, shows);
     assert_same(rt, ended, Some(end), shows);
-    Ok(())
 }
 
 /// Writes "hi", a filemark and "odd".
@@ -79,13 +78,12 @@ fn write_image(image: &mut Vec<u8>) -> Result<(), AllocError> {
 }
 
 #[test]
-fn an_image_is_written_as_simh_keeps_it(rt: HostRuntime) -> Result<(), Fail> {
-    let mut image = Vec::with_capacity(rt.alloc(), IMAGE.len())?;
+fn an_image_is_written_as_simh_keeps_it(rt: HostRuntime) {
+    let mut image = Vec::with_capacity(rt.alloc(), IMAGE.len()).expect(&rt, "memory");
     let room = image.capacity();
-    write_image(&mut image)?;
+    write_image(&mut image).expect(&rt, "memory");
     assert_list(&rt, image.as_slice(), IMAGE, "as SIMH keeps it");
     assert_same(&rt, image.capacity(), room, "in the room for it");
-    Ok(())
 }
 
 const OBJECTS: [(u64, usize); 3] = [(0, 2), (10, 0), (14, 3)];
@@ -95,21 +93,18 @@ const WHOLE_OBJECTS: [(u64, usize); 2] = [(0, 2), (10, 0)];
 const WHOLE: ImageEnd = ImageEnd::WholeEnd { whole: 26 };
 
 /// A tail that was cut is told at each place.
-fn assert_cuts(rt: &impl Abort, alloc: Global) -> Result<(), Fail> {
+fn assert_cuts(rt: &impl Abort, alloc: Global) {
     for length in 15..26usize {
         let lost = length as u64 - 14;
         let cut = ImageEnd::CutTail { whole: 14, lost };
-        assert_told(rt, alloc, length, &WHOLE_OBJECTS, cut, "what a cut leaves")?;
+        assert_told(rt, alloc, length, &WHOLE_OBJECTS, cut, "what a cut leaves");
     }
-    Ok(())
 }
 
 #[test]
-fn an_image_is_read_object_by_object_though_reads_are_interrupted(
-    rt: HostRuntime,
-) -> Result<(), Fail> {
-    assert_told(&rt, rt.alloc(), 26, &OBJECTS, WHOLE, "three objects")?;
-    assert_cuts(&rt, rt.alloc())
+fn an_image_is_read_object_by_object_though_reads_are_interrupted(rt: HostRuntime) {
+    assert_told(&rt, rt.alloc(), 26, &OBJECTS, WHOLE, "three objects");
+    assert_cuts(&rt, rt.alloc());
 }
 
 /// A gap, the image, and the beginning of a record of an unknown class.
@@ -133,22 +128,18 @@ const FAULT: ImageEnd = ImageEnd::Faulty {
     whole: 30,
 };
 
-#[test]
-fn an_index_has_each_object_before_a_fault(rt: HostRuntime) -> Result<(), Fail> {
-    let mut bytes = FAULTY;
-    let index = index_image(rt.alloc(), &mut bytes)?;
-    assert_list(&rt, &index.objects, &BEFORE_A_FAULT, "behind a gap");
-    assert_same(&rt, index.end, FAULT, "the fault");
-    Ok(())
-}
-
 /// How an index fails, which takes an interrupted read for one that failed.
 fn fault_of_a_read(alloc: Global) -> Option<IndexFault> {
     index_image(alloc, &mut trickle(IMAGE)).err()
 }
 
 #[test]
-fn an_image_whose_read_fails_has_no_index(rt: HostRuntime) {
+fn an_index_has_each_object_before_a_fault(rt: HostRuntime) {
+    let mut bytes = FAULTY;
+    let index = index_image(rt.alloc(), &mut bytes).expect(&rt, "an index");
+    assert_list(&rt, &index.objects, &BEFORE_A_FAULT, "behind a gap");
+    assert_same(&rt, index.end, FAULT, "the fault");
     let is_of_a_read = matches!(fault_of_a_read(rt.alloc()), Some(IndexFault::Read));
-    assert_same(&rt, is_of_a_read, true, "the read failed");
+    let shows = "an image whose read fails has no index";
+    assert_same(&rt, is_of_a_read, true, shows);
 }

@@ -2,7 +2,6 @@ use crate::comparing::{assert_list, assert_same};
 use crate::media::failing_store::FailingStore;
 use std::alloc::Global;
 use std::process::Abort;
-use std::test::Fail;
 use tape_flush::{
     FlushFault, ImageFile, ImageStore, MemoryStore, OpenFault, OpenedImage, StoreFault, TapePart,
     open_image,
@@ -118,23 +117,24 @@ enum Act {
 }
 
 /// A file in memory of which one call fails, counted from 1, or none.
-fn store_of(alloc: Global, bytes: &[u8], fails_at: u32) -> Result<FailingStore, Fail> {
-    Ok(FailingStore {
-        bytes: Vec::from_slice(alloc, bytes)?,
+fn store_of(rt: &impl Abort, alloc: Global, bytes: &[u8], fails_at: u32) -> FailingStore {
+    FailingStore {
+        bytes: Vec::from_slice(alloc, bytes).expect(rt, "memory"),
         calls: 0,
         fails_at,
-    })
+    }
 }
 
 /// Opens a file that has some bytes. The cut is its first call.
 fn open(
+    rt: &impl Abort,
     alloc: Global,
     mut bytes: &[u8],
     fails_at: u32,
-) -> Result<Result<OpenedImage<FailingStore>, OpenFault>, Fail> {
-    let store = store_of(alloc, bytes, fails_at)?;
-    let index = index_image(alloc, &mut bytes)?;
-    Ok(open_image(alloc, store, &index))
+) -> Result<OpenedImage<FailingStore>, OpenFault> {
+    let store = store_of(rt, alloc, bytes, fails_at);
+    let index = index_image(alloc, &mut bytes).expect(rt, "an index");
+    open_image(alloc, store, &index)
 }
 
 fn write_object(tape: &mut Tape, object: &[u8]) -> Result<(), FlushFault> {
@@ -204,11 +204,10 @@ fn assert_read(
     objects: &[IndexedObject],
     end: ImageEnd,
     shows: &'static str,
-) -> Result<(), Fail> {
-    let index = index_image(alloc, &mut bytes)?;
+) {
+    let index = index_image(alloc, &mut bytes).expect(rt, "an index");
     assert_list(rt, &index.objects, objects, shows);
     assert_same(rt, index.end, end, shows);
-    Ok(())
 }
 
 /// What is shown, what is done, what comes of it, how many objects are known to be in the image then, how many the tape has, how many
@@ -252,34 +251,27 @@ impl Scene {
         )
     }
 
-    fn assert_file(
-        &self,
-        rt: &impl Abort,
-        alloc: Global,
-        file: File,
-        shows: &'static str,
-    ) -> Result<(), Fail> {
+    fn assert_file(&self, rt: &impl Abort, alloc: Global, file: File, shows: &'static str) {
         let bytes = self.image.store().bytes.as_slice();
         assert_list(rt, bytes, bytes_of(file), shows);
-        assert_read(rt, alloc, bytes, objects_of(file), end_of(file), shows)
+        assert_read(rt, alloc, bytes, objects_of(file), end_of(file), shows);
     }
 
-    fn go_on(&mut self, rt: &impl Abort, alloc: Global, row: Row) -> Result<(), Fail> {
+    fn go_on(&mut self, rt: &impl Abort, alloc: Global, row: Row) {
         let (shows, act, told, counts, file) = row;
         if let Act::Open(fails_at, lost) = act {
-            *self = scene_of(rt, alloc, bytes_of(file), fails_at, lost)?;
-            return Ok(());
+            *self = scene_of(rt, alloc, bytes_of(file), fails_at, lost);
+            return;
         }
         let found = (self.act(alloc, act), self.counts());
         assert_same(rt, found, (told, counts), shows);
-        self.assert_file(rt, alloc, file, shows)
+        self.assert_file(rt, alloc, file, shows);
     }
 
-    fn assert_rows(&mut self, rt: &impl Abort, alloc: Global) -> Result<(), Fail> {
+    fn assert_rows(&mut self, rt: &impl Abort, alloc: Global) {
         for row in &ROWS {
-            self.go_on(rt, alloc, *row)?;
+            self.go_on(rt, alloc, *row);
         }
-        Ok(())
     }
 }
 
@@ -415,37 +407,30 @@ const ROWS: [Row; 20] = [
 ];
 
 /// An empty tape, and an image in a file that has some bytes, of which so many are lost.
-fn scene_of(
-    rt: &impl Abort,
-    alloc: Global,
-    bytes: &[u8],
-    fails_at: u32,
-    lost: u64,
-) -> Result<Scene, Fail> {
-    let opened = open(alloc, bytes, fails_at)??;
+fn scene_of(rt: &impl Abort, alloc: Global, bytes: &[u8], fails_at: u32, lost: u64) -> Scene {
+    let opened = open(rt, alloc, bytes, fails_at).expect(rt, "an image");
     assert_same(rt, opened.lost, lost, "what is lost");
-    Ok(Scene {
+    Scene {
         image: opened.image,
         tape: Tape::new(alloc, 2_000_000),
-    })
+    }
 }
 
 #[test]
-fn tapes_and_their_images_do_what_rows_say(rt: HostRuntime) -> Result<(), Fail> {
-    let mut scene = scene_of(&rt, rt.alloc(), &[], 0, 0)?;
-    scene.assert_rows(&rt, rt.alloc())
+fn tapes_and_their_images_do_what_rows_say(rt: HostRuntime) {
+    let mut scene = scene_of(&rt, rt.alloc(), &[], 0, 0);
+    scene.assert_rows(&rt, rt.alloc());
 }
 
 #[test]
-fn an_image_with_a_fault_is_left_as_it_is(rt: HostRuntime) -> Result<(), Fail> {
+fn an_image_with_a_fault_is_left_as_it_is(rt: HostRuntime) {
     let fault = OpenFault::Faulty {
         fault: ImageFault::UnknownClass,
         objects: 1,
         whole: 4,
     };
-    let refused = open(rt.alloc(), &[0, 0, 0, 0, 2, 0, 0, 0x80], 0)?.err();
+    let refused = open(&rt, rt.alloc(), &[0, 0, 0, 0, 2, 0, 0, 0x80], 0).err();
     assert_same(&rt, refused, Some(fault), "a record of an unknown class");
-    Ok(())
 }
 
 /// Writes 16 blocks of 65,536 bytes.
@@ -530,13 +515,13 @@ const SIXTEEN: [IndexedObject; 16] = [
 ];
 
 #[test]
-fn more_than_a_part_is_written_in_parts(rt: HostRuntime) -> Result<(), Fail> {
+fn more_than_a_part_is_written_in_parts(rt: HostRuntime) {
     let alloc = rt.alloc();
-    let mut scene = scene_of(&rt, alloc, &[], 0, 0)?;
+    let mut scene = scene_of(&rt, alloc, &[], 0, 0);
     assert_same(&rt, flush_large(alloc, &mut scene), Ok(()), "it is written");
     let bytes = scene.image.store().bytes.as_slice();
     let end = ImageEnd::WholeEnd { whole: 1_048_704 };
-    assert_read(&rt, alloc, bytes, &SIXTEEN, end, "sixteen blocks")
+    assert_read(&rt, alloc, bytes, &SIXTEEN, end, "sixteen blocks");
 }
 
 /// Cuts a store back to two bytes, and appends one.
@@ -547,11 +532,10 @@ fn cut_and_append(store: &mut MemoryStore) -> Result<(), StoreFault> {
 }
 
 #[test]
-fn a_file_in_memory_is_cut_back_and_written_on(rt: HostRuntime) -> Result<(), Fail> {
+fn a_file_in_memory_is_cut_back_and_written_on(rt: HostRuntime) {
     let mut store = MemoryStore {
-        bytes: Vec::from_slice(rt.alloc(), b"hello")?,
+        bytes: Vec::from_slice(rt.alloc(), b"hello").expect(&rt, "memory"),
     };
     assert_same(&rt, cut_and_append(&mut store), Ok(()), "all is done");
     assert_list(&rt, store.bytes.as_slice(), b"hey", "what it holds");
-    Ok(())
 }

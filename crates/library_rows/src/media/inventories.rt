@@ -7,7 +7,6 @@ use media_folder::{InventoryKey, ReadFault, VolumeFault, read_inventory, write_i
 use program_options::GivenLibrary;
 use std::alloc::Global;
 use std::process::Abort;
-use std::test::Fail;
 use tape_medium::VolumeTag;
 
 const SIZE: LibrarySize = LibrarySize {
@@ -30,35 +29,39 @@ tag = \"A-1_b\"
 data_transfer = 0
 ";
 
-fn tag(name: &str) -> Result<VolumeTag, Fail> {
-    Ok(tag_of_name(name).ok_or("no name")?)
+fn tag(rt: &impl Abort, name: &str) -> VolumeTag {
+    tag_of_name(name).expect(rt, "a name")
 }
 
-fn volume(name: &str, element: Element) -> Result<PlacedVolume, Fail> {
-    Ok(PlacedVolume {
-        tag: tag(name)?,
+fn volume(rt: &impl Abort, name: &str, element: Element) -> PlacedVolume {
+    PlacedVolume {
+        tag: tag(rt, name),
         element,
-    })
+    }
 }
 
 /// A volume by its name, and where it lies.
 type Named = (&'static str, Element);
 
-fn volumes(alloc: Global, named: &[Named]) -> Result<Vec<PlacedVolume>, Fail> {
+fn volumes(rt: &impl Abort, alloc: Global, named: &[Named]) -> Vec<PlacedVolume> {
     let mut volumes = Vec::new(alloc);
-    for (name, element) in named {
-        volumes.push(volume(name, *element)?)?;
+    for row in named {
+        let (name, element) = *row;
+        volumes.push(volume(rt, name, element)).expect(rt, "memory");
     }
-    Ok(volumes)
+    volumes
 }
 
 /// An inventory with volumes.
-fn inventory(alloc: Global, named: &[Named]) -> Result<Inventory, Fail> {
+fn inventory(rt: &impl Abort, alloc: Global, named: &[Named]) -> Inventory {
     let mut inventory = Inventory::new(alloc, SIZE);
-    for (name, element) in named {
-        inventory.add(volume(name, *element)?)?;
+    for row in named {
+        let (name, element) = *row;
+        inventory
+            .add(volume(rt, name, element))
+            .expect(rt, "a volume that fits");
     }
-    Ok(inventory)
+    inventory
 }
 
 /// The volumes of the text.
@@ -67,24 +70,16 @@ const WRITTEN: &[Named] = &[
     ("A-1_b", Element::DataTransfer(0)),
 ];
 
-fn assert_written(rt: &impl Abort, alloc: Global, inventory: &Inventory) -> Result<(), Fail> {
-    let text = write_inventory(alloc, inventory)?;
-    assert_list(rt, text.as_bytes(), TEXT.as_bytes(), "what is written");
-    Ok(())
+fn assert_written(rt: &impl Abort, alloc: Global, inventory: &Inventory) {
+    let text = write_inventory(alloc, inventory).expect(rt, "a text");
+    let shows = "what is written is read back: what is written";
+    assert_list(rt, text.as_bytes(), TEXT.as_bytes(), shows);
 }
 
-fn assert_read(rt: &impl Abort, alloc: Global, inventory: &Inventory) -> Result<(), Fail> {
-    let back = read_inventory(alloc, TEXT)?;
+fn assert_read(rt: &impl Abort, alloc: Global, inventory: &Inventory) {
+    let back = read_inventory(alloc, TEXT).expect(rt, "an inventory");
     assert_same(rt, back.size(), SIZE, "the size");
     assert_list(rt, back.volumes(), inventory.volumes(), "the volumes");
-    Ok(())
-}
-
-#[test]
-fn what_is_written_is_read_back(rt: HostRuntime) -> Result<(), Fail> {
-    let inventory = inventory(rt.alloc(), WRITTEN)?;
-    assert_written(&rt, rt.alloc(), &inventory)?;
-    assert_read(&rt, rt.alloc(), &inventory)
 }
 
 const SIZE_TEXT: &str = "version = 1\ndrives = 1\nslots = 4\nportals = 1\n";
@@ -163,25 +158,29 @@ const WRONG: [Wrong; 10] = [
 ];
 
 /// What is wrong with a text, if something is.
-fn fault_in(alloc: Global, parts: [&str; 3]) -> Result<Option<ReadFault>, Fail> {
+fn fault_in(rt: &impl Abort, alloc: Global, parts: [&str; 3]) -> Option<ReadFault> {
     let mut text = String::new(alloc);
     for part in &parts {
-        text.push_str(part)?;
+        text.push_str(part).expect(rt, "memory");
     }
-    Ok(read_inventory(alloc, text.as_str()).err())
+    read_inventory(alloc, text.as_str()).err()
 }
 
-fn assert_wrong(rt: &impl Abort, alloc: Global, rows: &[Wrong]) -> Result<(), Fail> {
-    for (first, second, third, fault) in rows {
-        let told = fault_in(alloc, [*first, *second, *third])?;
-        assert_same(rt, told, Some(*fault), *first);
+/// A text that is wrong is refused with what is wrong.
+fn assert_wrong(rt: &impl Abort, alloc: Global, rows: &[Wrong]) {
+    for row in rows {
+        let (first, second, third, fault) = *row;
+        let told = fault_in(rt, alloc, [first, second, third]);
+        assert_same(rt, told, Some(fault), first);
     }
-    Ok(())
 }
 
 #[test]
-fn a_text_that_is_wrong_is_refused_with_what_is_wrong(rt: HostRuntime) -> Result<(), Fail> {
-    assert_wrong(&rt, rt.alloc(), &WRONG)
+fn inventories_are_written_and_read_as_rows_say(rt: HostRuntime) {
+    let inventory = inventory(&rt, rt.alloc(), WRITTEN);
+    assert_written(&rt, rt.alloc(), &inventory);
+    assert_read(&rt, rt.alloc(), &inventory);
+    assert_wrong(&rt, rt.alloc(), &WRONG);
 }
 
 const OTHER_SLOTS: StartFault = StartFault::Disagrees {
@@ -204,7 +203,12 @@ const STARTS: [(
     Result<LibrarySize, StartFault>,
     &'static str,
 ); 3] = [
-    (4, Some(SIZE), Ok(SIZE), "the same slots"),
+    (
+        4,
+        Some(SIZE),
+        Ok(SIZE),
+        "options that disagree are refused with both values: the same slots",
+    ),
     (5, Some(SIZE), Err(OTHER_SLOTS), "other slots"),
     (5, None, Ok(FIVE_SLOTS), "no inventory"),
 ];
@@ -218,14 +222,6 @@ fn size_of(slots: u16, kept: Option<LibrarySize>) -> Result<LibrarySize, StartFa
         volumes: None,
     };
     size_at_start(&given, kept)
-}
-
-#[test]
-fn options_that_disagree_are_refused_with_both_values(rt: HostRuntime) {
-    for row in &STARTS {
-        let (slots, kept, expected, shows) = *row;
-        assert_same(&rt, size_of(slots, kept), expected, shows);
-    }
 }
 
 /// The volumes that an inventory names, and the images that are there.
@@ -247,13 +243,13 @@ const PLACED: &[Named] = &[
 ];
 
 /// Places five volumes in a library of so many storage elements.
-fn placed(alloc: Global, slots: u16) -> Result<Result<Start, StartFault>, Fail> {
-    let named = volumes(alloc, NAMED)?;
+fn placed(rt: &impl Abort, alloc: Global, slots: u16) -> Result<Start, StartFault> {
+    let named = volumes(rt, alloc, NAMED);
     let mut images = Vec::new(alloc);
     for name in IMAGES {
-        images.push(tag(name)?)?;
+        images.push(tag(rt, name)).expect(rt, "memory");
     }
-    Ok(place(alloc, slots, 5, &named, &images))
+    place(alloc, slots, 5, &named, &images)
 }
 
 fn assert_placed(
@@ -262,27 +258,19 @@ fn assert_placed(
     found: &[PlacedVolume],
     named: &[Named],
     shows: &'static str,
-) -> Result<(), Fail> {
-    let expected = volumes(alloc, named)?;
+) {
+    let expected = volumes(rt, alloc, named);
     assert_list(rt, found, &expected, shows);
-    Ok(())
 }
 
 /// The volume that an inventory names, and that has no image.
 const MISSING: &[Named] = &[("VOL00001", Element::Storage(2))];
 
-fn assert_start(rt: &impl Abort, alloc: Global, start: &Start) -> Result<(), Fail> {
-    assert_placed(rt, alloc, &start.volumes, PLACED, "where they lie")?;
-    assert_placed(rt, alloc, &start.missing, MISSING, "what is missing")?;
-    assert_list(rt, &start.made, &[tag("VOL00003")?], "what is made");
-    Ok(())
-}
-
-#[test]
-fn volumes_lie_where_they_lay_and_others_in_the_first_free_elements(
-    rt: HostRuntime,
-) -> Result<(), Fail> {
-    assert_start(&rt, rt.alloc(), &placed(rt.alloc(), 4)??)
+fn assert_start(rt: &impl Abort, alloc: Global, start: &Start) {
+    let shows = "volumes lie where they lay and others in the first free elements";
+    assert_placed(rt, alloc, &start.volumes, PLACED, shows);
+    assert_placed(rt, alloc, &start.missing, MISSING, "what is missing");
+    assert_list(rt, &start.made, &[tag(rt, "VOL00003")], "what is made");
 }
 
 /// Three volumes, and two elements.
@@ -292,10 +280,16 @@ const TOO_MANY: StartFault = StartFault::MoreVolumes {
 };
 
 #[test]
-fn more_volumes_than_free_elements_are_refused(rt: HostRuntime) -> Result<(), Fail> {
-    let told = placed(rt.alloc(), 3)?.err();
-    assert_same(&rt, told, Some(TOO_MANY), "three volumes, and two elements");
-    Ok(())
+fn libraries_start_as_rows_say(rt: HostRuntime) {
+    for row in &STARTS {
+        let (slots, kept, expected, shows) = *row;
+        assert_same(&rt, size_of(slots, kept), expected, shows);
+    }
+    let start = placed(&rt, rt.alloc(), 4).expect(&rt, "room for the volumes");
+    assert_start(&rt, rt.alloc(), &start);
+    let told = placed(&rt, rt.alloc(), 3).err();
+    let shows = "more volumes than free elements are refused";
+    assert_same(&rt, told, Some(TOO_MANY), shows);
 }
 
 const PADDED: VolumeTag = VolumeTag(*b"VOL00001                        ");

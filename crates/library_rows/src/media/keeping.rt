@@ -12,7 +12,6 @@ use scsi_cdb::Request;
 use std::alloc::{AllocError, Global};
 use std::process::Abort;
 use std::sync::{Mutex, Wait};
-use std::test::Fail;
 use tape_flush::{ImageStore, StoreFault, open_image};
 use tape_image::index_image;
 use tape_keeper::{
@@ -200,24 +199,26 @@ fn drive_with_volume(alloc: Global) -> Bay {
 }
 
 /// The keeper of the volume, whose file is empty.
-fn keeper<'a, R: Wait>(
+fn keeper<'a, R: Abort + Wait>(
     rt: &'a R,
     alloc: Global,
     bay: &'a Bay,
     file: &'a Mutex<SharedFile>,
-) -> Result<MediaKeeper<SharedStore<'a, R>, NoStore>, Fail> {
+) -> MediaKeeper<SharedStore<'a, R>, NoStore> {
     let mut nothing: &[u8] = &[];
-    let index = index_image(alloc, &mut nothing)?;
+    let index = index_image(alloc, &mut nothing).expect(rt, "an index");
     let store = SharedStore {
         rt,
         alloc,
         bay,
         file,
     };
-    let opened = open_image(alloc, store, &index)?;
+    let opened = open_image(alloc, store, &index).expect(rt, "an image");
     let mut images = Vec::new(alloc);
-    images.push(VolumeImage::new(TAG, KeptImage::new(opened.image)))?;
-    Ok(MediaKeeper::new(SIZE, images, NoStore))
+    images
+        .push(VolumeImage::new(TAG, KeptImage::new(opened.image)))
+        .expect(rt, "memory");
+    MediaKeeper::new(SIZE, images, NoStore)
 }
 
 fn empty_file(alloc: Global) -> Mutex<SharedFile> {
@@ -257,21 +258,16 @@ struct Scene<'a, R: Wait> {
     notes: Notes<'a, R>,
 }
 
-impl<'a, R: Wait> Scene<'a, R> {
-    fn new(
-        rt: &'a R,
-        alloc: Global,
-        bay: &'a Bay,
-        file: &'a Mutex<SharedFile>,
-    ) -> Result<Scene<'a, R>, Fail> {
-        Ok(Scene {
+impl<'a, R: Abort + Wait> Scene<'a, R> {
+    fn new(rt: &'a R, alloc: Global, bay: &'a Bay, file: &'a Mutex<SharedFile>) -> Scene<'a, R> {
+        Scene {
             rt,
             alloc,
             file,
             bay,
-            keeper: keeper(rt, alloc, bay, file)?,
+            keeper: keeper(rt, alloc, bay, file),
             notes: Notes::new(rt, alloc),
-        })
+        }
     }
 
     fn keep(&self, cdb: &[u8], length: usize) -> bool {
@@ -522,20 +518,14 @@ const OF_A_HOST_THAT_WRITES_ON: [Row; 6] = [
 ];
 
 /// Has a drive with an empty volume, which is kept in an empty file, go through all rows.
-fn play<R: Abort + Wait>(
-    rt: &R,
-    alloc: Global,
-    shows: &'static str,
-    rows: &[Row],
-) -> Result<(), Fail> {
+fn play<R: Abort + Wait>(rt: &R, alloc: Global, shows: &'static str, rows: &[Row]) {
     let file = empty_file(alloc);
     let bay = drive_with_volume(alloc);
-    let scene = Scene::new(rt, alloc, &bay, &file)?;
+    let scene = Scene::new(rt, alloc, &bay, &file);
     scene.assert_file(rt, &[], 0, shows);
     for row in rows {
         scene.go_on(rt, *row);
     }
-    Ok(())
 }
 
 const FILEMARK: &str = "a filemark is on the disk before it is answered";
@@ -545,9 +535,9 @@ const FULL_DISK: &str = "a full disk is told once and tried again";
 const WRITES_ON: &str = "a host writes on while a part is written";
 
 #[test]
-fn volumes_in_a_drive_are_kept_as_rows_say(rt: HostRuntime) -> Result<(), Fail> {
+fn volumes_in_a_drive_are_kept_as_rows_say(rt: HostRuntime) {
     let alloc = rt.alloc();
-    play(&rt, alloc, FILEMARK, &OF_A_FILEMARK)?;
-    play(&rt, alloc, FULL_DISK, &OF_A_FULL_DISK)?;
-    play(&rt, alloc, WRITES_ON, &OF_A_HOST_THAT_WRITES_ON)
+    play(&rt, alloc, FILEMARK, &OF_A_FILEMARK);
+    play(&rt, alloc, FULL_DISK, &OF_A_FULL_DISK);
+    play(&rt, alloc, WRITES_ON, &OF_A_HOST_THAT_WRITES_ON);
 }

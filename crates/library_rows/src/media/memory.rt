@@ -1,7 +1,6 @@
 use crate::comparing::assert_same;
 use std::alloc::Global;
 use std::process::Abort;
-use std::test::Fail;
 use tape_medium::{MemoryLimit, Tape, TapeFault};
 
 /// What a tape of the smallest capacity takes for its blocks, at its first.
@@ -25,12 +24,15 @@ enum Act {
 }
 
 /// Three blank tapes under a limit.
-fn blanks(alloc: Global, memory: &MemoryLimit) -> Result<Vec<Option<Tape>>, Fail> {
+fn blanks(rt: &impl Abort, alloc: Global, memory: &MemoryLimit) -> Vec<Option<Tape>> {
     let mut tapes = Vec::new(alloc);
     for _ in 0..3 {
-        tapes.push(Some(Tape::within(alloc, ROOM, memory.share()?)))?;
+        let share = memory.share().expect(rt, "a share");
+        tapes
+            .push(Some(Tape::within(alloc, ROOM, share)))
+            .expect(rt, "memory");
     }
-    Ok(tapes)
+    tapes
 }
 
 /// How many objects a tape has behind an act.
@@ -61,27 +63,21 @@ fn count_behind(tapes: &mut [Option<Tape>], place: usize, act: Act) -> Result<u3
 type Row = (&'static str, usize, Act, Result<u32, TapeFault>);
 
 /// Three blank tapes, under a limit that an act says.
-fn blanks_within(alloc: Global, act: Act) -> Result<Vec<Option<Tape>>, Fail> {
+fn blanks_within(rt: &impl Abort, alloc: Global, act: Act) -> Vec<Option<Tape>> {
     let memory = match act {
-        Act::Limit(bytes) => MemoryLimit::new(alloc, bytes)?,
+        Act::Limit(bytes) => MemoryLimit::new(alloc, bytes).expect(rt, "memory"),
         _ => MemoryLimit::none(),
     };
-    blanks(alloc, &memory)
+    blanks(rt, alloc, &memory)
 }
 
-fn assert_row(
-    rt: &impl Abort,
-    alloc: Global,
-    tapes: &mut Vec<Option<Tape>>,
-    row: &Row,
-) -> Result<(), Fail> {
+fn assert_row(rt: &impl Abort, alloc: Global, tapes: &mut Vec<Option<Tape>>, row: &Row) {
     let (shows, place, act, expected) = *row;
     if matches!(act, Act::Limit(_) | Act::NoLimit) {
-        *tapes = blanks_within(alloc, act)?;
+        *tapes = blanks_within(rt, alloc, act);
     }
     let found = count_behind(tapes.as_mut_slice(), place, act);
     assert_same(rt, found, expected, shows);
-    Ok(())
 }
 
 const ROWS: [Row; 14] = [
@@ -132,10 +128,9 @@ const ROWS: [Row; 14] = [
 ];
 
 #[test]
-fn tapes_take_the_memory_that_rows_say(rt: HostRuntime) -> Result<(), Fail> {
+fn tapes_take_the_memory_that_rows_say(rt: HostRuntime) {
     let mut tapes = Vec::new(rt.alloc());
     for row in &ROWS {
-        assert_row(&rt, rt.alloc(), &mut tapes, row)?;
+        assert_row(&rt, rt.alloc(), &mut tapes, row);
     }
-    Ok(())
 }

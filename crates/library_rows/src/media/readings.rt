@@ -3,7 +3,6 @@ use crate::trickle::Trickle;
 use std::alloc::Global;
 use std::io::Read;
 use std::process::Abort;
-use std::test::Fail;
 use tape_flush::{ReadTape, ReadTapeFault, read_tape};
 use tape_image::{ImageEnd, ImageFault};
 use tape_medium::{MemoryLimit, Tape, TapeObject};
@@ -144,19 +143,11 @@ fn assert_row(rt: &impl Abort, alloc: Global, row: &Row) {
 }
 
 #[test]
-fn images_are_read_as_tapes(rt: HostRuntime) {
-    for row in &ROWS {
-        assert_row(&rt, rt.alloc(), row);
-    }
-}
-
-#[test]
-fn more_filemarks_than_a_tape_takes_are_refused(rt: HostRuntime) -> Result<(), Fail> {
-    let marks = vec![in rt.alloc(); 0u8; 4_000_004]?;
+fn more_filemarks_than_a_tape_takes_are_refused(rt: HostRuntime) {
+    let marks = vec![in rt.alloc(); 0u8; 4_000_004].expect(&rt, "memory");
     let found = seen_in(rt.alloc(), &mut marks.as_slice(), 4);
     let expected = Err(ReadTapeFault::TooLarge { objects: 1_000_000 });
     assert_same(&rt, found, expected, "one filemark too many");
-    Ok(())
 }
 
 /// What is seen where a read fails behind so many bytes of the image.
@@ -171,10 +162,14 @@ fn seen_until(alloc: Global, left: u64) -> Result<Seen, ReadTapeFault> {
 }
 
 #[test]
-fn a_read_that_fails_is_told(rt: HostRuntime) {
+fn images_are_read_as_tapes(rt: HostRuntime) {
+    for row in &ROWS {
+        assert_row(&rt, rt.alloc(), row);
+    }
     for left in 0..27 {
         let found = seen_until(rt.alloc(), left);
-        assert_same(&rt, found, Err(ReadTapeFault::Read), "a read that fails");
+        let shows = "a read that fails is told";
+        assert_same(&rt, found, Err(ReadTapeFault::Read), shows);
     }
     let whole = at_its_beginning(3, true, 1_000, ImageEnd::WholeEnd { whole: 26 });
     let found = seen_until(rt.alloc(), 27);

@@ -1,7 +1,6 @@
 use crate::comparing::assert_same;
 use std::alloc::Global;
 use std::process::Abort;
-use std::test::Fail;
 use tape_medium::{Tape, TapeObject};
 
 /// How many bytes a block has: 167 of them fill a piece of the tape's memory, but for some.
@@ -45,12 +44,11 @@ const SECOND: [Row; 6] = [
 ];
 
 /// Writes blocks, each of its number.
-fn write_numbered(alloc: Global, tape: &mut Tape, first: u8, count: u8) -> Result<(), Fail> {
+fn write_numbered(rt: &impl Abort, alloc: Global, tape: &mut Tape, first: u8, count: u8) {
     for i in 0..count {
-        let block = vec![in alloc; first.wrapping_add(i); SIZE]?;
-        tape.write_block(&block)?;
+        let block = vec![in alloc; first.wrapping_add(i); SIZE].expect(rt, "memory");
+        tape.write_block(&block).expect(rt, "room for a block");
     }
-    Ok(())
 }
 
 /// The ends of an object that is lent.
@@ -76,25 +74,24 @@ fn assert_tape(rt: &impl Abort, tape: &Tape, counts: (u32, u32), rows: &[Row]) {
 }
 
 /// A tape of 200 blocks and a filemark.
-fn large_tape(alloc: Global) -> Result<Tape, Fail> {
+fn large_tape(rt: &impl Abort, alloc: Global) -> Tape {
     let mut tape = Tape::new(alloc, 20_000_000);
-    write_numbered(alloc, &mut tape, 0, 200)?;
-    tape.write_marks(1)?;
-    Ok(tape)
+    write_numbered(rt, alloc, &mut tape, 0, 200);
+    tape.write_marks(1).expect(rt, "room for a filemark");
+    tape
 }
 
 /// Writes 100 blocks over the second half, once all counts as unchanged.
-fn write_over(alloc: Global, tape: &mut Tape) -> Result<(), Fail> {
+fn write_over(rt: &impl Abort, alloc: Global, tape: &mut Tape) {
     tape.settle(tape.object_count());
     let _ = tape.locate(100);
-    write_numbered(alloc, tape, 50, 100)
+    write_numbered(rt, alloc, tape, 50, 100);
 }
 
 #[test]
-fn a_tape_of_more_than_a_piece_is_lent_and_written_over(rt: HostRuntime) -> Result<(), Fail> {
-    let mut tape = large_tape(rt.alloc())?;
+fn a_tape_of_more_than_a_piece_is_lent_and_written_over(rt: HostRuntime) {
+    let mut tape = large_tape(&rt, rt.alloc());
     assert_tape(&rt, &tape, (201, 0), &FIRST);
-    write_over(rt.alloc(), &mut tape)?;
+    write_over(&rt, rt.alloc(), &mut tape);
     assert_tape(&rt, &tape, (200, 100), &SECOND);
-    Ok(())
 }

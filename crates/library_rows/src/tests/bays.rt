@@ -11,7 +11,6 @@ use library_device::Device;
 use scsi_cdb::{Kind, Request};
 use std::alloc::{AllocError, Global};
 use std::process::Abort;
-use std::test::Fail;
 use tape_medium::{MapFault, Tape, Volume, VolumeTag};
 use tape_server::TapeDrive;
 
@@ -425,30 +424,17 @@ fn done<B: Bays>(alloc: Global, bays: &mut B, act: Act, place: u16) -> Found {
     }
 }
 
-fn assert_begun<B: Bays>(
-    rt: &impl Abort,
-    alloc: Global,
-    bays: &mut B,
-    row: &Row,
-) -> Result<(), Fail> {
+fn assert_begun<B: Bays>(rt: &impl Abort, alloc: Global, bays: &mut B, row: &Row) {
     let (shows, act, drives, _, kind, _) = *row;
-    *bays = B::begun(alloc, act)?;
+    *bays = B::begun(alloc, act).expect(rt, "memory");
     assert_same(rt, bays.look(), (kind, drives), shows);
-    Ok(())
 }
 
-fn assert_asked<B: Bays>(
-    rt: &impl Abort,
-    alloc: Global,
-    bays: &mut B,
-    ask: Ask,
-    row: &Row,
-) -> Result<(), Fail> {
+fn assert_asked<B: Bays>(rt: &impl Abort, alloc: Global, bays: &mut B, ask: Ask, row: &Row) {
     let (shows, _, _, given, word, answer) = *row;
-    let (found, data) = bays.asked(alloc, ask, given)?;
+    let (found, data) = bays.asked(alloc, ask, given).expect(rt, "memory");
     assert_same(rt, found, word, shows);
     assert_list(rt, &data, answer, shows);
-    Ok(())
 }
 
 fn assert_done<B: Bays>(rt: &impl Abort, alloc: Global, bays: &mut B, row: &Row) {
@@ -458,26 +444,19 @@ fn assert_done<B: Bays>(rt: &impl Abort, alloc: Global, bays: &mut B, row: &Row)
     assert_list(rt, volume.as_bytes(), name, shows);
 }
 
-fn assert_row<B: Bays>(
-    rt: &impl Abort,
-    alloc: Global,
-    bays: &mut B,
-    row: &Row,
-) -> Result<(), Fail> {
+fn assert_row<B: Bays>(rt: &impl Abort, alloc: Global, bays: &mut B, row: &Row) {
     match row.1 {
-        Act::Anew | Act::AnewOfMore | Act::ADrive => assert_begun(rt, alloc, bays, row)?,
-        Act::Ask(ask) => assert_asked(rt, alloc, bays, ask, row)?,
+        Act::Anew | Act::AnewOfMore | Act::ADrive => assert_begun(rt, alloc, bays, row),
+        Act::Ask(ask) => assert_asked(rt, alloc, bays, ask, row),
         _ => assert_done(rt, alloc, bays, row),
     }
-    Ok(())
 }
 
-fn assert_rows<B: Bays>(rt: &impl Abort, alloc: Global, rows: &[Row]) -> Result<(), Fail> {
-    let mut bays = B::begun(alloc, Act::Anew)?;
+fn assert_rows<B: Bays>(rt: &impl Abort, alloc: Global, rows: &[Row]) {
+    let mut bays = B::begun(alloc, Act::Anew).expect(rt, "memory");
     for row in rows {
-        assert_row(rt, alloc, &mut bays, row)?;
+        assert_row(rt, alloc, &mut bays, row);
     }
-    Ok(())
 }
 
 /// A volume that goes into a drive leaves the elements.
@@ -836,8 +815,8 @@ const DRIVES: [Row; 32] = [
 ];
 
 #[test]
-fn bays_do_and_answer_what_rows_say(rt: HostRuntime) -> Result<(), Fail> {
-    assert_rows::<Elements>(&rt, rt.alloc(), &ELEMENTS)?;
-    assert_rows::<Device>(&rt, rt.alloc(), &CHANGERS)?;
-    assert_rows::<Device>(&rt, rt.alloc(), &DRIVES)
+fn bays_do_and_answer_what_rows_say(rt: HostRuntime) {
+    assert_rows::<Elements>(&rt, rt.alloc(), &ELEMENTS);
+    assert_rows::<Device>(&rt, rt.alloc(), &CHANGERS);
+    assert_rows::<Device>(&rt, rt.alloc(), &DRIVES);
 }

@@ -10,7 +10,6 @@ use replay::{ReplayFault, replay};
 use std::alloc::{AllocError, Global};
 use std::io::{Read, Write};
 use std::process::Abort;
-use std::test::Fail;
 use stocked_library::library;
 use target_core::TargetCore;
 
@@ -33,15 +32,16 @@ fn replay_in<D: DeviceServer, R: Read, W: Write>(
 
 /// All that a replay writes of a script.
 fn replayed<D: DeviceServer>(
+    rt: &impl Abort,
     alloc: Global,
     core: &mut TargetCore<D>,
     audit: Audit,
     script: &str,
-) -> Result<Vec<u8>, Fail> {
+) -> Vec<u8> {
     let mut reader = script.as_bytes();
     let mut output = Vec::new(alloc);
-    replay_in(alloc, core, &mut reader, &mut output, audit, u64::MAX)?;
-    Ok(output)
+    replay_in(alloc, core, &mut reader, &mut output, audit, u64::MAX).expect(rt, "a replay");
+    output
 }
 
 /// Replays a script, and compares all that is written.
@@ -53,10 +53,9 @@ pub(super) fn assert_replayed<D: DeviceServer>(
     script: &str,
     expected: &str,
     shows: &'static str,
-) -> Result<(), Fail> {
-    let output = replayed(alloc, core, audit, script)?;
+) {
+    let output = replayed(rt, alloc, core, audit, script);
     assert_same(rt, output.as_slice(), expected.as_bytes(), shows);
-    Ok(())
 }
 
 /// The library that is made where no option says another size.

@@ -6,7 +6,6 @@ use super::targets::volume;
 use crate::comparing::assert_list;
 use std::alloc::{AllocError, Global};
 use std::process::Abort;
-use std::test::Fail;
 use tape_medium::plain::PlainTape;
 use tape_medium::{Item, SpaceCode, SpaceEnd, Stop, Tape, TapeFault, VolumeTag};
 
@@ -339,13 +338,12 @@ const ROWS: [Row; 35] = [
 
 /// Of a block of 400 bytes 300 are read, behind what was there.
 #[test]
-fn tapes_do_what_rows_say(rt: HostRuntime) -> Result<(), Fail> {
-    let bytes = mixed(rt.alloc(), 131_074, 251)?;
-    let mut into = Vec::from_slice(rt.alloc(), part_of(&bytes, 0, 400))?;
+fn tapes_do_what_rows_say(rt: HostRuntime) {
+    let bytes = mixed(rt.alloc(), 131_074, 251).expect(&rt, "memory");
+    let mut into = Vec::from_slice(rt.alloc(), part_of(&bytes, 0, 400)).expect(&rt, "memory");
     assert_rows(&rt, rt.alloc(), &bytes, &mut into);
     let (read, expected) = (part_of(&into, 400, 400), part_of(&bytes, 0, 300));
     assert_list(&rt, read, expected, "the first 300 bytes of a block");
-    Ok(())
 }
 
 const BLANKS: VolumeTag = VolumeTag([b' '; 32]);
@@ -465,11 +463,10 @@ const SEEDS: [(u64, u32, u32); 4] = [
 ];
 
 #[test]
-fn tape_does_as_a_plain_list_of_objects(rt: HostRuntime) -> Result<(), Fail> {
-    let bytes = mixed(rt.alloc(), 200_000, 253)?;
+fn tape_does_as_a_plain_list_of_objects(rt: HostRuntime) {
+    let bytes = mixed(rt.alloc(), 200_000, 253).expect(&rt, "memory");
     for row in &SEEDS {
         let (seed, capacity, longest) = *row;
         assert_agreed(&rt, rt.alloc(), &bytes, seed, capacity, longest);
     }
-    Ok(())
 }

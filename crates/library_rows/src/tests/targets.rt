@@ -6,7 +6,7 @@ use device_server::DeviceServer;
 use library_device::Device;
 use logical_unit::{LogicalUnit, named};
 use std::alloc::{AllocError, Global};
-use std::test::Fail;
+use std::process::Abort;
 use tape_medium::{Tape, Volume, VolumeTag};
 use tape_server::TapeDrive;
 use target_core::{CoreFault, Event, TargetCore};
@@ -115,7 +115,11 @@ const ORDER: Option<(CoreFault, usize)> = Some((CoreFault::Order, 2));
 const DISAGREE: Option<(CoreFault, usize)> = Some((CoreFault::Disagree, 2));
 
 const REFUSALS: [Refusal; 5] = [
-    ("one unit", &[Unit::Changer], COUNT),
+    (
+        "new hands back units that make no target: one unit",
+        &[Unit::Changer],
+        COUNT,
+    ),
     ("no changer", &[Unit::EmptyDrive, Unit::EmptyDrive], ORDER),
     (
         "a volume without a mark",
@@ -134,16 +138,6 @@ const REFUSALS: [Refusal; 5] = [
     ),
 ];
 
-#[test]
-fn new_hands_back_units_that_make_no_target(rt: HostRuntime) -> Result<(), Fail> {
-    for row in &REFUSALS {
-        let (shows, kinds, refused) = *row;
-        let units = units_of(rt.alloc(), kinds)?;
-        assert_same(&rt, refusal(units), refused, shows);
-    }
-    Ok(())
-}
-
 /// What it shows, how many drives there are, a command, and the drives that it names.
 type Naming = (&'static str, u8, &'static [u8], &'static [u8]);
 
@@ -154,7 +148,12 @@ const BETWEEN_DRIVES: &[u8] = &[0xa5, 0, 0, 0, 1, 1, 1, 0, 0, 0, 0, 0];
 const BETWEEN_SHELVES: &[u8] = &[0xa5, 0, 0, 0, 4, 0, 4, 1, 0, 0, 0, 0];
 
 const NAMING: [Naming; 5] = [
-    ("into the drive", 1, TO_DRIVE_1, &[1]),
+    (
+        "MOVE MEDIUM names its drives: into the drive",
+        1,
+        TO_DRIVE_1,
+        &[1],
+    ),
     ("from drive 2 to drive 1", 2, BETWEEN_DRIVES, &[1, 2]),
     ("there is no drive 2", 1, BETWEEN_DRIVES, &[1]),
     ("from shelf to shelf", 2, BETWEEN_SHELVES, &[]),
@@ -162,7 +161,12 @@ const NAMING: [Naming; 5] = [
 ];
 
 #[test]
-fn move_medium_names_its_drives(rt: HostRuntime) {
+fn targets_are_made_and_drives_are_named_as_rows_say(rt: HostRuntime) {
+    for row in &REFUSALS {
+        let (shows, kinds, refused) = *row;
+        let units = units_of(rt.alloc(), kinds).expect(&rt, "memory");
+        assert_same(&rt, refusal(units), refused, shows);
+    }
     for row in &NAMING {
         let (shows, drives, cdb, expected) = *row;
         let drives = named(drives, cdb);
@@ -171,11 +175,11 @@ fn move_medium_names_its_drives(rt: HostRuntime) {
 }
 
 /// TEST UNIT READY of A.
-pub(super) fn ready_at(alloc: Global, lun: u8) -> Result<Event, Fail> {
-    Ok(Event::Command {
+pub(super) fn ready_at(rt: &impl Abort, alloc: Global, lun: u8) -> Event {
+    Event::Command {
         nexus: A,
         lun,
-        cdb: ArrayVec::try_from([0; 6].as_slice())?,
+        cdb: ArrayVec::try_from([0; 6].as_slice()).expect(rt, "a CDB"),
         bytes: Vec::new(alloc),
-    })
+    }
 }

@@ -8,7 +8,6 @@ use scsi_nexus::Nexus;
 use scsi_sense::{Sense, Status};
 use std::alloc::{AllocError, Global};
 use std::process::Abort;
-use std::test::Fail;
 use tape_medium::{Volume, VolumeTag};
 
 const OTHER: VolumeTag = VolumeTag([b'O'; 32]);
@@ -203,27 +202,20 @@ fn begun(alloc: Global, kind: Act, last: u64) -> Result<LogicalUnit<Device>, All
     }
 }
 
-fn assert_row(
-    rt: &impl Abort,
-    alloc: Global,
-    unit: &mut LogicalUnit<Device>,
-    row: &Row,
-) -> Result<(), Fail> {
+fn assert_row(rt: &impl Abort, alloc: Global, unit: &mut LogicalUnit<Device>, row: &Row) {
     let (shows, nexus, act, word, number) = *row;
     match act {
-        Act::ADrive | Act::AChanger => *unit = begun(alloc, act, number)?,
+        Act::ADrive | Act::AChanger => *unit = begun(alloc, act, number).expect(rt, "memory"),
         _ => assert_same(rt, done(alloc, unit, nexus, act), (word, number), shows),
     }
-    Ok(())
 }
 
 /// Rows of units, one behind another.
-fn assert_rows(rt: &impl Abort, alloc: Global, rows: &[Row]) -> Result<(), Fail> {
-    let mut unit = drive_after(alloc, 0)?;
+fn assert_rows(rt: &impl Abort, alloc: Global, rows: &[Row]) {
+    let mut unit = drive_after(alloc, 0).expect(rt, "memory");
     for row in rows {
-        assert_row(rt, alloc, &mut unit, row)?;
+        assert_row(rt, alloc, &mut unit, row);
     }
-    Ok(())
 }
 
 /// The last number that there is.
@@ -356,7 +348,7 @@ const ENDS: [Row; 32] = [
 ];
 
 #[test]
-fn units_answer_and_keep_what_rows_say(rt: HostRuntime) -> Result<(), Fail> {
-    assert_rows(&rt, rt.alloc(), &COMMANDS)?;
-    assert_rows(&rt, rt.alloc(), &ENDS)
+fn units_answer_and_keep_what_rows_say(rt: HostRuntime) {
+    assert_rows(&rt, rt.alloc(), &COMMANDS);
+    assert_rows(&rt, rt.alloc(), &ENDS);
 }

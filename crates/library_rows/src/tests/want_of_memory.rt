@@ -10,7 +10,7 @@ use logical_unit::LogicalUnit;
 use output_lines::Audit;
 use scsi_cdb::{Kind, Request};
 use std::alloc::{AllocError, Global};
-use std::test::Fail;
+use std::process::Abort;
 use tape_medium::{Volume, VolumeTag};
 use tape_server::TapeDrive;
 use target_core::TargetCore;
@@ -103,10 +103,11 @@ fn wanting_units(alloc: Global) -> Result<Vec<LogicalUnit<WantingDevice>>, Alloc
     Ok(units)
 }
 
-fn wanting_target(alloc: Global) -> Result<TargetCore<WantingDevice>, Fail> {
-    match TargetCore::new(wanting_units(alloc)?) {
-        Ok(core) => Ok(core),
-        Err(_) => Err("no target".into()),
+fn wanting_target(rt: &impl Abort, alloc: Global) -> TargetCore<WantingDevice> {
+    let units = wanting_units(alloc).expect(rt, "memory");
+    match TargetCore::new(units) {
+        Ok(core) => core,
+        Err(_) => rt.panic("no target"),
     }
 }
 
@@ -182,25 +183,24 @@ const ROWS: [(&'static str, &'static str, &'static str); 2] = [
 ];
 
 /// How many replies there are behind a run without events, which changes nothing, and behind one of a single event.
-fn replies_of_runs(alloc: Global) -> Result<(usize, usize), Fail> {
-    let mut core = wanting_target(alloc)?;
+fn replies_of_runs(rt: &impl Abort, alloc: Global) -> (usize, usize) {
+    let mut core = wanting_target(rt, alloc);
     let mut events = Vec::new(alloc);
     let mut replies = Vec::new(alloc);
-    core.run(alloc, &events, &mut replies)?;
+    core.run(alloc, &events, &mut replies).expect(rt, "a run");
     let none = replies.len();
-    events.push(ready_at(alloc, 0)?)?;
-    core.run(alloc, &events, &mut replies)?;
-    Ok((none, replies.len()))
+    events.push(ready_at(rt, alloc, 0)).expect(rt, "memory");
+    core.run(alloc, &events, &mut replies).expect(rt, "a run");
+    (none, replies.len())
 }
 
 #[test]
-fn targets_that_want_memory_answer_as_rows_say(rt: HostRuntime) -> Result<(), Fail> {
+fn targets_that_want_memory_answer_as_rows_say(rt: HostRuntime) {
     let alloc = rt.alloc();
     for row in &ROWS {
         let (shows, script, expected) = *row;
-        let mut core = wanting_target(alloc)?;
-        assert_replayed(&rt, alloc, &mut core, Audit::Lines, script, expected, shows)?;
+        let mut core = wanting_target(&rt, alloc);
+        assert_replayed(&rt, alloc, &mut core, Audit::Lines, script, expected, shows);
     }
-    assert_same(&rt, replies_of_runs(alloc)?, (0, 1), "replies of runs");
-    Ok(())
+    assert_same(&rt, replies_of_runs(&rt, alloc), (0, 1), "replies of runs");
 }

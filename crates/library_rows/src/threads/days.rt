@@ -14,7 +14,6 @@ use std::marker::Brand;
 use std::process::Abort;
 use std::sync::Wait;
 use std::sync::ledger::Blank;
-use std::test::Fail;
 use std::thread::Threads;
 use std::time::Clock;
 use target_core::TargetCore;
@@ -38,7 +37,7 @@ fn day<
     gate: TestGate<'_>,
     flags: &Flags,
     scene: usize,
-) -> Result<(), Fail>
+)
     requires some { 0 < seats }
     requires zero { (blanks.zero.name ≡ L0.name) × (blanks.zero.parts ≡ L0.parts) × (L0.parts ≡ seats) }
     requires one { (blanks.one.name ≡ L1.name) × (blanks.one.parts ≡ L1.parts) × (L1.parts ≡ seats) }
@@ -51,7 +50,7 @@ fn day<
         alloc, core, seats, blanks, gate,
     ) {
         Ok((library, all)) => play(rt, alloc, library, all, flags, scene),
-        Err((refused, _)) => Err(refused.into()),
+        Err(_) => rt.panic("no library"),
     }
 }
 
@@ -62,8 +61,8 @@ pub(super) fn run<R: Abort + Clock + Threads + Wait + Sync>(
     gate: TestGate<'_>,
     flags: &Flags,
     scene: usize,
-) -> Result<(), Fail> {
-    let core = two_drives(alloc)?;
+) {
+    let core = two_drives(alloc).expect(rt, "a target");
     let parts = SEATS as u64;
     let blanks = Blanks {
         zero: Blank::new(parts),
@@ -72,5 +71,5 @@ pub(super) fn run<R: Abort + Clock + Threads + Wait + Sync>(
         three: Blank::new(parts),
         four: Blank::new(parts),
     };
-    day::<Brand, Brand, Brand, Brand, Brand, R>(rt, alloc, core, SEATS, blanks, gate, flags, scene)
+    day::<Brand, Brand, Brand, Brand, Brand, R>(rt, alloc, core, SEATS, blanks, gate, flags, scene);
 }

@@ -15,7 +15,6 @@ use scsi_nexus::Nexus;
 use std::alloc::Global;
 use std::process::Abort;
 use std::sync::Wait;
-use std::test::Fail;
 use std::thread::Threads;
 use std::time::Clock;
 
@@ -62,16 +61,13 @@ fn fill_slots<T: Opened, R: Abort + Wait>(
     library: &T,
     seats: &mut [T::Seat],
     ports: u16,
-) -> Result<(), Fail> {
-    let Some(seat) = seats.first_mut() else {
-        return Err("no seat".into());
-    };
+) {
+    let seat = seats.first_mut().expect(rt, "a seat");
     for port in 1..=ports {
         let nexus = Nexus { sas: A.sas, port };
         let row = ("a slot more", nexus, 1, Ask::Ready, POWER_ON, None);
         ask_one(rt, alloc, library, seat, &row);
     }
-    Ok(())
 }
 
 fn assert_all_settled<T: Opened, R: Abort + Wait>(
@@ -80,11 +76,10 @@ fn assert_all_settled<T: Opened, R: Abort + Wait>(
     library: &T,
     seat: &mut T::Seat,
     rows: &[Settled],
-) -> Result<(), Fail> {
+) {
     for row in rows {
-        assert_settled(rt, alloc, library, seat, row)?;
+        assert_settled(rt, alloc, library, seat, row);
     }
-    Ok(())
 }
 
 fn play_acts<T: Opened, R: Abort + Wait>(
@@ -93,16 +88,13 @@ fn play_acts<T: Opened, R: Abort + Wait>(
     library: &T,
     seats: &mut [T::Seat],
     acts: &[Act],
-) -> Result<(), Fail> {
+) {
     for act in acts {
         let (place, asked, settled) = *act;
-        let Some(seat) = seats.get_mut(place) else {
-            return Err("no such seat".into());
-        };
+        let seat = seats.get_mut(place).expect(rt, "such a seat");
         ask_all(rt, alloc, library, seat, asked);
-        assert_all_settled(rt, alloc, library, seat, settled)?;
+        assert_all_settled(rt, alloc, library, seat, settled);
     }
-    Ok(())
 }
 
 fn assert_rooms<T: Opened, R: Abort + Wait>(rt: &R, library: &T, rows: &[Room]) {
@@ -120,13 +112,13 @@ fn play_open<T: Opened + Sync, R: Abort + Clock + Threads + Wait + Sync>(
     seats: &mut [T::Seat],
     flags: &Flags,
     plan: &Plan,
-) -> Result<(), Fail>
+)
 where
     T::Seat: Send,
 {
     assert_same(rt, library.units(), 3, plan.shows);
-    fill_slots(rt, alloc, library, seats, plan.ports)?;
-    play_acts(rt, alloc, library, seats, plan.acts)?;
+    fill_slots(rt, alloc, library, seats, plan.ports);
+    play_acts(rt, alloc, library, seats, plan.acts);
     assert_rooms(rt, library, plan.rooms);
     assert_all_asked(rt, library, plan.sights);
     if let Some(part) = plan.part {
@@ -134,7 +126,6 @@ where
     }
     let is_there = library.drained(rt, alloc, 9).is_some();
     assert_same(rt, is_there, false, "no unit 9");
-    Ok(())
 }
 
 /// Closes a library, which has to be refused, and gives what comes back.
@@ -144,25 +135,26 @@ fn refused<T: Opened>(
     library: T,
     seats: Vec<T::Seat>,
     expected: CloseFault,
-) -> Result<(T, Vec<T::Seat>), Fail> {
+) -> (T, Vec<T::Seat>) {
     match library.close(alloc, seats) {
-        Ok(_) => Err("the library is closed".into()),
+        Ok(_) => rt.panic("the library is closed"),
         Err((fault, library, seats)) => {
             assert_same(rt, fault, expected, "why it isn't closed");
-            Ok((library, seats))
+            (library, seats)
         }
     }
 }
 
 /// Closes a library, which has to be closed.
 fn closed<T: Opened>(
+    rt: &impl Abort,
     alloc: Global,
     library: T,
     seats: Vec<T::Seat>,
-) -> Result<Histories<Device>, Fail> {
+) -> Histories<Device> {
     match library.close(alloc, seats) {
-        Ok(histories) => Ok(histories),
-        Err(_) => Err("the library is not closed".into()),
+        Ok(histories) => histories,
+        Err(_) => rt.panic("the library is not closed"),
     }
 }
 
@@ -171,15 +163,13 @@ fn closed_with_a_seat_missing<T: Opened>(
     alloc: Global,
     library: T,
     mut seats: Vec<T::Seat>,
-) -> Result<Histories<Device>, Fail> {
-    let Some(last) = seats.pop() else {
-        return Err("no seat".into());
-    };
-    let (library, mut seats) = refused(rt, alloc, library, seats, CloseFault::SeatMissing)?;
+) -> Histories<Device> {
+    let last = seats.pop().expect(rt, "a seat");
+    let (library, mut seats) = refused(rt, alloc, library, seats, CloseFault::SeatMissing);
     assert_same(rt, seats.len(), 1, "seats that come back");
     assert_same(rt, T::entries(&last), 1, "entries of the other seat");
-    seats.push(last)?;
-    closed(alloc, library, seats)
+    seats.push(last).expect(rt, "memory");
+    closed(rt, alloc, library, seats)
 }
 
 fn closed_undrained<T: Opened, R: Abort + Wait>(
@@ -187,10 +177,10 @@ fn closed_undrained<T: Opened, R: Abort + Wait>(
     alloc: Global,
     library: T,
     seats: Vec<T::Seat>,
-) -> Result<Histories<Device>, Fail> {
-    let (library, seats) = refused(rt, alloc, library, seats, CloseFault::Mismatch)?;
+) -> Histories<Device> {
+    let (library, seats) = refused(rt, alloc, library, seats, CloseFault::Mismatch);
     let _handed_out = library.drained(rt, alloc, 1);
-    closed(alloc, library, seats)
+    closed(rt, alloc, library, seats)
 }
 
 fn closed_as_planned<T: Opened, R: Abort + Wait>(
@@ -199,9 +189,9 @@ fn closed_as_planned<T: Opened, R: Abort + Wait>(
     library: T,
     seats: Vec<T::Seat>,
     closing: Closing,
-) -> Result<Histories<Device>, Fail> {
+) -> Histories<Device> {
     match closing {
-        Closing::AtOnce => closed(alloc, library, seats),
+        Closing::AtOnce => closed(rt, alloc, library, seats),
         Closing::SeatMissing => closed_with_a_seat_missing(rt, alloc, library, seats),
         Closing::Undrained => closed_undrained(rt, alloc, library, seats),
     }
@@ -260,13 +250,12 @@ pub(super) fn play<T: Opened + Sync, R: Abort + Clock + Threads + Wait + Sync>(
     mut seats: Vec<T::Seat>,
     flags: &Flags,
     scene: usize,
-) -> Result<(), Fail>
+)
 where
     T::Seat: Send,
 {
     let plan = plan_at(scene);
-    play_open(rt, alloc, &library, seats.as_mut_slice(), flags, &plan)?;
-    let histories = closed_as_planned(rt, alloc, library, seats, plan.closing)?;
+    play_open(rt, alloc, &library, seats.as_mut_slice(), flags, &plan);
+    let histories = closed_as_planned(rt, alloc, library, seats, plan.closing);
     assert_histories(rt, &histories, flags, &plan);
-    Ok(())
 }

@@ -6,7 +6,6 @@ use kept_unit::NumberRange;
 use std::alloc::Global;
 use std::process::Abort;
 use std::sync::Wait;
-use std::test::Fail;
 
 /// How many ranges of numbers there are, and the ends of the first two: zeros where there is none.
 type Ranges = (usize, (u64, u64), (u64, u64));
@@ -36,16 +35,15 @@ pub(super) fn assert_settled<T: Opened, R: Abort + Wait>(
     library: &T,
     seat: &mut T::Seat,
     row: &Settled,
-) -> Result<(), Fail> {
+) {
     let (drains, drained, entries, ranges, shows) = row;
     if let Some(lun) = *drains {
         let _handed_out = library.drained(rt, alloc, lun);
     }
-    T::settle(seat, drained)?;
+    T::settle(seat, drained).expect(rt, "memory");
     assert_same(rt, T::entries(seat), *entries, shows);
     for (lun, expected) in ranges {
         let found = shown_of(T::settled(seat, *lun));
         assert_same(rt, found, *expected, shows);
     }
-    Ok(())
 }

@@ -7,7 +7,6 @@ use library_device::Device;
 use output_lines::Audit;
 use std::alloc::Global;
 use std::process::Abort;
-use std::test::Fail;
 use target_core::TargetCore;
 
 const BEFORE_THE_DRAIN: &str = "500000000000000a.1 0 000000000000\n\
@@ -25,18 +24,19 @@ const REPLIES_BEHIND_THE_DRAIN: &str = "00 - -\n\
 
 /// Adds the numbers of the records that a unit hands out; whether it is there.
 fn push_drained(
+    rt: &impl Abort,
     alloc: Global,
     core: &mut TargetCore<Device>,
     lun: u8,
     numbers: &mut Vec<u64>,
-) -> Result<bool, Fail> {
+) -> bool {
     let Some(records) = core.drain(alloc, lun) else {
-        return Ok(false);
+        return false;
     };
     for entry in &records {
-        numbers.push(entry.number)?;
+        numbers.push(entry.number).expect(rt, "memory");
     }
-    Ok(true)
+    true
 }
 
 /// What it shows, a script, all that it writes with the records; a unit, whether it is there, and the numbers of the records that it hands
@@ -50,29 +50,18 @@ type Row = (
     &'static [u64],
 );
 
-fn assert_drained(
-    rt: &impl Abort,
-    alloc: Global,
-    core: &mut TargetCore<Device>,
-    row: &Row,
-) -> Result<(), Fail> {
+fn assert_drained(rt: &impl Abort, alloc: Global, core: &mut TargetCore<Device>, row: &Row) {
     let (shows, _, _, lun, is_there, expected) = *row;
     let mut numbers = Vec::new(alloc);
-    let found = push_drained(alloc, core, lun, &mut numbers)?;
+    let found = push_drained(rt, alloc, core, lun, &mut numbers);
     assert_same(rt, found, is_there, shows);
     assert_list(rt, &numbers, expected, shows);
-    Ok(())
 }
 
-fn assert_row(
-    rt: &impl Abort,
-    alloc: Global,
-    core: &mut TargetCore<Device>,
-    row: &Row,
-) -> Result<(), Fail> {
+fn assert_row(rt: &impl Abort, alloc: Global, core: &mut TargetCore<Device>, row: &Row) {
     let (shows, script, expected, _, _, _) = *row;
-    assert_replayed(rt, alloc, core, Audit::Lines, script, expected, shows)?;
-    assert_drained(rt, alloc, core, row)
+    assert_replayed(rt, alloc, core, Audit::Lines, script, expected, shows);
+    assert_drained(rt, alloc, core, row);
 }
 
 const ROWS: [Row; 4] = [
@@ -96,14 +85,10 @@ const ROWS: [Row; 4] = [
     ),
 ];
 
-fn assert_rows(rt: &impl Abort, alloc: Global, core: &mut TargetCore<Device>) -> Result<(), Fail> {
-    for row in &ROWS {
-        assert_row(rt, alloc, core, row)?;
-    }
-    Ok(())
-}
-
 #[test]
-fn drain_leaves_the_numbers_going_on(rt: HostRuntime) -> Result<(), Fail> {
-    assert_rows(&rt, rt.alloc(), &mut usual(rt.alloc())?)
+fn drain_leaves_the_numbers_going_on(rt: HostRuntime) {
+    let mut core = usual(rt.alloc()).expect(&rt, "a library");
+    for row in &ROWS {
+        assert_row(&rt, rt.alloc(), &mut core, row);
+    }
 }

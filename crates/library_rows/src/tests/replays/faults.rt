@@ -5,11 +5,10 @@ use super::{replay_in, usual};
 use crate::trickle::Trickle;
 use output_lines::Audit;
 use replay::ReplayFault;
-use std::alloc::{AllocError, Global};
+use std::alloc::Global;
 use std::io;
 use std::io::Write;
 use std::process::Abort;
-use std::test::Fail;
 
 /// Forgets what is written, or fails at once.
 #[derive(Drop)]
@@ -111,9 +110,9 @@ const ROWS: [Row; 7] = [
 ];
 
 /// How a replay ends in the usual library, and how often the script was read.
-fn replayed_by(alloc: Global, row: &Row) -> Result<(Result<(), ReplayFault>, u64), AllocError> {
+fn replayed_by(rt: &impl Abort, alloc: Global, row: &Row) -> (Result<(), ReplayFault>, u64) {
     let (_, bytes, turns, fails_at, is_closed, _, _, _) = *row;
-    let mut core = usual(alloc)?;
+    let mut core = usual(alloc).expect(rt, "a library");
     let mut reader = Trickle {
         bytes,
         reads: 0,
@@ -129,7 +128,7 @@ fn replayed_by(alloc: Global, row: &Row) -> Result<(Result<(), ReplayFault>, u64
         Audit::Off,
         turns,
     );
-    Ok((ended, reader.reads))
+    (ended, reader.reads)
 }
 
 /// Compares what is told of a fault, and the exit status by it.
@@ -140,33 +139,31 @@ fn assert_told(
     text: &str,
     status: u8,
     shows: &'static str,
-) -> Result<(), Fail> {
-    let shown = fault.to_string(alloc)?;
+) {
+    let shown = fault.to_string(alloc).expect(rt, "a text");
     let told = (shown.as_str(), fault.status());
     assert_same(rt, told, (text, status), shows);
-    Ok(())
 }
 
-fn assert_row(rt: &impl Abort, alloc: Global, row: &Row) -> Result<(), Fail> {
+fn assert_row(rt: &impl Abort, alloc: Global, row: &Row) {
     let (shows, _, _, _, _, text, status, expected) = *row;
-    let (ended, reads) = replayed_by(alloc, row)?;
+    let (ended, reads) = replayed_by(rt, alloc, row);
     if let Some(expected) = expected {
         assert_same(rt, reads, expected, shows);
     }
     match ended {
         Ok(()) => assert_same(rt, ("", 0), (text, status), shows),
-        Err(fault) => assert_told(rt, alloc, fault, text, status, shows)?,
+        Err(fault) => assert_told(rt, alloc, fault, text, status, shows),
     }
-    Ok(())
 }
 
 /// A replay reads no more often than it may, ends by a write that fails, and its faults have their lines.
 #[test]
-fn replays_end_and_are_told_as_rows_say(rt: HostRuntime) -> Result<(), Fail> {
+fn replays_end_and_are_told_as_rows_say(rt: HostRuntime) {
     let alloc = rt.alloc();
     for row in &ROWS {
-        assert_row(&rt, alloc, row)?;
+        assert_row(&rt, alloc, row);
     }
     let fault = ReplayFault::NoMemory;
-    assert_told(&rt, alloc, fault, "vtl: want of memory", 3, "no memory")
+    assert_told(&rt, alloc, fault, "vtl: want of memory", 3, "no memory");
 }

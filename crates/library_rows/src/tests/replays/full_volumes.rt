@@ -5,7 +5,6 @@ use library_device::Device;
 use output_lines::Audit;
 use std::alloc::{AllocError, Global};
 use std::process::Abort;
-use std::test::Fail;
 use target_core::TargetCore;
 
 /// The volume goes into the drive, and A makes contact there; then a million filemarks, one more, and the position.
@@ -46,12 +45,7 @@ fn line_of_a_block(alloc: Global) -> Result<String, AllocError> {
 }
 
 /// The filemarks, as many blocks as the volume takes, and what comes behind them.
-fn assert_full(
-    rt: &impl Abort,
-    alloc: Global,
-    core: &mut TargetCore<Device>,
-    block: &str,
-) -> Result<(), Fail> {
+fn assert_full(rt: &impl Abort, alloc: Global, core: &mut TargetCore<Device>, block: &str) {
     let audit = Audit::Off;
     assert_replayed(
         rt,
@@ -61,15 +55,16 @@ fn assert_full(
         FILEMARKS,
         FILEMARKS_REPLIES,
         "filemarks",
-    )?;
+    );
     for _ in 0..BLOCKS {
-        assert_replayed(rt, alloc, core, audit, block, "00 - -\n", "a block")?;
+        assert_replayed(rt, alloc, core, audit, block, "00 - -\n", "a block");
     }
-    assert_replayed(rt, alloc, core, audit, FULL, FULL_REPLIES, "more than fits")
+    assert_replayed(rt, alloc, core, audit, FULL, FULL_REPLIES, "more than fits");
 }
 
 #[test]
-fn write_filemarks_takes_a_million_and_write_256_blocks(rt: HostRuntime) -> Result<(), Fail> {
-    let block = line_of_a_block(rt.alloc())?;
-    assert_full(&rt, rt.alloc(), &mut usual(rt.alloc())?, &block)
+fn write_filemarks_takes_a_million_and_write_256_blocks(rt: HostRuntime) {
+    let block = line_of_a_block(rt.alloc()).expect(&rt, "memory");
+    let mut core = usual(rt.alloc()).expect(&rt, "a library");
+    assert_full(&rt, rt.alloc(), &mut core, &block);
 }

@@ -8,7 +8,6 @@ use output_lines::Audit;
 use program_options::LibraryOptions;
 use std::alloc::{AllocError, Global};
 use std::process::Abort;
-use std::test::Fail;
 use stocked_library::library;
 
 const OPTIONS: LibraryOptions = LibraryOptions {
@@ -311,11 +310,12 @@ fn generate(scripts: &mut Scripts, seed: u64) -> Result<(), AllocError> {
 }
 
 /// What a script is answered, reply by reply.
-fn replies(alloc: Global, script: &str) -> Result<String, Fail> {
-    let output = replayed(alloc, &mut library(alloc, &OPTIONS)?, Audit::Off, script)?;
+fn replies(rt: &impl Abort, alloc: Global, script: &str) -> String {
+    let mut core = library(alloc, &OPTIONS).expect(rt, "a library");
+    let output = replayed(rt, alloc, &mut core, Audit::Off, script);
     match String::from_utf8(output) {
-        Ok(text) => Ok(text),
-        Err(_) => Err("no text".into()),
+        Ok(text) => text,
+        Err(_) => rt.panic("no text"),
     }
 }
 
@@ -337,8 +337,8 @@ fn with_reply(struck: Struck, line: &str) -> Struck {
 }
 
 /// Compares a reply that stays with the one without the others.
-fn assert_stays(rt: &impl Abort, fate: Fate, line: &str, alone: Option<&str>) -> Result<(), Fail> {
-    let alone = alone.ok_or("no reply")?;
+fn assert_stays(rt: &impl Abort, fate: Fate, line: &str, alone: Option<&str>) {
+    let alone = alone.expect(rt, "a reply");
     match fate {
         Fate::SameSense => {
             let (alone, line) = (without_data(alone), without_data(line));
@@ -346,61 +346,57 @@ fn assert_stays(rt: &impl Abort, fate: Fate, line: &str, alone: Option<&str>) ->
         }
         _ => assert_same(rt, alone, line, "a reply"),
     }
-    Ok(())
 }
 
 /// The replies to the lines that aren't struck out are the same with the others and without.
-fn compare(rt: &impl Abort, fates: &[Fate], whole: &str, rest: &str) -> Result<Struck, Fail> {
+fn compare(rt: &impl Abort, fates: &[Fate], whole: &str, rest: &str) -> Struck {
     let mut told = whole.lines();
     let mut alone = rest.lines();
     let mut struck = (0, 0);
     for fate in fates {
-        let Some(reply) = told.next() else {
-            return Err("no reply".into());
-        };
+        let reply = told.next().expect(rt, "a reply");
         match *fate {
             Fate::Struck => struck = with_reply(struck, reply),
-            fate => assert_stays(rt, fate, reply, alone.next())?,
+            fate => assert_stays(rt, fate, reply, alone.next()),
         }
     }
     let ended = (told.next().is_none(), alone.next().is_none());
     assert_same(rt, ended, (true, true), "no more replies");
-    Ok(struck)
+    struck
 }
 
 /// Replays lines with those that are to be struck out and without them, and compares the replies.
-fn assert_replayed(rt: &impl Abort, alloc: Global, scripts: &Scripts) -> Result<Struck, Fail> {
-    let whole = replies(alloc, &scripts.whole)?;
-    let rest = replies(alloc, &scripts.rest)?;
+fn assert_replayed(rt: &impl Abort, alloc: Global, scripts: &Scripts) -> Struck {
+    let whole = replies(rt, alloc, &scripts.whole);
+    let rest = replies(rt, alloc, &scripts.rest);
     compare(rt, &scripts.fates, &whole, &rest)
 }
 
-fn struck_of_seed(rt: &impl Abort, alloc: Global, seed: u64) -> Result<Struck, Fail> {
+fn struck_of_seed(rt: &impl Abort, alloc: Global, seed: u64) -> Struck {
     let mut scripts = Scripts {
         whole: String::new(alloc),
         rest: String::new(alloc),
         fates: Vec::new(alloc),
     };
-    generate(&mut scripts, seed)?;
+    generate(&mut scripts, seed).expect(rt, "memory");
     assert_replayed(rt, alloc, &scripts)
 }
 
 /// The sum over the scripts of many seeds.
-fn struck_of_seeds(rt: &impl Abort, alloc: Global) -> Result<Struck, Fail> {
+fn struck_of_seeds(rt: &impl Abort, alloc: Global) -> Struck {
     let mut sum: Struck = (0, 0);
     for seed in 0..300 {
-        let (count, good) = struck_of_seed(rt, alloc, seed)?;
+        let (count, good) = struck_of_seed(rt, alloc, seed);
         sum = (sum.0.saturating_add(count), sum.1.saturating_add(good));
     }
-    Ok(sum)
+    sum
 }
 
 #[test]
-fn holder_and_group_see_no_difference_without_outsiders(rt: HostRuntime) -> Result<(), Fail> {
-    let (count, good) = struck_of_seeds(&rt, rt.alloc())?;
+fn holder_and_group_see_no_difference_without_outsiders(rt: HostRuntime) {
+    let (count, good) = struck_of_seeds(&rt, rt.alloc());
     // Among those struck out some conflict, and many are GOOD.
     let are_many = count > 4_000 && good > 500;
     assert_same(&rt, are_many, true, "enough lines are struck out");
     assert_same(&rt, good < count, true, "some conflict");
-    Ok(())
 }
