@@ -22,7 +22,6 @@ use std::alloc::Global;
 use std::fmt::Debug;
 use std::process::Abort;
 use std::str;
-use std::test::Fail;
 use tape_medium::{Tape, Volume, VolumeTag};
 use tape_server::TapeDrive;
 use target_core::TargetCore;
@@ -61,33 +60,33 @@ fn holds(text: &[u8], line: &str) -> bool {
 }
 
 /// A changer with a volume in its one storage element.
-fn changer(alloc: Global) -> Result<Device, Fail> {
+fn changer(rt: &impl Abort, alloc: Global) -> Device {
     let volume = Volume {
         tag: VolumeTag([b'v'; 32]),
         protected: false,
         tape: Tape::new(alloc, 1024),
     };
-    let mut elements = Elements::new(alloc, 1, 1, 0)?;
-    match elements.put(0x0400, volume) {
-        Ok(()) => Ok(Device::Changer(Changer::new(elements))),
-        Err(_) => Err("no room for a volume".into()),
-    }
+    let mut elements = Elements::new(alloc, 1, 1, 0).expect(rt, "memory");
+    elements
+        .put(0x0400, volume)
+        .ok()
+        .expect(rt, "room for a volume");
+    Device::Changer(Changer::new(elements))
 }
 
 /// That changer's unit, and an empty drive's.
-fn units(alloc: Global) -> Result<Vec<LogicalUnit<Device>>, Fail> {
-    let changer = unit_at(alloc, 0, 2, changer(alloc)?)?;
-    let drive = unit_at(alloc, 1, 2, Device::Tape(TapeDrive::new()))?;
+fn units(rt: &impl Abort, alloc: Global) -> Vec<LogicalUnit<Device>> {
+    let changer = unit_at(alloc, 0, 2, changer(rt, alloc)).expect(rt, "memory");
+    let drive = unit_at(alloc, 1, 2, Device::Tape(TapeDrive::new())).expect(rt, "memory");
     let mut units = Vec::new(alloc);
-    units.push(changer)?;
-    units.push(drive)?;
-    Ok(units)
+    units.push(changer).expect(rt, "memory");
+    units.push(drive).expect(rt, "memory");
+    units
 }
 
 /// A target of these two.
-fn target(alloc: Global) -> Result<TargetCore<Device>, Fail> {
-    match TargetCore::new(units(alloc)?) {
-        Ok(core) => Ok(core),
-        Err(_) => Err("no target".into()),
-    }
+fn target(rt: &impl Abort, alloc: Global) -> TargetCore<Device> {
+    TargetCore::new(units(rt, alloc))
+        .ok()
+        .expect(rt, "a target")
 }

@@ -2,10 +2,11 @@
 
 use super::clients::{Gate, Step};
 use super::exchanges::{Answer, Frame, POWER_ON_1};
-use super::meetings::{Meeting, Met, meet, meet_at_gate, sessions};
+use super::meetings::{Meeting, Met, PATIENT, meet_at_gate};
 use super::{assert_bytes, assert_same, assert_told, holds};
+use output_lines::RecordOutput;
 use server::ServeTerm;
-use server_socket::{RecordOutput, ServerFault};
+use server_socket::ServerFault;
 use std::alloc::{AllocGlobal, Global};
 use std::fs::Files;
 use std::io::{self, Write};
@@ -13,7 +14,6 @@ use std::net::Net;
 use std::process::Abort;
 use std::random::RandomSource;
 use std::sync::Wait;
-use std::test::Fail;
 use std::thread::Threads;
 use std::time::{Clock, Duration};
 use std::{process, thread};
@@ -26,22 +26,26 @@ enum Trouble {
     Fails(u64, u64),
     /// All wait until the gate is open.
     Stalls,
+    /// All take half a second.
+    IsSlow,
 }
 
 /// Keeps what is written, and opens its gate, unless it waits there itself.
 #[derive(Drop)]
-struct Writer<'a, R: Wait> {
+struct Writer<'a, R: Clock + Wait> {
     rt: &'a R,
     gate: &'a Gate,
     trouble: Trouble,
     written: Vec<u8>,
     /// How many writes there were.
     writes: u64,
-    /// The most bytes of a write.
+    /// The most bytes that a write takes.
     most: usize,
+    /// The most lines that were in a write.
+    most_lines: usize,
 }
 
-impl<'a, R: AllocGlobal + Wait> Writer<'a, R> {
+impl<'a, R: AllocGlobal + Clock + Wait> Writer<'a, R> {
     fn new(rt: &'a R, gate: &'a Gate, trouble: Trouble, most: usize) -> Writer<'a, R> {
         Writer {
             rt,
@@ -50,22 +54,32 @@ impl<'a, R: AllocGlobal + Wait> Writer<'a, R> {
             written: Vec::new(rt.alloc()),
             writes: 0,
             most,
+            most_lines: 0,
         }
     }
 }
 
-impl<'a, R: Wait> Write for Writer<'a, R> {
-    fn write(&mut self, buffer: &[u8]) -> io::Result<usize> {
-        self.writes = self.writes.saturating_add(1);
+impl<'a, R: Clock + Wait> Writer<'a, R> {
+    /// Waits as long as a write does.
+    fn wait(&self) {
         match self.trouble {
             Trouble::Stalls => self.gate.pass(self.rt),
+            Trouble::IsSlow => thread::sleep(self.rt, Duration::from_millis(500)),
             Trouble::None | Trouble::Fails(_, _) => self.gate.open(self.rt),
         }
+    }
+}
+
+impl<'a, R: Clock + Wait> Write for Writer<'a, R> {
+    fn write(&mut self, buffer: &[u8]) -> io::Result<usize> {
+        self.writes = self.writes.saturating_add(1);
+        self.wait();
         match self.trouble {
             Trouble::Fails(first, last) if first <= self.writes && self.writes <= last => {
                 Err(io::Error::from(io::ErrorKind::StorageFull))
             }
             _ => {
+                self.most_lines = self.most_lines.max(lines_in(buffer));
                 let count = buffer.len().min(self.most);
                 self.written.extend_from_slice(&buffer[..count])?;
                 Ok(count)
@@ -76,6 +90,11 @@ impl<'a, R: Wait> Write for Writer<'a, R> {
     fn flush(&mut self) -> io::Result<()> {
         Ok(())
     }
+}
+
+/// How many lines end there.
+fn lines_in(buffer: &[u8]) -> usize {
+    buffer.iter().filter(|byte| **byte == b'\n').count()
 }
 
 /// Two sessions one after the other, whose records are handed out as they come.
@@ -97,95 +116,6 @@ const LINES_AS_THEY_COME: &[u8] = b"1 500000000000000a.1 TEST-UNIT-READY 2 - - 0
     1 500000000000000b.1 TEST-UNIT-READY 2 - - 02\n\
     2 500000000000000b.1 LOSS 6 - - 00\n";
 
-/// What came of a meeting, what was written, and by how many writes.
-#[derive(Drop)]
-struct Drained {
-    met: Met,
-    written: Vec<u8>,
-    writes: u64,
-}
-
-/// Serves a meeting to a writer with some trouble that takes at most so many bytes at a time.
-fn meet_writer<R: AllocGlobal + Clock + Files + Net + RandomSource + Sync + Threads + Wait>(
-    rt: &R,
-    id: u32,
-    meeting: Meeting,
-    steps: &[Step],
-    trouble: Trouble,
-    most: usize,
-) -> Result<Drained, Fail> {
-    let gate = Gate::new();
-    let mut writer = Writer::new(rt, &gate, trouble, most);
-    let met = meet_at_gate(rt, id, meeting, steps, &mut writer, &gate)?;
-    Ok(Drained {
-        met,
-        written: writer.written,
-        writes: writer.writes,
-    })
-}
-
-/// Serves the two sessions by one worker, to a writer with some trouble that takes 20 bytes at a time.
-fn meet_drained<R: AllocGlobal + Clock + Files + Net + RandomSource + Sync + Threads + Wait>(
-    rt: &R,
-    id: u32,
-    name: &'static str,
-    trouble: Trouble,
-) -> Result<Drained, Fail> {
-    let meeting = Meeting {
-        records: RecordOutput::AsTheyCome,
-        workers: 1,
-        ..sessions(name, 2)
-    };
-    meet_writer(rt, id, meeting, &ONE_AFTER_THE_OTHER, trouble, 20)
-}
-
-#[test]
-fn serve_library_writes_records_after_each_session(rt: HostRuntime) -> Result<(), Fail> {
-    let id = process::id(rt.process());
-    let drained = meet_drained(&rt, id, "drained", Trouble::None)?;
-    assert_same(&rt, drained.met.served, Ok(()), "drained");
-    assert_bytes(&rt, &drained.written, LINES_AS_THEY_COME, "drained");
-    Ok(())
-}
-
-const KEPT: &str = "vtl: lines of records could not be written, and are kept\n";
-
-const CAUGHT_UP: &str = "vtl: the lines of records that were kept are written\n";
-
-/// A write that fails, at first or within a line, loses no line, repeats none, and is told once; and so it is once it is over.
-#[test]
-fn serve_library_keeps_lines_whose_write_fails(rt: HostRuntime) -> Result<(), Fail> {
-    let id = process::id(rt.process());
-    for at in 1..8u64 {
-        let drained = meet_drained(&rt, id, "kept", Trouble::Fails(at, at))?;
-        assert_same(&rt, drained.met.served, Ok(()), "kept");
-        assert_bytes(&rt, &drained.written, LINES_AS_THEY_COME, "kept");
-        assert_told(&rt, &drained.met.told, KEPT);
-    }
-    Ok(())
-}
-
-/// What is told of lines that never can be written.
-const LOST: [&str; 3] = [
-    KEPT,
-    "vtl: 2 records of logical unit 1 were not written, numbers 1 to 2\n",
-    "vtl: 2 records of logical unit 0 were not written, numbers 1 to 2\n",
-];
-
-/// While lines can't be written the units keep their records, and at the end it is told which have no line.
-#[test]
-fn serve_library_tells_which_records_were_not_written(rt: HostRuntime) -> Result<(), Fail> {
-    let id = process::id(rt.process());
-    let drained = meet_drained(&rt, id, "lost", Trouble::Fails(1, u64::MAX))?;
-    assert_same(&rt, drained.met.served, Err(ServerFault::Write), "lost");
-    assert_bytes(&rt, &drained.written, &[], "lost");
-    for line in LOST {
-        assert_told(&rt, &drained.met.told, line);
-    }
-    assert_same(&rt, holds(&drained.met.told, CAUGHT_UP), false, CAUGHT_UP);
-    Ok(())
-}
-
 const LONG: [Step; 6] = [
     Step::Says(0, Frame::LoginOfA, Answer::Accepted),
     Step::Says(0, Frame::Ready, POWER_ON_1),
@@ -194,40 +124,6 @@ const LONG: [Step; 6] = [
     Step::Says(0, Frame::Logout, Answer::LoggedOut),
     Step::IsLeft(0),
 ];
-
-/// A unit with 4,096 records hands them out within a session; its lines stand in the order of their numbers.
-#[test]
-fn serve_library_hands_many_records_out_within_a_session(rt: HostRuntime) -> Result<(), Fail> {
-    let id = process::id(rt.process());
-    let meeting = Meeting {
-        records: RecordOutput::AsTheyCome,
-        ..sessions("long", 1)
-    };
-    let drained = meet_writer(&rt, id, meeting, &LONG, Trouble::None, usize::MAX)?;
-    assert_same(&rt, drained.met.served, Ok(()), "long");
-    assert_same(&rt, drained.writes >= 2, true, "more than one write");
-    let counts = counts_of(&rt, rt.alloc(), &drained.written)?;
-    assert_same(&rt, counts, (5_001, 0), "long");
-    Ok(())
-}
-
-/// The lines of A's records at the changer and of B's at the drive stand each in the order of their numbers: how many there are.
-fn counts_of(rt: &impl Abort, alloc: Global, written: &[u8]) -> Result<(u64, u64), Fail> {
-    let mut of_a = 0u64;
-    let mut of_b = 0u64;
-    for line in written.split(|byte| *byte == b'\n') {
-        let next_of_a = format!(in alloc; "{} 500000000000000a.1 ", of_a.saturating_add(1))?;
-        let next_of_b = format!(in alloc; "{} 500000000000000b.1 ", of_b.saturating_add(1))?;
-        if line.starts_with(next_of_a.as_bytes()) {
-            of_a = of_a.saturating_add(1);
-        } else if line.starts_with(next_of_b.as_bytes()) {
-            of_b = of_b.saturating_add(1);
-        } else {
-            assert_same(rt, line.len(), 0, "a line out of its place");
-        }
-    }
-    Ok((of_a, of_b))
-}
 
 /// A's records are more than are kept within a session, so that the writer has them, and stalls. B beside it, whose RESERVE is
 /// refused, and A behind it go on all the same.
@@ -250,46 +146,6 @@ const STALLED: [Step; 16] = [
     Step::IsLeft(1),
 ];
 
-/// A reader that stalls holds up no session; once it reads on, all lines are there, once and in order.
-#[test]
-fn serve_library_goes_on_while_its_reader_stalls(rt: HostRuntime) -> Result<(), Fail> {
-    let id = process::id(rt.process());
-    let meeting = Meeting {
-        records: RecordOutput::AsTheyCome,
-        term: ServeTerm::Sessions(3),
-        connections: 3,
-        ..sessions("stalled", 2)
-    };
-    let drained = meet_writer(&rt, id, meeting, &STALLED, Trouble::Stalls, usize::MAX)?;
-    assert_same(&rt, drained.met.served, Ok(()), "stalled");
-    assert_same(&rt, holds(&drained.met.told, KEPT), false, KEPT);
-    let counts = counts_of(&rt, rt.alloc(), &drained.written)?;
-    assert_same(&rt, counts, (7_003, 5_001), "stalled");
-    Ok(())
-}
-
-/// Keeps what is written, a while later, and the most lines of a write.
-#[derive(Drop)]
-struct SlowWriter<'a, R: Clock> {
-    rt: &'a R,
-    written: Vec<u8>,
-    most: usize,
-}
-
-impl<'a, R: Clock> Write for SlowWriter<'a, R> {
-    fn write(&mut self, buffer: &[u8]) -> io::Result<usize> {
-        let lines = buffer.iter().filter(|byte| **byte == b'\n').count();
-        self.most = self.most.max(lines);
-        thread::sleep(self.rt, Duration::from_millis(500));
-        self.written.extend_from_slice(buffer)?;
-        Ok(buffer.len())
-    }
-
-    fn flush(&mut self) -> io::Result<()> {
-        Ok(())
-    }
-}
-
 const MANY_MORE: [Step; 5] = [
     Step::Says(0, Frame::LoginOfA, Answer::Accepted),
     Step::Says(0, Frame::Ready, POWER_ON_1),
@@ -298,25 +154,203 @@ const MANY_MORE: [Step; 5] = [
     Step::IsLeft(0),
 ];
 
-/// A command whose unit has 8,192 records waits for who reads slowly, so that no more of them are ever kept.
-#[test]
-fn serve_library_keeps_no_more_records_than_its_reader_leaves_room_for(
-    rt: HostRuntime,
-) -> Result<(), Fail> {
-    let id = process::id(rt.process());
-    let mut writer = SlowWriter {
-        rt: &rt,
-        written: Vec::new(rt.alloc()),
-        most: 0,
-    };
+const KEPT: &str = "vtl: lines of records could not be written, and are kept\n";
+
+const CAUGHT_UP: &str = "vtl: the lines of records that were kept are written\n";
+
+/// What is told of lines that never can be written.
+const LOST_OF_THE_DRIVE: &str =
+    "vtl: 2 records of logical unit 1 were not written, numbers 1 to 2\n";
+
+const LOST_OF_THE_CHANGER: &str =
+    "vtl: 2 records of logical unit 0 were not written, numbers 1 to 2\n";
+
+/// A part of the server's address, how many workers there are, how many sessions, each by a connection of its own, what the client
+/// does, the writer's trouble, and how many bytes it takes at a time.
+type Setting = (&'static str, u8, u64, &'static [Step], Trouble, usize);
+
+/// What came of a meeting, and its writer.
+#[derive(Drop)]
+struct Drained {
+    met: Met,
+    written: Vec<u8>,
+    writes: u64,
+    most_lines: usize,
+}
+
+/// Serves a library to a writer with some trouble, to which the records are handed out as they come.
+fn meet_writer<R: Abort + AllocGlobal + Clock + Files + Net + RandomSource + Sync + Threads + Wait>(
+    rt: &R,
+    id: u32,
+    setting: Setting,
+) -> Drained {
+    let (name, workers, count, steps, trouble, most) = setting;
     let meeting = Meeting {
+        name,
+        workers,
+        term: ServeTerm::Sessions(count),
+        times: PATIENT,
+        connections: count as usize,
         records: RecordOutput::AsTheyCome,
-        ..sessions("slow", 1)
+        keeping_fails_at: 0,
     };
-    let met = meet(&rt, id, meeting, &MANY_MORE, &mut writer)?;
-    assert_same(&rt, met.served, Ok(()), "slow");
-    assert_same(&rt, writer.most <= 8_193, true, "few lines in a write");
-    let counts = counts_of(&rt, rt.alloc(), &writer.written)?;
-    assert_same(&rt, counts, (40_001, 0), "slow");
-    Ok(())
+    let gate = Gate::new();
+    let mut writer = Writer::new(rt, &gate, trouble, most);
+    let met = meet_at_gate(rt, id, meeting, steps, &mut writer, &gate);
+    Drained {
+        met,
+        written: writer.written,
+        writes: writer.writes,
+        most_lines: writer.most_lines,
+    }
+}
+
+/// What it shows, which is a part of the server's address too, which writes fail, whether the lines are written in the end, a line that
+/// is told, or nothing, and words that are told nowhere.
+type Row = (&'static str, Trouble, bool, &'static str, &'static str);
+
+const NOT_WRITTEN: &str = "were not written";
+
+const ALL_FAIL: Trouble = Trouble::Fails(1, u64::MAX);
+
+/// Two sessions, one after the other, are served by one worker, to a writer that takes 20 bytes at a time. A write that fails, at first or
+/// within a line, loses no line, repeats none, and is told once; and so it is once it is over. While lines can't be written the units keep
+/// their records, and at the end it is told which have no line.
+const ROWS: [Row; 11] = [
+    ("drained", Trouble::None, true, "", KEPT),
+    ("kept-1", Trouble::Fails(1, 1), true, KEPT, NOT_WRITTEN),
+    ("kept-2", Trouble::Fails(2, 2), true, KEPT, NOT_WRITTEN),
+    ("kept-3", Trouble::Fails(3, 3), true, KEPT, NOT_WRITTEN),
+    ("kept-4", Trouble::Fails(4, 4), true, KEPT, NOT_WRITTEN),
+    ("kept-5", Trouble::Fails(5, 5), true, KEPT, NOT_WRITTEN),
+    ("kept-6", Trouble::Fails(6, 6), true, KEPT, NOT_WRITTEN),
+    ("kept-7", Trouble::Fails(7, 7), true, KEPT, NOT_WRITTEN),
+    ("lost", ALL_FAIL, false, KEPT, CAUGHT_UP),
+    (
+        "lost-of-the-drive",
+        ALL_FAIL,
+        false,
+        LOST_OF_THE_DRIVE,
+        CAUGHT_UP,
+    ),
+    (
+        "lost-of-the-changer",
+        ALL_FAIL,
+        false,
+        LOST_OF_THE_CHANGER,
+        CAUGHT_UP,
+    ),
+];
+
+/// Plays a row, and compares how the server ends, what was written, and what is told.
+fn assert_drained<
+    R: Abort + AllocGlobal + Clock + Files + Net + RandomSource + Sync + Threads + Wait,
+>(rt: &R, id: u32, row: Row) {
+    let (name, trouble, is_written, told, not_told) = row;
+    let setting = (name, 1, 2, ONE_AFTER_THE_OTHER.as_slice(), trouble, 20);
+    let drained = meet_writer(rt, id, setting);
+    let (served, lines) = expected_of(is_written);
+    assert_same(rt, drained.met.served, served, name);
+    assert_bytes(rt, &drained.written, lines, name);
+    assert_told(rt, &drained.met.told, told);
+    assert_same(rt, holds(&drained.met.told, not_told), false, not_told);
+}
+
+/// How the server ends, and what was written, where the lines are written in the end, or aren't.
+fn expected_of(is_written: bool) -> (Result<(), ServerFault>, &'static [u8]) {
+    if is_written {
+        (Ok(()), LINES_AS_THEY_COME)
+    } else {
+        (Err(ServerFault::Write), b"")
+    }
+}
+
+/// The lines of A's records at the changer and of B's at the drive stand each in the order of their numbers: how many there are.
+fn counts_of(rt: &impl Abort, alloc: Global, written: &[u8]) -> (u64, u64) {
+    let mut of_a = 0u64;
+    let mut of_b = 0u64;
+    for line in written.split(|byte| *byte == b'\n') {
+        if is_next(rt, alloc, line, of_a, 'a') {
+            of_a = of_a.saturating_add(1);
+        } else if is_next(rt, alloc, line, of_b, 'b') {
+            of_b = of_b.saturating_add(1);
+        } else {
+            assert_same(rt, line.len(), 0, "a line out of its place");
+        }
+    }
+    (of_a, of_b)
+}
+
+/// Whether a line is a host's next one behind so many.
+fn is_next(rt: &impl Abort, alloc: Global, line: &[u8], count: u64, host: char) -> bool {
+    let number = count.saturating_add(1);
+    let start = format!(in alloc; "{number} 500000000000000{host}.1 ").expect(rt, "memory");
+    line.starts_with(start.as_bytes())
+}
+
+/// A setting, and how many lines there are of A's and of B's records, the fewest writes that they take, and the most lines of a write.
+type LongRow = (
+    &'static str,
+    u8,
+    u64,
+    &'static [Step],
+    Trouble,
+    u64,
+    u64,
+    u64,
+    usize,
+);
+
+/// A unit with 4,096 records hands them out within a session; its lines stand in the order of their numbers. A reader that stalls holds up
+/// no session; once it reads on, all lines are there, once and in order. A command whose unit has 8,192 records waits for who reads slowly,
+/// so that no more of them are ever kept.
+const LONG_ROWS: [LongRow; 3] = [
+    ("long", 1, 1, &LONG, Trouble::None, 5_001, 0, 2, usize::MAX),
+    (
+        "stalled",
+        2,
+        3,
+        &STALLED,
+        Trouble::Stalls,
+        7_003,
+        5_001,
+        1,
+        usize::MAX,
+    ),
+    (
+        "slow",
+        1,
+        1,
+        &MANY_MORE,
+        Trouble::IsSlow,
+        40_001,
+        0,
+        1,
+        8_193,
+    ),
+];
+
+/// Plays a row, and compares how the server ends, how many lines there are and by how many writes, and sees that no line was kept.
+fn assert_counted<
+    R: Abort + AllocGlobal + Clock + Files + Net + RandomSource + Sync + Threads + Wait,
+>(rt: &R, id: u32, row: LongRow) {
+    let (name, workers, count, steps, trouble, of_a, of_b, least_writes, most_lines) = row;
+    let drained = meet_writer(rt, id, (name, workers, count, steps, trouble, usize::MAX));
+    assert_same(rt, drained.met.served, Ok(()), name);
+    assert_same(rt, holds(&drained.met.told, KEPT), false, KEPT);
+    let is_handed_out = drained.writes >= least_writes && drained.most_lines <= most_lines;
+    assert_same(rt, is_handed_out, true, name);
+    let counts = counts_of(rt, rt.alloc(), &drained.written);
+    assert_same(rt, counts, (of_a, of_b), name);
+}
+
+#[test]
+fn serve_library_hands_records_out_as_they_come(rt: HostRuntime) {
+    let id = process::id(rt.process());
+    for row in &ROWS {
+        assert_drained(&rt, id, *row);
+    }
+    for row in &LONG_ROWS {
+        assert_counted(&rt, id, *row);
+    }
 }

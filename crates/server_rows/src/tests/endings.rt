@@ -2,14 +2,13 @@
 
 use super::clients::Step;
 use super::exchanges::{Answer, Frame, POWER_ON_1};
-use super::meetings::{Meeting, PATIENT, meet, sessions};
+use super::meetings::{Meeting, PATIENT, assert_met, sessions};
 use super::{A, assert_bytes, assert_same};
 use server::{Cause, EndedSession, Event, FaultySession, ServeTerm, UnwrittenRecords, WaitTimes};
 use server_socket::ServerFault;
 use session::{End, SessionFault};
 use std::alloc::Global;
 use std::process::{self, Abort};
-use std::test::Fail;
 use std::time::Duration;
 
 /// A session's fault, as the one that is told.
@@ -34,70 +33,6 @@ const READS_NOTHING: [Step; 2] = [
     Step::Floods(0, Frame::InquiryAt9, 1_000_000),
 ];
 
-/// Which time is short.
-#[derive(Clone, Copy)]
-enum Short {
-    Login,
-    Idle,
-    Write,
-}
-
-fn times_of(short: Short) -> WaitTimes {
-    let soon = Some(Duration::from_millis(50));
-    match short {
-        Short::Login => WaitTimes {
-            login: soon,
-            ..PATIENT
-        },
-        Short::Idle => WaitTimes {
-            login: Some(Duration::from_secs(20)),
-            idle: soon,
-            ..PATIENT
-        },
-        Short::Write => WaitTimes {
-            write: soon,
-            ..PATIENT
-        },
-    }
-}
-
-/// What is waited for, what the host does, how the server ends, and whether the host logged in.
-type Row = (&'static str, Short, &'static [Step], Cause, bool);
-
-const ROWS: [Row; 3] = [
-    ("no-login", Short::Login, &SILENT, Cause::Silence, false),
-    (
-        "idle",
-        Short::Idle,
-        &SILENT_BEHIND_LOGIN,
-        Cause::Silence,
-        true,
-    ),
-    (
-        "reads-nothing",
-        Short::Write,
-        &READS_NOTHING,
-        Cause::Fault(SessionFault::Write),
-        true,
-    ),
-];
-
-#[test]
-fn serve_library_ends_sessions_of_hosts_that_do_nothing(rt: HostRuntime) -> Result<(), Fail> {
-    let id = process::id(rt.process());
-    for row in &ROWS {
-        let (name, short, steps, cause, is_in) = *row;
-        let meeting = Meeting {
-            times: times_of(short),
-            ..sessions(name, 1)
-        };
-        let mut output = Vec::new(rt.alloc());
-        let met = meet(&rt, id, meeting, steps, &mut output)?;
-        assert_same(&rt, met.served, faulty(cause, is_in), name);
-    }
-    Ok(())
-}
-
 const ENDED_IN_A_SESSION: [Step; 4] = [
     Step::Says(0, Frame::LoginOfA, Answer::Accepted),
     Step::Says(0, Frame::Ready, POWER_ON_1),
@@ -118,29 +53,118 @@ const ENDED_WHILE_ONE_READS_NOTHING: [Step; 3] = [
     Step::Ends,
 ];
 
-/// How many connections there are, and what a client does.
-const ENDED: [(&'static str, usize, &'static [Step]); 3] = [
-    ("in-a-session", 1, &ENDED_IN_A_SESSION),
-    ("others-waiting", 40, &ENDED_WITH_OTHERS_WAITING),
-    ("one-reads-nothing", 1, &ENDED_WHILE_ONE_READS_NOTHING),
+/// Which time is short.
+#[derive(Clone, Copy)]
+enum Short {
+    None,
+    Login,
+    Idle,
+    Write,
+}
+
+fn times_of(short: Short) -> WaitTimes {
+    let soon = Some(Duration::from_millis(50));
+    match short {
+        Short::None => PATIENT,
+        Short::Login => WaitTimes {
+            login: soon,
+            ..PATIENT
+        },
+        Short::Idle => WaitTimes {
+            login: Some(Duration::from_secs(20)),
+            idle: soon,
+            ..PATIENT
+        },
+        Short::Write => WaitTimes {
+            write: soon,
+            ..PATIENT
+        },
+    }
+}
+
+/// How the server ends.
+#[derive(Clone, Copy)]
+enum Ends {
+    Well,
+    /// By a session without its LOGIN in time, or one that is silent behind it, or by one whose reply couldn't be written.
+    NoLogin,
+    Silence,
+    Unwritten,
+}
+
+fn end_of(ends: Ends) -> Result<(), ServerFault> {
+    match ends {
+        Ends::Well => Ok(()),
+        Ends::NoLogin => faulty(Cause::Silence, false),
+        Ends::Silence => faulty(Cause::Silence, true),
+        Ends::Unwritten => faulty(Cause::Fault(SessionFault::Write), true),
+    }
+}
+
+/// What is waited for, or goes on, which is a part of the server's address too, which time is short, how many sessions there are, how many
+/// connections, what the host does, and how the server ends.
+type Row = (&'static str, Short, ServeTerm, usize, &'static [Step], Ends);
+
+const ONE: ServeTerm = ServeTerm::Sessions(1);
+
+/// Hosts that do nothing, and a server that is ended whatever hosts do. Until it is closed a session's fault is none of the server's.
+const ROWS: [Row; 6] = [
+    ("no-login", Short::Login, ONE, 1, &SILENT, Ends::NoLogin),
+    (
+        "idle",
+        Short::Idle,
+        ONE,
+        1,
+        &SILENT_BEHIND_LOGIN,
+        Ends::Silence,
+    ),
+    (
+        "reads-nothing",
+        Short::Write,
+        ONE,
+        1,
+        &READS_NOTHING,
+        Ends::Unwritten,
+    ),
+    (
+        "in-a-session",
+        Short::None,
+        ServeTerm::UntilClosed,
+        1,
+        &ENDED_IN_A_SESSION,
+        Ends::Well,
+    ),
+    (
+        "others-waiting",
+        Short::None,
+        ServeTerm::UntilClosed,
+        40,
+        &ENDED_WITH_OTHERS_WAITING,
+        Ends::Well,
+    ),
+    (
+        "one-reads-nothing",
+        Short::None,
+        ServeTerm::UntilClosed,
+        1,
+        &ENDED_WHILE_ONE_READS_NOTHING,
+        Ends::Well,
+    ),
 ];
 
-/// Until it is closed a session's fault is none of the server's.
 #[test]
-fn serve_library_ends_whatever_hosts_do(rt: HostRuntime) -> Result<(), Fail> {
+fn serve_library_ends_whatever_hosts_do_or_leave(rt: HostRuntime) {
     let id = process::id(rt.process());
-    for row in &ENDED {
-        let (name, connections, steps) = *row;
+    for row in &ROWS {
+        let (name, short, term, connections, steps, ends) = *row;
         let meeting = Meeting {
-            term: ServeTerm::UntilClosed,
+            times: times_of(short),
+            term,
             connections,
             ..sessions(name, 1)
         };
-        let mut output = Vec::new(rt.alloc());
-        let met = meet(&rt, id, meeting, steps, &mut output)?;
-        assert_same(&rt, met.served, Ok(()), name);
+        assert_met(&rt, id, meeting, steps, end_of(ends), None);
     }
-    Ok(())
 }
 
 /// An event, and its line.
@@ -203,17 +227,15 @@ const EVENTS: [Told; 9] = [
     ),
 ];
 
-fn assert_told(rt: &impl Abort, alloc: Global, row: &Told) -> Result<(), Fail> {
+fn assert_told(rt: &impl Abort, alloc: Global, row: &Told) {
     let (event, line) = *row;
-    let shown = event.to_string(alloc)?;
+    let shown = event.to_string(alloc).expect(rt, "memory");
     assert_bytes(rt, shown.as_bytes(), line.as_bytes(), line);
-    Ok(())
 }
 
 #[test]
-fn events_have_their_lines(rt: HostRuntime) -> Result<(), Fail> {
+fn events_have_their_lines(rt: HostRuntime) {
     for row in &EVENTS {
-        assert_told(&rt, rt.alloc(), row)?;
+        assert_told(&rt, rt.alloc(), row);
     }
-    Ok(())
 }

@@ -7,7 +7,6 @@ use server_socket::{ServerFault, earlier};
 use session::SessionFault;
 use std::alloc::Global;
 use std::process::Abort;
-use std::test::Fail;
 
 /// A fault, what is shown of it, and the exit status.
 type Shown = (ServerFault, &'static str, u8);
@@ -58,25 +57,23 @@ const SHOWN: [Shown; 7] = [
     (ServerFault::NoMemory, "vtl: want of memory", 3),
 ];
 
-fn assert_shown(rt: &impl Abort, alloc: Global, row: &Shown) -> Result<(), Fail> {
+fn assert_shown(rt: &impl Abort, alloc: Global, row: &Shown) {
     let (fault, text, status) = *row;
-    let shown = fault.to_string(alloc)?;
+    let shown = fault.to_string(alloc).expect(rt, "memory");
     assert_bytes(rt, shown.as_bytes(), text.as_bytes(), text);
     assert_same(rt, fault.status(), status, text);
-    Ok(())
 }
 
 #[test]
-fn faults_of_a_server_have_their_lines_and_order(rt: HostRuntime) -> Result<(), Fail> {
+fn faults_of_a_server_have_their_lines_and_order(rt: HostRuntime) {
     let mut told = None;
     for row in &SHOWN {
-        assert_shown(&rt, rt.alloc(), row)?;
+        assert_shown(&rt, rt.alloc(), row);
         let fault = row.0;
         let first = Some(told.unwrap_or(fault));
         assert_same(&rt, earlier(told, Some(fault)), first, row.1);
         told = earlier(Some(fault), told);
     }
-    let first = SHOWN.first().ok_or("no row")?;
+    let first = SHOWN.first().expect(&rt, "a row");
     assert_same(&rt, told, Some(first.0), "the fault that is told");
-    Ok(())
 }

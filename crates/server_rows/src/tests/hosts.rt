@@ -9,16 +9,16 @@ use program_options::LibraryOptions;
 use scsi_nexus::Nexus;
 use server::{Door, LiveSessions, Teller, Telling};
 use server_socket::ServerFault;
-use std::alloc::{AllocError, Global};
+use std::alloc::Global;
 use std::fs::Files;
+use std::io;
 use std::net::Net;
 use std::os::unix::net::{SocketAddr, UnixStream};
+use std::process::{self, Abort};
 use std::random::RandomSource;
 use std::sync::Wait;
-use std::test::Fail;
 use std::thread::{self, Threads};
 use std::time::Clock;
-use std::{io, process};
 use stocked_library::library;
 use tape_keeper::NoKeeper;
 use target_core::TargetCore;
@@ -60,8 +60,8 @@ fn send<R: AllocGlobal + Net>(
 }
 
 /// The usual library.
-fn usual(alloc: Global) -> Result<TargetCore<Device>, AllocError> {
-    library(alloc, &LibraryOptions::DEFAULT)
+fn usual(rt: &impl Abort, alloc: Global) -> TargetCore<Device> {
+    library(alloc, &LibraryOptions::DEFAULT).expect(rt, "memory")
 }
 
 /// Serves a library for one session, and tells its faults nowhere.
@@ -78,13 +78,13 @@ fn serve_once<R: AllocGlobal + Clock + RandomSource + Sync + Threads + Wait>(
 }
 
 /// Serves a library for a session of A's, in a second thread.
-fn serve_and_send<R: AllocGlobal + Clock + Net + RandomSource + Sync + Threads + Wait>(
+fn serve_and_send<R: Abort + AllocGlobal + Clock + Net + RandomSource + Sync + Threads + Wait>(
     rt: &R,
     core: TargetCore<Device>,
     doors: &[Door<'_>; 1],
     address: &SocketAddr,
     script: &str,
-) -> Result<Met, Fail> {
+) -> Met {
     let mut records = Vec::new(rt.alloc());
     let mut replies = Vec::new(rt.alloc());
     let (hosted, sent) = thread::join(
@@ -92,23 +92,23 @@ fn serve_and_send<R: AllocGlobal + Clock + Net + RandomSource + Sync + Threads +
         || serve_once(rt, core, doors, &mut records),
         || send(rt, address, script, &mut replies),
     );
-    Ok(Met {
+    Met {
         hosted,
-        conversed: sent?,
+        conversed: sent.expect(rt, "a connection"),
         records,
         replies,
-    })
+    }
 }
 
 /// Serves the usual library for a session of A's, at an address that is no file.
-fn meet<R: AllocGlobal + Clock + Files + Net + RandomSource + Sync + Threads + Wait>(
+fn meet<R: Abort + AllocGlobal + Clock + Files + Net + RandomSource + Sync + Threads + Wait>(
     rt: &R,
     id: u32,
     script: &str,
-) -> Result<Met, Fail> {
-    let address = address_of(rt.alloc(), "host", id)?;
-    let doors = [door_at(rt, &address)?];
-    let core = usual(rt.alloc())?;
+) -> Met {
+    let address = address_of(rt, rt.alloc(), "host", id);
+    let doors = [door_at(rt, &address)];
+    let core = usual(rt, rt.alloc());
     serve_and_send(rt, core, &doors, &address, script)
 }
 
@@ -119,12 +119,11 @@ const RECORDS: &[u8] = b"1 500000000000000a.1 TEST-UNIT-READY 2 - - 02\n\
     3 500000000000000a.1 LOSS 6 - - 00\n";
 
 #[test]
-fn converse_has_the_replies_of_a_served_library(rt: HostRuntime) -> Result<(), Fail> {
+fn converse_has_the_replies_of_a_served_library(rt: HostRuntime) {
     let id = process::id(rt.process());
-    let met = meet(&rt, id, "0 000000000000\n0 000000000000\n")?;
+    let met = meet(&rt, id, "0 000000000000\n0 000000000000\n");
     assert_same(&rt, met.conversed, Ok(()), "the host");
     assert_same(&rt, met.hosted, Ok(()), "the server");
     assert_bytes(&rt, met.replies.as_slice(), REPLIES, "the replies");
     assert_bytes(&rt, met.records.as_slice(), RECORDS, "the records");
-    Ok(())
 }

@@ -7,9 +7,9 @@ use super::meetings::{PATIENT, address_of, door_at};
 use super::sessions::LINES_OF_BOTH;
 use super::{assert_bytes, assert_same, assert_told, target};
 use iscsi_login::{Access, Authentication, Host, LoginTarget};
-use output_lines::Audit;
+use output_lines::{Audit, RecordOutput};
 use server::{Door, LiveSessions, ServeLimits, ServeTerm, Teller, Telling, WaitTimes};
-use server_socket::{RecordOutput, ServerFault, serve_library};
+use server_socket::{ServerFault, serve_library};
 use std::alloc::{AllocError, Global};
 use std::fs::Files;
 use std::io::{self, Read, Write};
@@ -18,7 +18,6 @@ use std::os::unix::net::{self, UnixStream};
 use std::process::{self, Abort};
 use std::random::RandomSource;
 use std::sync::Wait;
-use std::test::Fail;
 use std::thread::{self, Threads};
 use std::time::{Clock, Duration};
 use tape_keeper::NoKeeper;
@@ -317,33 +316,35 @@ fn talk<R: Clock + Net<Listener = TcpListener, Stream = TcpStream> + Wait>(
 }
 
 /// A host with this name and this identity.
-fn host(alloc: Global, name: &[u8], sas: u64) -> Result<Host, AllocError> {
-    Ok(Host {
-        name: Vec::from_slice(alloc, name)?,
+fn host(rt: &impl Abort, alloc: Global, name: &[u8], sas: u64) -> Host {
+    Host {
+        name: Vec::from_slice(alloc, name).expect(rt, "memory"),
         sas,
-    })
+    }
 }
 
 /// B and C, by their names.
-fn hosts(alloc: Global) -> Result<Vec<Host>, AllocError> {
+fn hosts(rt: &impl Abort, alloc: Global) -> Vec<Host> {
+    let b = host(rt, alloc, b"iqn.2026-11.example:b", 0x5000_0000_0000_000B);
+    let c = host(rt, alloc, b"iqn.2026-11.example:c", 0x5000_0000_0000_000C);
     let mut hosts = Vec::new(alloc);
-    hosts.push(host(alloc, b"iqn.2026-11.example:b", 0x5000_0000_0000_000B)?)?;
-    hosts.push(host(alloc, b"iqn.2026-11.example:c", 0x5000_0000_0000_000C)?)?;
-    Ok(hosts)
+    hosts.push(b).expect(rt, "memory");
+    hosts.push(c).expect(rt, "memory");
+    hosts
 }
 
 /// A target that lets B and C in.
-fn target_of_two(alloc: Global) -> Result<LoginTarget, AllocError> {
-    let name = Vec::from_slice(alloc, b"iqn.2026-11.localhost:vtl")?;
-    let hosts = hosts(alloc)?;
-    Ok(LoginTarget {
+fn target_of_two(rt: &impl Abort, alloc: Global) -> LoginTarget {
+    let name = Vec::from_slice(alloc, b"iqn.2026-11.localhost:vtl").expect(rt, "memory");
+    let hosts = hosts(rt, alloc);
+    LoginTarget {
         name,
         access: Access {
             hosts,
             any_host: false,
         },
         authentication: Authentication::None,
-    })
+    }
 }
 
 /// What came of a meeting: what the server answers, and whether A and B were told what they should be.
@@ -351,7 +352,8 @@ type Served = (Result<(), ServerFault>, io::Result<bool>);
 
 /// Serves a library at two doors, until the steps are taken.
 fn serve_and_talk<
-    R: AllocGlobal
+    R: Abort
+        + AllocGlobal
         + Clock
         + Files
         + Net<Listener = TcpListener, Stream = TcpStream>
@@ -369,16 +371,16 @@ fn serve_and_talk<
     output: &mut Vec<u8>,
     gate: &Gate,
     teller: &Teller<&mut Vec<u8>>,
-) -> Result<Served, Fail> {
+) -> Served {
     let alloc = rt.alloc();
-    let core = target(alloc)?;
+    let core = target(rt, alloc);
     let sessions = LiveSessions::new(alloc);
     let ending = Ending {
         sessions: &sessions,
         gate,
         doors,
     };
-    Ok(thread::join(
+    thread::join(
         rt,
         || {
             let limits = ServeLimits {
@@ -393,7 +395,7 @@ fn serve_and_talk<
             )
         },
         || ending.unless_right(rt, talk(rt, alloc, address, portal, &ending, steps)),
-    ))
+    )
 }
 
 /// What came of a meeting, the lines of its records, and what was told.
@@ -408,7 +410,8 @@ struct Met {
 
 /// Serves a library to A and B, at its two doors.
 fn meet_at<
-    R: AllocGlobal
+    R: Abort
+        + AllocGlobal
         + Clock
         + Files
         + Net<Listener = TcpListener, Stream = TcpStream>
@@ -423,7 +426,7 @@ fn meet_at<
     portal: SocketAddr,
     times: WaitTimes,
     steps: &[Step],
-) -> Result<Met, Fail> {
+) -> Met {
     let mut lines = Vec::new(rt.alloc());
     let mut told = Vec::new(rt.alloc());
     let teller = Teller::new(Telling::Everything, &mut told);
@@ -437,30 +440,32 @@ fn meet_at<
         &mut lines,
         &Gate::new(),
         &teller,
-    )?;
+    );
     drop(teller);
-    Ok(Met {
+    Met {
         served,
-        is_right: talked?,
+        is_right: talked.expect(rt, "a connection"),
         lines,
         told,
-    })
+    }
 }
 
 /// A door at an address, and one of a portal.
-fn doors_at<'t, R: Files + Net<Listener = TcpListener, Stream = TcpStream>>(
+fn doors_at<'t, R: Abort + Files + Net<Listener = TcpListener, Stream = TcpStream>>(
     rt: &R,
     address: &net::SocketAddr,
     listener: TcpListener,
     target: &'t LoginTarget,
-) -> io::Result<[Door<'t>; 2]> {
-    let socket = door_at(rt, address)?;
-    Ok([socket, Door::of_portal(listener, target, 1)?])
+) -> [Door<'t>; 2] {
+    let socket = door_at(rt, address);
+    let portal = Door::of_portal(listener, target, 1).expect(rt, "a door");
+    [socket, portal]
 }
 
 /// Serves a library to A and B, at an address that is no file and a portal.
 fn meet<
-    R: AllocGlobal
+    R: Abort
+        + AllocGlobal
         + Clock
         + Files
         + Net<Listener = TcpListener, Stream = TcpStream>
@@ -474,10 +479,10 @@ fn meet<
     target: &LoginTarget,
     times: WaitTimes,
     steps: &[Step],
-) -> Result<Met, Fail> {
-    let listener = TcpListener::bind(rt, "127.0.0.1:0")?;
-    let portal = listener.local_addr()?;
-    let doors = doors_at(rt, address, listener, target)?;
+) -> Met {
+    let listener = TcpListener::bind(rt, "127.0.0.1:0").expect(rt, "a listener");
+    let portal = listener.local_addr().expect(rt, "an address");
+    let doors = doors_at(rt, address, listener, target);
     meet_at(rt, &doors, address, portal, times, steps)
 }
 
@@ -527,18 +532,17 @@ fn assert_met<
         + Sync
         + Threads
         + Wait,
->(rt: &R, id: u32, row: Row) -> Result<(), Fail> {
+>(rt: &R, id: u32, row: Row) {
     let (name, short, steps, are_compared, lines, words) = row;
-    let address = address_of(rt.alloc(), name, id)?;
-    let target = target_of_two(rt.alloc())?;
-    let met = meet(rt, &address, &target, times_of(short), steps)?;
+    let address = address_of(rt, rt.alloc(), name, id);
+    let target = target_of_two(rt, rt.alloc());
+    let met = meet(rt, &address, &target, times_of(short), steps);
     assert_same(rt, met.is_right, true, name);
     assert_same(rt, met.served, Ok(()), name);
     if are_compared {
         assert_bytes(rt, &met.lines, lines, name);
     }
     assert_told(rt, &met.told, words);
-    Ok(())
 }
 
 /// A's reservation keeps B from the drive, whichever way each has come.
@@ -746,10 +750,9 @@ const ROWS: [Row; 9] = [
 ];
 
 #[test]
-fn serve_library_serves_initiators_beside_a_socket(rt: HostRuntime) -> Result<(), Fail> {
+fn serve_library_serves_initiators_beside_a_socket(rt: HostRuntime) {
     let id = process::id(rt.process());
     for row in &ROWS {
-        assert_met(&rt, id, *row)?;
+        assert_met(&rt, id, *row);
     }
-    Ok(())
 }

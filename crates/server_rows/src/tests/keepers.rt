@@ -11,7 +11,6 @@ use session::SessionFault;
 use std::alloc::Global;
 use std::process;
 use std::sync::{Mutex, Wait};
-use std::test::Fail;
 use std::time::Clock;
 use tape_keeper::{
     GoodCommand, KeepChange, KeepEvent, KeepFault, KeepListener, KeptThing, TapeKeeper, TapeSource,
@@ -149,7 +148,7 @@ const TOLD: [&str; 3] = [
 ];
 
 #[test]
-fn serve_library_ends_a_session_whose_reply_is_not_kept(rt: HostRuntime) -> Result<(), Fail> {
+fn serve_library_ends_a_session_whose_reply_is_not_kept(rt: HostRuntime) {
     let id = process::id(rt.process());
     let meeting = Meeting {
         term: ServeTerm::Sessions(3),
@@ -158,11 +157,10 @@ fn serve_library_ends_a_session_whose_reply_is_not_kept(rt: HostRuntime) -> Resu
         ..sessions("not-kept", 2)
     };
     let mut written = Vec::new(rt.alloc());
-    let met = meet(&rt, id, meeting, &NOT_KEPT, &mut written)?;
+    let met = meet(&rt, id, meeting, &NOT_KEPT, &mut written);
     assert_same(&rt, met.served, FIRST_NOT_WRITTEN, "not kept");
     assert_bytes(&rt, written.as_slice(), LINES, "not kept");
     for line in TOLD {
         assert_told(&rt, &met.told, line);
     }
-    Ok(())
 }

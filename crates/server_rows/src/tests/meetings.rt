@@ -4,9 +4,9 @@ use super::clients::{Ending, Gate, Step, talk_or_end};
 use super::keepers::FailingKeeper;
 use super::{assert_bytes, assert_same, target};
 use library_device::Device;
-use output_lines::Audit;
+use output_lines::{Audit, RecordOutput};
 use server::{Door, LiveSessions, ServeLimits, ServeTerm, Teller, Telling, WaitTimes};
-use server_socket::{RecordOutput, ServerFault, serve_library};
+use server_socket::{ServerFault, serve_library};
 use std::alloc::Global;
 use std::fs::Files;
 use std::io::{self, Write};
@@ -15,7 +15,6 @@ use std::os::unix::net::{SocketAddr, SocketAddrExt, UnixListener};
 use std::process::Abort;
 use std::random::RandomSource;
 use std::sync::Wait;
-use std::test::Fail;
 use std::thread::{self, Threads};
 use std::time::Clock;
 use tape_keeper::TapeKeeper;
@@ -59,14 +58,15 @@ pub(super) const fn sessions(name: &'static str, workers: u8) -> Meeting {
 }
 
 /// An address that is no file, by a part of its name.
-pub(super) fn address_of(alloc: Global, name: &str, id: u32) -> Result<SocketAddr, Fail> {
-    let name = format!(in alloc; "vtl-{name}-{id}")?;
-    Ok(SocketAddr::from_abstract_name(name.as_bytes())?)
+pub(super) fn address_of(rt: &impl Abort, alloc: Global, name: &str, id: u32) -> SocketAddr {
+    let name = format!(in alloc; "vtl-{name}-{id}").expect(rt, "memory");
+    SocketAddr::from_abstract_name(name.as_bytes()).expect(rt, "an address")
 }
 
 /// A door at an address.
-pub(super) fn door_at<'a, R: Files + Net>(rt: &R, address: &SocketAddr) -> io::Result<Door<'a>> {
-    Door::of_socket(UnixListener::bind_addr(rt, address)?)
+pub(super) fn door_at<'a, R: Abort + Files + Net>(rt: &R, address: &SocketAddr) -> Door<'a> {
+    let listener = UnixListener::bind_addr(rt, address).expect(rt, "a listener");
+    Door::of_socket(listener).expect(rt, "a door")
 }
 
 /// Serves a target as a meeting says.
@@ -140,31 +140,24 @@ pub(super) struct Met {
 /// Serves the target to a client, at an address that is no file. What the server answers, writes and tells, where the client was
 /// told what it should be.
 pub(super) fn meet<
-    R: AllocGlobal + Clock + Files + Net + RandomSource + Sync + Threads + Wait,
+    R: Abort + AllocGlobal + Clock + Files + Net + RandomSource + Sync + Threads + Wait,
     W: Write + Send,
->(rt: &R, id: u32, meeting: Meeting, steps: &[Step], output: &mut W) -> Result<Met, Fail> {
+>(rt: &R, id: u32, meeting: Meeting, steps: &[Step], output: &mut W) -> Met {
     meet_at_gate(rt, id, meeting, steps, output, &Gate::new())
 }
 
 /// The same, with a gate between the writer and the client.
 pub(super) fn meet_at_gate<
-    R: AllocGlobal + Clock + Files + Net + RandomSource + Sync + Threads + Wait,
+    R: Abort + AllocGlobal + Clock + Files + Net + RandomSource + Sync + Threads + Wait,
     W: Write + Send,
->(
-    rt: &R,
-    id: u32,
-    meeting: Meeting,
-    steps: &[Step],
-    output: &mut W,
-    gate: &Gate,
-) -> Result<Met, Fail> {
+>(rt: &R, id: u32, meeting: Meeting, steps: &[Step], output: &mut W, gate: &Gate) -> Met {
     let keeper = FailingKeeper::new(meeting.keeping_fails_at);
     meet_keeper(rt, id, meeting, steps, output, gate, &keeper)
 }
 
 /// The same, with another keeper than the one that fails where the meeting says so.
 pub(super) fn meet_keeper<
-    R: AllocGlobal + Clock + Files + Net + RandomSource + Sync + Threads + Wait,
+    R: Abort + AllocGlobal + Clock + Files + Net + RandomSource + Sync + Threads + Wait,
     W: Write + Send,
     K: TapeKeeper<Device> + Sync,
 >(
@@ -175,15 +168,15 @@ pub(super) fn meet_keeper<
     output: &mut W,
     gate: &Gate,
     keeper: &K,
-) -> Result<Met, Fail> {
-    let address = address_of(rt.alloc(), meeting.name, id)?;
-    let doors = [door_at(rt, &address)?];
+) -> Met {
+    let address = address_of(rt, rt.alloc(), meeting.name, id);
+    let doors = [door_at(rt, &address)];
     meet_at(rt, &doors, &address, meeting, steps, output, gate, keeper)
 }
 
 /// The same, at the door of an address.
 fn meet_at<
-    R: AllocGlobal + Clock + Net + RandomSource + Sync + Threads + Wait,
+    R: Abort + AllocGlobal + Clock + Net + RandomSource + Sync + Threads + Wait,
     W: Write + Send,
     K: TapeKeeper<Device> + Sync,
 >(
@@ -195,16 +188,15 @@ fn meet_at<
     output: &mut W,
     gate: &Gate,
     keeper: &K,
-) -> Result<Met, Fail> {
-    let core = target(rt.alloc())?;
+) -> Met {
+    let core = target(rt, rt.alloc());
     let mut told = Vec::new(rt.alloc());
     let (served, talked) = serve_and_talk(
         rt, core, doors, address, meeting, steps, output, gate, keeper, &mut told,
     );
-    if !talked? {
-        return Err("another reply".into());
-    }
-    Ok(Met { served, told })
+    let is_right = talked.expect(rt, "a connection");
+    assert_same(rt, is_right, true, meeting.name);
+    Met { served, told }
 }
 
 /// Serves a target to a client, and compares how the server ends and, where they are given, the lines that it writes.
@@ -217,12 +209,11 @@ pub(super) fn assert_met<
     steps: &[Step],
     end: Result<(), ServerFault>,
     lines: Option<&[u8]>,
-) -> Result<(), Fail> {
+) {
     let mut written = Vec::new(rt.alloc());
-    let met = meet(rt, id, meeting, steps, &mut written)?;
+    let met = meet(rt, id, meeting, steps, &mut written);
     assert_same(rt, met.served, end, meeting.name);
     if let Some(lines) = lines {
         assert_bytes(rt, written.as_slice(), lines, meeting.name);
     }
-    Ok(())
 }

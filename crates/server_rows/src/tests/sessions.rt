@@ -8,7 +8,6 @@ use server::{Cause, FaultySession, ServeTerm};
 use server_socket::ServerFault;
 use session::SessionFault;
 use std::process;
-use std::test::Fail;
 
 /// A's one command, and its loss.
 pub(super) const LINES_OF_A: &[u8] = b"1 500000000000000a.1 TEST-UNIT-READY 2 - - 02\n\
@@ -139,6 +138,7 @@ const LINES_OF_THE_TAPE: &[u8] = b"1 500000000000000a.1 TEST-UNIT-READY 2 - - 02
     18 500000000000000b.1 LOSS 6 - - 00\n\
     19 500000000000000a.1 LOSS 6 - - 00\n";
 
+/// A single worker serves one session after another, until it is told that there are no more.
 const DRIVE_AND_CHANGER: [Step; 9] = [
     Step::Says(0, Frame::LoginOfA, Answer::Accepted),
     Step::Says(0, Frame::DriveReady, POWER_ON_1),
@@ -157,45 +157,79 @@ const LINES_AT_THE_END: &[u8] = b"1 500000000000000b.1 TEST-UNIT-READY 2 - - 02\
     1 500000000000000a.1 TEST-UNIT-READY 2 - - 02\n\
     2 500000000000000a.1 LOSS 6 - - 00\n";
 
-/// A part of the server's address, how many sessions there are, what the client does, how the server ends, whether the lines that it
-/// writes are compared, and with which.
+/// A part of the server's address, how many workers there are, how many sessions, and how many connections, what the client does, how
+/// the server ends, whether the lines that it writes are compared, and with which.
 type Row = (
     &'static str,
     u8,
+    ServeTerm,
+    usize,
     &'static [Step],
     Result<(), ServerFault>,
     bool,
     &'static [u8],
 );
 
-const ROWS: [Row; 5] = [
-    ("one", 1, &ONE, Ok(()), true, LINES_OF_A),
-    ("again", 2, &AGAIN, Ok(()), false, b""),
-    ("two", 2, &TWO, SECOND_REFUSED, true, LINES_OF_A),
-    ("conflict", 2, &CONFLICT, Ok(()), true, LINES_OF_BOTH),
-    ("tape", 2, &ONE_TAPE, Ok(()), true, LINES_OF_THE_TAPE),
+const ONE_SESSION: ServeTerm = ServeTerm::Sessions(1);
+
+const TWO_SESSIONS: ServeTerm = ServeTerm::Sessions(2);
+
+const ROWS: [Row; 6] = [
+    ("one", 1, ONE_SESSION, 1, &ONE, Ok(()), true, LINES_OF_A),
+    ("again", 2, TWO_SESSIONS, 2, &AGAIN, Ok(()), false, b""),
+    (
+        "two",
+        2,
+        TWO_SESSIONS,
+        2,
+        &TWO,
+        SECOND_REFUSED,
+        true,
+        LINES_OF_A,
+    ),
+    (
+        "conflict",
+        2,
+        TWO_SESSIONS,
+        2,
+        &CONFLICT,
+        Ok(()),
+        true,
+        LINES_OF_BOTH,
+    ),
+    (
+        "tape",
+        2,
+        TWO_SESSIONS,
+        2,
+        &ONE_TAPE,
+        Ok(()),
+        true,
+        LINES_OF_THE_TAPE,
+    ),
+    (
+        "closed",
+        1,
+        ServeTerm::UntilClosed,
+        2,
+        &DRIVE_AND_CHANGER,
+        Ok(()),
+        true,
+        LINES_AT_THE_END,
+    ),
 ];
 
 #[test]
-fn serve_library_answers_and_records_sessions(rt: HostRuntime) -> Result<(), Fail> {
+fn serve_library_answers_and_records_sessions(rt: HostRuntime) {
     let id = process::id(rt.process());
     for row in &ROWS {
-        let (name, count, steps, end, are_compared, lines) = *row;
+        let (name, workers, term, connections, steps, end, are_compared, lines) = *row;
+        let meeting = Meeting {
+            term,
+            connections,
+            ..sessions(name, workers)
+        };
         let lines = are_compared.then_some(lines);
-        assert_met(&rt, id, sessions(name, count), steps, end, lines)?;
+        assert_met(&rt, id, meeting, steps, end, lines);
     }
-    Ok(())
-}
-
-/// A single worker serves one session after another, until it is told that there are no more.
-#[test]
-fn serve_library_goes_on_until_it_is_closed(rt: HostRuntime) -> Result<(), Fail> {
-    let id = process::id(rt.process());
-    let meeting = Meeting {
-        term: ServeTerm::UntilClosed,
-        connections: 2,
-        ..sessions("closed", 1)
-    };
-    let lines = Some(LINES_AT_THE_END);
-    assert_met(&rt, id, meeting, &DRIVE_AND_CHANGER, Ok(()), lines)
 }

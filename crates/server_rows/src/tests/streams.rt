@@ -18,7 +18,6 @@ use std::marker::Brand;
 use std::process::Abort;
 use std::sync::ledger::Blank;
 use std::sync::{Mutex, Wait};
-use std::test::Fail;
 use tape_keeper::NoKeeper;
 use target_core::TargetCore;
 
@@ -220,11 +219,10 @@ fn serve_last<
     library: &Library<L0, L1, L2, L3, L4, Device, Pass>,
     seats: &mut Vec<Seat<L0, L1, L2, L3, L4>>,
     row: Row,
-) -> Result<(), Fail> {
-    match seats.pop() {
-        Some(seat) => Ok(seats.push(serve_row(rt, alloc, library, seat, row))?),
-        None => Err("no seat".into()),
-    }
+) {
+    let seat = seats.pop().expect(rt, "a seat");
+    let seat = serve_row(rt, alloc, library, seat, row);
+    seats.push(seat).expect(rt, "memory");
 }
 
 /// Closes a library by some of its seats.
@@ -261,13 +259,13 @@ fn serve_and_close<
     mut seats: Vec<Seat<L0, L1, L2, L3, L4>>,
     row: Row,
     closing: Seats,
-) -> Result<Closed, Fail> {
-    serve_last(rt, alloc, &library, &mut seats, row)?;
+) -> Closed {
+    serve_last(rt, alloc, &library, &mut seats, row);
     match closing {
         Seats::All => {}
         Seats::None => seats.clear(),
     }
-    Ok(close(rt, alloc, library, seats))
+    close(rt, alloc, library, seats)
 }
 
 fn open_and_serve<
@@ -285,7 +283,7 @@ fn open_and_serve<
     blanks: Blanks,
     row: Row,
     closing: Seats,
-) -> Result<Closed, Fail>
+) -> Closed
     requires some { 0 < seats }
     requires zero { (blanks.zero.name ≡ L0.name) × (blanks.zero.parts ≡ L0.parts) × (L0.parts ≡ seats) }
     requires one { (blanks.one.name ≡ L1.name) × (blanks.one.parts ≡ L1.parts) × (L1.parts ≡ seats) }
@@ -294,19 +292,13 @@ fn open_and_serve<
     requires four { (blanks.four.name ≡ L4.name) × (blanks.four.parts ≡ L4.parts) × (L4.parts ≡ seats) }
     requires since { IsSince (units_of core) L0.since L1.since L2.since L3.since L4.since }
 {
-    match Library::<L0, L1, L2, L3, L4, Device, Pass>::new(alloc, core, seats, blanks, Pass) {
-        Ok((library, seats)) => serve_and_close(rt, alloc, library, seats, row, closing),
-        Err((refused, _)) => Err(refused.into()),
-    }
+    let opened = Library::<L0, L1, L2, L3, L4, Device, Pass>::new(alloc, core, seats, blanks, Pass);
+    let (library, seats) = opened.ok().expect(rt, "a library");
+    serve_and_close(rt, alloc, library, seats, row, closing)
 }
 
 /// Serves a row's session at a library of its own, and closes it.
-fn close_behind<R: Abort + Wait>(
-    rt: &R,
-    alloc: Global,
-    row: Row,
-    closing: Seats,
-) -> Result<Closed, Fail> {
+fn close_behind<R: Abort + Wait>(rt: &R, alloc: Global, row: Row, closing: Seats) -> Closed {
     let blanks = Blanks {
         zero: Blank::new(1),
         one: Blank::new(1),
@@ -314,19 +306,18 @@ fn close_behind<R: Abort + Wait>(
         three: Blank::new(1),
         four: Blank::new(1),
     };
-    let core = target(alloc)?;
+    let core = target(rt, alloc);
     open_and_serve::<Brand, Brand, Brand, Brand, Brand, R>(rt, alloc, core, 1, blanks, row, closing)
 }
 
 /// Serves a row's session at a library of its own, and compares the records.
-fn assert_served<R: Abort + Wait>(rt: &R, alloc: Global, row: Row) -> Result<(), Fail> {
-    let closed = close_behind(rt, alloc, row, Seats::All)?;
+fn assert_served<R: Abort + Wait>(rt: &R, alloc: Global, row: Row) {
+    let closed = close_behind(rt, alloc, row, Seats::All);
     let (_, _, _, _, _, is_recorded) = row;
     let expected: &[u8] = if is_recorded { LINES_OF_A } else { &[] };
     assert_bytes(rt, closed.lines.as_slice(), expected, "the lines");
     assert_same(rt, closed.closed, Ok(()), "the end");
     assert_bytes(rt, closed.told.as_slice(), &[], "what is told");
-    Ok(())
 }
 
 /// How many bytes of the replies are written, and whether there is a record, once so many bytes of a session have come.
@@ -340,33 +331,24 @@ fn answered_to(length: usize) -> (usize, bool) {
     }
 }
 
-/// Each proper prefix of a session ends between frames or within one.
-#[test]
-fn serve_ends_each_prefix_of_a_session_closed_or_cut(rt: HostRuntime) -> Result<(), Fail> {
-    for length in 0..ONE_SESSION.len() {
-        let (replies, is_recorded) = answered_to(length);
-        let end = if length == 0 || length == 15 || length == 28 {
-            End::Closed
-        } else {
-            End::Cut
-        };
-        let row = (Input::Session(length), 0, 0, Ok(end), replies, is_recorded);
-        assert_served(&rt, rt.alloc(), row)?;
+/// How a session ends whose stream has so many bytes: between two frames, or within one.
+fn end_of(length: usize) -> End {
+    match length {
+        0 | 15 | 28 => End::Closed,
+        _ => End::Cut,
     }
-    Ok(())
 }
 
-/// A read that fails at each place of a session leaves the records that there are.
-#[test]
-fn serve_ends_by_a_read_that_fails_and_leaves_its_records(rt: HostRuntime) -> Result<(), Fail> {
-    for length in 0..ONE_SESSION.len() {
-        let (replies, is_recorded) = answered_to(length);
-        let at = length as u64 + 1;
-        let fault = Err(SessionFault::Read);
-        let row = (Input::Session(33), at, 0, fault, replies, is_recorded);
-        assert_served(&rt, rt.alloc(), row)?;
-    }
-    Ok(())
+/// The stream ends, or a read fails, behind so many bytes of a session. The records that there are stay.
+fn assert_end_behind<R: Abort + Wait>(rt: &R, alloc: Global, length: usize) {
+    let (replies, is_recorded) = answered_to(length);
+    let end = Ok(end_of(length));
+    let cut = (Input::Session(length), 0, 0, end, replies, is_recorded);
+    assert_served(rt, alloc, cut);
+    let at = (length as u64).saturating_add(1);
+    let fault = Err(SessionFault::Read);
+    let failed = (Input::Session(33), at, 0, fault, replies, is_recorded);
+    assert_served(rt, alloc, failed);
 }
 
 const BAD_FRAME: Result<End, SessionFault> = Err(SessionFault::BadFrame);
@@ -387,27 +369,26 @@ const ROWS: [Row; 10] = [
     (Input::LongCdb, 0, 0, BAD_FRAME, 6, false),
 ];
 
-#[test]
-fn serve_ends_by_a_write_that_fails_or_a_faulty_stream(rt: HostRuntime) -> Result<(), Fail> {
-    for row in &ROWS {
-        assert_served(&rt, rt.alloc(), *row)?;
-    }
-    Ok(())
-}
-
 const SEAT_MISSING: Result<(), ServerFault> = Err(ServerFault::Close(CloseFault::SeatMissing));
 
 const TWO_UNWRITTEN: &[u8] = b"vtl: 2 records of logical unit 0 were not written, numbers 1 to 2\n";
 
 /// Where a library can't be closed, it is told which records have no line.
-#[test]
-fn close_and_write_tells_of_the_records_of_a_library_that_is_not_closed(
-    rt: HostRuntime,
-) -> Result<(), Fail> {
+fn assert_told_where_not_closed<R: Abort + Wait>(rt: &R, alloc: Global) {
     let row = (Input::Session(33), 0, 0, Ok(End::Logout), 44, true);
-    let closed = close_behind(&rt, rt.alloc(), row, Seats::None)?;
-    assert_same(&rt, closed.closed, SEAT_MISSING, "the end");
-    assert_bytes(&rt, closed.lines.as_slice(), &[], "the lines");
-    assert_bytes(&rt, closed.told.as_slice(), TWO_UNWRITTEN, "what is told");
-    Ok(())
+    let closed = close_behind(rt, alloc, row, Seats::None);
+    assert_same(rt, closed.closed, SEAT_MISSING, "the end");
+    assert_bytes(rt, closed.lines.as_slice(), &[], "the lines");
+    assert_bytes(rt, closed.told.as_slice(), TWO_UNWRITTEN, "what is told");
+}
+
+#[test]
+fn serve_ends_as_its_stream_does_and_leaves_its_records(rt: HostRuntime) {
+    for length in 0..ONE_SESSION.len() {
+        assert_end_behind(&rt, rt.alloc(), length);
+    }
+    for row in &ROWS {
+        assert_served(&rt, rt.alloc(), *row);
+    }
+    assert_told_where_not_closed(&rt, rt.alloc());
 }
