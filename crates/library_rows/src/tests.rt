@@ -6,7 +6,6 @@ use std::alloc::{AllocError, Global};
 use tape_medium::VolumeTag;
 
 mod bays;
-mod drawn;
 mod replays;
 mod tapes;
 mod targets;

@@ -7,6 +7,5 @@ pub mod BlockLemmas
 pub mod LengthLemmas
 pub mod ChangeLemmas
 pub mod WayLemmas
-pub mod PlainLemmas
 pub mod ElementLemmas
 pub mod VolumeLemmas

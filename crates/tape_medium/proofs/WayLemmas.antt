@@ -37,11 +37,6 @@ pub record Told (marks : Bool) (edge : Stop) (ws : List Object) (todo counted ov
   pub way_is : way (code_of marks) edge ws todo ≡ plus counted over (way (code_of marks) edge (drop over ws) (todo - counted))
   pub some : counted ≤ todo
 
-pub told-start : (marks : Bool) (edge : Stop) (ws : List Object) (todo : ℕ) → Told marks edge ws todo 0 0
-told-start marks edge ws todo =
-    let all : todo - 0 ≡ todo = omega arith in
-    record { way_is = rw all (same_way _ _ (omega arith) (omega arith) refl); some = omega arith }
-
 pub told-count : (marks : Bool) (edge : Stop) (ws : List Object) (todo counted over : ℕ) → Told marks edge ws todo counted over → over < length ws → counted ≢ todo → is_mark (get_or ws over Mark) ≡ marks → Told marks edge ws todo (counted + 1) (over + 1)
 told-count marks edge ws todo counted over told below ne h =
     let n : ℕ = todo - (counted + 1) in
@@ -77,12 +72,6 @@ way-done false edge ws = refl
 pub way-edge : (marks : Bool) (edge : Stop) (n : ℕ) → way (code_of marks) edge [] (suc n) ≡ stopped 0 0 edge
 way-edge true edge n = refl
 way-edge false edge n = refl
-
-pub told-done : (marks : Bool) (edge : Stop) (ws : List Object) (todo counted over : ℕ) → Told marks edge ws todo counted over → counted ≡ todo → stopped counted over Done ≡ way (code_of marks) edge ws todo
-told-done marks edge ws todo counted over told e =
-    let none : todo - counted ≡ 0 = omega arith in
-    let next : way (code_of marks) edge (drop over ws) (todo - counted) ≡ stopped 0 0 Done = rw none (way-done marks edge (drop over ws)) in
-    sym (told.way_is ∙ ap (λ (w : Way). plus counted over w) next ∙ same_way _ _ (omega arith) (omega arith) refl)
 
 pub told-edge : (marks : Bool) (edge : Stop) (ws : List Object) (todo counted over : ℕ) → Told marks edge ws todo counted over → length ws ≤ over → counted ≢ todo → stopped counted over edge ≡ way (code_of marks) edge ws todo
 told-edge marks edge ws todo counted over told end ne =

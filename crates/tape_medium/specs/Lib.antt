@@ -14,4 +14,3 @@ pub mod Store
 pub mod Lent
 pub mod Kept
 pub mod Along
-pub mod Plain

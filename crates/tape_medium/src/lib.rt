@@ -12,7 +12,6 @@ mod object;
 mod passage;
 mod piece;
 mod pieces;
-pub mod plain;
 mod space;
 mod store;
 mod tape;

@@ -1,5 +1,4 @@
-//! Replays that no case of `script_cases` can say: what fails beside the script, what stands between two replays, and scripts
-//! that are too long or generated.
+//! Replays that no case of `script_cases` can say: what fails beside the script, and what stands between two replays.
 
 use super::assert_same;
 use device_server::DeviceServer;
@@ -15,8 +14,6 @@ use target_core::TargetCore;
 
 mod drain;
 mod faults;
-mod full_volumes;
-mod spans;
 
 /// Replays in a library what a reader gives. Each replay of these rows comes through here.
 fn replay_in<D: DeviceServer, R: Read, W: Write>(

@@ -1,12 +1,10 @@
 ghost use Rattle.std.specs.Prelude.{◌≤◌, ◌<◌};
 
 use super::assert_same;
-use super::drawn::Numbers;
 use super::targets::volume;
 use crate::comparing::assert_list;
 use std::alloc::{AllocError, Global};
 use std::process::Abort;
-use tape_medium::plain::PlainTape;
 use tape_medium::{Item, SpaceCode, SpaceEnd, Stop, Tape, TapeFault, VolumeTag};
 
 /// What is done with a tape.
@@ -25,8 +23,6 @@ enum Act {
     Read(u32),
     Space(SpaceCode, i32),
     Locate(u32),
-    Settle,
-    Erase,
     Rewind,
 }
 
@@ -39,61 +35,22 @@ type Row = (&'static str, Act, &'static str, u32, u32, u32);
 
 const DONE: Found = ("done", 0);
 
-/// The calls of a tape, as rows see them: by what comes back alone.
-trait Calls {
-    /// Blocks are parts of the bytes.
-    fn done(&mut self, act: Act, bytes: &[u8], into: &mut Vec<u8>) -> Found;
-
-    /// How many objects there are, where the tape stands, and how many are unchanged.
-    fn place(&self) -> (u32, u32, u32);
-}
-
-macro_rules! done {
-    ($tape:expr, $act:expr, $bytes:expr, $into:expr) => {
-        match $act {
-            Act::Block(start, length) => of_write($tape.write_block(part_of($bytes, start, length))),
-            Act::Blocks(start, length, size) => {
-                of_write($tape.write_blocks(part_of($bytes, start, length), size))
-            }
-            Act::Marks(count) => of_write($tape.write_marks(count)),
-            Act::Read(limit) => of_read($tape.read(limit, $into)),
-            Act::Space(code, count) => of_space($tape.space(code, count)),
-            Act::Locate(object) => ("located", u32::from($tape.locate(object))),
-            Act::Settle => {
-                let count = $tape.object_count();
-                $tape.settle(count);
-                DONE
-            }
-            Act::Erase => {
-                $tape.erase();
-                DONE
-            }
-            Act::Rewind => {
-                $tape.rewind();
-                DONE
-            }
-            Act::Within(_) | Act::Capacity => DONE,
+/// A call of the tape, by what comes back alone. Blocks are parts of the bytes.
+fn done(tape: &mut Tape, act: Act, bytes: &[u8], into: &mut Vec<u8>) -> Found {
+    match act {
+        Act::Block(start, length) => of_write(tape.write_block(part_of(bytes, start, length))),
+        Act::Blocks(start, length, size) => {
+            of_write(tape.write_blocks(part_of(bytes, start, length), size))
         }
-    };
-}
-
-impl Calls for Tape {
-    fn done(&mut self, act: Act, bytes: &[u8], into: &mut Vec<u8>) -> Found {
-        done!(self, act, bytes, into)
-    }
-
-    fn place(&self) -> (u32, u32, u32) {
-        (self.object_count(), self.position(), self.unchanged())
-    }
-}
-
-impl Calls for PlainTape {
-    fn done(&mut self, act: Act, bytes: &[u8], into: &mut Vec<u8>) -> Found {
-        done!(self, act, bytes, into)
-    }
-
-    fn place(&self) -> (u32, u32, u32) {
-        (self.object_count(), self.position(), self.unchanged())
+        Act::Marks(count) => of_write(tape.write_marks(count)),
+        Act::Read(limit) => of_read(tape.read(limit, into)),
+        Act::Space(code, count) => of_space(tape.space(code, count)),
+        Act::Locate(object) => ("located", u32::from(tape.locate(object))),
+        Act::Rewind => {
+            tape.rewind();
+            DONE
+        }
+        Act::Within(_) | Act::Capacity => DONE,
     }
 }
 
@@ -146,7 +103,7 @@ fn found_of(alloc: Global, tape: &mut Tape, act: Act, bytes: &[u8], into: &mut V
             DONE
         }
         Act::Capacity => ("bytes", u32::try_from(tape.capacity()).unwrap_or(0)),
-        _ => tape.done(act, bytes, into),
+        _ => done(tape, act, bytes, into),
     }
 }
 
@@ -160,7 +117,7 @@ fn assert_row(
 ) {
     let (shows, act, word, number, objects, position) = *row;
     let found = found_of(alloc, tape, act, bytes, into);
-    let (count, place, _) = tape.place();
+    let (count, place) = (tape.object_count(), tape.position());
     let expected = ((word, number), objects, position);
     assert_same(rt, (found, count, place), expected, shows);
 }
@@ -353,120 +310,4 @@ fn volume_keeps_its_tag(rt: HostRuntime) {
     assert_same(&rt, volume(rt.alloc(), BLANKS).tag, BLANKS, "its tag");
     let is_before = BLANKS < VolumeTag([b'A'; 32]);
     assert_same(&rt, is_before, true, "blanks come before letters");
-}
-
-fn next_code(numbers: &mut Numbers) -> SpaceCode {
-    match numbers.below(5) {
-        0 => SpaceCode::EndOfData,
-        1 | 2 => SpaceCode::Blocks,
-        _ => SpaceCode::Marks,
-    }
-}
-
-/// The length of some whole blocks, or of a byte more.
-fn next_length(numbers: &mut Numbers, size: u32) -> usize {
-    (size as usize)
-        .saturating_mul(numbers.below(5) as usize)
-        .saturating_add(numbers.below(5) as usize / 4)
-}
-
-fn next_count(numbers: &mut Numbers) -> i32 {
-    numbers.below(12) as i32 - 6
-}
-
-fn next_act(numbers: &mut Numbers, longest: u32) -> Act {
-    match numbers.below(40) {
-        0..=7 => {
-            let start = numbers.below(100) as usize;
-            Act::Block(start, numbers.below(longest) as usize)
-        }
-        8..=12 => {
-            let start = numbers.below(100) as usize;
-            let size = numbers.below(longest / 4 + 2);
-            Act::Blocks(start, next_length(numbers, size), size)
-        }
-        13..=17 => Act::Marks(numbers.below(4)),
-        18..=26 => Act::Read(numbers.below(longest)),
-        27..=34 => {
-            let code = next_code(numbers);
-            Act::Space(code, next_count(numbers))
-        }
-        35 | 36 => Act::Locate(numbers.below(40)),
-        37 => Act::Settle,
-        38 => Act::Erase,
-        _ => Act::Rewind,
-    }
-}
-
-/// The byte store and the plain list, after the same calls.
-#[derive(Drop)]
-struct Both {
-    tape: Tape,
-    plain: PlainTape,
-    read: Vec<u8>,
-    read_plain: Vec<u8>,
-}
-
-impl Both {
-    fn step(&mut self, rt: &impl Abort, act: Act, bytes: &[u8]) {
-        self.read.clear();
-        self.read_plain.clear();
-        let found = self.tape.done(act, bytes, &mut self.read);
-        let plain = self.plain.done(act, bytes, &mut self.read_plain);
-        let (found, plain) = ((found, self.tape.place()), (plain, self.plain.place()));
-        assert_same(rt, found, plain, "a call, the place, what is unchanged");
-        assert_list(rt, &self.read, &self.read_plain, "what is read");
-    }
-
-    fn read_all(&mut self, rt: &impl Abort) {
-        self.step(rt, Act::Rewind, &[]);
-        for _ in 0..=self.tape.object_count() {
-            self.step(rt, Act::Read(u32::MAX), &[]);
-        }
-        let (count, position, _) = self.tape.place();
-        assert_same(rt, position, count, "behind all objects");
-    }
-}
-
-/// Makes thousands of calls that follow from a seed.
-fn assert_agreed(
-    rt: &impl Abort,
-    alloc: Global,
-    bytes: &[u8],
-    seed: u64,
-    capacity: u32,
-    longest: u32,
-) {
-    let capacity = capacity.clamp(1, 300_000);
-    let mut numbers = Numbers { state: seed };
-    let mut both = Both {
-        tape: Tape::new(alloc, u64::from(capacity)),
-        plain: PlainTape::new(alloc, capacity),
-        read: Vec::new(alloc),
-        read_plain: Vec::new(alloc),
-    };
-    for i in 0..3_000 {
-        both.step(rt, next_act(&mut numbers, longest), bytes);
-        if i % 500 == 0 {
-            both.read_all(rt);
-        }
-    }
-    both.read_all(rt);
-}
-
-/// A seed, how many bytes the tape takes, and a length that is more than that of each block.
-const SEEDS: [(u64, u32, u32); 4] = [
-    (1, 40, 12),
-    (2, 1_000, 60),
-    (3, 5_000, 10),
-    (4, 300_000, 66_000),
-];
-
-#[test]
-fn tape_does_as_a_plain_list_of_objects(rt: HostRuntime) {
-    let bytes = mixed(rt.alloc(), 200_000, 253).expect(&rt, "memory");
-    for row in &SEEDS {
-        let (seed, capacity, longest) = *row;
-        assert_agreed(&rt, rt.alloc(), &bytes, seed, capacity, longest);
-    }
 }
