@@ -1,11 +1,8 @@
-//! Words of command lines, and the tasks that they name.
-
-mod refused;
+//! Words of command lines that ask for more than a run shows soon, and the tasks that they name. `rows/command_lines.py` has the others.
 
 use super::assert_same;
 use command_line::{CommandLineFault, IscsiOptions, MediaOptions, ServeOptions, Task, task_of};
 use output_lines::{Audit, Explanations};
-use permit_tables::Class;
 use program_options::{GivenLibrary, LibraryOptions, ServeTimes, ServeUntil};
 use std::alloc::Global;
 use std::process::Abort;
@@ -40,34 +37,16 @@ fn made_of(library: &LibraryOptions) -> Option<Made> {
     ))
 }
 
-/// What is compared of every task, where it has it: what its library is made of, what is printed of replies and of records, the address
-/// and the port of a host, and the class whose cells are printed.
-type Told = (
-    Option<Made>,
-    Option<Explanations>,
-    Option<Audit>,
-    Option<(u64, u16)>,
-    Option<Option<Class>>,
-);
+/// What is compared of every task, where it has it: what its library is made of, and what is printed of replies and of records.
+type Told = (Option<Made>, Option<Explanations>, Option<Audit>);
 
 fn told(task: &Task) -> Told {
     match task {
-        Task::Replay(library, explanations, audit) => (
-            made_of(library),
-            Some(*explanations),
-            Some(*audit),
-            None,
-            None,
-        ),
-        Task::Serve(library, _, audit) => (made_of(library), None, Some(*audit), None, None),
-        Task::Client(contact, explanations) => (
-            None,
-            Some(*explanations),
-            None,
-            Some((contact.nexus.sas, contact.nexus.port)),
-            None,
-        ),
-        Task::Cells(class) => (None, None, None, None, Some(*class)),
+        Task::Replay(library, explanations, audit) => {
+            (made_of(library), Some(*explanations), Some(*audit))
+        }
+        Task::Serve(library, _, audit) => (made_of(library), None, Some(*audit)),
+        _ => (None, None, None),
     }
 }
 
@@ -85,7 +64,6 @@ fn text_of(text: &Option<String>) -> &str {
 fn socket_of(task: &Task) -> &str {
     match task {
         Task::Serve(_, serving, _) => text_of(&serving.socket),
-        Task::Client(contact, _) => contact.socket.as_str(),
         _ => NONE,
     }
 }
@@ -95,8 +73,6 @@ const SIZE: u64 = 16_777_216;
 
 const OFF: Option<Explanations> = Some(Explanations::Off);
 
-const ON: Option<Explanations> = Some(Explanations::On);
-
 const SILENT: Option<Audit> = Some(Audit::Off);
 
 const LINES: Option<Audit> = Some(Audit::Lines);
@@ -104,9 +80,7 @@ const LINES: Option<Audit> = Some(Audit::Lines);
 const SPANS: Option<Audit> = Some(Audit::Spans);
 
 /// A library as usual, whose records are printed.
-const SERVED_ALONE: Told = (Some((1, 8, 0, 1, SIZE)), None, LINES, None, None);
-
-const HOST: Option<(u64, u16)> = Some((0x5000_0000_0000_000B, 4));
+const SERVED_ALONE: Told = (Some((1, 8, 0, 1, SIZE)), None, LINES);
 
 /// The seconds of a grace, those after which a LOGIN, an idle host and a write are given up, and those after which an initiator of
 /// iSCSI is asked whether it is there.
@@ -179,120 +153,34 @@ const USUAL: Row = Row {
     sas: 0,
 };
 
-/// A task without a server.
-const UNSERVED: Row = Row {
+/// A library too large to be filled.
+const LARGE: Row = Row {
+    line: "vtl replay --volume-size=64g --volumes 8",
     socket: NONE,
+    told: (Some((1, 8, 0, 8, 68_719_476_736)), OFF, SILENT),
     ..USUAL
 };
 
-const TASKS: [Row; 15] = [
-    // `task_of` reads the options of replay.
-    Row {
-        line: "vtl replay",
-        told: (Some((1, 8, 0, 1, SIZE)), OFF, SILENT, None, None),
-        ..UNSERVED
-    },
-    Row {
-        line: "vtl replay --explain",
-        told: (Some((1, 8, 0, 1, SIZE)), ON, SILENT, None, None),
-        ..UNSERVED
-    },
-    Row {
-        line: "vtl replay --audit",
-        told: (Some((1, 8, 0, 1, SIZE)), OFF, LINES, None, None),
-        ..UNSERVED
-    },
-    Row {
-        line: "vtl replay --spans --explain",
-        told: (Some((1, 8, 0, 1, SIZE)), ON, SPANS, None, None),
-        ..UNSERVED
-    },
-    Row {
-        line: "vtl replay --drives 4 --slots 1024 --portals 16 --volumes 1024",
-        told: (Some((4, 1024, 16, 1024, SIZE)), OFF, SILENT, None, None),
-        ..UNSERVED
-    },
-    Row {
-        line: "vtl replay --volumes=0 --audit --slots=1 --drives=2",
-        told: (Some((2, 1, 0, 0, SIZE)), OFF, LINES, None, None),
-        ..UNSERVED
-    },
-    Row {
-        line: "vtl replay --volume-size 1M",
-        told: (Some((1, 8, 0, 1, 1_048_576)), OFF, SILENT, None, None),
-        ..UNSERVED
-    },
-    Row {
-        line: "vtl replay --volume-size=64g --volumes 8",
-        told: (Some((1, 8, 0, 8, 68_719_476_736)), OFF, SILENT, None, None),
-        ..UNSERVED
-    },
-    Row {
-        line: "vtl replay --volume-size 1024K",
-        told: (Some((1, 8, 0, 1, 1_048_576)), OFF, SILENT, None, None),
-        ..UNSERVED
-    },
-    Row {
-        line: "vtl replay --volume-size 1048577",
-        told: (Some((1, 8, 0, 1, 1_048_577)), OFF, SILENT, None, None),
-        ..UNSERVED
-    },
-    // It reads which host a client is.
-    Row {
-        line: "vtl client --port 4 --sas 500000000000000B --socket /run/vtl",
-        socket: "/run/vtl",
-        told: (None, OFF, None, HOST, None),
-        ..UNSERVED
-    },
-    Row {
-        line: "vtl client --explain --port 4 --sas 500000000000000B --socket /run/vtl",
-        socket: "/run/vtl",
-        told: (None, ON, None, HOST, None),
-        ..UNSERVED
-    },
-    // It reads which cells to print.
-    Row {
-        line: "vtl cells",
-        told: (None, None, None, None, Some(None)),
-        ..UNSERVED
-    },
-    Row {
-        line: "vtl cells WRITE(6)",
-        told: (None, None, None, None, Some(Some(Class::Write))),
-        ..UNSERVED
-    },
-    Row {
-        line: "vtl cells pr-in",
-        told: (
-            None,
-            None,
-            None,
-            None,
-            Some(Some(Class::PersistentReserveIn)),
-        ),
-        ..UNSERVED
-    },
-];
-
-const SERVED: [Row; 24] = [
+const ROWS: [Row; 25] = [
+    LARGE,
     // `task_of` reads where and until when to serve.
     Row {
         line: "vtl serve --drives 2 --sessions 64 --spans --socket /run/vtl",
         socket: "/run/vtl",
-        told: (Some((2, 8, 0, 1, SIZE)), None, SPANS, None, None),
+        told: (Some((2, 8, 0, 1, SIZE)), None, SPANS),
         until: ServeUntil::Sessions(64),
         ..USUAL
     },
     Row {
         line: "vtl serve --socket /run/vtl --drives 2",
         socket: "/run/vtl",
-        told: (Some((2, 8, 0, 1, SIZE)), None, LINES, None, None),
+        told: (Some((2, 8, 0, 1, SIZE)), None, LINES),
         ..USUAL
     },
     Row {
         line: "vtl serve --workers 3 --drain --socket /run/vtl --drives 2",
         socket: "/run/vtl",
-        told: (Some((2, 8, 0, 1, SIZE)), None, LINES, None, None),
+        told: (Some((2, 8, 0, 1, SIZE)), None, LINES),
         until: ServeUntil::InputEnds(3),
         drain: true,
         ..USUAL
@@ -300,7 +188,7 @@ const SERVED: [Row; 24] = [
     Row {
         line: "vtl serve --log --spans --socket /run/vtl --drives 2",
         socket: "/run/vtl",
-        told: (Some((2, 8, 0, 1, SIZE)), None, SPANS, None, None),
+        told: (Some((2, 8, 0, 1, SIZE)), None, SPANS),
         log: true,
         ..USUAL
     },
@@ -377,7 +265,7 @@ const SERVED: [Row; 24] = [
     },
     Row {
         line: "vtl serve --media /var/lib/vtl --socket s --volumes 9",
-        told: (Some((1, 8, 0, 9, SIZE)), None, LINES, None, None),
+        told: (Some((1, 8, 0, 9, SIZE)), None, LINES),
         folder: "/var/lib/vtl",
         given: GivenLibrary {
             volumes: Some(9),
@@ -387,13 +275,7 @@ const SERVED: [Row; 24] = [
     },
     Row {
         line: "vtl serve --media=/var/lib/vtl --socket s --slots=1024 --volume-size 1G --drives 4",
-        told: (
-            Some((4, 1024, 0, 1, 1_073_741_824)),
-            None,
-            LINES,
-            None,
-            None,
-        ),
+        told: (Some((4, 1024, 0, 1, 1_073_741_824)), None, LINES),
         folder: "/var/lib/vtl",
         given: GivenLibrary {
             drives: Some(4),
@@ -506,10 +388,7 @@ fn assert_row(rt: &impl Abort, alloc: Global, row: &Row) {
 
 #[test]
 fn task_of_reads_tasks_and_their_options(rt: HostRuntime) {
-    for row in &TASKS {
-        assert_row(&rt, rt.alloc(), row);
-    }
-    for row in &SERVED {
+    for row in &ROWS {
         assert_row(&rt, rt.alloc(), row);
     }
     // The options' times, where none is given, are those that a library has without a command line.
