@@ -1,7 +1,7 @@
-//! Lines of scripts, and the events and requests that they are.
+//! Lines of scripts, and the events that they are, in pieces. `rows/scripts.py` has the requests of hosts.
 
 use super::{A, assert_same};
-use script_lines::{ClientRequest, LineFault, ScriptFault, events_of, requests_of};
+use script_lines::events_of;
 use scsi_nexus::Nexus;
 use std::alloc::Global;
 use std::process::Abort;
@@ -10,11 +10,9 @@ use target_core::Event;
 const TWO_COMMANDS: &str =
     "500000000000000A.1 255 5F0000000000000018aB 00fF\n500000000000000a.2 0 00";
 
-const OF_A_HOST: &str = "# a comment\n\n1 0a0000000200 00fF\nreset 255\n0 000000000000";
-
-/// A script of so many number signs, these lines, and so many resets, each of unit 0 but those that begin a piece.
-fn script_of(rt: &impl Abort, alloc: Global, signs: usize, lines: &str, resets: u32) -> Vec<u8> {
-    let mut text = vec![in alloc; b'#'; signs].expect(rt, "memory");
+/// A script of these lines and so many resets, each of unit 0 but those that begin a piece.
+fn script_of(rt: &impl Abort, alloc: Global, lines: &str, resets: u32) -> Vec<u8> {
+    let mut text = Vec::new(alloc);
     text.extend_from_slice(lines.as_bytes())
         .expect(rt, "memory");
     for number in 0..resets {
@@ -28,7 +26,7 @@ fn script_of(rt: &impl Abort, alloc: Global, signs: usize, lines: &str, resets: 
     text
 }
 
-/// What an event or a request is compared by: its nexus, where it has one, its unit, and a command's CDB and data.
+/// What an event is compared by: its nexus, where it has one, its unit, and a command's CDB and data.
 type Asked<'a> = (Option<Nexus>, u8, &'a [u8], &'a [u8]);
 
 /// In place of the CDB of what is no command.
@@ -49,16 +47,7 @@ fn of_event(event: &Event) -> Asked<'_> {
     }
 }
 
-fn of_request(request: &ClientRequest) -> Asked<'_> {
-    match request {
-        ClientRequest::Command { lun, cdb, bytes } => {
-            (None, *lun, cdb.as_slice(), bytes.as_slice())
-        }
-        ClientRequest::Reset { lun } => (None, *lun, RESET, b""),
-    }
-}
-
-/// One event or request of a script.
+/// One event of a script.
 #[derive(Clone, Copy)]
 struct Row {
     shows: &'static str,
@@ -129,37 +118,6 @@ const EVENTS: [Row; 5] = [
     },
 ];
 
-const FIRST_REQUEST: Row = Row {
-    shows: "requests of takes the lines of a host",
-    lines: OF_A_HOST,
-    resets: 0,
-    pieces: 1,
-    count: 3,
-    cdb: b"\x0a\0\0\0\x02\0",
-    bytes: b"\0\xff",
-    ..FIRST_RESET
-};
-
-const REQUESTS: [Row; 3] = [
-    FIRST_REQUEST,
-    Row {
-        shows: "a reset",
-        place: 1,
-        lun: 255,
-        cdb: RESET,
-        bytes: b"",
-        ..FIRST_REQUEST
-    },
-    Row {
-        shows: "a command without data",
-        place: 2,
-        lun: 0,
-        cdb: &[0; 6],
-        bytes: b"",
-        ..FIRST_REQUEST
-    },
-];
-
 fn assert_asked(rt: &impl Abort, found: Asked<'_>, row: &Row) {
     let (nexus, lun, cdb, bytes) = found;
     let expected = (row.nexus, row.lun, row.cdb);
@@ -168,7 +126,7 @@ fn assert_asked(rt: &impl Abort, found: Asked<'_>, row: &Row) {
 }
 
 fn assert_event(rt: &impl Abort, alloc: Global, row: &Row) {
-    let text = script_of(rt, alloc, 0, row.lines, row.resets);
+    let text = script_of(rt, alloc, row.lines, row.resets);
     let events = events_of(alloc, &text).expect(rt, row.shows);
     let pieces = events.into_pieces();
     let piece = pieces.get(row.piece).expect(rt, row.shows);
@@ -178,125 +136,9 @@ fn assert_event(rt: &impl Abort, alloc: Global, row: &Row) {
     assert_asked(rt, of_event(event), row);
 }
 
-fn assert_request(rt: &impl Abort, alloc: Global, row: &Row) {
-    let text = script_of(rt, alloc, 0, row.lines, row.resets);
-    let requests = requests_of(alloc, &text).expect(rt, row.shows);
-    assert_same(rt, requests.len(), row.count, row.shows);
-    let request = requests.get(row.place).expect(rt, row.shows);
-    assert_asked(rt, of_request(request), row);
-}
-
 #[test]
-fn scripts_are_the_events_and_requests_that_they_say(rt: HostRuntime) {
+fn scripts_are_the_events_that_they_say(rt: HostRuntime) {
     for row in &EVENTS {
         assert_event(&rt, rt.alloc(), row);
-    }
-    for row in &REQUESTS {
-        assert_request(&rt, rt.alloc(), row);
-    }
-}
-
-const WORD_COUNT: Option<ScriptFault> = Some(ScriptFault::Line {
-    number: 3,
-    what: LineFault::WordCount,
-});
-
-const BAD_UNIT: Option<ScriptFault> = Some(ScriptFault::Line {
-    number: 3,
-    what: LineFault::BadUnit,
-});
-
-const BAD_HEX: Option<ScriptFault> = Some(ScriptFault::Line {
-    number: 3,
-    what: LineFault::BadHex,
-});
-
-const TOO_LONG: Option<ScriptFault> = Some(ScriptFault::Line {
-    number: 1,
-    what: LineFault::TooLong,
-});
-
-/// What is shown, whether a script is a host's, how many number signs it begins with, how it goes on, and its fault.
-type Faulty = (&'static str, bool, usize, &'static str, Option<ScriptFault>);
-
-const FAULTY: [Faulty; 13] = [
-    (
-        "events of refuses a comment above the longest line: the longest",
-        false,
-        270_000,
-        "",
-        None,
-    ),
-    ("a longer line", false, 270_001, "", TOO_LONG),
-    (
-        "requests of refuses the first faulty line: one word",
-        true,
-        0,
-        "reset 0\n\n0",
-        WORD_COUNT,
-    ),
-    ("four words", true, 0, "reset 0\n\n256 x 00 00", WORD_COUNT),
-    (
-        "a reset of no unit",
-        true,
-        0,
-        "reset 0\n\nreset 256",
-        BAD_UNIT,
-    ),
-    (
-        "three words of a reset",
-        true,
-        0,
-        "reset 0\n\nreset 0 0",
-        WORD_COUNT,
-    ),
-    ("a loss", true, 0, "reset 0\n\nloss 0", BAD_UNIT),
-    (
-        "a nexus",
-        true,
-        0,
-        "reset 0\n\n500000000000000a.1 0 000000000000",
-        BAD_UNIT,
-    ),
-    (
-        "a leading zero",
-        true,
-        0,
-        "reset 0\n\n01 000000000000",
-        BAD_UNIT,
-    ),
-    ("an odd digit", true, 0, "reset 0\n\n0 00000000000", BAD_HEX),
-    ("empty data", true, 0, "reset 0\n\n0 000000000000 ", BAD_HEX),
-    (
-        "a carriage return",
-        true,
-        0,
-        "reset 0\n\n0 000000000000\r",
-        BAD_HEX,
-    ),
-    ("a longer line of a host", true, 270_001, "", TOO_LONG),
-];
-
-fn fault_of(
-    rt: &impl Abort,
-    alloc: Global,
-    is_of_a_host: bool,
-    signs: usize,
-    lines: &str,
-) -> Option<ScriptFault> {
-    let text = script_of(rt, alloc, signs, lines, 0);
-    if is_of_a_host {
-        requests_of(alloc, &text).err()
-    } else {
-        events_of(alloc, &text).err()
-    }
-}
-
-#[test]
-fn scripts_are_refused_for_their_first_fault(rt: HostRuntime) {
-    for row in &FAULTY {
-        let (shows, is_of_a_host, signs, lines, expected) = *row;
-        let found = fault_of(&rt, rt.alloc(), is_of_a_host, signs, lines);
-        assert_same(&rt, found, expected, shows);
     }
 }
