@@ -1,5 +1,5 @@
-//! Worked rows of bytes and texts that no script shows: encodings, frames, tables and their chart, generated reservations, records, and
-//! lines of scripts.
+//! Worked rows of bytes and texts that no run of the program shows: encodings, frames, tables and their chart, records, lines of scripts, and
+//! command lines.
 #![tactic(auto)]
 
 #[cfg(test)]

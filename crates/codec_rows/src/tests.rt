@@ -1,6 +1,5 @@
 mod codes;
 mod command_lines;
-mod generated;
 mod records;
 mod scripts;
 mod streams;

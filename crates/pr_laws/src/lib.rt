@@ -1,11 +1,9 @@
-//! Laws of persistent reservations, worked rows, and the plain program that tests hold `PrState` against.
+//! Laws of persistent reservations, and worked rows.
 #![tactic(auto)]
 
-mod accepted;
 mod laws;
 mod rows;
 
-pub use accepted::WalkedState;
 pub use laws::{
     generation_counts_acts, holder_is_registered, none_registered_under_all_registrants,
     only_these_end_a_reservation, reserve_takes_nothing,

@@ -2,8 +2,7 @@
 
 use super::{A, POWER_ON, assert_same};
 use audit_log::*;
-use permit_tables::{Cell, KeptParams, ResType, Role};
-use pr_core::KeyRule;
+use permit_tables::{Cell, KeptParams, KeyRule, ResType, Role};
 use pr_params::read_out;
 use scsi_cdb::{Class, OutServiceAction};
 use scsi_nexus::Nexus;
