@@ -1,0 +1,250 @@
+"""Records that are handed out while a library is served, to a reader that fails or stalls.
+
+What the program writes to is a file that may grow to so many bytes, so that a write takes what is left up to there and then fails, as on
+a disk that is full; or a pipe from which nobody reads.
+"""
+import contextlib
+import fcntl
+import os
+import select
+import socket
+import threading
+import time
+import typing
+
+from exchanges import (
+    ACCEPTED, AT_ONCE, DRIVE_READY, LOGGED_OUT, LOGIN_OF_A, LOGIN_OF_B, LOGOUT, READY, RESERVE, Asks, Does,
+    IsLeft, Says, check, power_on, reply, talk)
+from serving import Row, Server, Tried, Wrong, holds, lacks, patience, same
+
+from frames import framed, received  # of examples/
+
+# The drive's, behind the first session, and the changer's, behind the second.
+OF_THE_DRIVE = """\
+1 500000000000000a.1 TEST-UNIT-READY 2 - - 02
+2 500000000000000a.1 LOSS 6 - - 00
+"""
+OF_THE_CHANGER = """\
+1 500000000000000b.1 TEST-UNIT-READY 2 - - 02
+2 500000000000000b.1 LOSS 6 - - 00
+"""
+
+KEPT = "vtl: lines of records could not be written, and are kept\n"
+CAUGHT_UP = "vtl: the lines of records that were kept are written\n"
+NOT_WRITTEN = "were not written"
+LOST_OF_THE_DRIVE = "vtl: 2 records of logical unit 1 were not written, numbers 1 to 2\n"
+LOST_OF_THE_CHANGER = "vtl: 2 records of logical unit 0 were not written, numbers 1 to 2\n"
+CANNOT_WRITE = "the lines of the records could not be written"
+
+# The most records that a unit keeps, with the one that waits.
+MOST = 8193
+GOOD, CONFLICT = 0x00, 0x18
+
+
+def session(server: Server, login: bytes, ready: bytes) -> None:
+    """A host logs in, asks once, and leaves."""
+    talk(server, 1, [Says(0, login, ACCEPTED), Says(0, ready, power_on(1)), Says(0, LOGOUT, LOGGED_OUT), IsLeft(0)])
+
+
+def talk_to(host: socket.socket, frame: bytes, answer: bytes) -> None:
+    host.sendall(framed(frame))
+    same(f"the answer to {frame.hex()}", received(host), answer)
+
+
+def at_the_drive(server: Server) -> None:
+    session(server, LOGIN_OF_A, DRIVE_READY)
+
+
+def at_the_changer(server: Server) -> None:
+    session(server, LOGIN_OF_B, READY)
+
+
+# Two sessions, one after the other, by one worker.
+
+def drained(tried: Tried) -> None:
+    with Server(tried, "--workers", "1", "--drain") as server:
+        at_the_drive(server)
+        server.await_lines(lambda lines: len(lines) >= len(OF_THE_DRIVE))
+        at_the_changer(server)
+        server.end()
+        server.ends()
+        same("the lines", server.lines(), OF_THE_DRIVE + OF_THE_CHANGER)
+        lacks("what is told", server.told.text, KEPT)
+
+
+def kept_behind(size: int) -> typing.Callable[[Tried], None]:
+    """Writes fail once so many bytes are written, until that is told; then there is room again."""
+    def play(tried: Tried) -> None:
+        with Server(tried, "--workers", "1", "--drain", room=size) as server:
+            at_the_drive(server)
+            if size < len(OF_THE_DRIVE):
+                server.told.wait_for(KEPT)
+                same("the lines while there is no room", server.lines(), OF_THE_DRIVE[:size])
+                server.limit_lines()
+            else:
+                server.await_lines(lambda lines: len(lines) >= len(OF_THE_DRIVE))
+            at_the_changer(server)
+            # What was kept is written behind the next session, and at the end where there is none.
+            server.told.wait_for(CAUGHT_UP if size < len(OF_THE_DRIVE) else KEPT)
+            server.limit_lines()
+            server.end()
+            server.ends()
+            same("the lines", server.lines(), OF_THE_DRIVE + OF_THE_CHANGER)
+            same("how often it is told that lines are kept", server.told.text.count(KEPT), 1)
+            lacks("what is told", server.told.text, NOT_WRITTEN)
+
+    return play
+
+
+def lost(line: str) -> typing.Callable[[Tried], None]:
+    """No write succeeds, and this line is told."""
+    def play(tried: Tried) -> None:
+        with Server(tried, "--workers", "1", "--drain", room=0) as server:
+            at_the_drive(server)
+            server.told.wait_for(KEPT)
+            at_the_changer(server)
+            server.end()
+            server.ends(CANNOT_WRITE)
+            same("the lines", server.lines(), "")
+            holds("what is told", server.told.text, line)
+            lacks("what is told", server.told.text, CAUGHT_UP)
+
+    return play
+
+
+# Sessions with very many records.
+
+def counts_of(lines: str) -> tuple[int, int]:
+    """How many lines A has and how many B, where those of each stand in the order of their numbers."""
+    counts = {"a": 0, "b": 0}
+    for line in lines.splitlines():
+        number, _, rest = line.partition(" ")
+        host = rest[15:16]
+        if not rest.startswith(f"500000000000000{host}.1 ") or host not in counts or number != str(counts[host] + 1):
+            raise Wrong("the lines", line, f"the next of A or B, behind {counts}")
+        counts[host] += 1
+    return counts["a"], counts["b"]
+
+
+@contextlib.contextmanager
+def unread_pipe() -> typing.Iterator[tuple[int, int]]:
+    """A pipe with little room: where one reads, and where one writes."""
+    reader, writer = os.pipe()
+    fcntl.fcntl(writer, fcntl.F_SETPIPE_SZ, 4096)
+    try:
+        yield reader, writer
+    finally:
+        os.close(reader)
+
+
+def read_on(reader: int) -> str:
+    """All that comes, until the program ends."""
+    end = time.monotonic() + patience()
+    pieces = []
+    while select.select([reader], [], [], max(0, end - time.monotonic()))[0]:
+        piece = os.read(reader, 1 << 16)
+        if not piece:
+            return b"".join(pieces).decode()
+        pieces.append(piece)
+    raise Wrong("what is written to a pipe", "no end", "one")
+
+
+def long(tried: Tried) -> None:
+    """The lines are awaited before the host logs out."""
+    with Server(tried, "--sessions", "1", "--drain") as server:
+        talk(server, 1, [
+            Says(0, LOGIN_OF_A, ACCEPTED), Says(0, READY, power_on(1)), Asks(0, READY, 4999, GOOD),
+            Does(lambda server: server.await_lines(lambda lines: lines.count("\n") >= 4096)), Says(0, LOGOUT, LOGGED_OUT), IsLeft(0)])
+        server.ends()
+        same("how many lines there are", counts_of(server.lines()), (5001, 0))
+        lacks("what is told", server.told.text, KEPT)
+
+
+def stalled(tried: Tried) -> None:
+    """A's records are more than are kept within a session, so that the writer has them, and stalls. B beside it, whose RESERVE is refused,
+    and A behind it go on all the same."""
+    with unread_pipe() as (reader, writer), Server(tried, "--sessions", "3", "--drain", output=writer) as server:
+        os.close(writer)
+        talk(server, 3, [
+            Says(0, LOGIN_OF_A, ACCEPTED), Says(0, READY, power_on(1)),
+            Says(1, LOGIN_OF_B, ACCEPTED), Says(1, DRIVE_READY, power_on(1)),
+            Asks(0, READY, 4999, GOOD), Asks(1, RESERVE, 4999, CONFLICT), Says(0, LOGOUT, LOGGED_OUT), IsLeft(0),
+            # A is told of its loss.
+            Says(2, LOGIN_OF_A, ACCEPTED), Says(2, READY, check(5002, 6, 0x29, 0x07)), Asks(2, READY, 2000, GOOD),
+            Says(2, LOGOUT, LOGGED_OUT), IsLeft(2)])
+        # From here on it is read.
+        reading = Reading(reader)
+        talk_to(server.connections[1], LOGOUT, LOGGED_OUT)
+        server.ends()
+        same("how many lines there are", counts_of(reading.text()), (7003, 5001))
+        lacks("what is told", server.told.text, KEPT)
+
+
+class Reading(threading.Thread):
+    """Reads a pipe to its end."""
+
+    def __init__(self, reader: int):
+        super().__init__(daemon=True)
+        self.reader = reader
+        self.found: str | Wrong = ""
+        self.start()
+
+    def run(self) -> None:
+        try:
+            self.found = read_on(self.reader)
+        except Wrong as wrong:
+            self.found = wrong
+
+    def text(self) -> str:
+        self.join()
+        if isinstance(self.found, Wrong):
+            raise self.found
+        return self.found
+
+
+def check_unread(count: int) -> None:
+    if count > 2 * MOST:
+        raise Wrong("the commands that are answered as long as nobody reads their lines", count, f"at most {2 * MOST}")
+
+
+def slow(tried: Tried) -> None:
+    """A host asks forty thousand times. As long as nobody reads the lines it is answered for as many records as are being written and
+    for as many as wait. Once no answer comes they are read; where the machine is only busy that is too soon, with fewer answers."""
+    with unread_pipe() as (reader, writer), Server(tried, "--sessions", "1", "--drain", output=writer) as server:
+        os.close(writer)
+        host = server.connect()
+        talk_to(host, LOGIN_OF_A, ACCEPTED)
+        talk_to(host, READY, power_on(1))
+        reading = None
+        for number in range(2, 40_001):
+            if number % AT_ONCE == 1 or number == 2:
+                host.sendall(framed(READY) * (AT_ONCE - 1 if number == 2 else AT_ONCE))
+            if reading is None and number > MOST and not select.select([host], [], [], 1)[0]:
+                reading = Reading(reader)
+                check_unread(number - 1)
+            same("an answer", received(host), reply(GOOD, b"", number))
+        if reading is None:
+            check_unread(40_000)
+        talk_to(host, LOGOUT, LOGGED_OUT)
+        server.ends()
+        same("how many lines there are", counts_of(reading.text()), (40_001, 0))
+        lacks("what is told", server.told.text, KEPT)
+
+
+# Before the first line, within it, and within the second; before the first line of the second session, and within it.
+SIZES = [0, 20, 40, 60, 80, 81, 101]
+
+TWO_SESSIONS = "the drive's lines come behind the first session, and the changer's behind the second"
+KEEPS = "a write that fails, at first or within a line, loses no line, repeats none, and is told once"
+LOSES = "while lines can't be written the units keep their records, and at the end it is told which have no line"
+
+ROWS = [
+    Row("slow", "a command whose unit has 8,192 records waits for who reads slowly, so that no more of them are ever kept", slow),
+    Row("stalled", "a reader that stalls holds up no session; once it reads on, all lines are there, once and in order", stalled),
+    Row("long", "a unit with 4,096 records hands them out within a session; its lines stand in the order of their numbers", long),
+    Row("drained", TWO_SESSIONS, drained),
+    *(Row(f"kept-{number}", KEEPS, kept_behind(size)) for number, size in enumerate(SIZES, 1)),
+    Row("lost", LOSES, lost(KEPT)),
+    Row("lost-of-the-drive", LOSES, lost(LOST_OF_THE_DRIVE)),
+    Row("lost-of-the-changer", LOSES, lost(LOST_OF_THE_CHANGER)),
+]

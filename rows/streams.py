@@ -1,0 +1,172 @@
+"""One session, over streams that end anywhere, break, or are faulty. Each byte of a host is read by itself."""
+import array
+import fcntl
+import socket
+import struct
+import termios
+import time
+import typing
+
+from exchanges import A, ACCEPTED, LOGGED_OUT, LOGIN_OF_A, LOGOUT, READY, login, power_on
+from serving import Row, Server, Tried, Wrong, patience, same
+from sessions import LINES_OF_A
+
+from frames import exactly, framed  # of examples/
+
+# A LOGIN of A, 15 bytes; a TEST UNIT READY to the changer, 13; and a LOGOUT, 5. Its replies, of 6, 33 and 5 bytes.
+ONE_SESSION = framed(LOGIN_OF_A) + framed(READY) + framed(LOGOUT)
+REPLIES = framed(ACCEPTED) + framed(power_on(1)) + framed(LOGGED_OUT)
+LOGGED_IN, ASKED, ALL = 15, 28, 33
+OF_A = "session 1 of 500000000000000a.1:"
+OF_NOBODY = "session 1 before its LOGIN:"
+
+
+def count_by(connection: socket.socket, request: int) -> int:
+    """How many bytes a connection has, of those that it sent or of those that it is to read."""
+    count = array.array("i", [0])
+    fcntl.ioctl(connection, request, count)
+    return count[0]
+
+
+def wait_until(what: str, is_so: typing.Callable[[], bool]) -> None:
+    end = time.monotonic() + patience()
+    while not is_so():
+        if time.monotonic() > end:
+            raise Wrong(what, "not in time", "in time")
+        time.sleep(0.0002)
+
+
+def trickle(connection: socket.socket, stream: bytes) -> None:
+    """Sends each byte once the one before is read. The server may end the session before the last."""
+    for byte in stream:
+        try:
+            connection.sendall(bytes([byte]))
+        except ConnectionError:
+            return
+        wait_until("a byte is read", lambda: count_by(connection, termios.TIOCOUTQ) == 0)
+
+
+def answered_to(length: int) -> int:
+    """How many bytes of the replies there are, once so many bytes of a session have come."""
+    return 0 if length < LOGGED_IN else 6 if length < ASKED else 39 if length < ALL else len(REPLIES)
+
+
+def lines_behind(length: int) -> str:
+    """The records that stay of a session of so many bytes."""
+    return LINES_OF_A if length >= ASKED else ""
+
+
+def rest_of(connection: socket.socket) -> bytes:
+    """What comes until the end."""
+    read = b""
+    try:
+        while piece := connection.recv(1000):
+            read += piece
+    except ConnectionError:
+        pass
+    return read
+
+
+def whole(tried: Tried) -> None:
+    with Server(tried, "--sessions", "1", "--log") as server:
+        connection = server.connect()
+        trickle(connection, ONE_SESSION)
+        same("the replies", rest_of(connection), REPLIES)
+        server.ends()
+        same("the lines", server.lines(), LINES_OF_A)
+        server.told.wait_for(f"vtl: {OF_A} ended by its LOGOUT after 1 commands")
+
+
+def ended_behind(length: int) -> typing.Callable[[Tried], None]:
+    """The stream ends behind so many bytes."""
+    def play(tried: Tried) -> None:
+        with Server(tried, "--sessions", "1", "--log") as server:
+            connection = server.connect()
+            trickle(connection, ONE_SESSION[:length])
+            connection.shutdown(socket.SHUT_WR)
+            same("the replies", rest_of(connection), REPLIES[:answered_to(length)])
+            server.ends()
+            same("the lines", server.lines(), lines_behind(length))
+            whose = OF_NOBODY if length < LOGGED_IN else OF_A
+            where = "by the end of input" if length in (0, LOGGED_IN, ASKED) else "within a frame"
+            server.told.wait_for(f"vtl: {whose} ended {where} after {int(length >= ASKED)} commands")
+
+    return play
+
+
+def broken_behind(length: int) -> typing.Callable[[Tried], None]:
+    """The host closes behind so many bytes, and hasn't read its replies: the server's next read fails."""
+    def play(tried: Tried) -> None:
+        with Server(tried, "--sessions", "1") as server:
+            connection = server.connect()
+            trickle(connection, ONE_SESSION[:length])
+            count = answered_to(length)
+            wait_until("the replies", lambda: count_by(connection, termios.FIONREAD) >= count)
+            same("the replies", connection.recv(1000, socket.MSG_PEEK), REPLIES[:count])
+            connection.close()
+            server.ends(f"{OF_A} a read failed")
+            same("the lines", server.lines(), lines_behind(length))
+
+    return play
+
+
+def unheard_behind(length: int) -> typing.Callable[[Tried], None]:
+    """The host hears no more once it has had its answers to so many bytes: the next of the server's writes fails."""
+    def play(tried: Tried) -> None:
+        with Server(tried, "--sessions", "1") as server:
+            connection = server.connect()
+            trickle(connection, ONE_SESSION[:length])
+            same("the replies", exactly(connection, answered_to(length)), REPLIES[:answered_to(length)])
+            connection.shutdown(socket.SHUT_RD)
+            trickle(connection, ONE_SESSION[length:])
+            server.ends(f"{OF_A} a write failed")
+            # The command behind an answer that wasn't written isn't read.
+            same("the lines", server.lines(), LINES_OF_A if length >= LOGGED_IN else "")
+
+    return play
+
+
+class Faulty(typing.NamedTuple):
+    """What it shows, what comes, what the session ends by, and how many bytes of the replies are written."""
+
+    shows: str
+    stream: bytes
+    fault: str
+    replies: int
+
+
+FAULTY = {
+    "no-body": Faulty("a body of no bytes is a bad frame", b"\0\0\0\0", f"{OF_NOBODY} bad frame", 0),
+    "too-long": Faulty("a body that is too long is told by its length", b"\0\x02\0\x01", f"{OF_NOBODY} frame too long", 0),
+    "unknown-kind": Faulty("a kind that there isn't is told by its byte", b"\0\0\0\x05\x09", f"{OF_NOBODY} bad frame", 0),
+    "port-zero": Faulty("a LOGIN by target port 0 is a bad frame", framed(b"\x01" + struct.pack(">QH", A, 0)), f"{OF_NOBODY} bad frame", 0),
+    "second-login": Faulty(
+        "a second LOGIN is told by its kind", framed(LOGIN_OF_A) + framed(login(A))[:5], f"{OF_A} bad frame", 6),
+    "long-cdb": Faulty(
+        "a CDB of 17 bytes is told by its length", framed(LOGIN_OF_A) + b"\0\0\0\x13\x02\0\x11", f"{OF_A} bad frame", 6),
+}
+
+
+def faulty(of: Faulty) -> typing.Callable[[Tried], None]:
+    def play(tried: Tried) -> None:
+        with Server(tried, "--sessions", "1") as server:
+            connection = server.connect()
+            trickle(connection, of.stream)
+            same("the replies", rest_of(connection), REPLIES[:of.replies])
+            server.ends(of.fault)
+            same("the lines", server.lines(), "")
+
+    return play
+
+
+ENDS_AS_ITS_STREAM = "a session ends as its stream does, between two frames or within one, and the records that there are stay"
+READS = "a session ends by a read that fails, and the records that there are stay"
+WRITES = "a session ends by a write that fails, and the records that there are stay"
+
+ROWS = [
+    Row("whole", "a session whose bytes come one by one has all its answers", whole),
+    *(Row(f"ended-behind-{length}", ENDS_AS_ITS_STREAM, ended_behind(length)) for length in range(ALL)),
+    *(Row(f"broken-behind-{length}", READS, broken_behind(length)) for length in range(LOGGED_IN, ALL)),
+    *(Row(f"write-{number}-fails", WRITES, unheard_behind(length)) for number, length in enumerate([0, LOGGED_IN, ASKED], 1)),
+    *(Row(name, of.shows, faulty(of)) for name, of in FAULTY.items()),
+]
