@@ -1,9 +1,8 @@
-//! One session at a library, over streams that end anywhere, are faulty, or whose reads and writes fail.
+//! One session at a library, over a stream that breaks before its LOGIN has come, and a library that can't be closed.
 ghost use Rattle.std.specs.Prelude.{◌≡◌, ◌<◌};
 ghost use Rattle.logical_unit.specs.UnitView.{units_of};
 ghost use Rattle.lun_router.specs.Opening.{IsSince};
 
-use super::sessions::LINES_OF_A;
 use super::{assert_bytes, assert_same, target};
 use kept_unit::UnitLedger;
 use library_device::Device;
@@ -13,7 +12,7 @@ use server::{Teller, Telling};
 use server_socket::{LibraryService, ServerFault, close_and_write};
 use session::{Directory, End, SessionFault, serve};
 use std::alloc::Global;
-use std::io::{self, Read, Write};
+use std::io::{self, Read};
 use std::marker::Brand;
 use std::process::Abort;
 use std::sync::ledger::Blank;
@@ -31,35 +30,7 @@ const REPLIES: &[u8] = b"\0\0\0\x02\x81\0\
     \0\0\0\x1d\x82\x02\x12\x70\0\x06\0\0\0\0\x0a\0\0\0\0\x29\0\0\0\0\0\0\0\0\0\0\0\0\x01\
     \0\0\0\x01\x84";
 
-/// What comes.
-#[derive(Clone, Copy, Debug)]
-enum Input {
-    /// So many bytes of a session.
-    Session(usize),
-    /// A body of no bytes, one that is too long, and a kind that there isn't.
-    NoBody,
-    TooLong,
-    UnknownKind,
-    /// A LOGIN by target port 0.
-    PortZero,
-    /// Behind a LOGIN the length and the kind of another, and a COMMAND with a CDB of 17 bytes.
-    SecondLogin,
-    LongCdb,
-}
-
-fn bytes_of(input: Input) -> &'static [u8] {
-    match input {
-        Input::Session(length) => ONE_SESSION.get(..length).unwrap_or(ONE_SESSION),
-        Input::NoBody => b"\0\0\0\0",
-        Input::TooLong => b"\0\x02\0\x01",
-        Input::UnknownKind => b"\0\0\0\x05\x09",
-        Input::PortZero => b"\0\0\0\x0b\x01\x50\0\0\0\0\0\0\x0a\0\0",
-        Input::SecondLogin => b"\0\0\0\x0b\x01\x50\0\0\0\0\0\0\x0a\0\x01\0\0\0\x0b\x01",
-        Input::LongCdb => b"\0\0\0\x0b\x01\x50\0\0\0\0\0\0\x0a\0\x01\0\0\0\x13\x02\0\x11",
-    }
-}
-
-/// A stream: gives its bytes one by one, and keeps what is written; one of the reads and one of the writes may fail.
+/// Gives its bytes one by one; one of the reads may fail, from 1 on.
 #[derive(Drop)]
 struct Reader {
     bytes: &'static [u8],
@@ -84,31 +55,8 @@ impl Read for Reader {
     }
 }
 
-#[derive(Drop)]
-struct Writer {
-    written: Vec<u8>,
-    writes: u64,
-    fails_at: u64,
-}
-
-impl Write for Writer {
-    fn write(&mut self, buffer: &[u8]) -> io::Result<usize> {
-        self.writes = self.writes.saturating_add(1);
-        if self.writes == self.fails_at {
-            return Err(io::Error::from(io::ErrorKind::BrokenPipe));
-        }
-        self.written.extend_from_slice(buffer)?;
-        Ok(buffer.len())
-    }
-
-    fn flush(&mut self) -> io::Result<()> {
-        Ok(())
-    }
-}
-
-/// What comes, which read and which write fail, from 1 on, or 0 for none; how the session ends, how many bytes of the
-/// replies are written, and whether the records are A's command and its loss, or none.
-type Row = (Input, u64, u64, Result<End, SessionFault>, usize, bool);
+/// Which read of a session's stream fails, from 1 on, or 0 for none, how the session ends, and how many bytes of the replies are written.
+type Row = (u64, Result<End, SessionFault>, usize);
 
 /// Serves one session at a seat of a library: the seat, and how the session ends.
 fn serve_at<
@@ -126,27 +74,11 @@ fn serve_at<
     directory: &'a Mutex<Directory>,
     seat: Seat<L0, L1, L2, L3, L4>,
     reader: &mut Reader,
-    writer: &mut Writer,
+    writer: &mut Vec<u8>,
 ) -> (Seat<L0, L1, L2, L3, L4>, Result<End, SessionFault>) {
     let mut service = LibraryService::new(rt, library, directory, seat, &NoKeeper);
     let ended = serve(alloc, &mut service, reader, writer, 99);
     (service.into_seat(), ended)
-}
-
-/// The stream of a row.
-fn stream_of(alloc: Global, row: Row) -> (Reader, Writer) {
-    let (input, failing_read, failing_write, _, _, _) = row;
-    let reader = Reader {
-        bytes: bytes_of(input),
-        reads: 0,
-        fails_at: failing_read,
-    };
-    let writer = Writer {
-        written: Vec::new(alloc),
-        writes: 0,
-        fails_at: failing_write,
-    };
-    (reader, writer)
 }
 
 /// With which seats a library is closed.
@@ -167,11 +99,11 @@ struct Closed {
 
 /// Compares how a row's session ended, and what was written.
 fn assert_answered(rt: &impl Abort, row: Row, ended: Result<End, SessionFault>, written: &[u8]) {
-    let (input, failing_read, failing_write, end, replies, _) = row;
+    let (failing_read, end, replies) = row;
     let expected = REPLIES.get(..replies).unwrap_or(REPLIES);
     assert!(rt;
         ended == end && written == expected,
-        "{input:?}, {failing_read}, {failing_write}: {ended:?}, {written:?}"
+        "read {failing_read}: {ended:?}, {written:?}"
     );
 }
 
@@ -190,7 +122,12 @@ fn serve_row<
     seat: Seat<L0, L1, L2, L3, L4>,
     row: Row,
 ) -> Seat<L0, L1, L2, L3, L4> {
-    let (mut reader, mut writer) = stream_of(alloc, row);
+    let mut reader = Reader {
+        bytes: ONE_SESSION,
+        reads: 0,
+        fails_at: row.0,
+    };
+    let mut writer = Vec::new(alloc);
     let directory = Mutex::new(Directory::new(alloc));
     let (seat, ended) = serve_at(
         rt,
@@ -201,7 +138,7 @@ fn serve_row<
         &mut reader,
         &mut writer,
     );
-    assert_answered(rt, row, ended, &writer.written);
+    assert_answered(rt, row, ended, &writer);
     seat
 }
 
@@ -310,64 +247,17 @@ fn close_behind<R: Abort + Wait>(rt: &R, alloc: Global, row: Row, closing: Seats
     open_and_serve::<Brand, Brand, Brand, Brand, Brand, R>(rt, alloc, core, 1, blanks, row, closing)
 }
 
-/// Serves a row's session at a library of its own, and compares the records.
-fn assert_served<R: Abort + Wait>(rt: &R, alloc: Global, row: Row) {
+/// A read fails behind so many bytes of a session, which has no records.
+fn assert_end_behind<R: Abort + Wait>(rt: &R, alloc: Global, length: u64) {
+    let row = (length.saturating_add(1), Err(SessionFault::Read), 0);
     let closed = close_behind(rt, alloc, row, Seats::All);
-    let (_, _, _, _, _, is_recorded) = row;
-    let expected: &[u8] = if is_recorded { LINES_OF_A } else { &[] };
-    assert_bytes(rt, closed.lines.as_slice(), expected, "the lines");
+    assert_bytes(rt, closed.lines.as_slice(), &[], "the lines");
     assert_same(rt, closed.closed, Ok(()), "the end");
     assert_bytes(rt, closed.told.as_slice(), &[], "what is told");
 }
 
-/// How many bytes of the replies are written, and whether there is a record, once so many bytes of a session have come.
-fn answered_to(length: usize) -> (usize, bool) {
-    if length < 15 {
-        (0, false)
-    } else if length < 28 {
-        (6, false)
-    } else {
-        (39, true)
-    }
-}
-
-/// How a session ends whose stream has so many bytes: between two frames, or within one.
-fn end_of(length: usize) -> End {
-    match length {
-        0 | 15 | 28 => End::Closed,
-        _ => End::Cut,
-    }
-}
-
-/// The stream ends, or a read fails, behind so many bytes of a session. The records that there are stay.
-fn assert_end_behind<R: Abort + Wait>(rt: &R, alloc: Global, length: usize) {
-    let (replies, is_recorded) = answered_to(length);
-    let end = Ok(end_of(length));
-    let cut = (Input::Session(length), 0, 0, end, replies, is_recorded);
-    assert_served(rt, alloc, cut);
-    let at = (length as u64).saturating_add(1);
-    let fault = Err(SessionFault::Read);
-    let failed = (Input::Session(33), at, 0, fault, replies, is_recorded);
-    assert_served(rt, alloc, failed);
-}
-
-const BAD_FRAME: Result<End, SessionFault> = Err(SessionFault::BadFrame);
-
-const WRITE: Result<End, SessionFault> = Err(SessionFault::Write);
-
-/// A whole session, one with each of its writes failing, and faulty streams.
-const ROWS: [Row; 10] = [
-    (Input::Session(33), 0, 0, Ok(End::Logout), 44, true),
-    (Input::Session(33), 0, 1, WRITE, 0, false),
-    (Input::Session(33), 0, 2, WRITE, 6, true),
-    (Input::Session(33), 0, 3, WRITE, 39, true),
-    (Input::NoBody, 0, 0, BAD_FRAME, 0, false),
-    (Input::TooLong, 0, 0, Err(SessionFault::TooLong), 0, false),
-    (Input::UnknownKind, 0, 0, BAD_FRAME, 0, false),
-    (Input::PortZero, 0, 0, BAD_FRAME, 0, false),
-    (Input::SecondLogin, 0, 0, BAD_FRAME, 6, false),
-    (Input::LongCdb, 0, 0, BAD_FRAME, 6, false),
-];
+/// How many bytes a LOGIN has.
+const LOGIN: u64 = 15;
 
 const SEAT_MISSING: Result<(), ServerFault> = Err(ServerFault::Close(CloseFault::SeatMissing));
 
@@ -375,7 +265,7 @@ const TWO_UNWRITTEN: &[u8] = b"vtl: 2 records of logical unit 0 were not written
 
 /// Where a library can't be closed, it is told which records have no line.
 fn assert_told_where_not_closed<R: Abort + Wait>(rt: &R, alloc: Global) {
-    let row = (Input::Session(33), 0, 0, Ok(End::Logout), 44, true);
+    let row = (0, Ok(End::Logout), 44);
     let closed = close_behind(rt, alloc, row, Seats::None);
     assert_same(rt, closed.closed, SEAT_MISSING, "the end");
     assert_bytes(rt, closed.lines.as_slice(), &[], "the lines");
@@ -384,11 +274,8 @@ fn assert_told_where_not_closed<R: Abort + Wait>(rt: &R, alloc: Global) {
 
 #[test]
 fn serve_ends_as_its_stream_does_and_leaves_its_records(rt: HostRuntime) {
-    for length in 0..ONE_SESSION.len() {
+    for length in 0..LOGIN {
         assert_end_behind(&rt, rt.alloc(), length);
-    }
-    for row in &ROWS {
-        assert_served(&rt, rt.alloc(), *row);
     }
     assert_told_where_not_closed(&rt, rt.alloc());
 }
