@@ -9,13 +9,12 @@ import os
 import select
 import socket
 import threading
-import time
 import typing
 
 from exchanges import (
     ACCEPTED, AT_ONCE, DRIVE_READY, LOGGED_OUT, LOGIN_OF_A, LOGIN_OF_B, LOGOUT, READY, RESERVE, Asks, Does,
-    IsLeft, Says, check, power_on, reply, talk)
-from serving import Row, Server, Tried, Wrong, holds, lacks, patience, same
+    IsLeft, Says, check, good, is_left, power_on, reply, talk)
+from serving import Row, Server, Tried, Wrong, holds, lacks, same
 
 from frames import framed, received  # of examples/
 
@@ -38,6 +37,8 @@ CANNOT_WRITE = "the lines of the records could not be written"
 
 # The most records that a unit keeps, with the one that waits.
 MOST = 8193
+# More than it keeps, and as many more as are being written.
+MANY = 24_000
 GOOD, CONFLICT = 0x00, 0x18
 
 
@@ -137,16 +138,23 @@ def unread_pipe() -> typing.Iterator[tuple[int, int]]:
         os.close(reader)
 
 
-def read_on(reader: int) -> str:
-    """All that comes, until the program ends."""
-    end = time.monotonic() + patience()
-    pieces = []
-    while select.select([reader], [], [], max(0, end - time.monotonic()))[0]:
-        piece = os.read(reader, 1 << 16)
-        if not piece:
-            return b"".join(pieces).decode()
-        pieces.append(piece)
-    raise Wrong("what is written to a pipe", "no end", "one")
+class Reading(threading.Thread):
+    """Reads a pipe to its end."""
+
+    def __init__(self, reader: int):
+        super().__init__(daemon=True)
+        # A descriptor of its own, which nobody closes before it has read all.
+        self.stream = open(os.dup(reader), "rb")  # pylint: disable=consider-using-with
+        self.found = b""
+        self.start()
+
+    def run(self) -> None:
+        with self.stream:
+            self.found = self.stream.read()
+
+    def text(self) -> str:
+        self.join()
+        return self.found.decode()
 
 
 def long(tried: Tried) -> None:
@@ -163,7 +171,7 @@ def long(tried: Tried) -> None:
 def stalled(tried: Tried) -> None:
     """A's records are more than are kept within a session, so that the writer has them, and stalls. B beside it, whose RESERVE is refused,
     and A behind it go on all the same."""
-    with unread_pipe() as (reader, writer), Server(tried, "--sessions", "3", "--drain", output=writer) as server:
+    with unread_pipe() as (reader, writer), Server(tried, "--workers", "2", "--drain", output=writer) as server:
         os.close(writer)
         talk(server, 3, [
             Says(0, LOGIN_OF_A, ACCEPTED), Says(0, READY, power_on(1)),
@@ -175,31 +183,11 @@ def stalled(tried: Tried) -> None:
         # From here on it is read.
         reading = Reading(reader)
         talk_to(server.connections[1], LOGOUT, LOGGED_OUT)
+        is_left(server.connections[1], 1)
+        server.end()
         server.ends()
         same("how many lines there are", counts_of(reading.text()), (7003, 5001))
         lacks("what is told", server.told.text, KEPT)
-
-
-class Reading(threading.Thread):
-    """Reads a pipe to its end."""
-
-    def __init__(self, reader: int):
-        super().__init__(daemon=True)
-        self.reader = reader
-        self.found: str | Wrong = ""
-        self.start()
-
-    def run(self) -> None:
-        try:
-            self.found = read_on(self.reader)
-        except Wrong as wrong:
-            self.found = wrong
-
-    def text(self) -> str:
-        self.join()
-        if isinstance(self.found, Wrong):
-            raise self.found
-        return self.found
 
 
 def check_unread(count: int) -> None:
@@ -208,7 +196,7 @@ def check_unread(count: int) -> None:
 
 
 def slow(tried: Tried) -> None:
-    """A host asks forty thousand times. As long as nobody reads the lines it is answered for as many records as are being written and
+    """A host asks very often. As long as nobody reads the lines it is answered for as many records as are being written and
     for as many as wait. Once no answer comes they are read; where the machine is only busy that is too soon, with fewer answers."""
     with unread_pipe() as (reader, writer), Server(tried, "--sessions", "1", "--drain", output=writer) as server:
         os.close(writer)
@@ -216,18 +204,24 @@ def slow(tried: Tried) -> None:
         talk_to(host, LOGIN_OF_A, ACCEPTED)
         talk_to(host, READY, power_on(1))
         reading = None
-        for number in range(2, 40_001):
-            if number % AT_ONCE == 1 or number == 2:
-                host.sendall(framed(READY) * (AT_ONCE - 1 if number == 2 else AT_ONCE))
-            if reading is None and number > MOST and not select.select([host], [], [], 1)[0]:
-                reading = Reading(reader)
-                check_unread(number - 1)
-            same("an answer", received(host), reply(GOOD, b"", number))
+        for first in range(2, MANY + 2, AT_ONCE):
+            host.sendall(framed(READY) * AT_ONCE)
+            wanted = b"".join(framed(reply(GOOD, b"", number)) for number in range(first, first + AT_ONCE))
+            got = b""
+            while len(got) < len(wanted):
+                if reading is None and first > MOST and not select.select([host], [], [], 1)[0]:
+                    reading = Reading(reader)
+                    check_unread(first + len(got) // len(framed(good(0))) - 1)
+                piece = host.recv(len(wanted) - len(got))
+                if not piece:
+                    raise Wrong("what comes behind many answers", "the end", "more of them")
+                got += piece
+            same(f"{AT_ONCE} answers", got.hex(), wanted.hex())
         if reading is None:
-            check_unread(40_000)
+            check_unread(MANY + 1)
         talk_to(host, LOGOUT, LOGGED_OUT)
         server.ends()
-        same("how many lines there are", counts_of(reading.text()), (40_001, 0))
+        same("how many lines there are", counts_of(reading.text()), (MANY + 2, 0))
         lacks("what is told", server.told.text, KEPT)
 
 

@@ -25,6 +25,7 @@ import sessions
 import streams
 from serving import Row, Tried, Wrong
 
+IS_OVER = "not played to its end, since the time for all rows is over"
 # How many rows go on beside each other. Those that wait for a time are begun first.
 AT_ONCE = 8
 ROWS = [*initiators.ROWS, *endings.ROWS, *drains.ROWS, *sessions.ROWS, *refusals.ROWS, *streams.ROWS]
@@ -33,18 +34,20 @@ ROWS = [*initiators.ROWS, *endings.ROWS, *drains.ROWS, *sessions.ROWS, *refusals
 def fault_of(row: Row, program: str) -> str | None:
     """Plays a row: what is wrong, if something is."""
     if serving.is_over():
-        return "not played, since the time for all rows is over"
+        return IS_OVER
     with tempfile.TemporaryDirectory(prefix="vtl-", ignore_cleanup_errors=True) as folder:
         try:
             row.play(Tried(program, folder))
         except Wrong as wrong:
-            return f"{wrong.what}: got {wrong.got!r}, wanted {wrong.wanted!r}"
+            fault = f"{wrong.what}: got {wrong.got!r}, wanted {wrong.wanted!r}"
         except AssertionError as wrong:
-            return f"got what no answer is: {wrong}"
-        except Exception:  # pylint: disable=broad-exception-caught
+            fault = f"got what no answer is: {wrong}"
+        except Exception as error:  # pylint: disable=broad-exception-caught
             # Whatever a row comes upon, the others are played.
-            return f"got an end of the row itself: {traceback.format_exc()}"
-    return None
+            fault = f"got {error!r} in {traceback.format_exc(limit=-1)}"
+        else:
+            return None
+    return IS_OVER if serving.is_over() else fault
 
 
 def rows_named(names: list[str]) -> list[Row]:
@@ -62,6 +65,7 @@ def main() -> int:
     words.add_argument("names", metavar="NAME", nargs="*", help="a row; all of them where none is named")
     given = words.parse_args()
     rows = rows_named(given.names)
+    serving.end_in_time()
     with concurrent.futures.ThreadPoolExecutor(AT_ONCE) as pool:
         faults = list(pool.map(lambda row: fault_of(row, given.program), rows))
     for row, fault in zip(rows, faults, strict=True):

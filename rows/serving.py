@@ -13,9 +13,9 @@ import typing
 
 sys.path.append(str(pathlib.Path(__file__).resolve().parent.parent / "examples"))
 
-# Seconds that anything may take which is waited for, and that all rows together may take: on a busy machine a row takes three.
+# Seconds that anything may take which is waited for, and that all rows together may take.
 PATIENCE = 40
-TERM = 75
+TERM = 80
 BEGUN = time.monotonic()
 
 # What the program waits for its hosts where a row says nothing else: for ever. A server that is told to end does so at once.
@@ -29,7 +29,22 @@ def patience() -> float:
 
 def is_over() -> bool:
     """Whether the time for all rows is over."""
-    return time.monotonic() > BEGUN + TERM
+    return time.monotonic() >= BEGUN + TERM
+
+
+# The servers that go on.
+RUNNING: set[subprocess.Popen] = set()
+
+
+def end_in_time() -> None:
+    """Kills the servers that go on once the time for all rows is over, so that their rows end."""
+    def kill() -> None:
+        for process in list(RUNNING):
+            process.kill()
+
+    timer = threading.Timer(BEGUN + TERM - time.monotonic(), kill)
+    timer.daemon = True
+    timer.start()
 
 
 class Wrong(Exception):
@@ -116,6 +131,7 @@ class Server:
             self.process = subprocess.Popen(
                 command, stdin=subprocess.PIPE, stdout=lines if output is None else output, stderr=subprocess.PIPE,
                 restore_signals=room is None)
+        RUNNING.add(self.process)
         self.told = Told(self.process.stderr)
         self.connections: list[socket.socket] = []
 
@@ -135,6 +151,7 @@ class Server:
         self.process.kill()
         self.process.stdin.close()
         self.process.wait()
+        RUNNING.discard(self.process)
         self.told.reader.join()
 
     def connect(self) -> socket.socket:
