@@ -14,7 +14,7 @@ import typing
 from exchanges import (
     ACCEPTED, AT_ONCE, DRIVE_READY, LOGGED_OUT, LOGIN_OF_A, LOGIN_OF_B, LOGOUT, READY, RESERVE, Asks, Does,
     IsLeft, Says, check, good, is_left, power_on, reply, talk)
-from serving import Row, Server, Tried, Wrong, holds, lacks, same
+from serving import Row, Server, Tried, Wrong, holds, lacks, same, same_lines
 
 from frames import framed, received  # of examples/
 
@@ -69,7 +69,7 @@ def drained(tried: Tried) -> None:
         at_the_changer(server)
         server.end()
         server.ends()
-        same("the lines", server.lines(), OF_THE_DRIVE + OF_THE_CHANGER)
+        same_lines(server.lines(), OF_THE_DRIVE + OF_THE_CHANGER)
         lacks("what is told", server.told.text, KEPT)
 
 
@@ -90,7 +90,7 @@ def kept_behind(size: int) -> typing.Callable[[Tried], None]:
             server.limit_lines()
             server.end()
             server.ends()
-            same("the lines", server.lines(), OF_THE_DRIVE + OF_THE_CHANGER)
+            same_lines(server.lines(), OF_THE_DRIVE + OF_THE_CHANGER)
             same("how often it is told that lines are kept", server.told.text.count(KEPT), 1)
             lacks("what is told", server.told.text, NOT_WRITTEN)
 
@@ -106,7 +106,7 @@ def lost(line: str) -> typing.Callable[[Tried], None]:
             at_the_changer(server)
             server.end()
             server.ends(CANNOT_WRITE)
-            same("the lines", server.lines(), "")
+            same_lines(server.lines(), "")
             holds("what is told", server.told.text, line)
             lacks("what is told", server.told.text, CAUGHT_UP)
 

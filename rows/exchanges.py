@@ -3,7 +3,7 @@ import socket
 import struct
 import typing
 
-from serving import Server, Tried, Wrong, patience, same
+from serving import Server, Tried, Wrong, patience, same, same_lines
 
 from frames import exactly, framed, received  # of examples/
 
@@ -202,4 +202,4 @@ def meet(tried: Tried, words: list[str], count: int, steps: list[Step], fault: s
         talk(server, count, steps)
         server.ends(fault)
         if lines is not None:
-            same("the lines", server.lines(), lines)
+            same_lines(server.lines(), lines)

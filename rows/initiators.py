@@ -7,7 +7,7 @@ import typing
 from exchanges import (
     ACCEPTED, BLOCK, DRIVE, DRIVE_READY, DRIVE_RESET, LOGGED_OUT, LOGIN_OF_A, LOGOUT, READY, REGISTER, RESERVE, TO_DRIVE, WAS_RESET, Says,
     good, power_on, says)
-from serving import Row, Server, Tried, Wrong, holds, patience, same
+from serving import Row, Server, Tried, Wrong, holds, patience, same, same_lines
 from sessions import LINES_OF_BOTH
 
 import initiator as iscsi  # of examples/
@@ -287,7 +287,7 @@ def row(name: str, of: Meeting) -> Row:
             server.end()
             server.ends()
             if of.lines is not None:
-                same("the lines", server.lines(), of.lines)
+                same_lines(server.lines(), of.lines)
             holds("what is told", server.told.text, of.words)
 
     return Row(name, of.shows, play)

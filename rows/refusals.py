@@ -5,7 +5,7 @@ import socket
 import typing
 
 from exchanges import A
-from serving import Row, Server, Tried, holds, lacks, refused, same
+from serving import Row, Server, Tried, holds, lacks, refused, same, same_lines
 
 
 def there(tried: Tried) -> None:
@@ -91,7 +91,7 @@ def converse(tried: Tried) -> None:
     with Server(tried, "--sessions", "1") as server:
         same("the replies, and how the host ends", server.client(SCRIPT, A), (0, REPLIES, ""))
         server.ends()
-        same("the lines", server.lines(), LINES)
+        same_lines(server.lines(), LINES)
 
 
 ROWS = [

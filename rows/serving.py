@@ -1,5 +1,6 @@
 """The program as rows try it: `vtl serve` as a process, what it prints and tells, and connections to it; and how a row is wrong."""
 import dataclasses
+import itertools
 import os
 import pathlib
 import re
@@ -58,6 +59,13 @@ class Wrong(Exception):
 def same(what: str, got: object, wanted: object) -> None:
     if got != wanted:
         raise Wrong(what, got, wanted)
+
+
+def same_lines(got: str, wanted: str) -> None:
+    """Compares the lines of records, and tells the first that is another one."""
+    for number, (one, other) in enumerate(itertools.zip_longest(got.splitlines(), wanted.splitlines(), fillvalue="no line"), 1):
+        same(f"line {number} of the records", one, other)
+    same("the lines of the records", got, wanted)
 
 
 def holds(what: str, text: str, part: str) -> None:

@@ -8,7 +8,7 @@ import time
 import typing
 
 from exchanges import A, ACCEPTED, LOGGED_OUT, LOGIN_OF_A, LOGOUT, READY, login, power_on
-from serving import Row, Server, Tried, Wrong, patience, same
+from serving import Row, Server, Tried, Wrong, patience, same, same_lines
 from sessions import LINES_OF_A
 
 from frames import exactly, framed  # of examples/
@@ -73,7 +73,7 @@ def whole(tried: Tried) -> None:
         trickle(connection, ONE_SESSION)
         same("the replies", rest_of(connection), REPLIES)
         server.ends()
-        same("the lines", server.lines(), LINES_OF_A)
+        same_lines(server.lines(), LINES_OF_A)
         server.told.wait_for(f"vtl: {OF_A} ended by its LOGOUT after 1 commands")
 
 
@@ -86,7 +86,7 @@ def ended_behind(length: int) -> typing.Callable[[Tried], None]:
             connection.shutdown(socket.SHUT_WR)
             same("the replies", rest_of(connection), REPLIES[:answered_to(length)])
             server.ends()
-            same("the lines", server.lines(), lines_behind(length))
+            same_lines(server.lines(), lines_behind(length))
             whose = OF_NOBODY if length < LOGGED_IN else OF_A
             where = "by the end of input" if length in (0, LOGGED_IN, ASKED) else "within a frame"
             server.told.wait_for(f"vtl: {whose} ended {where} after {int(length >= ASKED)} commands")
@@ -105,7 +105,7 @@ def broken_behind(length: int) -> typing.Callable[[Tried], None]:
             same("the replies", connection.recv(1000, socket.MSG_PEEK), REPLIES[:count])
             connection.close()
             server.ends(f"{OF_A} a read failed")
-            same("the lines", server.lines(), lines_behind(length))
+            same_lines(server.lines(), lines_behind(length))
 
     return play
 
@@ -121,7 +121,7 @@ def unheard_behind(length: int) -> typing.Callable[[Tried], None]:
             trickle(connection, ONE_SESSION[length:])
             server.ends(f"{OF_A} a write failed")
             # The command behind an answer that wasn't written isn't read.
-            same("the lines", server.lines(), LINES_OF_A if length >= LOGGED_IN else "")
+            same_lines(server.lines(), LINES_OF_A if length >= LOGGED_IN else "")
 
     return play
 
@@ -154,7 +154,7 @@ def faulty(of: Faulty) -> typing.Callable[[Tried], None]:
             trickle(connection, of.stream)
             same("the replies", rest_of(connection), REPLIES[:of.replies])
             server.ends(of.fault)
-            same("the lines", server.lines(), "")
+            same_lines(server.lines(), "")
 
     return play
 
