@@ -118,7 +118,7 @@ class Floods(typing.NamedTuple):
 
 
 class Does(typing.NamedTuple):
-    """What a host does not do: the server is told to end, or something is waited for."""
+    """What no host does: the server is told to end, or its lines are awaited."""
 
     what: typing.Callable[[Server], None]
 
@@ -140,12 +140,8 @@ def says_at_once(connection: socket.socket, step: SaysAtOnce) -> None:
 
 
 def is_left(connection: socket.socket, place: int) -> None:
-    """Reads the end, and nothing before it. A connection that is reset has ended too."""
-    try:
-        rest = connection.recv(64)
-    except ConnectionError:
-        rest = b""
-    same(f"what comes at the end of connection {place}", rest.hex(), "")
+    """Reads the end, and nothing before it."""
+    same(f"what comes at the end of connection {place}", connection.recv(64).hex(), "")
 
 
 def asks(connection: socket.socket, step: Asks) -> None:

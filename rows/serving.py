@@ -148,7 +148,7 @@ class Server:
             self.told.wait_for("vtl: serving at ")
             if self.room is not None:
                 self.limit_lines(self.room)
-        except Wrong:
+        except (Wrong, OSError):
             self.__exit__()
             raise
         return self
