@@ -5,7 +5,7 @@ use Rattle.tape_medium.specs.Object.{Object, Block, Mark}
 use Rattle.tape_medium.specs.Tape.{is_mark}
 use Rattle.tape_medium.specs.Space.{way, Way}
 use Rattle.tape_medium.specs.declared.space.Stop.{Stop}
-use Rattle.tape_medium.specs.declared.space.Stop.TheVariants.{Done, AtMark}
+use Rattle.tape_medium.specs.declared.space.Stop.TheVariants.{AtMark}
 use Rattle.tape_medium.specs.Along.{code_of}
 
 pub same_way : (a b : Way) → a.counted ≡ b.counted → a.over ≡ b.over → a.stop ≡ b.stop → a ≡ b
@@ -64,10 +64,6 @@ told-stop edge ws todo counted over told below ne h =
     let next : way (code_of false) edge (drop over ws) (todo - counted) ≡ stopped 0 1 AtMark =
     rw (drop_more ws over Mark below, less) (way-stop edge (get_or ws over Mark) (drop (over + 1) ws) (todo - (counted + 1)) h) in
     sym (told.way_is ∙ ap (λ (w : Way). plus counted over w) next ∙ same_way _ _ (omega arith) (omega arith) refl)
-
-pub way-done : (marks : Bool) (edge : Stop) (ws : List Object) → way (code_of marks) edge ws 0 ≡ stopped 0 0 Done
-way-done true edge ws = refl
-way-done false edge ws = refl
 
 pub way-edge : (marks : Bool) (edge : Stop) (n : ℕ) → way (code_of marks) edge [] (suc n) ≡ stopped 0 0 edge
 way-edge true edge n = refl
