@@ -1,4 +1,3 @@
-pub mod Kept
 pub mod Wishes
 pub mod Sizes
 pub mod Starting

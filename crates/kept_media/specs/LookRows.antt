@@ -5,8 +5,8 @@ use Rattle.tape_medium.specs.declared.volume.VolumeTag.{VolumeTag}
 use Rattle.device_server.specs.Drive.{DriveView}
 use Rattle.device_server.specs.View.{DeviceView}
 use Rattle.tape_flush.specs.Images.{TapePartValue}
-use Rattle.kept_media.specs.declared.part_range.PartRange.{PartRange}
-use Rattle.kept_media.specs.Kept.{KeptImageValue}
+use Rattle.tape_flush.specs.declared.part_range.PartRange.{PartRange}
+use Rattle.tape_flush.specs.Kept.{KeptImageValue}
 
 -- an image of no object, in a file without a byte
 abbrev pub no_image : KeptImageValue

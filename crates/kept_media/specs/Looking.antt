@@ -7,8 +7,8 @@ use Rattle.tape_flush.specs.declared.fault.FlushFault.{FlushFault}
 use Rattle.tape_flush.specs.Images.{TapePartValue}
 use Rattle.tape_medium.specs.declared.volume.Volume.{Volume}
 use Rattle.tape_medium.specs.declared.volume.VolumeTag.{VolumeTag}
-use Rattle.kept_media.specs.declared.part_range.PartRange.{PartRange}
-use Rattle.kept_media.specs.Kept.{KeptImageValue, IsTaken}
+use Rattle.tape_flush.specs.declared.part_range.PartRange.{PartRange}
+use Rattle.tape_flush.specs.Kept.{KeptImageValue, IsTaken}
 
 -- the volume with a tag is at a place
 abbrev pub LiesAt : DeviceView → (place : ℕ) → VolumeTag → Volume → Type 0

@@ -2,13 +2,11 @@
 
 use crate::behind::Behind;
 use crate::keeper::{VolumeImage, change_of};
-use crate::kept_image::KeptImage;
 use crate::looking::{PartLook, Places, VolumePlace};
-use crate::part_range::PartRange;
 use library_device::Device;
 use std::alloc::Global;
 use std::sync::Wait;
-use tape_flush::{FlushFault, ImageStore, StoreFault, TapePart};
+use tape_flush::{FlushFault, ImageStore, KeptImage, PartRange, StoreFault, TapePart};
 use tape_keeper::{KeepChange, KeepEvent, KeepFault, KeepListener, KeptThing, TapeSource};
 use tape_medium::VolumeTag;
 

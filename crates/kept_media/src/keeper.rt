@@ -2,7 +2,6 @@
 
 use crate::behind::Behind;
 use crate::copying::{Copied, Copying, Depth, fault_of_store};
-use crate::kept_image::KeptImage;
 use crate::listing::Listing;
 use crate::store::InventoryStore;
 use crate::wish::{Wish, wish_of};
@@ -12,7 +11,7 @@ use logical_unit::named;
 use std::alloc::Global;
 use std::sync::{Mutex, Wait};
 use std::time::Clock;
-use tape_flush::ImageStore;
+use tape_flush::{ImageStore, KeptImage};
 use tape_keeper::{
     GoodCommand, KeepChange, KeepEvent, KeepFault, KeepListener, KeptThing, TapeKeeper, TapeSource,
 };

@@ -5,20 +5,14 @@
 mod behind;
 mod copying;
 mod keeper;
-mod kept_image;
-mod laws;
 mod listing;
 mod looking;
-mod part_range;
 mod rows;
 mod start;
 mod store;
 mod wish;
 
 pub use keeper::{MediaKeeper, VolumeImage};
-pub use kept_image::KeptImage;
-pub use laws::images_follow_tapes;
-pub use part_range::PartRange;
 pub use rows::{asked_rows, look_rows, worked_rows};
 pub use start::{LibraryFault, StartedVolume, library_of_volumes};
 pub use store::InventoryStore;

@@ -5,13 +5,11 @@ ghost use Rattle.device_server.specs.Settled.{SameButSettled};
 ghost use Rattle.library_device.specs.Devices.{shown_as};
 ghost use Rattle.kept_media.specs.Looking.{WasTaken, settled_by};
 
-use crate::kept_image::KeptImage;
-use crate::part_range::PartRange;
 use device_server::{Attendant, DeviceServer};
 use library_device::Device;
 use scsi_cdb::Kind;
 use std::alloc::Global;
-use tape_flush::{FlushFault, ImageStore, TapePart};
+use tape_flush::{FlushFault, ImageStore, KeptImage, PartRange, TapePart};
 use tape_medium::{FIRST_IMPORT_EXPORT, FIRST_STORAGE, VolumeTag};
 
 /// The most import/export elements, and the most storage elements, that a changer has.

@@ -7,10 +7,10 @@ ghost use Rattle.logical_unit.specs.Step.{made};
 ghost use Rattle.scsi_cdb.specs.declared.kind.Kind.TheVariants as kind;
 ghost use Rattle.tape_flush.specs.Images.{TapePartValue};
 ghost use Rattle.tape_flush.specs.declared.fault.FlushFault.{FlushFault};
-ghost use Rattle.kept_media.specs.Kept.{KeptImageValue};
+ghost use Rattle.tape_flush.specs.Kept.{KeptImageValue};
 ghost use Rattle.kept_media.specs.LookRows.{Notes, no_image, part_of_two_marks, settled_drive, up_to};
 ghost use Rattle.kept_media.specs.Looking.{WasTaken, settled_by};
-ghost use Rattle.kept_media.specs.declared.part_range.PartRange.{PartRange};
+ghost use Rattle.tape_flush.specs.declared.part_range.PartRange.{PartRange};
 ghost use Rattle.kept_media.specs.Starting.{ShelvesView, empty_shelves, IsShelved, IsLibraryOf};
 ghost use Rattle.kept_media.specs.StartRows.{two_marks, one_drive, in_slot_and_drive, with_one, loaded_drive, with_both};
 

@@ -6,8 +6,7 @@ ghost use Rattle.tape_medium.specs.Limits.{capacity_limit};
 use crate::socket_fault::SocketFault;
 use command_line::MediaOptions;
 use kept_media::{
-    InventoryStore, KeptImage, LibraryFault, MediaKeeper, StartedVolume, VolumeImage,
-    library_of_volumes,
+    InventoryStore, LibraryFault, MediaKeeper, StartedVolume, VolumeImage, library_of_volumes,
 };
 use library_device::Device;
 use library_inventory::{Inventory, LibrarySize, PlacedVolume};
@@ -16,7 +15,7 @@ use media_folder::{
 };
 use std::alloc::{AllocError, Global};
 use std::io::Write;
-use tape_flush::StoreFault;
+use tape_flush::{KeptImage, StoreFault};
 use tape_medium::MemoryLimit;
 use target_core::TargetCore;
 

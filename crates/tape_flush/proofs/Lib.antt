@@ -4,3 +4,4 @@ pub mod Replaced
 pub mod Flushes
 pub mod Opened
 pub mod Readings
+pub mod CopyLemmas

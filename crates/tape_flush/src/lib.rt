@@ -5,11 +5,13 @@
 mod ends;
 mod fault;
 mod image_file;
+mod kept_image;
 mod laws;
 mod memory;
 mod object;
 mod opening;
 mod part;
+mod part_range;
 mod read_fault;
 mod reading;
 mod replacing;
@@ -18,10 +20,12 @@ mod store;
 
 pub use fault::{FlushFault, OpenFault};
 pub use image_file::ImageFile;
-pub use laws::{held_images_are_read, whole_images_are_read};
+pub use kept_image::KeptImage;
+pub use laws::{held_images_are_read, images_follow_tapes, whole_images_are_read};
 pub use memory::MemoryStore;
 pub use opening::{OpenedImage, open_image};
 pub use part::TapePart;
+pub use part_range::PartRange;
 pub use read_fault::ReadTapeFault;
 pub use reading::{ReadTape, read_tape};
 pub use rows::worked_rows;

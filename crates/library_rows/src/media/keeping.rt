@@ -5,14 +5,14 @@ ghost use Rattle.device_server.specs.Settled.{SameButSettled};
 
 use crate::comparing::{assert_list, assert_same};
 use device_server::{Attendant, DeviceServer};
-use kept_media::{InventoryStore, KeptImage, MediaKeeper, VolumeImage};
+use kept_media::{InventoryStore, MediaKeeper, VolumeImage};
 use library_device::Device;
 use library_inventory::{Inventory, LibrarySize};
 use scsi_cdb::Request;
 use std::alloc::{AllocError, Global};
 use std::process::Abort;
 use std::sync::{Mutex, Wait};
-use tape_flush::{ImageStore, StoreFault, open_image};
+use tape_flush::{ImageStore, KeptImage, StoreFault, open_image};
 use tape_image::index_image;
 use tape_keeper::{
     GoodCommand, KeepChange, KeepEvent, KeepFault, KeepListener, KeptThing, TapeKeeper, TapeSource,

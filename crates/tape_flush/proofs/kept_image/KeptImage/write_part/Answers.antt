@@ -1,7 +1,7 @@
 use Rattle.std.proofs.Common.{◌≡◌, true, length, Ok, Err, refl, sym, ap, subst, ◌∙◌, arith}
-use Rattle.kept_media.specs.Kept.{KeptImageValue, Has, IsTaken}
-use Rattle.kept_media.proofs.CopyLemmas.{whole_part, begun_part, whole_without, err_told}
-use Rattle.kept_media.proofs.kept_image.KeptImage.write_part.Goals as goal
+use Rattle.tape_flush.specs.Kept.{KeptImageValue, Has, IsTaken}
+use Rattle.tape_flush.proofs.CopyLemmas.{whole_part, begun_part, whole_without, err_told}
+use Rattle.tape_flush.proofs.kept_image.KeptImage.write_part.Goals as goal
 
 pub returns-then-range-count-clause-whole : goal.returns-then-range-count-clause-whole
 returns-then-range-count-clause-whole g c known others tape has follows taken =

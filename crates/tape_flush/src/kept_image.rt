@@ -3,11 +3,14 @@ ghost use Rattle.std.specs.Io.KnownBytes.{Keeps};
 ghost use Rattle.tape_medium.specs.Object.{Object};
 ghost use Rattle.tape_medium.specs.TapeView.{TapeView};
 ghost use Rattle.tape_flush.specs.Images.{IsWhole};
-ghost use Rattle.kept_media.specs.Kept.{Has, Follows, IsTaken, Begins};
+ghost use Rattle.tape_flush.specs.Kept.{Has, Follows, IsTaken, Begins};
 
+use crate::fault::FlushFault;
+use crate::image_file::ImageFile;
+use crate::part::TapePart;
 use crate::part_range::PartRange;
+use crate::store::{ImageStore, StoreFault};
 use std::marker::Model;
-use tape_flush::{FlushFault, ImageFile, ImageStore, StoreFault, TapePart};
 use tape_medium::Tape;
 
 /// The image of a tape in a file, with what is known of it: whether it has all that was copied and nothing else, and whether that
@@ -23,7 +26,7 @@ pub struct KeptImage<S: ImageStore> {
 }
 
 impl<S: ImageStore> Model for KeptImage<S> {
-    ghost use Rattle.kept_media.specs.Kept.{KeptImageValue};
+    ghost use Rattle.tape_flush.specs.Kept.{KeptImageValue};
 
     ghost Value = { KeptImageValue };
 

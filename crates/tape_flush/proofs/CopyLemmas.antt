@@ -9,8 +9,8 @@ use Rattle.tape_flush.specs.declared.fault.FlushFault.{FlushFault}
 use Rattle.tape_flush.specs.Images.{ImageValue, TapePartValue, ends_from, end_at, between, IsPart, object_in, HoldsAll, HoldsFirst, IsWhole, IsHeld, Leaves}
 use Rattle.tape_flush.proofs.Holding.{same_count, first_of_none}
 use Rattle.tape_flush.proofs.Pieces.{length-ends}
-use Rattle.kept_media.specs.declared.part_range.PartRange.{PartRange}
-use Rattle.kept_media.specs.Kept.{KeptImageValue, HasBy, Has, FollowsUpTo, Follows, IsTaken, Begins, ImagesFollowTapes}
+use Rattle.tape_flush.specs.declared.part_range.PartRange.{PartRange}
+use Rattle.tape_flush.specs.Kept.{KeptImageValue, HasBy, Has, FollowsUpTo, Follows, IsTaken, Begins, ImagesFollowTapes}
 
 -- AN IMAGE holds what it has, and its objects are as many as its ends
 

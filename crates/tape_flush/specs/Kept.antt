@@ -5,7 +5,7 @@ use Rattle.tape_medium.specs.TapeView.{TapeView}
 use Rattle.tape_medium.specs.Tape.{settled}
 use Rattle.tape_medium.specs.Changes.{Changes}
 use Rattle.tape_flush.specs.Images.{ImageValue, TapePartValue, end_at, between, IsPart, IsWhole, IsHeld}
-use Rattle.kept_media.specs.declared.part_range.PartRange.{PartRange}
+use Rattle.tape_flush.specs.declared.part_range.PartRange.{PartRange}
 
 pub record KeptImageValue : Type 0 where
   pub image : ImageValue
