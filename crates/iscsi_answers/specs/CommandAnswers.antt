@@ -9,6 +9,7 @@ use Rattle.iscsi_pdu.specs.Pdus.{TargetPduValue}
 use Rattle.iscsi_pdu.specs.declared.completion.Completion.{Completion}
 use Rattle.iscsi_pdu.specs.declared.residual.Residual.{Residual}
 use Rattle.iscsi_pdu.specs.declared.residual.Residual.TheVariants.{Exact, Overflow, Underflow}
+use Rattle.iscsi_pdu.specs.declared.scsi_command.ScsiCommand.{ScsiCommand}
 use Rattle.iscsi_pdu.specs.declared.scsi_status.ScsiStatus.{ScsiStatus}
 use Rattle.iscsi_pdu.specs.declared.scsi_status.ScsiStatus.TheVariants as scsi
 use Rattle.iscsi_pdu.specs.declared.service_response.ServiceResponse.TheVariants.{CommandCompletedAtTarget}
@@ -19,6 +20,16 @@ use Rattle.iscsi_answers.specs.declared.limits.TransferLimits.{TransferLimits}
 use Rattle.iscsi_answers.specs.declared.sequence.SequenceNumbers.{SequenceNumbers}
 use Rattle.iscsi_answers.specs.Single.{pdu}
 use Rattle.iscsi_answers.specs.DataIns.{data_ins}
+
+-- what an answer takes from its command, of whose data so many bytes were handed over
+abbrev pub answered_command : ScsiCommand → (handed_over : ℕ) → AnsweredCommand
+answered_command command handed_over = record {
+  initiator_task_tag = command.initiator_task_tag;
+  reads = command.reads;
+  writes = command.writes;
+  expected_data_transfer_length = command.expected_data_transfer_length;
+  handed_over = handed_over;
+}
 
 -- a status as its PDU has it
 abbrev pub told_status : Status → ScsiStatus

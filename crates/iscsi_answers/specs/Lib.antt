@@ -4,3 +4,4 @@ pub mod DataIns
 pub mod CommandAnswers
 pub mod Texts
 pub mod Laws
+pub mod Leaving

@@ -1,14 +1,14 @@
 ghost use Rattle.std.specs.Prelude.{◌≡◌, ◌<◌, ◌≤◌, ◌+◌, ◌^◌, ◌++◌, length, OnOk};
 ghost use Rattle.iscsi_answers.specs.Written.{bytes_of, bytes_of_all};
-ghost use Rattle.iscsi_answers.specs.CommandAnswers.{command_answer, with_data, with_response, response_behind, residual_of, residual_between, told_status, sent, transferable, sense_segment};
+ghost use Rattle.iscsi_answers.specs.CommandAnswers.{answered_command, command_answer, with_data, with_response, response_behind, residual_of, residual_between, told_status, sent, transferable, sense_segment};
 
 use crate::data_in::{Transfer, write_data_ins};
 use crate::limits::TransferLimits;
 use crate::sequence::SequenceNumbers;
 use crate::writing::write_pdu;
 use iscsi_pdu::{
-    Completion, Residual, ScsiResponse, ScsiStatus, SerialNumber, ServiceResponse, TargetHeader,
-    TargetPdu,
+    Completion, Residual, ScsiCommand, ScsiResponse, ScsiStatus, SerialNumber, ServiceResponse,
+    TargetHeader, TargetPdu,
 };
 use scsi_sense::{SENSE_LENGTH, Sense, Status};
 use std::alloc::AllocError;
@@ -25,6 +25,21 @@ pub struct AnsweredCommand {
     pub expected_data_transfer_length: u32,
     /// How many bytes of a write's data were handed to its unit.
     pub handed_over: u32,
+}
+
+impl AnsweredCommand {
+    /// What an answer takes from its command, of whose data so many bytes were handed over.
+    pub fn of(command: &ScsiCommand, handed_over: u32) -> AnsweredCommand
+        ensures { result ≡ answered_command command.now handed_over }
+    {
+        AnsweredCommand {
+            initiator_task_tag: command.initiator_task_tag,
+            reads: command.reads,
+            writes: command.writes,
+            expected_data_transfer_length: command.expected_data_transfer_length,
+            handed_over,
+        }
+    }
 }
 
 /// How a unit has replied to a command.

@@ -1,5 +1,5 @@
 //! The PDUs that answer an initiator in full feature: data and the response to a command, and the answers to NOP-Out, text, task
-//! management and logout; and what is sent unasked, a ping and a logout that is asked for. No state here: what an answer goes by is
+//! management and logout; and what is sent unasked, a ping and a logout that is asked for, and when. No state here: what an answer goes by is
 //! handed in.
 #![tactic(auto)]
 
@@ -7,6 +7,7 @@ mod answers;
 mod command_answer;
 mod data_in;
 mod laws;
+mod leaving;
 mod limits;
 mod send_targets;
 mod sequence;
@@ -19,6 +20,7 @@ pub use answers::{
 };
 pub use command_answer::{AnsweredCommand, UnitAnswer, write_command_answer};
 pub use laws::{data_are_whole, residual_balances, residual_rows, segments_are_short};
+pub use leaving::seconds_to_leave;
 pub use limits::TransferLimits;
 pub use send_targets::{PortalAddress, Portals};
 pub use sequence::SequenceNumbers;

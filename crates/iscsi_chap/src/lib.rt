@@ -1,5 +1,5 @@
-//! Who is let in over iSCSI: by its name, and where that is asked for by CHAP: secrets, challenges, digests, and the values of its keys (RFC
-//! 1994; RFC 7143, "Challenge Handshake Authentication Protocol (CHAP)").
+//! Who is let in over iSCSI, and to which type of session: by its name, and where that is asked for by CHAP: secrets, challenges, digests, and
+//! the values of its keys (RFC 1994; RFC 7143, "Challenge Handshake Authentication Protocol (CHAP)").
 #![tactic(auto)]
 
 mod access;
@@ -18,6 +18,7 @@ mod rows;
 mod same;
 mod secrets;
 mod secrets_fault;
+mod session_type;
 mod sha256_digest;
 mod words;
 
@@ -34,3 +35,4 @@ pub use response::is_response;
 pub use rows::{algorithm_rows, line_rows};
 pub use same::are_same;
 pub use secrets_fault::{LineFault, SecretsFault};
+pub use session_type::SessionType;

@@ -20,7 +20,7 @@ use Rattle.iscsi_login.specs.Admissions.{entry_of, entry_if, entry_for, entry_as
 use Rattle.iscsi_login.specs.Logins.{stepped, unless_fault, request_fault, taken, moved_if, moved_to, open_at, begun}
 use Rattle.iscsi_login.specs.Runs.{Coming, run, IsEntry, IsEntered}
 use Rattle.iscsi_chap.specs.declared.access.Admission.{Admission}
-use Rattle.iscsi_login.specs.declared.names.SessionType.{SessionType}
+use Rattle.iscsi_chap.specs.declared.session_type.SessionType.{SessionType}
 use Rattle.iscsi_login.specs.declared.target.LoginTarget.{LoginTarget}
 use Rattle.iscsi_login.specs.declared.admitted.Admitted.{Admitted}
 use Rattle.iscsi_login.specs.declared.login.Login.{Login}

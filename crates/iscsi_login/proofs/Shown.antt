@@ -27,7 +27,7 @@ use Rattle.iscsi_chap.specs.declared.challenge.Challenge.{Challenge}
 use Rattle.iscsi_chap.specs.declared.phase.ChapPhase.{ChapPhase}
 use Rattle.iscsi_chap.specs.declared.phase.ChapPhase.TheVariants as phase
 use Rattle.iscsi_login.specs.declared.chap.ChapState.{ChapState}
-use Rattle.iscsi_login.specs.declared.names.SessionType.{SessionType}
+use Rattle.iscsi_chap.specs.declared.session_type.SessionType.{SessionType}
 use Rattle.iscsi_chap.specs.declared.authentication.Authentication.{Authentication}
 use Rattle.iscsi_chap.specs.declared.authentication.Authentication.TheVariants as authentication
 use Rattle.iscsi_login.specs.declared.target.LoginTarget.{LoginTarget}

@@ -15,8 +15,8 @@ use Rattle.iscsi_login.specs.Names.{declared, session_type_in}
 use Rattle.iscsi_login.specs.Offers.{negotiated_by}
 use Rattle.iscsi_chap.specs.declared.access.Admission.{Admission}
 use Rattle.iscsi_chap.specs.declared.access.Admission.TheVariants.{Listed, Other}
-use Rattle.iscsi_login.specs.declared.names.SessionType.{SessionType}
-use Rattle.iscsi_login.specs.declared.names.SessionType.TheVariants.{Normal, Discovery}
+use Rattle.iscsi_chap.specs.declared.session_type.SessionType.{SessionType}
+use Rattle.iscsi_chap.specs.declared.session_type.SessionType.TheVariants.{Normal, Discovery}
 use Rattle.iscsi_login.specs.declared.target.LoginTarget.{LoginTarget}
 use Rattle.iscsi_login.specs.declared.admitted.Admitted.{Admitted}
 

@@ -14,7 +14,7 @@ use Rattle.iscsi_login.specs.Names.{declared, declared_as, session_type_in}
 use Rattle.iscsi_login.specs.Runs.{Coming}
 use Rattle.iscsi_chap.specs.declared.access.Admission.{Admission}
 use Rattle.iscsi_chap.specs.declared.challenge.Challenge.{Challenge}
-use Rattle.iscsi_login.specs.declared.names.SessionType.{SessionType}
+use Rattle.iscsi_chap.specs.declared.session_type.SessionType.{SessionType}
 use Rattle.iscsi_chap.specs.declared.authentication.Authentication.{Authentication}
 use Rattle.iscsi_chap.specs.declared.authentication.Authentication.TheVariants as authentication
 use Rattle.iscsi_login.specs.declared.target.LoginTarget.{LoginTarget}

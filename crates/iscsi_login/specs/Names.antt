@@ -4,8 +4,8 @@ use Rattle.std.specs.Str.{bytes_eq}
 use Rattle.iscsi_keys.specs.Keys.{key_name}
 use Rattle.iscsi_keys.specs.Texts.{ItemValue, End, Pair, Invalid, first_item}
 use Rattle.iscsi_keys.specs.declared.key.Key.{Key}
-use Rattle.iscsi_login.specs.declared.names.SessionType.{SessionType}
-use Rattle.iscsi_login.specs.declared.names.SessionType.TheVariants.{Normal, Discovery}
+use Rattle.iscsi_chap.specs.declared.session_type.SessionType.{SessionType}
+use Rattle.iscsi_chap.specs.declared.session_type.SessionType.TheVariants.{Normal, Discovery}
 
 abbrev pub declared_at : (behind : List ℕ → Option (List ℕ)) → (wanted : List ℕ) → ItemValue → Option (List ℕ)
 declared_at behind wanted End = None

@@ -7,7 +7,7 @@ use Rattle.iscsi_login.specs.Names.{declared, session_type_in}
 use Rattle.iscsi_login.specs.Admissions.{target_fault}
 use Rattle.iscsi_login.specs.Logins.{stepped}
 use Rattle.iscsi_chap.specs.declared.access.Admission.{Admission}
-use Rattle.iscsi_login.specs.declared.names.SessionType.{SessionType}
+use Rattle.iscsi_chap.specs.declared.session_type.SessionType.{SessionType}
 use Rattle.iscsi_login.specs.declared.target.LoginTarget.{LoginTarget}
 use Rattle.iscsi_login.specs.declared.login.Login.{Login}
 

@@ -2,10 +2,10 @@ ghost use Rattle.std.specs.Prelude.{◌≡◌, ◌≤◌, length};
 ghost use Rattle.std.specs.Option.{option_copied};
 ghost use Rattle.iscsi_login.specs.Admissions.{entry_of, target_fault, says_the_same, is_initiator_again, is_target_again, is_type_again, names_free, admitted_by, offered_by, terms_of};
 
-use crate::names::{SessionType, declared_value, session_type_in};
+use crate::names::{declared_value, session_type_in};
 use crate::offers::negotiated_by;
 use crate::target::LoginTarget;
-use iscsi_chap::Admission;
+use iscsi_chap::{Admission, SessionType};
 use iscsi_keys::{Key, Negotiation, Terms};
 use iscsi_pdu::LoginStatus;
 

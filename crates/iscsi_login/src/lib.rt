@@ -24,9 +24,11 @@ pub use admitted::Admitted;
 pub use chap::ChapState;
 pub use exchange::LoginExchange;
 pub use identity::LoginIdentity;
-pub use iscsi_chap::{Access, Admission, Authentication, Challenge, ChapPhase, Host, LONGEST_NAME};
+pub use iscsi_chap::{
+    Access, Admission, Authentication, Challenge, ChapPhase, Host, LONGEST_NAME, SessionType,
+};
 pub use laws::{begins_by_name, end_stays, reached_by_name, stages_ascend, told_as_begun};
 pub use login::{FullFeature, Login, LoginEnd, LoginStep, OpenLogin};
-pub use names::{SessionType, declared_value};
+pub use names::declared_value;
 pub use progress::LoginProgress;
 pub use target::LoginTarget;

@@ -3,10 +3,9 @@ ghost use Rattle.std.specs.Prelude.{◌≡◌, ◌≤◌, ◌++◌, length, OnOk
 use crate::admitted::{Admitted, admitted_by};
 use crate::answers::write_answers;
 use crate::identity::LoginIdentity;
-use crate::names::SessionType;
 use crate::stages::{is_awaited, leads_to};
 use crate::target::LoginTarget;
-use iscsi_chap::Admission;
+use iscsi_chap::{Admission, SessionType};
 use iscsi_keys::SessionParameters;
 use iscsi_pdu::{LoginRequest, LoginStatus, SerialNumber, Stage};
 use std::alloc::AllocError;

@@ -2,14 +2,8 @@ ghost use Rattle.std.specs.Prelude.{◌≡◌, ◌≤◌, length};
 ghost use Rattle.std.specs.Option.{option_copied};
 ghost use Rattle.iscsi_login.specs.Names.{declared, declared_as, session_type_in};
 
+use iscsi_chap::SessionType;
 use iscsi_keys::{Key, TextItem, first_item};
-
-/// What a session is for (RFC 7143, "SessionType").
-#[derive(Clone, Copy, Debug, PartialEq, Eq)]
-pub enum SessionType {
-    Normal,
-    Discovery,
-}
 
 /// The value that a text first gives the key, if it does before its end or a fault of the text.
 pub fn declared_value<'a>(text: &'a [u8], key: Key) -> Option<&'a [u8]>

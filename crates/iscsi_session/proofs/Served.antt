@@ -14,7 +14,7 @@ use Rattle.session.proofs.Read.{consumes_more}
 use Rattle.iscsi_login.specs.Exchanges.{ExchangeValue, started}
 use Rattle.iscsi_chap.specs.declared.challenge.Challenge.{Challenge}
 use Rattle.iscsi_login.specs.declared.login.FullFeature.{FullFeature}
-use Rattle.iscsi_login.specs.declared.names.SessionType.TheVariants.{Normal}
+use Rattle.iscsi_chap.specs.declared.session_type.SessionType.TheVariants.{Normal}
 use Rattle.iscsi_login.specs.declared.target.LoginTarget.{LoginTarget}
 use Rattle.iscsi_session.specs.LoggingIn.{HasReached, LogsIn, nexus_of}
 use Rattle.iscsi_session.specs.Serving.{Holds, IsServed, Serves, WritesLast, first_tasks}

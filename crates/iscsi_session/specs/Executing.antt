@@ -29,9 +29,8 @@ use Rattle.iscsi_tasks.specs.declared.taken.TakenCommand.TheVariants as taken
 use Rattle.iscsi_tasks.specs.declared.taken.TakenData.{TakenData}
 use Rattle.iscsi_tasks.specs.declared.taken.TakenData.TheVariants as taken_data
 use Rattle.iscsi_answers.specs.Single.{pdu, rejection}
-use Rattle.iscsi_answers.specs.CommandAnswers.{command_answer}
+use Rattle.iscsi_answers.specs.CommandAnswers.{answered_command, command_answer}
 use Rattle.iscsi_answers.specs.Written.{bytes_of_all}
-use Rattle.iscsi_answers.specs.declared.command_answer.AnsweredCommand.{AnsweredCommand}
 use Rattle.iscsi_answers.specs.declared.limits.TransferLimits.{TransferLimits}
 use Rattle.iscsi_answers.specs.declared.sequence.SequenceNumbers.{SequenceNumbers}
 
@@ -74,16 +73,6 @@ outcome k AskedNext = next_outcome (next_of k)
 outcome k (Numbered immediate cmd_sn) = Nothing
 outcome k (Aborted unit tag) = Nothing
 outcome k (Dropped unit) = Nothing
-
--- what an answer takes from its command, of whose data so many bytes were handed over
-abbrev pub answered_command : ScsiCommand → (handed_over : ℕ) → AnsweredCommand
-answered_command command handed_over = record {
-  initiator_task_tag = command.initiator_task_tag;
-  reads = command.reads;
-  writes = command.writes;
-  expected_data_transfer_length = command.expected_data_transfer_length;
-  handed_over = handed_over;
-}
 
 -- 255 is no unit's
 abbrev pub unit_number : (lun : ℕ) → ℕ

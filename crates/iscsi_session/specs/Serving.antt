@@ -8,7 +8,7 @@ use Rattle.iscsi_login.specs.Exchanges.{started}
 use Rattle.iscsi_login.specs.Runs.{Coming}
 use Rattle.iscsi_chap.specs.declared.challenge.Challenge.{Challenge}
 use Rattle.iscsi_login.specs.declared.login.FullFeature.{FullFeature}
-use Rattle.iscsi_login.specs.declared.names.SessionType.TheVariants.{Normal}
+use Rattle.iscsi_chap.specs.declared.session_type.SessionType.TheVariants.{Normal}
 use Rattle.iscsi_login.specs.declared.target.LoginTarget.{LoginTarget}
 use Rattle.iscsi_answers.specs.Written.{bytes_of_all}
 use Rattle.iscsi_tasks.specs.Next.{next_of}

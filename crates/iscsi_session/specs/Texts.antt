@@ -1,8 +1,8 @@
 -- Texts that come in pieces, and what is left of the answer to one (RFC 7143, "Text Request").
 use Rattle.std.specs.Prelude.{ℕ, ◌+◌, ◌==◌, nat_le, Bool, true, false, not, ◌&&◌, ◌||◌, List, [], ◌++◌, length, drop, Option, None, if◌then◌else◌}
 use Rattle.iscsi_answers.specs.Texts.{text_items}
-use Rattle.iscsi_login.specs.declared.names.SessionType.{SessionType}
-use Rattle.iscsi_login.specs.declared.names.SessionType.TheVariants.{Normal, Discovery}
+use Rattle.iscsi_chap.specs.declared.session_type.SessionType.{SessionType}
+use Rattle.iscsi_chap.specs.declared.session_type.SessionType.TheVariants.{Normal, Discovery}
 
 -- what has come of a text whose end hasn't; the answer to one that was whole, and how much of it was sent; and the target transfer tag by which
 -- either goes on

@@ -2,7 +2,7 @@
 ghost use Rattle.std.specs.Prelude.{◌≡◌, List, true, IfErr, Ok, OnOk};
 ghost use Rattle.iscsi_pdu.specs.Pdus.{TargetPduValue};
 ghost use Rattle.iscsi_pdu.specs.Views.{initiator_value};
-ghost use Rattle.iscsi_login.specs.declared.names.SessionType.TheVariants.{Normal};
+ghost use Rattle.iscsi_chap.specs.declared.session_type.SessionType.TheVariants.{Normal};
 ghost use Rattle.iscsi_tasks.specs.Next.{next_of};
 ghost use Rattle.iscsi_tasks.specs.declared.next_task.NextTask.TheVariants.{Idle};
 ghost use Rattle.iscsi_session.specs.Faults.{IsLater};

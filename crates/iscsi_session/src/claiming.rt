@@ -46,7 +46,7 @@ pub trait SessionRegister {
     /// Notes that a reset which the session's service has made of a unit is the session's own: the service has others know of it.
     fn note_reset(&self, unit: u8);
 
-    /// Within how many seconds all sessions are to end. `None`: they may go on. It is asked whenever a read has ended, until it says so.
+    /// Within how many seconds all sessions are to end. `None`: they may go on. It is asked whenever a read has ended.
     fn ends_within(&self) -> Option<u16>
         ensures { IfSome result (ends self.now) };
 }

@@ -6,7 +6,7 @@ ghost use Rattle.iscsi_tasks.specs.Next.{next_of};
 ghost use Rattle.iscsi_tasks.specs.Runs.{Commanded, DataCame, stepped};
 ghost use Rattle.iscsi_tasks.specs.declared.next_task.NextTask.TheVariants.{Idle};
 ghost use Rattle.iscsi_session.specs.Faults.{IsLater};
-ghost use Rattle.iscsi_session.specs.Executing.{Acts, Adds, Does, Executes, GoesOn, OrElse, Tells, answer_to, answered_command, demand, failure, is_idle, next_outcome, outcome};
+ghost use Rattle.iscsi_session.specs.Executing.{Acts, Adds, Does, Executes, GoesOn, OrElse, Tells, answer_to, demand, failure, is_idle, next_outcome, outcome};
 
 use crate::connection::Connection;
 use crate::fault::IscsiFault;
@@ -51,19 +51,6 @@ fn execute<S: Service>(
     answer_command(connection, command, handed_over, &answer, out)
 }
 
-/// What an answer takes from its command, of whose data so many bytes were handed over.
-fn answered_command(command: &ScsiCommand, handed_over: u32) -> AnsweredCommand
-    ensures { result ≡ answered_command command.now handed_over }
-{
-    AnsweredCommand {
-        initiator_task_tag: command.initiator_task_tag,
-        reads: command.reads,
-        writes: command.writes,
-        expected_data_transfer_length: command.expected_data_transfer_length,
-        handed_over,
-    }
-}
-
 /// Adds what answers a command of whose data so many bytes were handed over.
 fn answer_command(
     connection: &mut Connection,
@@ -77,7 +64,7 @@ fn answer_command(
     ensures tasks { connection.new.tasks ≡ connection.old.tasks }
     ensures answered { OnOk result (out.new.items ≡ out.old.items ++ bytes_of_all (answer_to connection.old.tasks connection.old.limits connection.old.stat_sn command.now handed_over answer.now.status answer.now.sense answer.now.data.now)) }
 {
-    let answered = answered_command(command, handed_over);
+    let answered = AnsweredCommand::of(command, handed_over);
     let numbers = connection.numbers();
     write_command_answer(out, connection.limits, numbers, answered, answer)?;
     connection.has_answered();

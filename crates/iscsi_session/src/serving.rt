@@ -1,10 +1,9 @@
 ghost use Rattle.std.specs.Prelude.{◌≡◌, ◌⊎◌, ◌++◌, ℕ, Bool, true, List, [], IfErr, OnOk};
 ghost use Rattle.iscsi_pdu.specs.Pdus.{TargetPduValue};
-ghost use Rattle.iscsi_login.specs.declared.names.SessionType.TheVariants.{Normal};
+ghost use Rattle.iscsi_chap.specs.declared.session_type.SessionType.TheVariants.{Normal};
 ghost use Rattle.iscsi_tasks.specs.Values.{TasksValue};
 ghost use Rattle.iscsi_tasks.specs.Next.{next_of};
 ghost use Rattle.iscsi_tasks.specs.declared.next_task.NextTask.TheVariants.{Idle};
-ghost use Rattle.session.specs.Serving.{IsLostBelow};
 ghost use Rattle.iscsi_session.specs.Faults.{IsLater};
 ghost use Rattle.iscsi_session.specs.Leaving.{Leaves};
 ghost use Rattle.iscsi_session.specs.Talking.{Converses};
@@ -18,10 +17,10 @@ use crate::login::{LoginWait, await_login};
 use crate::portal::Portal;
 use crate::read_buffer::ReadBuffer;
 use crate::talking::{ROOM, converse};
-use iscsi_login::{Challenge, FullFeature, LoginExchange, SessionType};
+use iscsi_login::{Challenge, FullFeature, LoginExchange};
 use iscsi_pdu::LoginStatus;
 use scsi_nexus::Nexus;
-use session::{Service, SessionFault, lose_all};
+use session::{Service, SessionFault, lose_at_units};
 use std::alloc::Global;
 use std::io::{Read, Write};
 
@@ -79,7 +78,7 @@ pub fn serve<S: Service, G: SessionRegister, R: Read, W: Write>(
         LoginWait::Begins { begun, turns } => (begun, turns),
         LoginWait::Ended(end) => return Ok(end),
     };
-    if has_units(begun.session_type) {
+    if begun.session_type.has_units() {
         hold(
             alloc,
             service,
@@ -108,16 +107,6 @@ pub fn serve<S: Service, G: SessionRegister, R: Read, W: Write>(
             writer,
             turns,
         )
-    }
-}
-
-/// Whether a session of the type has units: a discovery session has none.
-fn has_units(session_type: SessionType) -> bool
-    ensures { result ≡ true → session_type ≡ Normal }
-{
-    match session_type {
-        SessionType::Discovery => false,
-        SessionType::Normal => true,
     }
 }
 
@@ -194,14 +183,6 @@ fn enter<S: Service, G: SessionRegister>(
         Ok(key) => Ok(key),
         Err(fault) => Err(status_of(fault)),
     }
-}
-
-/// Loses a nexus at every unit, and says whether none was BUSY.
-fn lose_at_units<S: Service>(alloc: Global, service: &mut S, nexus: Nexus) -> bool
-    ensures { IsLostBelow S.notes nexus (S.count service.old) service.old service.new result }
-{
-    let units = service.units();
-    lose_all(alloc, service, nexus, units)
 }
 
 /// A normal session, from the last request of its login to its end.

@@ -2,7 +2,7 @@
 ghost use Rattle.std.specs.Prelude.{◌≡◌, ◌⊎◌, ◌++◌, ◌<◌, ℕ, [], List, false, length, IfErr, IfSome, Ok, OnOk};
 ghost use Rattle.iscsi_pdu.specs.Pdus.{TargetPduValue};
 ghost use Rattle.iscsi_answers.specs.Written.{bytes_of_all};
-ghost use Rattle.iscsi_login.specs.declared.names.SessionType.TheVariants.{Normal};
+ghost use Rattle.iscsi_chap.specs.declared.session_type.SessionType.TheVariants.{Normal};
 ghost use Rattle.iscsi_tasks.specs.Next.{next_of};
 ghost use Rattle.iscsi_tasks.specs.declared.next_task.NextTask.TheVariants.{Idle};
 ghost use Rattle.iscsi_session.specs.Faults.{IsLater};
@@ -18,7 +18,7 @@ use crate::login::{end_of, read_fault};
 use crate::portal::Portal;
 use crate::read_buffer::ReadBuffer;
 use crate::resets::drop_reset;
-use iscsi_answers::{write_leave_request, write_ping};
+use iscsi_answers::{seconds_to_leave, write_leave_request, write_ping};
 use iscsi_keys::TARGET_MAX_RECV_DATA_SEGMENT_LENGTH;
 use iscsi_login::SessionType;
 use iscsi_pdu::{ParsedInitiatorPdu, parse_initiator_pdu};
@@ -204,10 +204,7 @@ fn read_on<R: Read>(
 fn time_to_leave<G: SessionRegister>(register: &G, is_asked: bool) -> Option<u16>
     ensures { IfSome result (λ seconds. (is_asked ≡ false) × G.ends register.now seconds) }
 {
-    if is_asked {
-        return None;
-    }
-    register.ends_within()
+    seconds_to_leave(register.ends_within(), is_asked)
 }
 
 /// Asks for a logout where all sessions are to end, unless it was asked for before.

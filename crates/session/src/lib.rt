@@ -17,6 +17,6 @@ pub use directory::Directory;
 pub use fault::{End, SessionFault};
 pub use frame::Frame;
 pub use service::Service;
-pub use serving::{lose_all, serve};
+pub use serving::{lose_all, lose_at_units, serve};
 pub use splitter::Splitter;
 pub use splitting_laws::{cuts_change_nothing, splitting_rows};

@@ -86,6 +86,14 @@ pub fn lose_all<S: Service>(alloc: Global, service: &mut S, nexus: Nexus, units:
     is_lost
 }
 
+/// Loses a nexus at every unit, and says whether none was BUSY.
+pub fn lose_at_units<S: Service>(alloc: Global, service: &mut S, nexus: Nexus) -> bool
+    ensures { IsLostBelow S.notes nexus (S.count service.old) service.old service.new result }
+{
+    let units = service.units();
+    lose_all(alloc, service, nexus, units)
+}
+
 /// Tells a client that its LOGIN is refused, where it is since the nexus has a session already.
 fn refuse<W: Write>(
     fault: SessionFault,
@@ -166,8 +174,7 @@ pub fn serve<S: Service, R: Read, W: Write>(
         writer,
         left,
     );
-    let units = service.units();
-    let is_lost = lose_all(alloc, service, nexus, units);
+    let is_lost = lose_at_units(alloc, service, nexus);
     service.logout(key);
     if !is_lost {
         return Err(SessionFault::NoMemory);

@@ -15,5 +15,5 @@ returns-then-has_units-clause-session g c =
     let reached = subst (λ (w : LoginWait). WhereBegun w (HasReached e)) c.in-Begins.is c.in_ok-wait.ensures.begins in
     let told = subst (λ (w : LoginWait). WhereBegun w (λ begun. (told : List ℕ) × Appends (g.W.Write.contents c.args.writer.now) (g.W.Write.contents c.await_login.new.writer) told)) c.in-Begins.is c.in_ok-wait.ensures.written in
     serves g.S.Service.notes g.S.Service.count target c.args.challenge c.args.portal.now.group c.in-Begins.begun _ e c.args.service.now c.hold.new.service pending (g.R.Read.remaining c.args.reader.now)
-    (g.R.Read.remaining c.await_login.new.reader) _ (g.W.Write.contents c.args.writer.now) (g.W.Write.contents c.await_login.new.writer) _ c.hold.result c.new-exchange.ensures login reached (c.has_units.ensures c.if-has_units.true) told
+    (g.R.Read.remaining c.await_login.new.reader) _ (g.W.Write.contents c.args.writer.now) (g.W.Write.contents c.await_login.new.writer) _ c.hold.result c.new-exchange.ensures login reached (c.has_units.ensures.normal c.if-has_units.true) told
     c.hold.ensures.session

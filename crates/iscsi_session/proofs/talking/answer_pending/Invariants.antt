@@ -3,7 +3,7 @@ use Rattle.iscsi_pdu.specs.Pdus.{TargetPduValue}
 use Rattle.iscsi_answers.specs.Written.{bytes_of_all}
 use Rattle.iscsi_tasks.specs.Next.{next_of}
 use Rattle.iscsi_tasks.specs.declared.next_task.NextTask.TheVariants.{Idle}
-use Rattle.iscsi_login.specs.declared.names.SessionType.TheVariants.{Normal}
+use Rattle.iscsi_chap.specs.declared.session_type.SessionType.TheVariants.{Normal}
 use Rattle.iscsi_session.specs.Talking.{Answers}
 use Rattle.iscsi_session.proofs.talking.answer_pending.Given as goal
 

@@ -2,7 +2,7 @@ use Rattle.std.proofs.Common.{◌≡◌, List}
 use Rattle.iscsi_pdu.specs.Pdus.{TargetPduValue}
 use Rattle.iscsi_tasks.specs.Next.{next_of}
 use Rattle.iscsi_tasks.specs.declared.next_task.NextTask.TheVariants.{Idle}
-use Rattle.iscsi_login.specs.declared.names.SessionType.TheVariants.{Normal}
+use Rattle.iscsi_chap.specs.declared.session_type.SessionType.TheVariants.{Normal}
 use Rattle.iscsi_session.specs.Talking.{Converses, Writes}
 use Rattle.iscsi_session.proofs.Conversed.{times_asked}
 use Rattle.iscsi_session.proofs.talking.converse.Given as goal

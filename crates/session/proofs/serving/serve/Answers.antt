@@ -24,11 +24,11 @@ returns-in-Ok-ended-clause-session g c =
     let from_login : Converses notes nexus c.args.service.now (drop came.1 came.0) (reply_bytes (LoginReply Accepted)) before after written written' c.in-Ok-ended.end talk.read_buffer talk.service =
     subst (λ (p : List ℕ). Converses notes nexus c.args.service.now p (reply_bytes (LoginReply Accepted)) before after written written' c.in-Ok-ended.end talk.read_buffer talk.service) came.4
     (subst (λ s. Converses notes nexus s c.await_login.new.read_buffer (reply_bytes (LoginReply Accepted)) before after written written' c.in-Ok-ended.end talk.read_buffer talk.service) c.login.ensures.library so) in
-    let gone : IsLostBelow notes nexus c.units-units.result talk.service c.lose_all-is_lost.new.service c.lose_all-is_lost.result = c.lose_all-is_lost.ensures in
-    let all : IsLostBelow notes nexus (g.S.Service.count talk.service) talk.service c.logout.new.self true =
-    subst (λ (k : ℕ). IsLostBelow notes nexus k talk.service c.logout.new.self true) c.units-units.ensures
-    (subst (λ (b : Bool). IsLostBelow notes nexus c.units-units.result talk.service c.logout.new.self b) c.if-not-is_lost.false
-    (subst (λ t. IsLostBelow notes nexus c.units-units.result talk.service t c.lose_all-is_lost.result) (sym c.logout.ensures) gone)) in
+    let units = g.S.Service.count talk.service in
+    let gone : IsLostBelow notes nexus units talk.service c.lose_at_units-is_lost.new.service c.lose_at_units-is_lost.result = c.lose_at_units-is_lost.ensures in
+    let all : IsLostBelow notes nexus units talk.service c.logout.new.self true =
+    subst (λ (b : Bool). IsLostBelow notes nexus units talk.service c.logout.new.self b) c.if-not-is_lost.false
+    (subst (λ t. IsLostBelow notes nexus units talk.service t c.lose_at_units-is_lost.result) (sym c.logout.ensures) gone) in
     inr (held notes nexus c.args.service.now talk.service c.logout.new.self came.0 talk.read_buffer came.1 g.S.Service.count (g.R.Read.remaining c.args.reader.now) before after written written' c.in-Ok-ended.end came.2 came.3 from_login all)
 
 pub returns-in-Ok-ended-clause-reads : goal.returns-in-Ok-ended-clause-reads
@@ -52,11 +52,11 @@ returns-then-not-is_lost-clause-broken g c =
     let talk = c.greet_and_converse-ended.new in
     let nexus = c.in-Login.nexus in
     let came = subst (λ (e : LoginWait). Awaits c.args.turns (g.R.Read.remaining c.args.reader.now) (g.R.Read.remaining c.await_login.new.reader) c.await_login.new.read_buffer e) c.in-Login.is c.in_ok-nexus.ensures.wait in
-    let gone : IsLostBelow notes nexus c.units-units.result talk.service c.lose_all-is_lost.new.service c.lose_all-is_lost.result = c.lose_all-is_lost.ensures in
-    let all : IsLostBelow notes nexus (g.S.Service.count talk.service) talk.service c.logout.new.self false =
-    subst (λ (k : ℕ). IsLostBelow notes nexus k talk.service c.logout.new.self false) c.units-units.ensures
-    (subst (λ (b : Bool). IsLostBelow notes nexus c.units-units.result talk.service c.logout.new.self b) c.if-not-is_lost.true
-    (subst (λ t. IsLostBelow notes nexus c.units-units.result talk.service t c.lose_all-is_lost.result) (sym c.logout.ensures) gone)) in
+    let units = g.S.Service.count talk.service in
+    let gone : IsLostBelow notes nexus units talk.service c.lose_at_units-is_lost.new.service c.lose_at_units-is_lost.result = c.lose_at_units-is_lost.ensures in
+    let all : IsLostBelow notes nexus units talk.service c.logout.new.self false =
+    subst (λ (b : Bool). IsLostBelow notes nexus units talk.service c.logout.new.self b) c.if-not-is_lost.true
+    (subst (λ t. IsLostBelow notes nexus units talk.service t c.lose_at_units-is_lost.result) (sym c.logout.ensures) gone) in
     inr (record {
       nexus = nexus;
       read = came.0;
@@ -77,11 +77,11 @@ returns-clause-broken g c =
     let talk = c.greet_and_converse-ended.new in
     let nexus = c.in-Login.nexus in
     let came = subst (λ (e : LoginWait). Awaits c.args.turns (g.R.Read.remaining c.args.reader.now) (g.R.Read.remaining c.await_login.new.reader) c.await_login.new.read_buffer e) c.in-Login.is c.in_ok-nexus.ensures.wait in
-    let gone : IsLostBelow notes nexus c.units-units.result talk.service c.lose_all-is_lost.new.service c.lose_all-is_lost.result = c.lose_all-is_lost.ensures in
-    let all : IsLostBelow notes nexus (g.S.Service.count talk.service) talk.service c.logout.new.self true =
-    subst (λ (k : ℕ). IsLostBelow notes nexus k talk.service c.logout.new.self true) c.units-units.ensures
-    (subst (λ (b : Bool). IsLostBelow notes nexus c.units-units.result talk.service c.logout.new.self b) c.if-not-is_lost.false
-    (subst (λ t. IsLostBelow notes nexus c.units-units.result talk.service t c.lose_all-is_lost.result) (sym c.logout.ensures) gone)) in
+    let units = g.S.Service.count talk.service in
+    let gone : IsLostBelow notes nexus units talk.service c.lose_at_units-is_lost.new.service c.lose_at_units-is_lost.result = c.lose_at_units-is_lost.ensures in
+    let all : IsLostBelow notes nexus units talk.service c.logout.new.self true =
+    subst (λ (b : Bool). IsLostBelow notes nexus units talk.service c.logout.new.self b) c.if-not-is_lost.false
+    (subst (λ t. IsLostBelow notes nexus units talk.service t c.lose_at_units-is_lost.result) (sym c.logout.ensures) gone) in
     inr (record {
       nexus = nexus;
       read = came.0;
@@ -112,15 +112,15 @@ returns-in-Err-clause-broken g c =
 
 pub returns-then-not-is_lost-clause-service : goal.returns-then-not-is_lost-clause-service
 returns-then-not-is_lost-clause-service g c =
-    is_left g.S.Service.notes g.S.Service.count _ c.args.service.now c.login.new.self c.greet_and_converse-ended.new.service c.lose_all-is_lost.new.service c.logout.new.self c.units-units.result
-    c.lose_all-is_lost.result c.login.ensures.library c.greet_and_converse-ended.ensures.calls c.units-units.ensures c.lose_all-is_lost.ensures c.logout.ensures
+    is_left g.S.Service.notes g.S.Service.count _ c.args.service.now c.login.new.self c.greet_and_converse-ended.new.service c.lose_at_units-is_lost.new.service c.logout.new.self _
+    c.lose_at_units-is_lost.result c.login.ensures.library c.greet_and_converse-ended.ensures.calls refl c.lose_at_units-is_lost.ensures c.logout.ensures
 
 pub returns-in-Ok-ended-clause-service : goal.returns-in-Ok-ended-clause-service
 returns-in-Ok-ended-clause-service g c =
-    is_left g.S.Service.notes g.S.Service.count _ c.args.service.now c.login.new.self c.greet_and_converse-ended.new.service c.lose_all-is_lost.new.service c.logout.new.self c.units-units.result
-    c.lose_all-is_lost.result c.login.ensures.library c.greet_and_converse-ended.ensures.calls c.units-units.ensures c.lose_all-is_lost.ensures c.logout.ensures
+    is_left g.S.Service.notes g.S.Service.count _ c.args.service.now c.login.new.self c.greet_and_converse-ended.new.service c.lose_at_units-is_lost.new.service c.logout.new.self _
+    c.lose_at_units-is_lost.result c.login.ensures.library c.greet_and_converse-ended.ensures.calls refl c.lose_at_units-is_lost.ensures c.logout.ensures
 
 pub returns-clause-service : goal.returns-clause-service
 returns-clause-service g c =
-    is_left g.S.Service.notes g.S.Service.count _ c.args.service.now c.login.new.self c.greet_and_converse-ended.new.service c.lose_all-is_lost.new.service c.logout.new.self c.units-units.result
-    c.lose_all-is_lost.result c.login.ensures.library c.greet_and_converse-ended.ensures.calls c.units-units.ensures c.lose_all-is_lost.ensures c.logout.ensures
+    is_left g.S.Service.notes g.S.Service.count _ c.args.service.now c.login.new.self c.greet_and_converse-ended.new.service c.lose_at_units-is_lost.new.service c.logout.new.self _
+    c.lose_at_units-is_lost.result c.login.ensures.library c.greet_and_converse-ended.ensures.calls refl c.lose_at_units-is_lost.ensures c.logout.ensures

@@ -1,6 +1,6 @@
 use Rattle.std.proofs.Common.{ℕ, subst}
 use Rattle.session.specs.Serving.{IsLostBelow}
-use Rattle.iscsi_session.proofs.serving.lose_at_units.Goals as goal
+use Rattle.session.proofs.serving.lose_at_units.Goals as goal
 
 pub returns : goal.returns
 returns g c =
