@@ -2,9 +2,9 @@
 use Rattle.std.specs.Prelude.{ℕ, List, ◌++◌, codes}
 use Rattle.std.specs.Fmt.{decimal}
 use Rattle.scsi_nexus.specs.Text.{nexus_text}
-use Rattle.script_lines.specs.Faults.{line_fault_text}
-use Rattle.script_lines.specs.declared.script_fault.ScriptFault.{ScriptFault}
-use Rattle.script_lines.specs.declared.script_fault.ScriptFault.TheVariants as script
+use Rattle.script_input.specs.Faults.{line_fault_text}
+use Rattle.script_input.specs.declared.script_fault.ScriptFault.{ScriptFault}
+use Rattle.script_input.specs.declared.script_fault.ScriptFault.TheVariants as script
 use Rattle.client_session.specs.declared.client_session_fault.ClientSessionFault.{ClientSessionFault}
 use Rattle.client_session.specs.declared.client_session_fault.ClientSessionFault.TheVariants.{Line, Refused, BadReply, Read, Write, NoMemory}
 

@@ -8,7 +8,7 @@ use Rattle.frames.specs.Frames.{FrameValue, Login, Command, Reset, Logout}
 use Rattle.frames.specs.Replies.{LoginReply, CommandReply, ResetReply, LogoutReply}
 use Rattle.frames.specs.Rows.{a, login_by, test_unit_ready, logout, first_contact}
 use Rattle.output_lines.specs.declared.explained.Explanations.TheVariants as words
-use Rattle.script_lines.specs.declared.line_fault.LineFault.TheVariants.{BadUnit}
+use Rattle.script_input.specs.declared.line_fault.LineFault.TheVariants.{BadUnit}
 use Rattle.script_lines.specs.Requests as host
 use Rattle.client_session.specs.declared.client_session_fault.ClientSessionFault.TheVariants.{Line, Refused, BadReply, Read, Write, NoMemory}
 use Rattle.client_session.specs.Faults.{exit_status, fault_text}

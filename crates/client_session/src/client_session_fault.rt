@@ -1,4 +1,4 @@
-use script_lines::{LineFault, ScriptFault};
+use script_input::{LineFault, ScriptFault};
 use scsi_nexus::Nexus;
 use std::alloc::{AllocError, AllocFailed};
 use std::fmt;

@@ -2,7 +2,7 @@ ghost use Rattle.std.specs.Prelude.{◌≡◌, ◌≤◌, ℕ, [], All, Err, IfE
 ghost use Rattle.std.specs.Io.KnownBytes.{Keeps};
 ghost use Rattle.frames.specs.Sending.{IsSendable};
 ghost use Rattle.frames.specs.Views.{frame_value};
-ghost use Rattle.script_lines.specs.declared.line_fault.LineFault.{LineFault};
+ghost use Rattle.script_input.specs.declared.line_fault.LineFault.{LineFault};
 ghost use Rattle.script_lines.specs.Requests.{IsWithinLimits, request_value};
 ghost use Rattle.script_lines.specs.Script.{request_values, requests_in};
 ghost use Rattle.client_session.specs.Talking.{Converses, frame_of, frames_of, Talks};

@@ -1,4 +1,3 @@
-pub mod Faults
 pub mod Texts
 pub mod Replay
 pub mod Rows

@@ -7,11 +7,11 @@ use Rattle.target_core.specs.Run.{Runs}
 use Rattle.target_core.specs.declared.event.Event.{Event}
 use Rattle.output_lines.specs.declared.audit_lines.Audit.{Audit}
 use Rattle.output_lines.specs.declared.explained.Explanations.{Explanations}
-use Rattle.script_lines.specs.declared.line_fault.LineFault.{LineFault}
-use Rattle.replay.specs.declared.replay_fault.ReplayFault.{ReplayFault}
-use Rattle.replay.specs.declared.replay_fault.ReplayFault.TheVariants.{Line, NoMemory, Read, Write}
+use Rattle.script_input.specs.declared.line_fault.LineFault.{LineFault}
+use Rattle.script_input.specs.declared.replay_fault.ReplayFault.{ReplayFault}
+use Rattle.script_input.specs.declared.replay_fault.ReplayFault.TheVariants.{Line, NoMemory, Read, Write}
 use Rattle.output_lines.specs.AuditLines.{audit_text}
-use Rattle.script_lines.specs.Input.{IsReadWhole}
+use Rattle.script_input.specs.Input.{IsReadWhole}
 use Rattle.script_lines.specs.Script.{saids, script_in}
 use Rattle.replay.specs.Texts.{run_text}
 

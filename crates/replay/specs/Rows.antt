@@ -13,9 +13,9 @@ use Rattle.output_lines.specs.declared.audit_lines.Audit.{Audit}
 use Rattle.output_lines.specs.declared.audit_lines.Audit.TheVariants.{Off, Lines}
 use Rattle.output_lines.specs.declared.explained.Explanations.{Explanations}
 use Rattle.output_lines.specs.declared.explained.Explanations.TheVariants as words
-use Rattle.script_lines.specs.declared.line_fault.LineFault.TheVariants.{BadNexus, BadUnit, BadHex}
-use Rattle.replay.specs.declared.replay_fault.ReplayFault.TheVariants.{Line, NoMemory, Read, Write}
-use Rattle.replay.specs.Faults.{exit_status, fault_text}
+use Rattle.script_input.specs.declared.line_fault.LineFault.TheVariants.{BadNexus, BadUnit, BadHex}
+use Rattle.script_input.specs.declared.replay_fault.ReplayFault.TheVariants.{Line, NoMemory, Read, Write}
+use Rattle.script_input.specs.ReplayFaults.{exit_status, fault_text}
 use Rattle.replay.specs.Replay.{IsBeforeRun, IsBeforeOutput, Refuses, Replays}
 
 pub record FaultsTold : Type 0 where

@@ -2,9 +2,8 @@
 #![tactic(auto)]
 
 mod laws;
-mod replay_fault;
 mod replaying;
 
 pub use laws::{lines_alone, worked_rows};
-pub use replay_fault::ReplayFault;
 pub use replaying::replay;
+pub use script_input::ReplayFault;

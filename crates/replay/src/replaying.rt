@@ -4,14 +4,14 @@ ghost use Rattle.replay.specs.Replay.{HasRun, IsBeforeOutput, IsBeforeRun, Refus
 ghost use Rattle.target_core.specs.Run.{Runs};
 ghost use Rattle.judgement.specs.declared.reply.Reply.{Reply};
 ghost use Rattle.logical_unit.specs.UnitView.{units_of};
-ghost use Rattle.script_lines.specs.declared.line_fault.LineFault.{LineFault};
+ghost use Rattle.script_input.specs.declared.line_fault.LineFault.{LineFault};
 ghost use Rattle.replay.specs.Texts.{cdb_of, event_text, run_text};
 
-use crate::replay_fault::ReplayFault;
 use device_server::DeviceServer;
 use logical_unit::Reply;
 use output_lines::{Audit, Explanations, audit_text, write_explained, write_out};
-use script_lines::{Events, events_of, read_all};
+use script_input::{ReplayFault, read_all};
+use script_lines::{Events, events_of};
 use std::alloc::{AllocError, Global};
 use std::io;
 use std::io::{Read, Write};

@@ -5,8 +5,8 @@ use Rattle.std.specs.Str.{bytes_eq}
 use Rattle.std.proofs.lemmas.Bool.{and_parts, ltb-true, leb-true}
 use Rattle.std.proofs.lemmas.List.Elements.{All-nil, All-cons}
 use Rattle.hex.specs.Hex.{decode_of}
-use Rattle.script_lines.specs.declared.line_fault.LineFault.{LineFault}
-use Rattle.script_lines.specs.declared.line_fault.LineFault.TheVariants.{BadHex, TooLong}
+use Rattle.script_input.specs.declared.line_fault.LineFault.{LineFault}
+use Rattle.script_input.specs.declared.line_fault.LineFault.TheVariants.{BadHex, TooLong}
 use Rattle.script_lines.specs.Lines.{CommandWords, words_in, bytes_in, sole_unit_in, some_said, ◌>>=◌}
 use Rattle.script_lines.specs.Requests.{ClientRequestValue, command_request_in, reset_request_in, request_in, request_line_in, IsWithinLimits}
 use Rattle.script_lines.specs.Script.{lines_in, by_line}

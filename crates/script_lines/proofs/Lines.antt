@@ -1,8 +1,8 @@
 -- A loop over lines.
 use Rattle.std.proofs.Common.{◌≡◌, ℕ, ◌+◌, ◌<◌, ◌≤◌, length, arith, List, [], ◌∷◌, ◌++◌, Option, Some, None, Result, Ok, Err, refl, sym, ap, subst, ◌∙◌, append_assoc}
-use Rattle.script_lines.specs.declared.line_fault.LineFault.{LineFault}
-use Rattle.script_lines.specs.declared.script_fault.ScriptFault.{ScriptFault}
-use Rattle.script_lines.specs.declared.script_fault.ScriptFault.TheVariants as fault
+use Rattle.script_input.specs.declared.line_fault.LineFault.{LineFault}
+use Rattle.script_input.specs.declared.script_fault.ScriptFault.{ScriptFault}
+use Rattle.script_input.specs.declared.script_fault.ScriptFault.TheVariants as fault
 use Rattle.std.proofs.lemmas.List.{append-nil}
 use Rattle.std.specs.Prelude.{IfSome, MatchOption}
 use denote.Ref.{Bor}

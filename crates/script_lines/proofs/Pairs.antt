@@ -10,7 +10,7 @@ use Rattle.hex.proofs.HexLemmas.{decode_of-even, decode_of-odd, decode_of-ok}
 use Rattle.hex.specs.declared.error.FromHexError.TheVariants.{InvalidHexCharacter}
 use Rattle.hex.proofs.Pairs.{cons_byte, decode_pairs-ok_pair, prepend, decode_step, decode_err, decode_done}
 use Rattle.script_lines.specs.Words.{digit_value, hex_bytes, hex_in, within}
-use Rattle.script_lines.specs.declared.line_fault.LineFault.TheVariants.{BadHex}
+use Rattle.script_input.specs.declared.line_fault.LineFault.TheVariants.{BadHex}
 
 -- the value of a digit, from its code
 digit_is : (c : ℕ) → is_hex_digit c ≡ true → hex_digit_value c ≡ Some (digit_value c)

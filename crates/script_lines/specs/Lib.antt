@@ -1,11 +1,7 @@
-pub mod Input
-pub mod InputFaults
-pub mod InputRows
 pub mod Text
 pub mod Words
 pub mod Lines
 pub mod Requests
 pub mod Script
 pub mod Events
-pub mod Faults
 pub mod Rows

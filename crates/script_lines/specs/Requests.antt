@@ -1,8 +1,8 @@
 -- A line of a host's script: a request, or nothing, or its first fault.
 use Rattle.std.specs.Prelude.{ℕ, ◌≤◌, ◌<◌, List, [], ◌∷◌, length, Option, Some, None, Result, Ok, Err, if◌then◌else◌, codes}
 use Rattle.std.specs.Str.{bytes_eq}
-use Rattle.script_lines.specs.declared.line_fault.LineFault.{LineFault}
-use Rattle.script_lines.specs.declared.line_fault.LineFault.TheVariants.{WordCount}
+use Rattle.script_input.specs.declared.line_fault.LineFault.{LineFault}
+use Rattle.script_input.specs.declared.line_fault.LineFault.TheVariants.{WordCount}
 use Rattle.script_lines.specs.declared.client_request.ClientRequest.{ClientRequest}
 use Rattle.script_lines.specs.declared.client_request.ClientRequest.TheVariants as request
 use Rattle.script_lines.specs.Words.{unit_in, hex_in}

@@ -1,10 +1,10 @@
 -- Worked rows: what lines and scripts of a replay and of a host say, and their faults.
 use Rattle.std.specs.Prelude.{◌≡◌, ℕ, List, [], ◌∷◌, ◌++◌, length, replicate, Some, None, Result, Ok, Err, Option, codes}
 use Rattle.scsi_nexus.specs.declared.nexus.Nexus.{Nexus}
-use Rattle.script_lines.specs.declared.line_fault.LineFault.{LineFault}
-use Rattle.script_lines.specs.declared.line_fault.LineFault.TheVariants.{TooLong, WordCount, BadNexus, BadUnit, BadHex}
-use Rattle.script_lines.specs.declared.script_fault.ScriptFault.TheVariants.{Line, NoMemory}
-use Rattle.script_lines.specs.Faults.{script_fault_text}
+use Rattle.script_input.specs.declared.line_fault.LineFault.{LineFault}
+use Rattle.script_input.specs.declared.line_fault.LineFault.TheVariants.{TooLong, WordCount, BadNexus, BadUnit, BadHex}
+use Rattle.script_input.specs.declared.script_fault.ScriptFault.TheVariants.{Line, NoMemory}
+use Rattle.script_input.specs.Faults.{script_fault_text}
 use Rattle.script_lines.specs.Lines.{Said, Command, Loss, Reset, line_in}
 use Rattle.script_lines.specs.Requests as host
 use Rattle.script_lines.specs.Requests.{ClientRequestValue, request_line_in}

@@ -1,9 +1,9 @@
 -- A script: the events or requests of its lines, or its first line with a fault.
 use Rattle.std.specs.Prelude.{ℕ, ◌+◌, ◌≡◌, List, [], ◌∷◌, ◌++◌, map, Option, Some, None, Result, Ok, Err}
 use Rattle.std.specs.Global.{Vec}
-use Rattle.script_lines.specs.declared.line_fault.LineFault.{LineFault}
-use Rattle.script_lines.specs.declared.script_fault.ScriptFault.{ScriptFault}
-use Rattle.script_lines.specs.declared.script_fault.ScriptFault.TheVariants.{Line, NoMemory}
+use Rattle.script_input.specs.declared.line_fault.LineFault.{LineFault}
+use Rattle.script_input.specs.declared.script_fault.ScriptFault.{ScriptFault}
+use Rattle.script_input.specs.declared.script_fault.ScriptFault.TheVariants.{Line, NoMemory}
 use Rattle.target_core.specs.declared.event.Event.{Event}
 use Rattle.script_lines.specs.declared.client_request.ClientRequest.{ClientRequest}
 use Rattle.script_lines.specs.Lines.{Said, said, line_in}

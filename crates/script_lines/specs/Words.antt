@@ -5,8 +5,8 @@ use Rattle.hex.specs.Hex.{decode_of}
 use Rattle.hex.specs.declared.error.FromHexError.{FromHexError}
 use Rattle.script_lines.specs.declared.line.LineError.{LineError}
 use Rattle.script_lines.specs.declared.line.LineError.TheVariants as error
-use Rattle.script_lines.specs.declared.line_fault.LineFault.{LineFault}
-use Rattle.script_lines.specs.declared.line_fault.LineFault.TheVariants.{BadNexus, BadUnit, BadHex}
+use Rattle.script_input.specs.declared.line_fault.LineFault.{LineFault}
+use Rattle.script_input.specs.declared.line_fault.LineFault.TheVariants.{BadNexus, BadUnit, BadHex}
 use Rattle.scsi_nexus.specs.declared.nexus.Nexus.{Nexus}
 
 -- what a function answered, seen by view, is what was read, unless memory ran out

@@ -6,7 +6,7 @@ use crate::client_request::ClientRequest;
 use crate::cutting::cut;
 use crate::line::LineError;
 use crate::request_line::request_of;
-use crate::script_fault::ScriptFault;
+use script_input::ScriptFault;
 use std::alloc::Global;
 
 /// The requests of a host's script, in the order of its lines, or its first line with a fault. Its lines are those of

@@ -1,13 +1,9 @@
 //! Worked rows that the definitions compute to.
 
-ghost use Rattle.script_lines.specs.InputRows.{InputsRead, FaultsTold};
 ghost use Rattle.script_lines.specs.Rows.{LinesRead, LineFaults, ScriptsRead, RequestsRead};
 
-/// What is read and what is said of its faults; lines and the events that they say, lines and their faults, scripts, and the
-/// same of a host's script.
+/// Lines and the events that they say, lines and their faults, scripts, and the same of a host's script.
 pub fn worked_rows()
-    ensures inputs { InputsRead }
-    ensures input_faults { FaultsTold }
     ensures lines { LinesRead }
     ensures faults { LineFaults }
     ensures scripts { ScriptsRead }

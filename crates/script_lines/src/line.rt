@@ -9,8 +9,8 @@ ghost use Rattle.script_lines.specs.Script.{TakesLine, saids};
 
 use crate::cutting::{cut, is_end};
 use crate::events::Events;
-use crate::line_fault::LineFault;
 use crate::words::{bytes_of, cdb_of, nexus_of, unit_of};
+use script_input::LineFault;
 use std::alloc::{AllocError, Global};
 use target_core::Event;
 

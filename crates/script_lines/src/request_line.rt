@@ -8,8 +8,8 @@ ghost use Rattle.std.specs.Prelude.{◌∷◌, []};
 use crate::client_request::ClientRequest;
 use crate::cutting::cut;
 use crate::line::{LineError, MAX_LINE, data_of, sole_unit_of, words_of};
-use crate::line_fault::LineFault;
 use crate::words::{bytes_of, unit_of};
+use script_input::LineFault;
 use std::alloc::Global;
 use target_core::MAX_CDB;
 

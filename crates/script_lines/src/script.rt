@@ -5,7 +5,7 @@ ghost use Rattle.script_lines.specs.Script.{GivesScript, TakesLine, FailsAt, sai
 use crate::cutting::cut;
 use crate::events::Events;
 use crate::line::{LineError, take_event};
-use crate::script_fault::ScriptFault;
+use script_input::ScriptFault;
 use std::alloc::Global;
 
 /// The events of a script, in the order of its lines, or its first line with a fault. A line ends at

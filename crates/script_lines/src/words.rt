@@ -3,10 +3,10 @@ ghost use Rattle.script_lines.specs.Words.{Gives, nexus_in, unit_in, hex_in};
 
 use crate::digits::{are_digits, decoded, read_pairs};
 use crate::line::LineError;
-use crate::line_fault::LineFault;
 use crate::sixteen::sixteen_digits;
 use arrayvec::ArrayVec;
 use hex::FromHexError;
+use script_input::LineFault;
 use scsi_nexus::{Nexus, TARGET_PORTS};
 use std::alloc::{AllocError, Global};
 use target_core::MAX_CDB;

@@ -4,8 +4,8 @@ use Rattle.std.specs.Option.{option_map}
 use Rattle.program_options.specs.CommandLineFaults.{command_line_status, command_line_text}
 use Rattle.client_session.specs.Faults as session
 use Rattle.server_socket.specs.Faults.{socket_status, socket_text}
-use Rattle.replay.specs.Faults as replay
-use Rattle.script_lines.specs.InputFaults as input
+use Rattle.script_input.specs.ReplayFaults as replay
+use Rattle.script_input.specs.InputFaults as input
 use Rattle.vtl.specs.declared.client_fault.ClientFault.{ClientFault}
 use Rattle.vtl.specs.declared.client_fault.ClientFault.TheVariants as client
 use Rattle.vtl.specs.declared.program_fault.ProgramFault.{ProgramFault}

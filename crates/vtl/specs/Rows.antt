@@ -3,9 +3,9 @@ use Rattle.std.specs.Prelude.{◌≡◌, [], ◌∷◌, ◌++◌, Some, Ok, Err,
 use Rattle.program_options.specs.declared.command_line_fault.CommandLineFault.TheVariants.{NotText, Options, NoMemory}
 use Rattle.client_session.specs.declared.client_session_fault.ClientSessionFault.TheVariants as session
 use Rattle.program_options.specs.declared.option_fault.OptionFault.TheVariants.{MoreVolumes, BadNexus}
-use Rattle.replay.specs.declared.replay_fault.ReplayFault.TheVariants as replay
-use Rattle.script_lines.specs.declared.line_fault.LineFault.TheVariants.{TooLong}
-use Rattle.script_lines.specs.declared.input_fault.InputFault.TheVariants as input
+use Rattle.script_input.specs.declared.replay_fault.ReplayFault.TheVariants as replay
+use Rattle.script_input.specs.declared.line_fault.LineFault.TheVariants.{TooLong}
+use Rattle.script_input.specs.declared.input_fault.InputFault.TheVariants as input
 use Rattle.vtl.specs.declared.client_fault.ClientFault.TheVariants as client
 use Rattle.vtl.specs.declared.program_fault.ProgramFault.TheVariants.{CommandLine, Replay, Client, Cells}
 use Rattle.vtl.specs.Faults.{ending_status, ending_line}

@@ -6,7 +6,7 @@ use client_session::converse;
 use command_line::ClientOptions;
 use output_lines::Explanations;
 use program_options::MAX_READS;
-use script_lines::read_all;
+use script_input::read_all;
 use std::io;
 use std::net::Net;
 use std::os::unix::net::UnixStream;

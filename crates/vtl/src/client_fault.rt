@@ -1,5 +1,5 @@
 use client_session::ClientSessionFault;
-use script_lines::InputFault;
+use script_input::InputFault;
 use std::fmt;
 use thiserror::Error;
 

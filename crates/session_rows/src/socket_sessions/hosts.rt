@@ -2,7 +2,7 @@ use super::assert_same;
 use super::streams::{Failing, Trickle};
 use client_session::{ClientSessionFault, converse};
 use output_lines::Explanations;
-use script_lines::LineFault;
+use script_input::LineFault;
 use scsi_nexus::Nexus;
 use std::alloc::Global;
 use std::io::{Read, Write};

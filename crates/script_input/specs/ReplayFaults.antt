@@ -1,13 +1,13 @@
 -- The exit status of each fault of a replay, and its text (profile).
 use Rattle.std.specs.Prelude.{ℕ, List, ◌++◌, codes}
 use Rattle.std.specs.Fmt.{decimal}
-use Rattle.script_lines.specs.Faults.{line_fault_text}
-use Rattle.script_lines.specs.declared.script_fault.ScriptFault.{ScriptFault}
-use Rattle.script_lines.specs.declared.script_fault.ScriptFault.TheVariants as script
-use Rattle.script_lines.specs.declared.input_fault.InputFault.{InputFault}
-use Rattle.script_lines.specs.declared.input_fault.InputFault.TheVariants as input
-use Rattle.replay.specs.declared.replay_fault.ReplayFault.{ReplayFault}
-use Rattle.replay.specs.declared.replay_fault.ReplayFault.TheVariants.{Line, NoMemory, Read, Write}
+use Rattle.script_input.specs.Faults.{line_fault_text}
+use Rattle.script_input.specs.declared.script_fault.ScriptFault.{ScriptFault}
+use Rattle.script_input.specs.declared.script_fault.ScriptFault.TheVariants as script
+use Rattle.script_input.specs.declared.input_fault.InputFault.{InputFault}
+use Rattle.script_input.specs.declared.input_fault.InputFault.TheVariants as input
+use Rattle.script_input.specs.declared.replay_fault.ReplayFault.{ReplayFault}
+use Rattle.script_input.specs.declared.replay_fault.ReplayFault.TheVariants.{Line, NoMemory, Read, Write}
 
 -- a script's fault, as a replay answers it
 abbrev pub of_script : ScriptFault → ReplayFault

@@ -12,7 +12,7 @@ pub enum ScriptFault {
 
 impl fmt::Display for ScriptFault {
     ghost use Rattle.std.specs.Prelude.{Some};
-    ghost use Rattle.script_lines.specs.Faults.{script_fault_text};
+    ghost use Rattle.script_input.specs.Faults.{script_fault_text};
 
     ghost output = { λ fault. Some (script_fault_text fault) };
 

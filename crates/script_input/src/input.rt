@@ -1,5 +1,5 @@
 ghost use Rattle.std.specs.Prelude.{◌≡◌, IfOk, vec_len};
-ghost use Rattle.script_lines.specs.Input.{IsReadWhole};
+ghost use Rattle.script_input.specs.Input.{IsReadWhole};
 
 use crate::input_fault::InputFault;
 use std::alloc::{AllocError, Global};

@@ -1,10 +1,10 @@
 -- The faults of a script in words (profile).
 use Rattle.std.specs.Prelude.{ℕ, List, ◌++◌, codes}
 use Rattle.std.specs.Fmt.{decimal}
-use Rattle.script_lines.specs.declared.line_fault.LineFault.{LineFault}
-use Rattle.script_lines.specs.declared.line_fault.LineFault.TheVariants.{TooLong, WordCount, BadNexus, BadUnit, BadHex}
-use Rattle.script_lines.specs.declared.script_fault.ScriptFault.{ScriptFault}
-use Rattle.script_lines.specs.declared.script_fault.ScriptFault.TheVariants.{Line, NoMemory}
+use Rattle.script_input.specs.declared.line_fault.LineFault.{LineFault}
+use Rattle.script_input.specs.declared.line_fault.LineFault.TheVariants.{TooLong, WordCount, BadNexus, BadUnit, BadHex}
+use Rattle.script_input.specs.declared.script_fault.ScriptFault.{ScriptFault}
+use Rattle.script_input.specs.declared.script_fault.ScriptFault.TheVariants.{Line, NoMemory}
 
 abbrev pub line_fault_text : LineFault → List ℕ
 line_fault_text TooLong = codes "too long"

@@ -1,7 +1,7 @@
 -- The exit status of a program that ends by a fault of its input, and what it says (profile).
 use Rattle.std.specs.Prelude.{ℕ, List, codes}
-use Rattle.script_lines.specs.declared.input_fault.InputFault.{InputFault}
-use Rattle.script_lines.specs.declared.input_fault.InputFault.TheVariants.{Read, NoMemory}
+use Rattle.script_input.specs.declared.input_fault.InputFault.{InputFault}
+use Rattle.script_input.specs.declared.input_fault.InputFault.TheVariants.{Read, NoMemory}
 
 abbrev pub exit_status : InputFault → ℕ
 exit_status Read = 4

@@ -1,6 +1,8 @@
 ghost use Rattle.std.specs.Prelude.{◌≡◌};
 
-use script_lines::{InputFault, LineFault, ScriptFault};
+use crate::input_fault::InputFault;
+use crate::line_fault::LineFault;
+use crate::script_fault::ScriptFault;
 use std::alloc::{AllocError, AllocFailed};
 use std::fmt;
 use thiserror::Error;
@@ -19,7 +21,7 @@ pub enum ReplayFault {
 
 impl fmt::Display for ReplayFault {
     ghost use Rattle.std.specs.Prelude.{Some};
-    ghost use Rattle.replay.specs.Faults.{fault_text};
+    ghost use Rattle.script_input.specs.ReplayFaults.{fault_text};
 
     ghost output = { λ fault. Some (fault_text fault) };
 
@@ -38,7 +40,7 @@ impl fmt::Display for ReplayFault {
 }
 
 impl ReplayFault {
-    ghost use Rattle.replay.specs.Faults.{exit_status};
+    ghost use Rattle.script_input.specs.ReplayFaults.{exit_status};
 
     /// The exit status of a program that ends by it: 2 where the script is refused, 3 for want of memory,
     /// 4 for a fault of input or output (profile).
@@ -55,7 +57,7 @@ impl ReplayFault {
 
 impl From<ScriptFault> for ReplayFault {
     ghost use Rattle.std.specs.Prelude.{◌≡◌};
-    ghost use Rattle.replay.specs.Faults.{of_script};
+    ghost use Rattle.script_input.specs.ReplayFaults.{of_script};
 
     ghost from_gives = { λ fault replay_fault. replay_fault ≡ of_script fault };
 
@@ -69,7 +71,7 @@ impl From<ScriptFault> for ReplayFault {
 
 impl From<InputFault> for ReplayFault {
     ghost use Rattle.std.specs.Prelude.{◌≡◌};
-    ghost use Rattle.replay.specs.Faults.{of_input};
+    ghost use Rattle.script_input.specs.ReplayFaults.{of_input};
 
     ghost from_gives = { λ fault replay_fault. replay_fault ≡ of_input fault };
 
@@ -83,7 +85,7 @@ impl From<InputFault> for ReplayFault {
 
 impl From<AllocError> for ReplayFault {
     ghost use Rattle.std.specs.Prelude.{◌≡◌};
-    ghost use Rattle.replay.specs.declared.replay_fault.ReplayFault.TheVariants.{NoMemory};
+    ghost use Rattle.script_input.specs.declared.replay_fault.ReplayFault.TheVariants.{NoMemory};
 
     ghost from_gives = { λ _ fault. fault ≡ NoMemory };
 
@@ -94,7 +96,7 @@ impl From<AllocError> for ReplayFault {
 
 impl<T: Drop> From<AllocFailed<T>> for ReplayFault {
     ghost use Rattle.std.specs.Prelude.{◌≡◌};
-    ghost use Rattle.replay.specs.declared.replay_fault.ReplayFault.TheVariants.{NoMemory};
+    ghost use Rattle.script_input.specs.declared.replay_fault.ReplayFault.TheVariants.{NoMemory};
 
     ghost from_gives = { λ _ fault. fault ≡ NoMemory };
 

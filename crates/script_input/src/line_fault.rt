@@ -18,7 +18,7 @@ pub enum LineFault {
 
 impl LineFault {
     ghost use Rattle.std.specs.Prelude.{◌≡◌};
-    ghost use Rattle.script_lines.specs.Faults.{line_fault_text};
+    ghost use Rattle.script_input.specs.Faults.{line_fault_text};
 
     /// The fault in words, as a program tells it.
     pub fn text(self) -> &'static str
@@ -36,7 +36,7 @@ impl LineFault {
 
 impl fmt::Display for LineFault {
     ghost use Rattle.std.specs.Prelude.{Some};
-    ghost use Rattle.script_lines.specs.Faults.{line_fault_text};
+    ghost use Rattle.script_input.specs.Faults.{line_fault_text};
 
     ghost output = { λ fault. Some (line_fault_text fault) };
 

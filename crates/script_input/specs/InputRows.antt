@@ -1,8 +1,8 @@
 -- Worked rows: what is read, and what is said of each fault.
 use Rattle.std.specs.Prelude.{◌≡◌, ℕ, List, [], ◌∷◌, length, Some, Option, codes}
-use Rattle.script_lines.specs.declared.input_fault.InputFault.TheVariants.{Read, NoMemory}
-use Rattle.script_lines.specs.InputFaults.{exit_status, fault_text}
-use Rattle.script_lines.specs.Input.{IsReadWhole}
+use Rattle.script_input.specs.declared.input_fault.InputFault.TheVariants.{Read, NoMemory}
+use Rattle.script_input.specs.InputFaults.{exit_status, fault_text}
+use Rattle.script_input.specs.Input.{IsReadWhole}
 
 -- the last of the reads finds the end
 pub record InputsRead : Type 0 where

@@ -12,7 +12,7 @@ pub enum InputFault {
 
 impl fmt::Display for InputFault {
     ghost use Rattle.std.specs.Prelude.{Some};
-    ghost use Rattle.script_lines.specs.InputFaults.{fault_text};
+    ghost use Rattle.script_input.specs.InputFaults.{fault_text};
 
     ghost output = { λ fault. Some (fault_text fault) };
 
@@ -28,7 +28,7 @@ impl fmt::Display for InputFault {
 
 impl InputFault {
     ghost use Rattle.std.specs.Prelude.{◌≡◌};
-    ghost use Rattle.script_lines.specs.InputFaults.{exit_status};
+    ghost use Rattle.script_input.specs.InputFaults.{exit_status};
 
     /// The exit status of a program that ends by it: 3 for want of memory, else 4 (profile).
     pub fn status(&self) -> u8
@@ -43,7 +43,7 @@ impl InputFault {
 
 impl From<AllocError> for InputFault {
     ghost use Rattle.std.specs.Prelude.{◌≡◌};
-    ghost use Rattle.script_lines.specs.declared.input_fault.InputFault.TheVariants.{NoMemory};
+    ghost use Rattle.script_input.specs.declared.input_fault.InputFault.TheVariants.{NoMemory};
 
     ghost from_gives = { λ _ fault. fault ≡ NoMemory };
 
@@ -54,7 +54,7 @@ impl From<AllocError> for InputFault {
 
 impl<T: Drop> From<AllocFailed<T>> for InputFault {
     ghost use Rattle.std.specs.Prelude.{◌≡◌};
-    ghost use Rattle.script_lines.specs.declared.input_fault.InputFault.TheVariants.{NoMemory};
+    ghost use Rattle.script_input.specs.declared.input_fault.InputFault.TheVariants.{NoMemory};
 
     ghost from_gives = { λ _ fault. fault ≡ NoMemory };
 
