@@ -1,3 +1,3 @@
-pub mod GivenBack
+pub mod FirstTold
 pub mod Sessions
 pub mod SessionRows

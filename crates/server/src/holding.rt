@@ -6,18 +6,18 @@ ghost use Rattle.session.specs.Serving.{BreaksOff, IsKeptOut, Serves};
 ghost use Rattle.server.specs.SeatService.{DoesForWorker};
 
 use crate::acceptor::{Acceptor, WaitTimes};
+use crate::caretaker::Caretaker;
 use crate::door::{Door, PortalDoor};
 use crate::faulty_session::{Cause, FaultySession};
 use crate::kept_writer::KeptWriter;
 use crate::live_sessions::SessionsBeside;
-use crate::seat_service::SeatService;
 use crate::teller::Teller;
 use crate::timed_reader::{Patience, TimedReader};
 use crate::worker::Visit;
 use crate::worker_service::WorkerService;
 use iscsi_login::{Authentication, Challenge};
 use iscsi_session::{IscsiEnd, IscsiFault, Portal, PortalAddress};
-use session::{End, Service, SessionFault, serve};
+use session::{End, SeatService, Service, SessionFault, serve};
 use std::alloc::{AllocError, Global};
 use std::io::{Read, Write};
 use std::net::SocketAddr;
@@ -30,10 +30,10 @@ const LOOK: u64 = 1;
 
 /// Serves a session of a connection, for no longer than its host may be silent, or take for a reply, and names its fault, if it
 /// had one.
-pub(crate) fn hold<'a, S: SeatService, R: Clock + RandomSource + Wait, E: Write>(
+pub(crate) fn hold<'a, S: SeatService, C: Caretaker, R: Clock + RandomSource + Wait, E: Write>(
     alloc: Global,
     rt: &R,
-    service: &mut WorkerService<'a, S, R, E>,
+    service: &mut WorkerService<'a, S, C, R, E>,
     acceptor: &Acceptor<'_>,
     visit: Visit<'_, '_>,
 ) -> Result<End, FaultySession>
@@ -94,10 +94,18 @@ fn patience_at(door: &Door<'_>, times: WaitTimes) -> Patience {
 }
 
 /// Serves a session of a door.
-fn meet<'a, S: SeatService, R: Clock + RandomSource + Wait, E: Write, I: Read, O: Write>(
+fn meet<
+    'a,
+    S: SeatService,
+    C: Caretaker,
+    R: Clock + RandomSource + Wait,
+    E: Write,
+    I: Read,
+    O: Write,
+>(
     alloc: Global,
     rt: &R,
-    service: &mut WorkerService<'a, S, R, E>,
+    service: &mut WorkerService<'a, S, C, R, E>,
     acceptor: &Acceptor<'_>,
     visit: Visit<'_, '_>,
     reader: &mut I,
@@ -123,9 +131,9 @@ fn meet<'a, S: SeatService, R: Clock + RandomSource + Wait, E: Write, I: Read, O
 }
 
 /// Serves one session of frames.
-fn converse<'a, S: SeatService, R: Wait, E: Write, I: Read, O: Write>(
+fn converse<'a, S: SeatService, C: Caretaker, R: Wait, E: Write, I: Read, O: Write>(
     alloc: Global,
-    service: &mut WorkerService<'a, S, R, E>,
+    service: &mut WorkerService<'a, S, C, R, E>,
     reader: &mut I,
     writer: &mut O,
 ) -> Result<End, SessionFault>

@@ -1,12 +1,12 @@
 //! The tapes of a library, kept while it is served.
 
+use crate::caretaker::Caretaker;
 use crate::teller::Teller;
-use library_device::Device;
 use std::alloc::Global;
 use std::io::Write;
 use std::sync::Wait;
 use std::time::Clock;
-use tape_keeper::{KeepEvent, KeepListener, TapeKeeper, TapeSource};
+use tape_keeper::{KeepEvent, KeepListener};
 
 /// Tells how keeping tapes goes as a server tells what happens.
 #[derive(Drop)]
@@ -22,20 +22,11 @@ impl<'a, R: Wait, E: Write> KeepListener for KeepTeller<'a, R, E> {
 }
 
 /// Copies what was written to the volumes in drives, whenever that is to be done, until the library ends.
-pub(crate) fn write_behind<K: TapeKeeper<Device>, T: TapeSource<Device>, R: Clock + Wait, E: Write>(
+pub(crate) fn write_behind<C: Caretaker, R: Clock + Wait, E: Write>(
     rt: &R,
     alloc: Global,
-    keeper: &K,
-    source: &T,
+    caretaker: &C,
     teller: &Teller<E>,
 ) {
-    let listener = KeepTeller { rt, teller };
-    for _turn in rt.forever() {
-        if !keeper.await_turn(rt) {
-            return;
-        }
-        for lun in 1..source.units() {
-            keeper.write_behind(rt, alloc, source, &listener, lun);
-        }
-    }
+    caretaker.write_behind(rt, alloc, &KeepTeller { rt, teller });
 }

@@ -2,6 +2,7 @@
 #![tactic(auto)]
 
 mod acceptor;
+mod caretaker;
 mod door;
 mod end_notice;
 mod event;
@@ -16,7 +17,6 @@ mod logged_in;
 mod record_drain;
 mod reset_counts;
 mod rows;
-mod seat_service;
 mod session_flags;
 mod staff;
 mod staffing;
@@ -26,6 +26,7 @@ mod worker;
 mod worker_service;
 
 pub use acceptor::{Acceptor, ServeLimits, ServeTerm, WaitTimes};
+pub use caretaker::Caretaker;
 pub use door::Door;
 pub use event::{EndedSession, Event, UnwrittenRecords};
 pub use faulty_session::{Cause, FaultySession, InOrder, first_by};
@@ -33,6 +34,5 @@ pub use keeping::KeepTeller;
 pub use live_sessions::LiveSessions;
 pub use record_drain::RecordDrain;
 pub use rows::session_rows;
-pub use seat_service::SeatService;
 pub use staffing::{serve_all, serve_and_end};
 pub use teller::{Teller, Telling};

@@ -3,14 +3,15 @@
 ghost use Rattle.std.specs.Prelude.{◌≡◌, ◌++◌, ◌+◌, ◌≤◌, None, length, map, IfOk, vec_capacity, vec_len};
 ghost use Rattle.server.specs.Faults.{first_among};
 
+use crate::caretaker::Caretaker;
 use crate::faulty_session::{FaultySession, first_accepted};
 use crate::record_drain::RecordDrain;
 use crate::reset_counts::ResetCounts;
-use crate::seat_service::SeatService;
 use crate::session_flags::SessionFlags;
 use crate::teller::Teller;
 use crate::worker::Worker;
 use crate::worker_service::{SessionSoFar, WorkerService};
+use session::SeatService;
 use std::alloc::{AllocError, Global};
 use std::io::Write;
 use std::sync::Wait;
@@ -27,18 +28,20 @@ pub(crate) fn flags_of(alloc: Global, count: usize) -> Result<Vec<SessionFlags>,
 }
 
 /// A worker who has served nobody.
-fn worker_for<'a, S: SeatService, R: Wait, E: Write>(
+fn worker_for<'a, S: SeatService, C: Caretaker, R: Wait, E: Write>(
     rt: &'a R,
     seat_service: S,
+    caretaker: &'a C,
     flags: &'a SessionFlags,
     resets: &'a ResetCounts,
     drain: Option<&'a RecordDrain>,
     teller: &'a Teller<E>,
-) -> Worker<'a, S, R, E>
+) -> Worker<'a, S, C, R, E>
     ensures { result.service ≡ seat_service }
 {
     let service = WorkerService {
         seat_service,
+        caretaker,
         rt,
         drain,
         teller,
@@ -53,22 +56,31 @@ fn worker_for<'a, S: SeatService, R: Wait, E: Write>(
 }
 
 /// Workers who serve by these, in their order, each with the flags at its place.
-pub(crate) fn workers_of<'a, S: SeatService, R: Wait, E: Write>(
+pub(crate) fn workers_of<'a, S: SeatService, C: Caretaker, R: Wait, E: Write>(
     rt: &'a R,
     alloc: Global,
     services: Vec<S>,
+    caretaker: &'a C,
     flags: &'a [SessionFlags],
     resets: &'a ResetCounts,
     drain: Option<&'a RecordDrain>,
     teller: &'a Teller<E>,
-) -> Result<Vec<Worker<'a, S, R, E>>, AllocError>
+) -> Result<Vec<Worker<'a, S, C, R, E>>, AllocError>
     requires { length flags.now ≡ vec_len services }
     ensures { IfOk result (λ workers. map (λ w. w.service) workers.items ≡ services.items) }
 {
     let mut workers = Vec::new(alloc);
     let mut place = 0usize;
     'services: for seat_service in services {
-        workers.push(worker_for(rt, seat_service, &flags[place], resets, drain, teller))?;
+        workers.push(worker_for(
+            rt,
+            seat_service,
+            caretaker,
+            &flags[place],
+            resets,
+            drain,
+            teller,
+        ))?;
         place += 1;
     }
     Ok(workers)
@@ -76,8 +88,8 @@ pub(crate) fn workers_of<'a, S: SeatService, R: Wait, E: Write>(
 
 /// Puts the services of workers behind those that are there, in their order, and answers the fault of the session that was accepted first
 /// of those that had one.
-pub(crate) fn give_back<'a, S: SeatService, R: Wait, E: Write>(
-    workers: Vec<Worker<'a, S, R, E>>,
+pub(crate) fn give_back<'a, S: SeatService, C: Caretaker, R: Wait, E: Write>(
+    workers: Vec<Worker<'a, S, C, R, E>>,
     services: &mut Vec<S>,
 ) -> Option<FaultySession>
     requires { vec_len services.old + vec_len workers ≤ vec_capacity services.old }

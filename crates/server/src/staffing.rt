@@ -5,14 +5,14 @@ ghost use Rattle.std.specs.List.{AllZip};
 ghost use Rattle.server.specs.Sessions.{ComesBySessions};
 
 use crate::acceptor::Acceptor;
+use crate::caretaker::Caretaker;
 use crate::faulty_session::FaultySession;
 use crate::keeping::write_behind;
 use crate::record_drain::RecordDrain;
-use crate::seat_service::SeatService;
 use crate::staff::{flags_of, give_back, workers_of};
 use crate::teller::Teller;
 use crate::worker::Worker;
-use library_device::Device;
+use session::SeatService;
 use std::alloc::{AllocError, Global};
 use std::io::Write;
 use std::mem;
@@ -20,24 +20,21 @@ use std::random::RandomSource;
 use std::sync::Wait;
 use std::thread::{self, Threads};
 use std::time::Clock;
-use tape_keeper::{TapeKeeper, TapeSource};
 
 /// Serves sessions with a worker at each seat. Then none asks any more that records be handed out.
 pub fn serve_and_end<
     'x,
     S: SeatService + Send,
-    T: TapeSource<Device> + Sync,
+    C: Caretaker + Sync,
     R: Clock + RandomSource + Threads + Wait + Sync,
     E: Write + Send,
-    K: TapeKeeper<Device> + Sync,
 >(
     rt: &'x R,
     alloc: Global,
     services: &mut Vec<S>,
-    tapes: &T,
+    caretaker: &'x C,
     acceptor: &Acceptor<'_>,
     drain: &'x RecordDrain,
-    keeper: &K,
     teller: &'x Teller<E>,
 ) -> Result<Option<FaultySession>, AllocError>
     ensures { OnOk result (AllZip (ComesBySessions S.notes S.settles S.count) services.old.items services.new.items) }
@@ -46,10 +43,9 @@ pub fn serve_and_end<
         rt,
         alloc,
         services,
-        tapes,
+        caretaker,
         acceptor,
         Some(drain),
-        keeper,
         teller,
     );
     drain.end(rt);
@@ -60,18 +56,16 @@ pub fn serve_and_end<
 pub fn serve_all<
     'x,
     S: SeatService + Send,
-    T: TapeSource<Device> + Sync,
+    C: Caretaker + Sync,
     R: Clock + RandomSource + Threads + Wait + Sync,
     E: Write + Send,
-    K: TapeKeeper<Device> + Sync,
 >(
     rt: &'x R,
     alloc: Global,
     services: &mut Vec<S>,
-    tapes: &T,
+    caretaker: &'x C,
     acceptor: &Acceptor<'_>,
     drain: Option<&'x RecordDrain>,
-    keeper: &K,
     teller: &'x Teller<E>,
 ) -> Result<Option<FaultySession>, AllocError>
     ensures { OnOk result (AllZip (ComesBySessions S.notes S.settles S.count) services.old.items services.new.items) }
@@ -79,14 +73,14 @@ pub fn serve_all<
     let alloc_of_workers = alloc;
     let ((), served) = thread::join_mut(
         rt,
-        &mut || write_behind(rt, alloc, keeper, tapes, teller),
+        &mut || write_behind(rt, alloc, caretaker, teller),
         &mut || serve_and_stop(
             rt,
             alloc_of_workers,
             services,
+            caretaker,
             acceptor,
             drain,
-            keeper,
             teller,
         ),
     );
@@ -97,22 +91,22 @@ pub fn serve_all<
 fn serve_and_stop<
     'x,
     S: SeatService + Send,
+    C: Caretaker + Sync,
     R: Clock + RandomSource + Threads + Wait + Sync,
     E: Write + Send,
-    K: TapeKeeper<Device>,
 >(
     rt: &'x R,
     alloc: Global,
     services: &mut Vec<S>,
+    caretaker: &'x C,
     acceptor: &Acceptor<'_>,
     drain: Option<&'x RecordDrain>,
-    keeper: &K,
     teller: &'x Teller<E>,
 ) -> Result<Option<FaultySession>, AllocError>
     ensures { OnOk result (AllZip (ComesBySessions S.notes S.settles S.count) services.old.items services.new.items) }
 {
-    let served = serve_sessions(rt, alloc, services, acceptor, drain, teller);
-    keeper.end(rt);
+    let served = serve_sessions(rt, alloc, services, caretaker, acceptor, drain, teller);
+    caretaker.end(rt);
     served
 }
 
@@ -121,12 +115,14 @@ fn serve_and_stop<
 fn serve_sessions<
     'x,
     S: SeatService + Send,
+    C: Caretaker + Sync,
     R: Clock + RandomSource + Threads + Wait + Sync,
     E: Write + Send,
 >(
     rt: &'x R,
     alloc: Global,
     services: &mut Vec<S>,
+    caretaker: &'x C,
     acceptor: &Acceptor<'_>,
     drain: Option<&'x RecordDrain>,
     teller: &'x Teller<E>,
@@ -138,7 +134,7 @@ fn serve_sessions<
     back.reserve(services.len())?;
     let taken = mem::replace(services, Vec::new(alloc));
     let resets = acceptor.limits.sessions.resets();
-    let mut workers = workers_of(rt, alloc, taken, &flags, resets, drain, teller)?;
+    let mut workers = workers_of(rt, alloc, taken, caretaker, &flags, resets, drain, teller)?;
     work_all(rt, alloc, workers.as_mut_slice(), acceptor);
     let served = give_back(workers, &mut back);
     *services = back;
@@ -149,9 +145,10 @@ fn serve_sessions<
 fn work_all<
     'a,
     S: SeatService + Send,
+    C: Caretaker + Sync,
     R: Clock + RandomSource + Threads + Wait + Sync,
     E: Write + Send,
->(rt: &R, alloc: Global, workers: &mut [Worker<'a, S, R, E>], acceptor: &Acceptor<'_>)
+>(rt: &R, alloc: Global, workers: &mut [Worker<'a, S, C, R, E>], acceptor: &Acceptor<'_>)
     ensures { AllZip (λ v w. ComesBySessions S.notes S.settles S.count v.service w.service) workers.old workers.new }
 {
     let count = workers.len();
@@ -159,7 +156,7 @@ fn work_all<
         rt,
         workers,
         count.max(1),
-        &|place: usize, worker: &mut Worker<'_, S, R, E>|
+        &|place: usize, worker: &mut Worker<'_, S, C, R, E>|
             ensures { ComesBySessions S.notes S.settles S.count worker.entry.now.service worker.exit.now.service }
         { worker.work(alloc, acceptor, place) },
     );

@@ -3,12 +3,13 @@ ghost use Rattle.server.specs.SeatService.{DoesForWorker};
 ghost use Rattle.server.specs.Sessions.{ComesBySessions};
 
 use crate::acceptor::{Acceptor, Connection};
+use crate::caretaker::Caretaker;
 use crate::door::{Door, Visitor};
 use crate::event::{EndedSession, Event};
 use crate::faulty_session::{FaultySession, first_accepted};
 use crate::holding::hold;
-use crate::seat_service::SeatService;
 use crate::worker_service::{SessionSoFar, WorkerService};
+use session::SeatService;
 use std::alloc::Global;
 use std::io::Write;
 use std::random::RandomSource;
@@ -17,8 +18,8 @@ use std::time::{Clock, Duration, Instant};
 
 /// A worker's service, and the fault of the session that was accepted first of those that it served.
 #[derive(Drop)]
-pub(crate) struct Worker<'a, S: SeatService, R: Wait, E: Write> {
-    pub service: WorkerService<'a, S, R, E>,
+pub(crate) struct Worker<'a, S: SeatService, C: Caretaker, R: Wait, E: Write> {
+    pub service: WorkerService<'a, S, C, R, E>,
     pub fault: Option<FaultySession>,
 }
 
@@ -33,7 +34,13 @@ pub(crate) struct Visit<'v, 'd> {
     pub key: usize,
 }
 
-impl<'a, S: SeatService, R: Clock + RandomSource + Wait, E: Write> Worker<'a, S, R, E> {
+impl<'a, S: SeatService, C: Caretaker, R: Clock + RandomSource + Wait, E: Write> Worker<
+    'a,
+    S,
+    C,
+    R,
+    E,
+> {
     /// Serves one connection of its door after another, until no more are to be. Behind each it asks that the records so far be
     /// handed out, where they are while the library is served. Its place among the workers says which door is its own.
     pub fn work(&mut self, alloc: Global, acceptor: &Acceptor<'_>, place: usize)

@@ -1,16 +1,16 @@
 ghost use Rattle.server.specs.SeatService.{MaySettle};
 
+use crate::caretaker::Caretaker;
 use crate::event::Event;
 use crate::keeping::KeepTeller;
 use crate::record_drain::RecordDrain;
 use crate::reset_counts::ResetCounts;
-use crate::seat_service::SeatService;
 use crate::session_flags::SessionFlags;
 use crate::teller::Teller;
 use kept_unit::Done;
 use scsi_nexus::Nexus;
 use scsi_sense::Status;
-use session::{Service, SessionFault};
+use session::{SeatService, Service, SessionFault};
 use std::alloc::Global;
 use std::io::Write;
 use std::marker::Model;
@@ -78,10 +78,11 @@ impl SessionSoFar {
 }
 
 /// What a worker serves its sessions by, one after another: a library's service, beside which it asks that records be handed out
-/// where a unit has many of them, settles its seat, tells of commands that were BUSY, and counts resets.
+/// where a unit has many of them, settles its seat, has tapes kept, tells of commands that were BUSY, and counts resets.
 #[derive(Drop)]
-pub(crate) struct WorkerService<'a, S: SeatService, R: Wait, E: Write> {
+pub(crate) struct WorkerService<'a, S: SeatService, C: Caretaker, R: Wait, E: Write> {
     pub seat_service: S,
+    pub caretaker: &'a C,
     pub rt: &'a R,
     /// Where records are handed out, if they are.
     pub drain: Option<&'a RecordDrain>,
@@ -92,13 +93,13 @@ pub(crate) struct WorkerService<'a, S: SeatService, R: Wait, E: Write> {
     pub session: SessionSoFar,
 }
 
-impl<'a, S: SeatService, R: Wait, E: Write> Model for WorkerService<'a, S, R, E> {
+impl<'a, S: SeatService, C: Caretaker, R: Wait, E: Write> Model for WorkerService<'a, S, C, R, E> {
     ghost Value = { S };
 
     ghost view = { λ p. p.seat_service };
 }
 
-impl<'a, S: SeatService, R: Wait, E: Write> WorkerService<'a, S, R, E> {
+impl<'a, S: SeatService, C: Caretaker, R: Wait, E: Write> WorkerService<'a, S, C, R, E> {
     ghost use Rattle.std.specs.Prelude.{◌≡◌};
 
     /// Tells of a command that was BUSY, and whether for want of a slot.
@@ -117,7 +118,7 @@ impl<'a, S: SeatService, R: Wait, E: Write> WorkerService<'a, S, R, E> {
             rt: self.rt,
             teller: self.teller,
         };
-        if !self.seat_service.keep(alloc, &listener, command) {
+        if !self.caretaker.keep(self.rt, alloc, &listener, command) {
             self.flags.lose();
         }
     }
@@ -152,7 +153,8 @@ impl<'a, S: SeatService, R: Wait, E: Write> WorkerService<'a, S, R, E> {
     }
 }
 
-impl<'a, S: SeatService, R: Wait, E: Write> Service for WorkerService<'a, S, R, E> {
+impl<'a, S: SeatService, C: Caretaker, R: Wait, E: Write> Service
+    for WorkerService<'a, S, C, R, E> {
     ghost use Rattle.server.specs.SeatService.{DoesForWorker};
 
     ghost notes = { DoesForWorker S.notes S.settles };

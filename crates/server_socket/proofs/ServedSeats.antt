@@ -11,7 +11,7 @@ use Rattle.session.specs.Leaving.{ComesBySession}
 use Rattle.session.specs.Serving.{IsLostBelow}
 use Rattle.server.specs.SeatService.{DoesForWorker, MaySettle}
 use Rattle.server.specs.Sessions.{ComesBySessions, Sessions}
-use Rattle.server_socket.specs.LibraryService.{DoesToService, LibraryServiceValue, SettlesService, service_at}
+use Rattle.library_service.specs.LibraryService.{DoesToService, LibraryServiceValue, SettlesService, service_at}
 use Rattle.server_socket.specs.ServedSeats.{IsOfSessions, SeatsCome}
 
 -- ---- a service's seat

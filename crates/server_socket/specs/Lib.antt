@@ -1,6 +1,5 @@
 pub mod Batches
 pub mod Faults
-pub mod LibraryService
 pub mod Notices
 pub mod Places
 pub mod Rows

@@ -1,5 +1,5 @@
 //! A library that is served at a socket whose file is made for it, at portals of iSCSI, or at both: for a number of sessions, or until
-//! standard input ends. What knows the ledgers of a library stands here: its seats, their workers' services, the lines of its records, and its closing.
+//! standard input ends. What opens and closes a library stands here, with what keeps its tapes and writes the lines of its records meanwhile.
 #![tactic(auto)]
 
 mod batch;
@@ -9,7 +9,6 @@ mod iscsi_target;
 mod keeping;
 mod kept_library;
 mod laws;
-mod library_service;
 mod library_tapes;
 mod notice;
 mod places;

@@ -12,20 +12,20 @@ ghost use Rattle.server_socket.specs.declared.server_fault.ServerFault.TheVarian
 use crate::batch::Batch;
 use crate::closing::close_and_write;
 use crate::handing_out::hand_out_as_asked;
-use crate::keeping::keep_at_the_end;
-use crate::library_service::{give_back, services_of};
+use crate::keeping::{KeptTapes, keep_at_the_end};
 use crate::library_tapes::LibraryTapes;
 use crate::record_source::RecordSource;
 use crate::server_fault::{ServerFault, earlier, own_fault, told_of};
 use kept_unit::UnitLedger;
 use library_device::Device;
+use library_service::{give_back, services_of};
 use lun_router::{Blanks, Library, Pass, Seat};
 use output_lines::RecordOutput;
 use server::{
-    Acceptor, Door, Event, FaultySession, RecordDrain, SeatService, ServeLimits, Teller, serve_all,
+    Acceptor, Caretaker, Door, Event, FaultySession, RecordDrain, ServeLimits, Teller, serve_all,
     serve_and_end,
 };
-use session::Directory;
+use session::{Directory, SeatService};
 use std::alloc::{AllocError, Global};
 use std::io::Write;
 use std::marker::Brand;
@@ -35,7 +35,7 @@ use std::sync::ledger::Blank;
 use std::sync::{Mutex, Wait};
 use std::thread::{self, Threads};
 use std::time::Clock;
-use tape_keeper::{TapeKeeper, TapeSource};
+use tape_keeper::TapeKeeper;
 use target_core::TargetCore;
 
 /// Serves a target to connections of doors, each by a worker and as the nexus that its LOGIN names or its initiator is let in as, and
@@ -182,17 +182,20 @@ fn serve_seats<
     back.reserve(seats.len())?;
     let taken = mem::replace(seats, Vec::new(alloc));
     let directory = Mutex::new(Directory::new(alloc));
-    let mut services = services_of(rt, alloc, library, &directory, taken, keeper)?;
+    let mut services = services_of(rt, alloc, library, &directory, taken)?;
     let tapes = LibraryTapes { library };
+    let caretaker = KeptTapes {
+        keeper,
+        tapes: &tapes,
+    };
     let served = serve_services(
         rt,
         alloc,
         &mut services,
-        &tapes,
+        &caretaker,
         library,
         acceptor,
         records,
-        keeper,
         batch,
         writer,
         teller,
@@ -204,21 +207,19 @@ fn serve_seats<
 /// Serves sessions with a worker at each service, and writes meanwhile what is wanted of the records that units hand out.
 fn serve_services<
     S: SeatService + Send,
-    T: TapeSource<Device> + Sync,
+    C: Caretaker + Sync,
     D: RecordSource + Sync,
     R: Clock + RandomSource + Threads + Wait + Sync,
     W: Write + Send,
     E: Write + Send,
-    K: TapeKeeper<Device> + Sync,
 >(
     rt: &R,
     alloc: Global,
     services: &mut Vec<S>,
-    tapes: &T,
+    caretaker: &C,
     units: &D,
     acceptor: &Acceptor<'_>,
     records: RecordOutput,
-    keeper: &K,
     batch: &mut Batch,
     writer: &mut W,
     teller: &Teller<E>,
@@ -228,12 +229,12 @@ fn serve_services<
 {
     match records {
         RecordOutput::AtTheEnd(_) => serve_all(
-            rt, alloc, services, tapes, acceptor, None, keeper, teller,
+            rt, alloc, services, caretaker, acceptor, None, teller,
         ),
         RecordOutput::AsTheyCome => {
             let drain = RecordDrain::new();
             serve_and_write(
-                rt, alloc, services, tapes, units, acceptor, &drain, keeper, batch, writer, teller,
+                rt, alloc, services, caretaker, units, acceptor, &drain, batch, writer, teller,
             )
         }
     }
@@ -243,21 +244,19 @@ fn serve_services<
 fn serve_and_write<
     'x,
     S: SeatService + Send,
-    T: TapeSource<Device> + Sync,
+    C: Caretaker + Sync,
     D: RecordSource + Sync,
     R: Clock + RandomSource + Threads + Wait + Sync,
     W: Write + Send,
     E: Write + Send,
-    K: TapeKeeper<Device> + Sync,
 >(
     rt: &'x R,
     alloc: Global,
     services: &mut Vec<S>,
-    tapes: &T,
+    caretaker: &'x C,
     units: &D,
     acceptor: &Acceptor<'_>,
     drain: &'x RecordDrain,
-    keeper: &K,
     batch: &mut Batch,
     writer: &mut W,
     teller: &'x Teller<E>,
@@ -273,10 +272,9 @@ fn serve_and_write<
             rt,
             alloc_of_workers,
             services,
-            tapes,
+            caretaker,
             acceptor,
             drain,
-            keeper,
             teller,
         ),
     );

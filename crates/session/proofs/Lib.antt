@@ -4,3 +4,4 @@ pub mod Read
 pub mod Conversed
 pub mod Splitting
 pub mod Left
+pub mod GivenBack

@@ -16,7 +16,7 @@ mod splitting_laws;
 pub use directory::Directory;
 pub use fault::{End, SessionFault};
 pub use frame::Frame;
-pub use service::Service;
+pub use service::{SeatService, Service};
 pub use serving::{lose_all, lose_at_units, serve};
 pub use splitter::Splitter;
 pub use splitting_laws::{cuts_change_nothing, splitting_rows};

@@ -17,7 +17,6 @@ use std::marker::Brand;
 use std::process::Abort;
 use std::sync::ledger::Blank;
 use std::sync::{Mutex, Wait};
-use tape_keeper::NoKeeper;
 use target_core::TargetCore;
 
 /// A LOGIN of A, 15 bytes; a TEST UNIT READY to the changer, 13; and a LOGOUT, 5.
@@ -76,7 +75,7 @@ fn serve_at<
     reader: &mut Reader,
     writer: &mut Vec<u8>,
 ) -> (Seat<L0, L1, L2, L3, L4>, Result<End, SessionFault>) {
-    let mut service = LibraryService::new(rt, library, directory, seat, &NoKeeper);
+    let mut service = LibraryService::new(rt, library, directory, seat);
     let ended = serve(alloc, &mut service, reader, writer, 99);
     (service.into_seat(), ended)
 }

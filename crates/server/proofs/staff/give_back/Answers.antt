@@ -2,7 +2,8 @@ use Rattle.std.proofs.Common.{◌≡◌, ◌∙◌, ◌+◌, ◌≤◌, length, 
 use Rattle.std.specs.Prelude.{vec_capacity}
 use Rattle.std.proofs.lemmas.Iterator.Consumers.{YieldsList-end, YieldsList-turn}
 use Rattle.std.proofs.lemmas.Iterator.Adapters.{YieldsList-from_vec}
-use Rattle.server.proofs.GivenBack.{back_more, room_for_one, told_more}
+use Rattle.session.proofs.GivenBack.{back_more, room_for_one}
+use Rattle.server.proofs.FirstTold.{told_more}
 use Rattle.server.proofs.staff.give_back.Goals as goal
 
 pub push_reserved-requires : goal.push_reserved-requires

@@ -1,6 +1,6 @@
 use Rattle.std.proofs.Common.{◌≡◌, ◌∙◌, List, length, [], ap, arith}
 use Rattle.std.proofs.lemmas.List.{length-map}
-use Rattle.server_socket.specs.LibraryService.{DoesToService, LibraryServiceValue, SettlesService, service_at}
+use Rattle.library_service.specs.LibraryService.{DoesToService, LibraryServiceValue, SettlesService, service_at}
 use Rattle.server.specs.Sessions.{ComesBySessions}
 use Rattle.server_socket.proofs.Closed.{writes_none}
 use Rattle.server_socket.proofs.ServedSeats.{as_many, seats_left}

@@ -1,6 +1,6 @@
 use Rattle.std.proofs.Common.{◌≡◌, ◌++◌, map}
 use Rattle.std.specs.Prelude.{vec_capacity}
-use Rattle.server_socket.proofs.library_service.leave_seats.Given as goal
+use Rattle.library_service.proofs.seats.leave_seats.Given as goal
 
 -- the seats of those that the loop has passed are there, in the room that there was
 abbrev pub invariant-services : goal.invariant-services

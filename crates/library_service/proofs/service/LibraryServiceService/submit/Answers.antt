@@ -1,5 +1,5 @@
 use Rattle.std.proofs.Common.{rules}
-use Rattle.server_socket.proofs.library_service.LibraryServiceService.submit.Goals as goal
+use Rattle.library_service.proofs.service.LibraryServiceService.submit.Goals as goal
 
 pub returns-clause-answer : goal.returns-clause-answer
 returns-clause-answer g c = search rules

@@ -2,8 +2,8 @@ use Rattle.std.proofs.Common.{◌≡◌, ◌∙◌, ◌+◌, ◌≤◌, length, 
 use Rattle.std.specs.Prelude.{vec_capacity}
 use Rattle.std.proofs.lemmas.Iterator.Consumers.{YieldsList-end, YieldsList-turn}
 use Rattle.std.proofs.lemmas.Iterator.Adapters.{YieldsList-from_vec}
-use Rattle.server.proofs.GivenBack.{back_more, room_for_one}
-use Rattle.server_socket.proofs.library_service.leave_seats.Goals as goal
+use Rattle.session.proofs.GivenBack.{back_more, room_for_one}
+use Rattle.library_service.proofs.seats.leave_seats.Goals as goal
 
 pub push_reserved-requires : goal.push_reserved-requires
 push_reserved-requires g c =

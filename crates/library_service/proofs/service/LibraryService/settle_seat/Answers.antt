@@ -1,5 +1,5 @@
 use Rattle.std.proofs.Common.{rules}
-use Rattle.server_socket.proofs.library_service.LibraryService.settle_seat.Goals as goal
+use Rattle.library_service.proofs.service.LibraryService.settle_seat.Goals as goal
 
 pub returns-clause-ok : goal.returns-clause-ok
 returns-clause-ok g c = search rules

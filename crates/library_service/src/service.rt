@@ -1,17 +1,11 @@
-ghost use Rattle.std.specs.Prelude.{◌≡◌, ◌++◌, ◌+◌, ◌≤◌, map, IfOk, vec_capacity, vec_len};
-ghost use Rattle.server_socket.specs.LibraryService.{service_at};
-
-use crate::library_tapes::LibraryTapes;
 use kept_unit::{Done, UnitLedger};
 use library_device::Device;
 use lun_router::{Library, Pass, Seat};
 use scsi_nexus::Nexus;
-use server::SeatService;
-use session::{Directory, Service, SessionFault};
+use session::{Directory, SeatService, Service, SessionFault};
 use std::alloc::{AllocError, Global};
 use std::marker::Model;
 use std::sync::{Mutex, Wait};
-use tape_keeper::{GoodCommand, KeepListener, TapeKeeper};
 
 /// A seat at a library, and the directory of its sessions beside it. Contracts see what the seat holds, and how many
 /// units the library has.
@@ -24,13 +18,11 @@ pub struct LibraryService<
     L3: UnitLedger,
     L4: UnitLedger,
     R: Wait,
-    K: TapeKeeper<Device>,
 > {
     rt: &'a R,
     library: &'a Library<L0, L1, L2, L3, L4, Device, Pass>,
     directory: &'a Mutex<Directory>,
     seat: Seat<L0, L1, L2, L3, L4>,
-    keeper: &'a K,
 }
 
 impl<
@@ -41,9 +33,8 @@ impl<
     L3: UnitLedger,
     L4: UnitLedger,
     R: Wait,
-    K: TapeKeeper<Device>,
-> Model for LibraryService<'a, L0, L1, L2, L3, L4, R, K> {
-    ghost use Rattle.server_socket.specs.LibraryService.{LibraryServiceValue};
+> Model for LibraryService<'a, L0, L1, L2, L3, L4, R> {
+    ghost use Rattle.library_service.specs.LibraryService.{LibraryServiceValue};
 
     ghost Value = { LibraryServiceValue };
 
@@ -58,10 +49,9 @@ impl<
     L3: UnitLedger,
     L4: UnitLedger,
     R: Wait,
-    K: TapeKeeper<Device>,
-> LibraryService<'a, L0, L1, L2, L3, L4, R, K> {
+> LibraryService<'a, L0, L1, L2, L3, L4, R> {
     ghost use Rattle.std.specs.Prelude.{◌≡◌, OnOk, OnErr};
-    ghost use Rattle.server_socket.specs.LibraryService.{SettlesService};
+    ghost use Rattle.library_service.specs.LibraryService.{SettlesService};
 
     /// A service of one session after another.
     pub fn new(
@@ -69,8 +59,7 @@ impl<
         library: &'a Library<L0, L1, L2, L3, L4, Device, Pass>,
         directory: &'a Mutex<Directory>,
         seat: Seat<L0, L1, L2, L3, L4>,
-        keeper: &'a K,
-    ) -> LibraryService<'a, L0, L1, L2, L3, L4, R, K>
+    ) -> LibraryService<'a, L0, L1, L2, L3, L4, R>
         ensures { result ≡ record { seat = seat; units = library.now.units } }
     {
         LibraryService {
@@ -78,7 +67,6 @@ impl<
             library,
             directory,
             seat,
-            keeper,
         }
     }
 
@@ -100,7 +88,6 @@ impl<
             library: _,
             directory: _,
             seat,
-            keeper: _,
         } = self;
         seat
     }
@@ -114,9 +101,8 @@ impl<
     L3: UnitLedger,
     L4: UnitLedger,
     R: Wait,
-    K: TapeKeeper<Device>,
-> Service for LibraryService<'a, L0, L1, L2, L3, L4, R, K> {
-    ghost use Rattle.server_socket.specs.LibraryService.{DoesToService};
+> Service for LibraryService<'a, L0, L1, L2, L3, L4, R> {
+    ghost use Rattle.library_service.specs.LibraryService.{DoesToService};
 
     ghost notes = { DoesToService };
 
@@ -164,21 +150,13 @@ impl<
     L3: UnitLedger,
     L4: UnitLedger,
     R: Wait,
-    K: TapeKeeper<Device>,
-> SeatService for LibraryService<'a, L0, L1, L2, L3, L4, R, K> {
-    ghost use Rattle.server_socket.specs.LibraryService.{SettlesService};
+> SeatService for LibraryService<'a, L0, L1, L2, L3, L4, R> {
+    ghost use Rattle.library_service.specs.LibraryService.{SettlesService};
 
     ghost settles = { SettlesService };
 
     fn has_room(&self, nexus: Nexus, lun: u8) -> bool {
         self.library.has_room(self.rt, nexus, lun)
-    }
-
-    fn keep<H: KeepListener>(&self, alloc: Global, listener: &H, command: GoodCommand<'_>) -> bool {
-        let tapes = LibraryTapes {
-            library: self.library,
-        };
-        self.keeper.keep(self.rt, alloc, &tapes, listener, command)
     }
 
     fn noted(&self) -> usize {
@@ -187,77 +165,5 @@ impl<
 
     fn settle(&mut self, drained: &[u64; 5]) -> Result<(), AllocError> {
         self.settle_seat(drained)
-    }
-}
-
-/// A service at each seat.
-pub(crate) fn services_of<
-    'a,
-    L0: UnitLedger,
-    L1: UnitLedger,
-    L2: UnitLedger,
-    L3: UnitLedger,
-    L4: UnitLedger,
-    R: Wait,
-    K: TapeKeeper<Device>,
->(
-    rt: &'a R,
-    alloc: Global,
-    library: &'a Library<L0, L1, L2, L3, L4, Device, Pass>,
-    directory: &'a Mutex<Directory>,
-    seats: Vec<Seat<L0, L1, L2, L3, L4>>,
-    keeper: &'a K,
-) -> Result<Vec<LibraryService<'a, L0, L1, L2, L3, L4, R, K>>, AllocError>
-    ensures { IfOk result (λ services. services.items ≡ map (service_at library.now.units) seats.items) }
-{
-    let mut services = Vec::new(alloc);
-    'seats: for seat in seats {
-        services.push(LibraryService::new(rt, library, directory, seat, keeper))?;
-    }
-    Ok(services)
-}
-
-/// Puts the seats of services, in their order, behind those of a vector with room for them, which comes into the place of the seats that
-/// were taken.
-pub(crate) fn give_back<
-    'a,
-    L0: UnitLedger,
-    L1: UnitLedger,
-    L2: UnitLedger,
-    L3: UnitLedger,
-    L4: UnitLedger,
-    R: Wait,
-    K: TapeKeeper<Device>,
->(
-    services: Vec<LibraryService<'a, L0, L1, L2, L3, L4, R, K>>,
-    mut back: Vec<Seat<L0, L1, L2, L3, L4>>,
-    seats: &mut Vec<Seat<L0, L1, L2, L3, L4>>,
-)
-    requires { vec_len back + vec_len services ≤ vec_capacity back }
-    ensures { seats.new.items ≡ back.items ++ map (λ s. s.seat) services.entry.items }
-{
-    leave_seats(services, &mut back);
-    *seats = back;
-}
-
-/// Puts the seats of services behind those that are there, in their order.
-fn leave_seats<
-    'a,
-    L0: UnitLedger,
-    L1: UnitLedger,
-    L2: UnitLedger,
-    L3: UnitLedger,
-    L4: UnitLedger,
-    R: Wait,
-    K: TapeKeeper<Device>,
->(
-    services: Vec<LibraryService<'a, L0, L1, L2, L3, L4, R, K>>,
-    seats: &mut Vec<Seat<L0, L1, L2, L3, L4>>,
-)
-    requires { vec_len seats.old + vec_len services ≤ vec_capacity seats.old }
-    ensures { seats.new.items ≡ seats.old.items ++ map (λ s. s.seat) services.entry.items }
-{
-    'services: for service in services {
-        seats.push_reserved(service.into_seat());
     }
 }

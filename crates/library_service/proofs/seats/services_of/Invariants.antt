@@ -1,6 +1,6 @@
 use Rattle.std.proofs.Common.{◌≡◌, map}
-use Rattle.server_socket.specs.LibraryService.{service_at}
-use Rattle.server_socket.proofs.library_service.services_of.Given as goal
+use Rattle.library_service.specs.LibraryService.{service_at}
+use Rattle.library_service.proofs.seats.services_of.Given as goal
 
 -- at the seats that the loop has passed
 abbrev pub invariant-seats : goal.invariant-seats
