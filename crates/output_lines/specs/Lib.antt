@@ -2,4 +2,5 @@ pub mod Replies
 pub mod Explained
 pub mod AuditLines
 pub mod RecordOutputs
+pub mod LeftLines
 pub mod Rows

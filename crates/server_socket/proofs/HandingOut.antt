@@ -5,8 +5,9 @@ use Rattle.std.proofs.lemmas.List.Concat.{flat_map-append}
 use Rattle.std.proofs.lemmas.List.Elements.{All-nil, All-cons, All-append}
 use Rattle.audit_log.specs.declared.record.Record.{Record}
 use Rattle.output_lines.specs.AuditLines.{lines_of_records}
-use Rattle.server_socket.specs.Batches.{AreDrained, GoesOn, HandsOut}
-use Rattle.server_socket.proofs.Written.{appends_none, appends_more}
+use Rattle.output_lines.specs.LeftLines.{GoesOn}
+use Rattle.server_socket.specs.Batches.{AreDrained, HandsOut}
+use Rattle.output_lines.proofs.Written.{appends_none, appends_more}
 
 -- the lines of batches
 abbrev pub lines_of : List (List Record) → List ℕ

@@ -4,4 +4,3 @@ pub mod PlaceLemmas
 pub mod Seats
 pub mod ServedSeats
 pub mod Told
-pub mod Written

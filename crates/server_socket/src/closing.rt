@@ -4,19 +4,18 @@ ghost use Rattle.std.specs.Option.{option_map};
 ghost use Rattle.logical_unit.specs.UnitView.{units_of};
 ghost use Rattle.output_lines.specs.AuditLines.{audit_text};
 ghost use Rattle.lun_router.specs.declared.closing.CloseFault.TheVariants.{SeatMissing};
-ghost use Rattle.server_socket.specs.Batches.{WritesWhole};
 ghost use Rattle.server_socket.specs.ServerFaults.{MayEndWith};
 ghost use Rattle.server_socket.specs.ServedLibrary.{IsClosed, if_there};
 ghost use Rattle.server_socket.specs.declared.server_fault.ServerFault.TheVariants as fault;
 
-use crate::batch::{records_behind, whole_lines, write_some};
+use crate::batch::records_behind;
 use crate::server_fault::ServerFault;
 use audit_log::Record;
 use kept_unit::UnitLedger;
 use library_device::Device;
 use logical_unit::LogicalUnit;
 use lun_router::{Histories, Library, Pass, Seat};
-use output_lines::{Audit, audit_text};
+use output_lines::{Audit, AuditFault, write_audit};
 use server::{Event, Teller};
 use std::alloc::Global;
 use std::io::Write;
@@ -130,33 +129,16 @@ fn write_units<R: Wait, W: Write, E: Write>(
     ensures lines { OnOk result (Appends (W.contents writer.old) (W.contents writer.new) (audit_text audit (units_of units.now))) }
     ensures fault { IfErr result (λ f. (f ≡ fault.Write) ⊎ ((f ≡ fault.NoMemory) × (W.contents writer.new ≡ W.contents writer.old))) }
 {
-    let text = match audit_text(alloc, audit, units) {
-        Ok(text) => text,
-        Err(error) => {
-            tell_unwritten(rt, units, 0, teller);
-            return Err(error.into());
-        }
-    };
-    match write_lines(writer, text.as_str()) {
+    match write_audit(alloc, audit, units, writer) {
         Ok(()) => Ok(()),
-        Err(lines) => {
+        Err(AuditFault::Write(lines)) => {
             tell_unwritten(rt, units, lines, teller);
             Err(ServerFault::Write)
         }
-    }
-}
-
-/// Writes lines, and what the writer may still hold back of them. On an error: how many were written whole.
-fn write_lines<W: Write>(writer: &mut W, lines: &str) -> Result<(), usize>
-    ensures all { OnOk result (Appends (W.contents writer.old) (W.contents writer.new) lines.now) }
-    ensures whole { IfErr result (λ count. WritesWhole (W.contents writer.old) (W.contents writer.new) lines.now count) }
-{
-    let bytes = lines.as_bytes();
-    let count = write_some(writer, bytes);
-    if count == bytes.len() && writer.flush().is_ok() {
-        Ok(())
-    } else {
-        Err(whole_lines(&bytes[..count]))
+        Err(AuditFault::NoMemory) => {
+            tell_unwritten(rt, units, 0, teller);
+            Err(ServerFault::NoMemory)
+        }
     }
 }
 

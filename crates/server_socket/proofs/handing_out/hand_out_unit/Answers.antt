@@ -1,5 +1,6 @@
 use Rattle.std.proofs.Common.{subst}
-use Rattle.server_socket.specs.Batches.{GoesOn, left_in}
+use Rattle.output_lines.specs.LeftLines.{GoesOn}
+use Rattle.server_socket.specs.Batches.{left_in}
 use Rattle.server_socket.proofs.HandingOut.{hands_left, hands_batch}
 use Rattle.server_socket.proofs.handing_out.hand_out_unit.Goals as goal
 
@@ -8,5 +9,5 @@ returns-in_err-write_left-clause-left g c = hands_left _ _ _ _ c.write_left.ensu
 
 pub returns-clause-left : goal.returns-clause-left
 returns-clause-left g c =
-    hands_batch _ _ _ _ (left_in c.write_left.new.self) (left_in c.write_left-2.new.self) c.take.new.self.records.items c.write_left.ensures.left c.in_ok-write_left.ensures.all c.take.ensures.drained
+    hands_batch _ _ _ _ (left_in c.write_left.new.self) (left_in c.write_left-2.new.self) c.take.new.self.left.records.items c.write_left.ensures.left c.in_ok-write_left.ensures.all c.take.ensures.drained
     (subst (λ l. GoesOn (g.W.Write.contents c.write_left.new.writer) (g.W.Write.contents c.write_left-2.new.writer) l (left_in c.write_left-2.new.self)) c.take.ensures.left c.write_left-2.ensures.left)

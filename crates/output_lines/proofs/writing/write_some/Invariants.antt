@@ -1,6 +1,6 @@
 use Rattle.std.proofs.Common.{length}
-use Rattle.server_socket.proofs.Written.{Wrote}
-use Rattle.server_socket.proofs.batch.write_some.Given as goal
+use Rattle.output_lines.proofs.Written.{Wrote}
+use Rattle.output_lines.proofs.writing.write_some.Given as goal
 
 abbrev pub invariant-writes : goal.invariant-writes
 invariant-writes g l = Wrote (g.W.Write.contents l.fn.writer) (g.W.Write.contents l.writer) l.bytes l.rest

@@ -3,7 +3,7 @@ use Rattle.std.proofs.Common.{◌≡◌, ◌-◌, ◌+◌, ℕ, Option, Some, No
 use Rattle.std.specs.Io.KnownBytes.{Appends, Keeps}
 use Rattle.std.proofs.lemmas.List.{take-append-drop, drop-drop}
 use Rattle.std.proofs.lemmas.List.Prefix.{front_rest}
-use Rattle.server_socket.specs.Batches.{WritesSome, GoesOn}
+use Rattle.output_lines.specs.LeftLines.{WritesSome, GoesOn}
 
 pub appends_none : (w : Option (List ℕ)) → Appends w w []
 appends_none None = tt

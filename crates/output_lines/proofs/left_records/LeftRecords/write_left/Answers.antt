@@ -1,5 +1,5 @@
 use Rattle.std.proofs.Common.{rules}
-use Rattle.server_socket.proofs.batch.Batch.write_left.Goals as goal
+use Rattle.output_lines.proofs.left_records.LeftRecords.write_left.Goals as goal
 
 pub returns-then-not-write_left-clause-left : goal.returns-then-not-write_left-clause-left
 returns-then-not-write_left-clause-left g c = search rules
