@@ -3,6 +3,7 @@ pub mod Faults
 pub mod Hosts
 pub mod HostsLetIn
 pub mod IscsiNames
+pub mod ListenFaults
 pub mod Options
 pub mod Portals
 pub mod Rows

@@ -1,5 +1,5 @@
 //! What the options of the program's commands mean: what a library is made of, where and how long it is served and waits for its hosts,
-//! whom it lets in, and which host a client is; and why a command line names nothing to do.
+//! whom it lets in, and which host a client is; and why a command line names nothing to do, or names a place where nobody can listen.
 #![tactic(auto)]
 
 mod command_line_fault;
@@ -8,6 +8,7 @@ mod host;
 mod iscsi_name;
 mod laws;
 mod library_options;
+mod listen_fault;
 mod named_host;
 mod option_fault;
 mod portal;
@@ -21,6 +22,7 @@ pub use host::nexus_of;
 pub use iscsi_name::is_iscsi_name;
 pub use laws::worked_rows;
 pub use library_options::{LibraryOptions, MAX_READS};
+pub use listen_fault::ListenFault;
 pub use named_host::{HostText, NamedHost, host_beside};
 pub use option_fault::OptionFault;
 pub use portal::portal_of;

@@ -4,14 +4,13 @@ use Rattle.std.specs.Fmt.{decimal}
 use Rattle.iscsi_chap.specs.declared.secrets_fault.LineFault.{LineFault}
 use Rattle.iscsi_chap.specs.declared.secrets_fault.LineFault.TheVariants.{FieldCount, SecretLength}
 use Rattle.media_folder.specs.Faults.{folder_status}
+use Rattle.program_options.specs.ListenFaults.{listen_status, listen_text}
 use Rattle.server_socket.specs.ServerFaults as host
 use Rattle.server_socket.specs.declared.socket_fault.SocketFault.{SocketFault}
 use Rattle.server_socket.specs.declared.socket_fault.SocketFault.TheVariants as serve
 
 abbrev pub socket_status : SocketFault → ℕ
-socket_status (serve.IsThere path) = 4
-socket_status (serve.CannotListen path) = 4
-socket_status (serve.IsTaken address) = 4
+socket_status (serve.Listen fault) = listen_status fault
 socket_status (serve.CannotRead path) = 4
 socket_status (serve.OpenSecrets path) = 2
 socket_status (serve.BadSecrets path number what) = 2
@@ -23,11 +22,9 @@ abbrev pub line_words : LineFault → List ℕ
 line_words FieldCount = codes "say NAME USER SECRET, or NAME USER SECRET TARGET-USER TARGET-SECRET"
 line_words SecretLength = codes "a secret has 12 to 128 bytes"
 
--- the second line names the path or the address; no clause says what is told of a folder
+-- the second line names the path; no clause says what is told of a folder
 abbrev pub socket_text : SocketFault → Option (List ℕ)
-socket_text (serve.IsThere path) = Some (codes "vtl: device fault\nvtl: cannot listen on " ++ string_bytes path ++ codes ": it is there already")
-socket_text (serve.CannotListen path) = Some (codes "vtl: device fault\nvtl: cannot listen on " ++ string_bytes path)
-socket_text (serve.IsTaken address) = Some (codes "vtl: device fault\nvtl: cannot listen on " ++ string_bytes address ++ codes ": somebody listens there already")
+socket_text (serve.Listen fault) = Some (listen_text fault)
 socket_text (serve.CannotRead path) = Some (codes "vtl: device fault\nvtl: cannot read " ++ string_bytes path)
 socket_text (serve.OpenSecrets path) = Some (codes "vtl: others than its owner may read or change " ++ (string_bytes path ++ (codes ": say chmod 600 " ++ string_bytes path)))
 socket_text (serve.BadSecrets path number what) = Some (codes "vtl: " ++ (string_bytes path ++ (codes ", line " ++ (decimal number ++ (codes ": " ++ line_words what)))))

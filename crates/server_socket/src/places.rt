@@ -6,6 +6,7 @@ ghost use Rattle.server_socket.specs.Places.{count_of};
 use crate::socket_fault::SocketFault;
 use crate::socket_file::{SocketFile, make_socket_file};
 use iscsi_login::LoginTarget;
+use program_options::ListenFault;
 use server::Door;
 use std::alloc::{AllocError, Global};
 use std::fs::Files;
@@ -70,7 +71,8 @@ fn open_portals<'a, R: AllocGlobal + Net<Listener = TcpListener, Stream = TcpStr
         match open_portal(rt, *address, target, group) {
             Ok(door) => doors.push(door).map_err(AllocError::from)?,
             Err(error) => {
-                return Err(SocketFault::of_portal(address.to_string(rt.alloc())?, error.kind()));
+                let address = address.to_string(rt.alloc())?;
+                return Err(ListenFault::of_portal(address, error.kind()).into());
             }
         }
     }

@@ -4,6 +4,7 @@ ghost use Rattle.server_socket.specs.Faults.{line_words};
 use crate::server_fault::ServerFault;
 use iscsi_chap::LineFault;
 use media_folder::FolderFault;
+use program_options::ListenFault;
 use std::alloc::AllocError;
 use std::fmt;
 use std::io::ErrorKind;
@@ -12,12 +13,8 @@ use thiserror::Error;
 /// Why a library wasn't served to its end.
 #[derive(Debug, Drop, Error)]
 pub enum SocketFault {
-    /// A file is at the path of the socket already.
-    IsThere(String),
-    /// The socket can't be made at this path, or nobody can listen at this address.
-    CannotListen(String),
-    /// Somebody listens at this address already.
-    IsTaken(String),
+    /// Nobody can listen at the socket or at a portal.
+    Listen(#[from] ListenFault),
     /// The file of secrets can't be read.
     CannotRead(String),
     /// Others than its owner may read or change the file of secrets.
@@ -32,22 +29,6 @@ pub enum SocketFault {
 impl SocketFault {
     ghost use Rattle.server_socket.specs.Faults.{socket_status};
 
-    /// Why there is no listener at a path.
-    pub fn of_listening(path: String, kind: ErrorKind) -> SocketFault {
-        match kind {
-            ErrorKind::AddrInUse => SocketFault::IsThere(path),
-            _ => SocketFault::CannotListen(path),
-        }
-    }
-
-    /// Why there is no listener at an address.
-    pub fn of_portal(address: String, kind: ErrorKind) -> SocketFault {
-        match kind {
-            ErrorKind::AddrInUse => SocketFault::IsTaken(address),
-            _ => SocketFault::CannotListen(address),
-        }
-    }
-
     /// Why the file of secrets wasn't read.
     pub fn of_reading(path: String, kind: ErrorKind) -> SocketFault {
         match kind {
@@ -61,7 +42,7 @@ impl SocketFault {
         ensures { result ≡ socket_status self.now }
     {
         match self {
-            SocketFault::IsThere(_) | SocketFault::CannotListen(_) | SocketFault::IsTaken(_) => 4,
+            SocketFault::Listen(fault) => fault.status(),
             SocketFault::CannotRead(_) => 4,
             SocketFault::OpenSecrets(_) | SocketFault::BadSecrets(_, _, _) => 2,
             SocketFault::Folder(fault) => fault.status(),
@@ -77,17 +58,7 @@ impl fmt::Display for SocketFault {
 
     fn fmt<W: fmt::Write>(&self, f: &mut fmt::Formatter<W>) -> fmt::Result {
         match self {
-            SocketFault::IsThere(path) => write!(
-                f,
-                "vtl: device fault\nvtl: cannot listen on {path}: it is there already"
-            ),
-            SocketFault::CannotListen(path) => {
-                write!(f, "vtl: device fault\nvtl: cannot listen on {path}")
-            }
-            SocketFault::IsTaken(address) => write!(
-                f,
-                "vtl: device fault\nvtl: cannot listen on {address}: somebody listens there already"
-            ),
+            SocketFault::Listen(fault) => write!(f, "{fault}"),
             SocketFault::CannotRead(path) => {
                 write!(f, "vtl: device fault\nvtl: cannot read {path}")
             }

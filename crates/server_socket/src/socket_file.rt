@@ -2,6 +2,7 @@
 
 use crate::notice::{Notice, tell};
 use crate::socket_fault::SocketFault;
+use program_options::ListenFault;
 use server::Door;
 use std::fs::{self, Files};
 use std::io::{self, Write};
@@ -32,7 +33,7 @@ pub(crate) fn make_socket_file<'a, R: Files + Net, E: Write>(
 ) -> Result<(SocketFile, Door<'a>), SocketFault> {
     let listener = match listen(rt, path.as_str(), errors) {
         Ok(listener) => listener,
-        Err(error) => return Err(SocketFault::of_listening(path, error.kind())),
+        Err(error) => return Err(ListenFault::of_listening(path, error.kind()).into()),
     };
     let file = identity(rt, path.as_str());
     let socket_file = SocketFile { path, file };
@@ -40,7 +41,7 @@ pub(crate) fn make_socket_file<'a, R: Files + Net, E: Write>(
         Ok(door) => Ok((socket_file, door)),
         Err(error) => {
             socket_file.leave(rt);
-            Err(SocketFault::of_listening(socket_file.path, error.kind()))
+            Err(ListenFault::of_listening(socket_file.path, error.kind()).into())
         }
     }
 }
