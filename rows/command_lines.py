@@ -344,7 +344,7 @@ def serve_one(listener, frames):
     with listener.accept()[0] as stream, stream.makefile("rwb") as file:
         while head := file.read(4):
             frames.append(file.read(int.from_bytes(head, "big")))
-            reply = replies[frames[-1][0]]
+            reply = replies.get(frames[-1][0], b"")
             file.write(len(reply).to_bytes(4, "big") + reply)
             file.flush()
 
@@ -352,13 +352,15 @@ def serve_one(listener, frames):
 def check_client(program, line, nexus, is_explained):
     """Which host a client is, at which socket, and what it prints of a reply."""
     frames = []
-    with socket.socket(socket.AF_UNIX) as listener:
+    with socket.socket(socket.AF_UNIX) as listener, socket.socket(socket.AF_UNIX) as last:
         listener.bind("here")
         listener.listen()
-        listener.settimeout(LIMIT)
         server = threading.Thread(target=serve_one, args=(listener, frames), daemon=True)
         server.start()
         ended = run(program, f"{line} --socket here", b"3 000000000000\n")
+        # Where the client made no connection, this one is taken, and ends.
+        last.connect("here")
+        last.close()
         server.join(LIMIT)
     os.remove("here")
     compare(frames, [struct.pack(">BQH", 1, *nexus), bytes([2, 3, 6, *bytes(6)]), b"\4"], "frames")

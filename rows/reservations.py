@@ -454,7 +454,7 @@ SEEDS = [
     ("reservations agree with a plain model: few nexuses", 1, 3, 2, 0.15),
     ("reservations agree with a plain model: more nexuses than send", 2, 6, 4, 0.15),
     ("reservations agree with a plain model: a third run of few", 3, 3, 3, 0.1),
-    ("reservations agree with a plain model: more registrations than there is room for", 4, 4_000, 90, 0.4),
+    ("reservations agree with a plain model: more registrations than there is room for", 4, 4_000, 120, 0.4),
 ]
 
 # How often each of these is met at least.
@@ -500,6 +500,34 @@ SHARED_KEY = [
     (f"{B} 0 000000000000", GOOD),
 ]
 
+HOST_A, HOST_B = Nexus(0x500000000000000A, 1), Nexus(0x500000000000000B, 1)
+
+
+def step(sender, command, answer):
+    return f"{name_of(sender)} 0 {command.cdb().hex()} {command.parameters().hex()}", answer
+
+
+def register_many(count):
+    """REGISTER of the sender and so many others, each at four ports."""
+    return Command(REGISTER, new_key=1, flags=SPEC_I_PT | ALL_TG_PT, listed=[0x5000000000001000 + number for number in range(count)])
+
+
+# A unit has room for 256 registrations, and REGISTER AND MOVE that unregisters its sender needs none.
+FULL_UNIT = [
+    (f"{A} 0 000000000000", POWER_ON),
+    (f"{B} 0 000000000000", POWER_ON),
+    step(HOST_A, register_many(64), NO_ROOM),
+    step(HOST_A, register_many(63), GOOD),
+    step(HOST_B, Command(REGISTER, new_key=2), NO_ROOM),
+    step(HOST_A, Command(RESERVE, key=1, scope_type=WRITE_EXCLUSIVE), GOOD),
+    step(HOST_A, Command(MOVE, key=1, new_key=2, destination=HOST_B), NO_ROOM),
+    step(HOST_A, Command(MOVE, key=1, new_key=2, destination=HOST_B, flags=UNREG), GOOD),
+    step(HOST_A, Command(REGISTER, new_key=1), NO_ROOM),
+    step(HOST_B, Command(REGISTER, key=2), GOOD),
+    step(HOST_A, Command(REGISTER, new_key=1), GOOD),
+    (f"{A} 0 5e000000000000000800", "00 - 0000000400000800"),
+]
+
 
 def difference(program, lines):
     """The first line whose answer isn't the one that is wanted, if there is one."""
@@ -515,7 +543,10 @@ def difference(program, lines):
 
 
 def main():
-    found = {"reservations agree with a plain model over a shared key": difference(sys.argv[1], SHARED_KEY)}
+    found = {
+        "two that share a key, one of whom preempts it": difference(sys.argv[1], SHARED_KEY),
+        "a unit that is full of registrations": difference(sys.argv[1], FULL_UNIT),
+    }
     met = collections.Counter()
     for shows, *how in SEEDS:
         drawing = Drawing(*how)

@@ -72,42 +72,41 @@ def run_client(program, script):
     return run(program, ["client", "--socket", "here", "--sas", "500000000000000a", "--port", "1"], script)
 
 
-def listening():
-    listener = socket.socket(socket.AF_UNIX)
-    listener.bind("here")
-    listener.listen()
-    listener.settimeout(LIMIT)
-    return listener
-
-
 def serve_one(listener, frames):
     """Takes one connection, keeps the bodies of the frames that come, and answers each as one that was carried out."""
     with listener.accept()[0] as stream, stream.makefile("rwb") as file:
         while head := file.read(4):
             frames.append(file.read(int.from_bytes(head, "big")))
-            reply = REPLIES[frames[-1][0]]
+            reply = REPLIES.get(frames[-1][0], b"")
             file.write(len(reply).to_bytes(4, "big") + reply)
             file.flush()
 
 
-def check_sent(program, script, bodies):
+def run_session(program, script):
+    """How a client ends whose script goes to a socket, and the frames that came there."""
     frames = []
-    with listening() as listener:
+    with socket.socket(socket.AF_UNIX) as listener, socket.socket(socket.AF_UNIX) as last:
+        listener.bind("here")
+        listener.listen()
         server = threading.Thread(target=serve_one, args=(listener, frames), daemon=True)
         server.start()
-        ended = run_client(program, script)
+        ended = run(program, ["client", "--socket", "here", "--sas", "500000000000000a", "--port", "1"], script)
+        # Where the client made no connection, this one is taken, and ends.
+        last.connect("here")
+        last.close()
         server.join(LIMIT)
-    compare([frame.hex() for frame in frames], [LOGIN.hex(), *(body.replace(" ", "") for body in bodies), LOGOUT.hex()], "frames")
-    wanted = "".join("00 - -\n" for _ in bodies)
-    compare(ended, (0, wanted, ""), "end")
+    return ended, [frame.hex() for frame in frames]
+
+
+def check_sent(program, script, bodies):
+    ended, frames = run_session(program, script)
+    compare(frames, [LOGIN.hex(), *(body.replace(" ", "") for body in bodies), LOGOUT.hex()], "frames")
+    compare(ended, (0, "".join("00 - -\n" for _ in bodies), ""), "end")
 
 
 def check_refused(program, script, fault):
-    with listening() as listener:
-        compare(run_client(program, script), (2, "", f"vtl: {fault}\n"), "end")
-        # The whole script is looked at before its first frame, so a connection that was made has nothing in it.
-        with listener.accept()[0] as stream:
-            compare(stream.recv(1), b"", "what was sent")
+    """The whole script is looked at before its first frame, so nothing is sent of one that has a fault."""
+    compare(run_session(program, script), ((2, "", f"vtl: {fault}\n"), []), "end and frames")
 
 
 def check_replayed(program, script, wanted):
@@ -125,8 +124,8 @@ def difference(check, program, script, wanted):
     """How a row differs, if it does. The file of its socket goes."""
     try:
         check(program, script, wanted)
-    except (subprocess.TimeoutExpired, TimeoutError):
-        return f"nothing has come after {LIMIT} seconds"
+    except subprocess.TimeoutExpired:
+        return f"it hasn't ended after {LIMIT} seconds"
     except Different as found:
         return str(found)
     finally:
