@@ -1,6 +1,8 @@
 /* Round trips at `vtl serve` and, beside them, of a plain server that reads as many bytes and answers as many.
  *
- * round_trips VTL_SOCKET PLAIN_SOCKET: four drives with a volume each are asked at VTL_SOCKET; the plain server is started here.
+ * round_trips VTL_SOCKET PLAIN_SOCKET [threads]: four drives with a volume each are asked at VTL_SOCKET; the plain server is started here.
+ * With `threads` it tells what connections gain beside each other: one, two and four, each at a drive of its own, all at one drive,
+ * and at the plain server; and beside them what threads gain that only count.
  */
 #include "plain_server.h"
 #include <signal.h>
@@ -8,7 +10,8 @@
 #include <sys/un.h>
 #include <sys/wait.h>
 
-enum { HEAD = 15, CONNECTIONS = 4, SLICES = 10 };
+/* Between two REWINDs of any host at one drive there are at most as many commands as all of them have in a round: so many blocks it needs. */
+enum { HEAD = 15, CONNECTIONS = 4, SLICES = 10, ALL_BLOCKS = CONNECTIONS * ROUND };
 
 static struct sockaddr_un address_of(const char *path)
 {
@@ -31,7 +34,7 @@ enum kind { READY, WRITE, READ };
 
 struct host {
     int socket;
-    int place;
+    int lun;
     enum kind kind;
     int rounds;
     int is_plain;
@@ -63,8 +66,8 @@ static void *play(void *given)
     struct host *host = given;
     uint8_t *out = calloc(1, BLOCK + 64), *in = calloc(1, BLOCK + 64), rewind_to[16];
     size_t data = host->kind == WRITE ? BLOCK : 0;
-    size_t length = frame(out, host->place + 1, CDBS[host->kind], 6, data);
-    size_t rewinding = frame(rewind_to, host->place + 1, (const uint8_t[6]){1}, 6, 0);
+    size_t length = frame(out, host->lun, CDBS[host->kind], 6, data);
+    size_t rewinding = frame(rewind_to, host->lun, (const uint8_t[6]){1}, 6, 0);
     uint32_t sizes[2] = {(uint32_t)length, (uint32_t)(HEAD + (host->kind == READ ? BLOCK : 0))};
     for (int round = 0; round < host->rounds; round++) {
         if (host->is_plain)
@@ -85,7 +88,7 @@ static void *play(void *given)
     return NULL;
 }
 
-/* Logs in, puts a volume into the host's drive, and hears what is to be told. */
+/* Logs in, puts a volume into the host's drive, and hears what is to be told there and at the first drive. */
 static void prepare(int socket_of, int place)
 {
     uint8_t out[64], in[256];
@@ -94,25 +97,105 @@ static void prepare(int socket_of, int place)
     send_bytes(socket_of, login, sizeof login);
     if (!receive_all(socket_of, in, 6) || in[5] != 0) fail("LOGIN");
     for (int turn = 0; turn < 2; turn++) ask(socket_of, out, frame(out, 0, move, 12, 0), in);
+    for (int turn = 0; turn < 3; turn++) ask(socket_of, out, frame(out, 1, CDBS[READY], 6, 0), in);
     for (int turn = 0; turn < 3; turn++) ask(socket_of, out, frame(out, place + 1, CDBS[READY], 6, 0), in);
     if (in[1] != 0) fail("drive");
 }
 
+/* Writes as many blocks to the first drive as are read there without a REWIND. */
+static void fill(int socket_of)
+{
+    uint8_t *out = calloc(1, BLOCK + 64), in[64];
+    if (ask(socket_of, out, frame(out, 1, (const uint8_t[6]){1}, 6, 0), in) != 0) fail("REWIND");
+    size_t length = frame(out, 1, CDBS[WRITE], 6, BLOCK);
+    for (int block = 0; block < ALL_BLOCKS; block++) {
+        if (ask(socket_of, out, length, in) != 0) fail("WRITE to the first drive");
+    }
+    free(out);
+}
+
+enum way { OWN_DRIVES, ONE_DRIVE, PLAIN, WAYS };
+
 /* How many seconds so many rounds at each connection take. */
-static double measure(int *sockets, int count, enum kind kind, int rounds, int is_plain)
+static double measure(int *sockets, int count, enum kind kind, int rounds, enum way way)
 {
     struct host hosts[CONNECTIONS];
-    for (int place = 0; place < count; place++) hosts[place] = (struct host){sockets[place], place, kind, rounds, is_plain};
+    for (int place = 0; place < count; place++) {
+        int lun = way == ONE_DRIVE ? 1 : place + 1;
+        hosts[place] = (struct host){sockets[place], lun, kind, rounds, way == PLAIN};
+    }
     return seconds_of(play, hosts, sizeof *hosts, count);
+}
+
+static const char *NAMES[3] = {"TEST UNIT READY", "WRITE(6), 64 KiB", "READ(6), 64 KiB"};
+/* How many rounds a slice has. The servers and the ways are asked in turn, a slice each, so that all meet what else the machine does. */
+static const int ROUNDS[3] = {40, 10, 10};
+
+/* Round trips a second of both servers, from one connection and from four. */
+static void tell_ratios(int *ours, int *plain)
+{
+    printf("%-18s %11s %10s %10s %6s\n", "command", "connections", "ours/s", "plain/s", "ratio");
+    for (int kind = READY; kind <= READ; kind++) {
+        for (int count = 1; count <= CONNECTIONS; count *= 4) {
+            double theirs = 0, mine = 0, trips = (double)SLICES * count * ROUNDS[kind] * ROUND;
+            for (int slice = 0; slice < SLICES; slice++) {
+                theirs += measure(plain, count, (enum kind)kind, ROUNDS[kind], PLAIN);
+                mine += measure(ours, count, (enum kind)kind, ROUNDS[kind], OWN_DRIVES);
+            }
+            printf("%-18s %11d %10.0f %10.0f %5.0f%%\n", NAMES[kind], count, trips / mine, trips / theirs, 100 * theirs / mine);
+        }
+    }
+}
+
+/* THREADS */
+
+/* No memory but a register's worth. */
+static void *count_turns(void *given)
+{
+    for (int turn = 0; turn < *(int *)given; turn++) {
+        for (int step = 0; step < 1000; step++) __asm__ volatile("" :::);
+    }
+    return NULL;
+}
+
+/* Prints what each of so many turns or commands took over all threads, and how many times those of one thread there were. */
+static void tell_gains(const char *what, const char *way, const double *seconds, double turns)
+{
+    for (int at = 0; at < 3; at++) {
+        double each = 1e6 * seconds[at] / (turns * (1 << at)), alone = 1e6 * seconds[0] / turns;
+        printf("%-18s %-12s %11d %12.2f %6.2f\n", what, way, 1 << at, each, alone / each);
+    }
+}
+
+/* What one, two and four connections have, the way they are asked, in microseconds. */
+static void tell_threads(int *ours, int *plain)
+{
+    static const char *ways[WAYS] = {"own drives", "one drive", "plain server"};
+    int turns[CONNECTIONS] = {20000, 20000, 20000, 20000};
+    double counting[3] = {0};
+    printf("%-18s %-12s %11s %12s %6s\n", "command", "way", "connections", "microseconds", "times");
+    for (int slice = 0; slice < SLICES; slice++) {
+        for (int at = 0; at < 3; at++) counting[at] += seconds_of(count_turns, turns, sizeof *turns, 1 << at);
+    }
+    tell_gains("a thousand steps", "threads", counting, (double)SLICES * turns[0]);
+    for (int kind = READY; kind <= READ; kind++) {
+        double seconds[WAYS][3] = {{0}};
+        if (kind == READ) fill(ours[0]);
+        for (int slice = 0; slice < SLICES; slice++) {
+            for (int way = 0; way < WAYS; way++) {
+                for (int at = 0; at < 3; at++)
+                    seconds[way][at] += measure(way == PLAIN ? plain : ours, 1 << at, (enum kind)kind, ROUNDS[kind], (enum way)way);
+            }
+        }
+        for (int way = 0; way < WAYS; way++) tell_gains(NAMES[kind], ways[way], seconds[way], (double)SLICES * ROUNDS[kind] * ROUND);
+    }
 }
 
 int main(int argc, char **argv)
 {
-    static const char *names[3] = {"TEST UNIT READY", "WRITE(6), 64 KiB", "READ(6), 64 KiB"};
-    /* How many rounds a slice has. The two servers are asked in turn, a slice each, so that both meet what else the machine does. */
-    static const int rounds[3] = {40, 10, 10};
     int ours[CONNECTIONS], plain[CONNECTIONS];
-    if (argc != 3) return 2;
+    int is_threads = argc == 4 && strcmp(argv[3], "threads") == 0;
+    if (argc != 3 && !is_threads) return 2;
     struct sockaddr_un address = address_of(argv[2]);
     int listener = socket(AF_UNIX, SOCK_STREAM, 0);
     if (bind(listener, (struct sockaddr *)&address, sizeof address) != 0 || listen(listener, 8) != 0) fail(argv[2]);
@@ -123,17 +206,10 @@ int main(int argc, char **argv)
         prepare(ours[place], place);
         plain[place] = connect_to(argv[2]);
     }
-    printf("%-18s %11s %10s %10s %6s\n", "command", "connections", "ours/s", "plain/s", "ratio");
-    for (int kind = READY; kind <= READ; kind++) {
-        for (int count = 1; count <= CONNECTIONS; count *= 4) {
-            double theirs = 0, mine = 0, trips = (double)SLICES * count * rounds[kind] * ROUND;
-            for (int slice = 0; slice < SLICES; slice++) {
-                theirs += measure(plain, count, (enum kind)kind, rounds[kind], 1);
-                mine += measure(ours, count, (enum kind)kind, rounds[kind], 0);
-            }
-            printf("%-18s %11d %10.0f %10.0f %5.0f%%\n", names[kind], count, trips / mine, trips / theirs, 100 * theirs / mine);
-        }
-    }
+    if (is_threads)
+        tell_threads(ours, plain);
+    else
+        tell_ratios(ours, plain);
     for (int place = 0; place < CONNECTIONS; place++) {
         uint8_t in[16];
         send_bytes(ours[place], (const uint8_t[5]){0, 0, 0, 1, 4}, 5);

@@ -1,27 +1,23 @@
 #!/bin/sh
-# Measures commands through a library that threads share: 100,000 TEST UNIT READY, and 10,240 WRITE(6) and READ(6) of 64 KiB, from
-# one, two and four threads, each at its own drive and then all at one; and beside them, in the same run, the same through a target
-# in one thread, without locks or entries, and what threads in C take that only copy the bytes and keep a record
-# (bench/plain_threads.c), and threads that only count. A line says the way, how many threads, the command, how many each thread sent, and the time in
-# microseconds; behind them stands what a command took, and how many times the commands of one thread the same way had. A number says
-# how many runs are made; times differ much from run to run. It proves and builds crates/measurements where that isn't done yet, so
-# a first run takes half an hour.
+# Measures what connections to one library gain beside each other, at `vtl serve`: TEST UNIT READY, and WRITE(6) and READ(6) of 64 KiB, from
+# one, two and four connections, each at a drive of its own and then all at one; and beside them, in the same run, those of a plain server
+# (bench/plain_server.h) that reads and answers as many bytes, and threads that only count: more than these gain nothing can on the
+# machine. A line says how many microseconds each command took over all connections, and how many times the commands of one connection
+# there were. A number says how many runs are made, since times differ much from run to run. It takes cc, and a minute or two a run.
 set -eu
 bench=$(cd "$(dirname "$0")" && pwd)
+top=$(dirname "$bench")
+program=${VTL_PROGRAM:-$("$top/vtl" build)}
 work=$(mktemp -d)
-trap 'rm -rf "$work"' EXIT
-cc -O2 -pthread -o "$work/plain_threads" "$bench/plain_threads.c"
-cd "$bench/../crates/measurements"
-rt run -- libraries >/dev/null
+server=
+trap '[ -z "$server" ] || kill "$server"; rm -rf "$work"' EXIT
+cc -O2 -std=gnu11 -pthread -o "$work/round_trips" "$bench/round_trips.c"
 for _ in $(seq "${1:-1}"); do
-    out/measurements libraries >"$work/figures"
-    "$work/plain_threads" >>"$work/figures"
-    cat "$work/figures"
-    awk '
-        $1 == "close" { next }
-        {
-            each = $5 / ($2 * $4)
-            if ($2 == 1) alone[$1, $3] = each
-            printf "%-10s %d threads %-5s %6.2f microseconds a command, %.2f times one thread\n", $1, $2, $3, each, alone[$1, $3] / each
-        }' "$work/figures"
+    "$program" serve --socket "$work/vtl" --sessions 4 --drives 4 --volumes 4 --volume-size 64M >/dev/null &
+    server=$!
+    until [ -S "$work/vtl" ]; do sleep 0.1; kill -0 $server; done
+    "$work/round_trips" "$work/vtl" "$work/plain" threads
+    wait $server
+    server=
+    rm -f "$work/plain"
 done
