@@ -1,22 +1,54 @@
 #!/bin/sh
-# Measures the calls of a tape in three rounds: 64 KiB blocks written up to 64 MiB on a new tape, read back one behind another
-# into 64 MiB that were written before, and written again; and beside it, in the same run, a copy of the same bytes into new
-# memory, and one more over it. Then a million
-# filemarks are written and spaced over. The figures are in microseconds. It proves and builds crates/measurements where
-# that isn't done yet, so a first run takes half an hour. It ends with status 1 where, at the best of the rounds, writing is
-# slower than half the speed of the first copy, or writing again or reading back than half that of the second.
+# Counts what a tape takes of commands, by callgrind over `vtl replay`: in the functions of `Tape` alone, with all that they call. A WRITE(6)
+# of 64 KiB to a new tape, one written again from the beginning, and a READ(6), of which callgrind counts an instruction for each byte that is
+# copied; and behind 1,000, 10,000, 100,000 and 999,000 filemarks one filemark more, one spaced over, and each of those
+# there, where one command spaces over all. What is alike there doesn't grow with the tape. It takes valgrind and python3, and some minutes.
 set -eu
-cd "$(dirname "$0")/../crates/measurements"
-figures=$(rt run -- tapes)
-printf '%s\n' "$figures"
-printf '%s\n' "$figures" | awk '
-    $1 == "copy" {
-        write = $2 / $6; again = $4 / $8; read = $4 / $10
-        if (write > best_write) best_write = write
-        if (again > best_again) best_again = again
-        if (read > best_read) best_read = read
-    }
-    END {
-        printf "speed against the copy, best of the rounds: write %.2f, write again %.2f, read back %.2f\n", best_write, best_again, best_read
-        exit !(best_write >= 0.5 && best_again >= 0.5 && best_read >= 0.5)
-    }'
+bench=$(cd "$(dirname "$0")" && pwd)
+top=$(dirname "$bench")
+program=${VTL_PROGRAM:-$("$top/vtl" build)}
+work=$(mktemp -d)
+trap 'rm -rf "$work"' EXIT
+blocks=100
+marks=100
+
+# Prints how many instructions the calls of a function took in a script whose last commands, so many, are all GOOD.
+within() {
+    function=$1
+    good=$3
+    shift
+    python3 "$bench/scripts.py" "$@" >"$work/script"
+    valgrind --tool=callgrind --callgrind-out-file="$work/calls" "$program" replay <"$work/script" 2>"$work/said" >"$work/lines"
+    if tail -n "$good" "$work/lines" | grep -qv '^00'; then
+        echo "a command of $1 wasn't GOOD" >&2
+        exit 1
+    fi
+    python3 "$bench/calls.py" "$work/calls" "$function" >"$work/figures"
+    cut -d ' ' -f 2 "$work/figures"
+}
+
+# Prints what each command takes that a script has more than one of half as many.
+each() {
+    function=$1
+    kind=$2
+    count=$3
+    shift 3
+    short=$(within "$function" "$kind" "$count" "$@")
+    long=$(within "$function" "$kind" $((2 * count)) "$@")
+    echo $(((long - short) / count))
+}
+
+write='tape_medium.*write_block$'
+echo "instructions, those for the bytes among them"
+new=$(within "$write" tape_write $blocks)
+both=$(within "$write" tape_write_again $blocks)
+read=$(within 'tape_medium.*read$' tape_read $blocks)
+echo "WRITE(6), 64 KiB, to a new tape   $((new / blocks))"
+echo "WRITE(6), 64 KiB, written again   $(((both - new) / blocks))"
+echo "READ(6), 64 KiB                   $((read / blocks))"
+for there in 1000 10000 100000 999000; do
+    one=$(each 'tape_medium.*write_marks$' tape_marks $marks $there)
+    over=$(each 'tape_medium.*space$' tape_space $marks $there)
+    all=$(each 'tape_medium.*space$' tape_space_all 2 $there)
+    echo "behind $there filemarks: one more $one, one spaced over $over, each of all spaced over $((all / there))"
+done
