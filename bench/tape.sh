@@ -11,10 +11,11 @@ export VTL_PROGRAM
 empty=$("$bench/each.sh" 02 write 50)
 new=$("$bench/each.sh" 00 tape_write 50)
 both=$("$bench/each.sh" 00 tape_write_again 50)
+read=$("$bench/each.sh" 00 tape_read 50)
 echo "instructions, those for the bytes among them"
 echo "WRITE(6), 64 KiB, to a new tape   $((new - empty))"
 echo "WRITE(6), 64 KiB, written again   $((both - new - empty))"
-echo "READ(6), 64 KiB, and its printing $(("$("$bench/each.sh" 00 tape_read 50)" - new))"
+echo "READ(6), 64 KiB, and its printing $((read - new))"
 for there in 1000 10000 100000 999000; do
     more=$("$bench/each.sh" 00 tape_marks 100 $there)
     over=$("$bench/each.sh" 00 tape_space 100 $there)
