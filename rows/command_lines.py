@@ -15,6 +15,8 @@ import sys
 import tempfile
 import threading
 
+from telling import tell
+
 # Seconds for a run. Most end at once; a line that is wrongly taken for one of a server shows as a row, and not as a script that hangs.
 LIMIT = 20
 
@@ -399,18 +401,12 @@ def difference(program, check, row):
 
 def main():
     program = os.path.abspath(sys.argv[1])
-    failed = 0
     with tempfile.TemporaryDirectory() as folder:
         # Where a wrong line makes a socket or a folder of volumes, it is made there.
         os.chdir(folder)
-        for check, row in ROWS:
-            found = difference(program, check, row)
-            if found:
-                failed += 1
-                print(f"{row[0]!r}: {found}")
+        found = [(repr(row[0]), difference(program, check, row)) for check, row in ROWS]
         os.chdir("/")
-    print(f"{len(ROWS) - failed} passed, {failed} failed")
-    return failed > 0
+    return tell(found)
 
 
 sys.exit(main())

@@ -12,6 +12,8 @@ import random
 import subprocess
 import sys
 
+from telling import tell
+
 Nexus = collections.namedtuple("Nexus", "address port")
 
 REGISTER, RESERVE, RELEASE, CLEAR, PREEMPT, PREEMPT_AND_ABORT, REGISTER_IGNORE, MOVE = range(8)
@@ -554,11 +556,7 @@ def main():
         met += drawing.met
     # So that a run is seen that shows nothing of a rule.
     found["each rule is met often"] = ", ".join(f"{name}: {met[name]} times" for name in MET if met[name] < OFTEN)
-    differing = {shows: what for shows, what in found.items() if what}
-    for shows, what in differing.items():
-        print(f"{shows}: {what}")
-    print(f"{len(found) - len(differing)} passed, {len(differing)} failed")
-    return len(differing) > 0
+    return tell(found.items())
 
 
 sys.exit(main())

@@ -13,6 +13,8 @@ import sys
 import tempfile
 import threading
 
+from telling import tell
+
 # Seconds for a run, which takes none.
 LIMIT = 20
 # How long a line may be without its end (profile).
@@ -136,18 +138,12 @@ def difference(check, program, script, wanted):
 
 def main():
     program = os.path.abspath(sys.argv[1])
-    failed = 0
     with tempfile.TemporaryDirectory() as folder:
         # The path of a socket is short, so its file stands in the folder that the program runs in.
         os.chdir(folder)
-        for check, shows, script, wanted in ROWS:
-            found = difference(check, program, script, wanted)
-            if found:
-                failed += 1
-                print(f"{shows}: {found}")
+        found = [(shows, difference(check, program, script, wanted)) for check, shows, script, wanted in ROWS]
         os.chdir("/")
-    print(f"{len(ROWS) - failed} passed, {failed} failed")
-    return failed > 0
+    return tell(found)
 
 
 sys.exit(main())

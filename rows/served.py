@@ -24,6 +24,7 @@ import refusals
 import sessions
 import streams
 from serving import Row, Tried, Wrong
+from telling import tell
 
 IS_OVER = "not played to its end, since the time for all rows is over"
 # How many rows go on beside each other. Those that wait for a time are begun first.
@@ -68,12 +69,7 @@ def main() -> int:
     serving.end_in_time()
     with concurrent.futures.ThreadPoolExecutor(AT_ONCE) as pool:
         faults = list(pool.map(lambda row: fault_of(row, given.program), rows))
-    for row, fault in zip(rows, faults, strict=True):
-        if fault is not None:
-            print(f"{row.name}: {row.shows}: {' | '.join(fault.splitlines())}")
-    failed = sum(fault is not None for fault in faults)
-    print(f"{len(rows) - failed} passed, {failed} failed")
-    return 1 if failed else 0
+    return tell([(f"{row.name}: {row.shows}", fault and " | ".join(fault.splitlines())) for row, fault in zip(rows, faults, strict=True)])
 
 
 if __name__ == "__main__":

@@ -13,6 +13,8 @@ from collections import namedtuple
 from concurrent.futures import ThreadPoolExecutor
 from enum import Enum
 
+from telling import tell
+
 SEEDS = 300
 OPTIONS = ["--drives", "1", "--slots", "3", "--volumes", "2"]
 # How many lines are struck out in all at least, and how many of these are GOOD.
@@ -216,20 +218,18 @@ class Compared:
         self.difference = None
         for (line, reply), other in zip(stay, alone):
             if shown(reply, line.fate) != shown(other, line.fate):
-                self.difference = f"seed {seed}, {line.text}: {reply} with the others, {other} without"
+                self.difference = f"{line.text}: {reply} with the others, {other} without"
                 break
 
 
 def main():
     with ThreadPoolExecutor(4) as pool:
         compared = list(pool.map(lambda seed: Compared(sys.argv[1], seed), range(SEEDS)))
-    differences = [found.difference for found in compared if found.difference]
     struck, good = sum(found.struck for found in compared), sum(found.good for found in compared)
-    if not (struck > MANY_STRUCK and MANY_GOOD < good < struck):
-        differences.append(f"of {struck} lines that were struck out {good} were GOOD: too few lines, or none that conflicts")
-    print("".join(f"{line}\n" for line in differences), end="")
-    print(f"{SEEDS + 1 - len(differences)} passed, {len(differences)} failed")
-    return bool(differences)
+    are_enough = struck > MANY_STRUCK and MANY_GOOD < good < struck
+    counted = None if are_enough else f"of {struck} lines that were struck out {good} were GOOD"
+    rows = [(f"seed {seed}", found.difference) for seed, found in enumerate(compared)]
+    return tell([*rows, ("enough lines are struck out, and some conflict", counted)])
 
 
 sys.exit(main())

@@ -9,6 +9,8 @@ import random
 import subprocess
 import sys
 
+from telling import tell
+
 NEXUS = "500000000000000a.1"
 CAPACITY = 1 << 20
 LONGEST_BLOCK = 65_536
@@ -269,10 +271,7 @@ def main():
     program = sys.argv[1]
     found = [(shows, difference(program, "1M", list(commands_of(seed, longest)))) for shows, seed, longest in ROWS]
     found.append(("write filemarks takes a million, and write 256 blocks", difference(program, "16M", FULL_VOLUME)))
-    failed = [f"{shows}: {what}" for shows, what in found if what]
-    print("".join(f"{line}\n" for line in failed), end="")
-    print(f"{len(found) - len(failed)} passed, {len(failed)} failed")
-    return bool(failed)
+    return tell(found)
 
 
 sys.exit(main())
