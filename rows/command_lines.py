@@ -8,17 +8,12 @@ prints of a reply and of a record, a client by the frames that come to a socket 
 is told by row, got and wanted; the last line is `N passed, M failed`.
 """
 import os
-import socket
 import struct
-import subprocess
 import sys
 import tempfile
-import threading
 
-from telling import tell
-
-# Seconds for a run. Most end at once; a line that is wrongly taken for one of a server shows as a row, and not as a script that hangs.
-LIMIT = 20
+from telling import Different, compare, difference, run_client, tell
+from telling import run as run_words
 
 # `vtl` shows help and the version.
 SHOWN = [
@@ -251,20 +246,9 @@ FULL = "02 f0004d000000010a00000000000200000000 -"
 LONGEST_BLOCK = 65_536
 
 
-class Different(Exception):
-    """What a row got, and what it wanted."""
-
-
-def compare(got, wanted, what):
-    if got != wanted:
-        raise Different(f"{what}: got {str(got)[:200]}, wanted {str(wanted)[:200]}")
-
-
 def run(program, line, script=b""):
     """How the program ends by the words of a line, of which the first names it, what it prints and what it tells."""
-    words = [os.fsencode(word) for word in line.split(" ")[1:]]
-    ran = subprocess.run([program, *words], input=script, capture_output=True, timeout=LIMIT, check=False)
-    return ran.returncode, ran.stdout.decode(), ran.stderr.decode()
+    return run_words(program, line.split(" ")[1:], script)
 
 
 def check_told(program, line, status, text):
@@ -339,32 +323,13 @@ def check_replay(program, line, made, is_explained, record_words):
     check_volume_size(program, line, made, is_explained)
 
 
-def serve_one(listener, frames):
-    """Takes one connection as a library does (docs/PROTOCOL.md), and keeps the bodies of the frames that come. Each is answered."""
-    sense = bytes.fromhex(POWER_ON.split()[1])
-    replies = {1: b"\x81\0", 2: b"\x82\x02\x12" + sense + bytes(8), 4: b"\x84"}
-    with listener.accept()[0] as stream, stream.makefile("rwb") as file:
-        while head := file.read(4):
-            frames.append(file.read(int.from_bytes(head, "big")))
-            reply = replies.get(frames[-1][0], b"")
-            file.write(len(reply).to_bytes(4, "big") + reply)
-            file.flush()
+# The replies to a LOGIN, to a command, by which its host is told of power on, and to a LOGOUT.
+ANSWERS = {1: b"\x81\0", 2: b"\x82\x02\x12" + bytes.fromhex(POWER_ON.split()[1]) + bytes(8), 4: b"\x84"}
 
 
 def check_client(program, line, nexus, is_explained):
     """Which host a client is, at which socket, and what it prints of a reply."""
-    frames = []
-    with socket.socket(socket.AF_UNIX) as listener, socket.socket(socket.AF_UNIX) as last:
-        listener.bind("here")
-        listener.listen()
-        server = threading.Thread(target=serve_one, args=(listener, frames), daemon=True)
-        server.start()
-        ended = run(program, f"{line} --socket here", b"3 000000000000\n")
-        # Where the client made no connection, this one is taken, and ends.
-        last.connect("here")
-        last.close()
-        server.join(LIMIT)
-    os.remove("here")
+    ended, frames = run_client(program, line.split(" ")[1:], b"3 000000000000\n", ANSWERS)
     compare(frames, [struct.pack(">BQH", 1, *nexus), bytes([2, 3, 6, *bytes(6)]), b"\4"], "frames")
     wanted = [POWER_ON] + [POWER_ON_WORDS] * is_explained
     compare(ended, (0, "".join(f"{text}\n" for text in wanted), ""), "lines of a reply")
@@ -387,24 +352,12 @@ ROWS = [
 ]
 
 
-def difference(program, check, row):
-    try:
-        check(program, *row)
-    except subprocess.TimeoutExpired:
-        return f"it hasn't ended after {LIMIT} seconds"
-    except Different as found:
-        return str(found)
-    except (ValueError, IndexError) as fault:
-        return f"no such answer: {fault}"
-    return None
-
-
 def main():
     program = os.path.abspath(sys.argv[1])
     with tempfile.TemporaryDirectory() as folder:
-        # Where a wrong line makes a socket or a folder of volumes, it is made there.
+        # Where a line makes a socket or a folder of volumes, it is made there.
         os.chdir(folder)
-        found = [(repr(row[0]), difference(program, check, row)) for check, row in ROWS]
+        found = [(repr(row[0]), difference(check, program, *row)) for check, row in ROWS]
         os.chdir("/")
     return tell(found)
 

@@ -7,16 +7,11 @@ the longest comment. What differs is told by row, got and wanted; the last line 
 script are cases of crates/script_cases.
 """
 import os
-import socket
-import subprocess
 import sys
 import tempfile
-import threading
 
-from telling import tell
+from telling import compare, difference, run, run_client, tell
 
-# Seconds for a run, which takes none.
-LIMIT = 20
 # How long a line may be without its end (profile).
 LONGEST_LINE = 270_000
 LOGIN = bytes.fromhex("01 500000000000000a 0001")
@@ -56,63 +51,22 @@ REPLAYED = [
 ]
 
 
-class Different(Exception):
-    """What a row got, and what it wanted."""
-
-
-def compare(got, wanted, what):
-    if got != wanted:
-        raise Different(f"{what}: got {got}, wanted {wanted}")
-
-
-def run(program, words, script):
-    ran = subprocess.run([program, *words], input=script.encode(), capture_output=True, timeout=LIMIT, check=False)
-    return ran.returncode, ran.stdout.decode(), ran.stderr.decode()
-
-
-def run_client(program, script):
-    return run(program, ["client", "--socket", "here", "--sas", "500000000000000a", "--port", "1"], script)
-
-
-def serve_one(listener, frames):
-    """Takes one connection, keeps the bodies of the frames that come, and answers each as one that was carried out."""
-    with listener.accept()[0] as stream, stream.makefile("rwb") as file:
-        while head := file.read(4):
-            frames.append(file.read(int.from_bytes(head, "big")))
-            reply = REPLIES.get(frames[-1][0], b"")
-            file.write(len(reply).to_bytes(4, "big") + reply)
-            file.flush()
-
-
-def run_session(program, script):
-    """How a client ends whose script goes to a socket, and the frames that came there."""
-    frames = []
-    with socket.socket(socket.AF_UNIX) as listener, socket.socket(socket.AF_UNIX) as last:
-        listener.bind("here")
-        listener.listen()
-        server = threading.Thread(target=serve_one, args=(listener, frames), daemon=True)
-        server.start()
-        ended = run(program, ["client", "--socket", "here", "--sas", "500000000000000a", "--port", "1"], script)
-        # Where the client made no connection, this one is taken, and ends.
-        last.connect("here")
-        last.close()
-        server.join(LIMIT)
-    return ended, [frame.hex() for frame in frames]
+CLIENT = ["client", "--sas", "500000000000000a", "--port", "1"]
 
 
 def check_sent(program, script, bodies):
-    ended, frames = run_session(program, script)
-    compare(frames, [LOGIN.hex(), *(body.replace(" ", "") for body in bodies), LOGOUT.hex()], "frames")
+    ended, frames = run_client(program, CLIENT, script.encode(), REPLIES)
+    compare([frame.hex() for frame in frames], [LOGIN.hex(), *(body.replace(" ", "") for body in bodies), LOGOUT.hex()], "frames")
     compare(ended, (0, "".join("00 - -\n" for _ in bodies), ""), "end")
 
 
 def check_refused(program, script, fault):
     """The whole script is looked at before its first frame, so nothing is sent of one that has a fault."""
-    compare(run_session(program, script), ((2, "", f"vtl: {fault}\n"), []), "end and frames")
+    compare(run_client(program, CLIENT, script.encode(), REPLIES), ((2, "", f"vtl: {fault}\n"), []), "end and frames")
 
 
 def check_replayed(program, script, wanted):
-    compare(run(program, ["replay"], script), wanted, "end")
+    compare(run(program, ["replay"], script.encode()), wanted, "end")
 
 
 ROWS = [
@@ -122,24 +76,10 @@ ROWS = [
 ]
 
 
-def difference(check, program, script, wanted):
-    """How a row differs, if it does. The file of its socket goes."""
-    try:
-        check(program, script, wanted)
-    except subprocess.TimeoutExpired:
-        return f"it hasn't ended after {LIMIT} seconds"
-    except Different as found:
-        return str(found)
-    finally:
-        if os.path.exists("here"):
-            os.remove("here")
-    return None
-
-
 def main():
     program = os.path.abspath(sys.argv[1])
     with tempfile.TemporaryDirectory() as folder:
-        # The path of a socket is short, so its file stands in the folder that the program runs in.
+        # A client's socket stands in the folder that the program runs in.
         os.chdir(folder)
         found = [(shows, difference(check, program, script, wanted)) for check, shows, script, wanted in ROWS]
         os.chdir("/")
