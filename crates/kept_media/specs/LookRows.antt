@@ -1,6 +1,7 @@
 -- Values of worked rows: a volume of two filemarks in a drive, the part of its image, and an attendant that notes what it sees.
 use Rattle.std.specs.Prelude.{◌≡◌, ℕ, true, false, List, [], ◌∷◌, ◌++◌, Some}
 use Rattle.tape_medium.specs.Object.{Mark}
+use Rattle.tape_medium.specs.declared.volume.Volume.{Volume}
 use Rattle.tape_medium.specs.declared.volume.VolumeTag.{VolumeTag}
 use Rattle.device_server.specs.Drive.{DriveView}
 use Rattle.device_server.specs.View.{DeviceView}
@@ -20,13 +21,20 @@ up_to end = record { stay = 0; end = end; count = 2 }
 abbrev pub part_of_two_marks : TapePartValue
 part_of_two_marks = record { bytes = 0 ∷ 0 ∷ 0 ∷ 0 ∷ 0 ∷ 0 ∷ 0 ∷ 0 ∷ []; ends = 4 ∷ 8 ∷ [] }
 
--- a drive with them, of which the first counts as unchanged
+-- a volume of them at the beginning of its tape, of which so many count as unchanged, and a drive with it
+abbrev pub marked_volume : (unchanged : ℕ) → VolumeTag → Volume
+marked_volume unchanged tag =
+    record { tag = tag; protected = false; tape = record { objects = Mark ∷ Mark ∷ []; position = 0; capacity = 10; unchanged = unchanged } }
+
+abbrev pub drive_of_marks : (unchanged : ℕ) → VolumeTag → DriveView
+drive_of_marks unchanged tag = record { bay = Some (marked_volume unchanged tag); loaded = true; block_length = 0 }
+
+-- as it was loaded, and once a part of one object was taken
+abbrev pub loaded_drive : VolumeTag → DriveView
+loaded_drive = drive_of_marks 2
+
 abbrev pub settled_drive : VolumeTag → DriveView
-settled_drive tag = record {
-  bay = Some (record { tag = tag; protected = false; tape = record { objects = Mark ∷ Mark ∷ []; position = 0; capacity = 10; unchanged = 1 } });
-  loaded = true;
-  block_length = 0;
-}
+settled_drive = drive_of_marks 1
 
 -- notes each device behind those before, and leaves it as it is
 abbrev pub Notes : List DeviceView → (before after : DeviceView) → List DeviceView → Type 0

@@ -8,11 +8,9 @@ mod keeper;
 mod listing;
 mod looking;
 mod rows;
-mod start;
 mod store;
 mod wish;
 
 pub use keeper::{MediaKeeper, VolumeImage};
-pub use rows::{asked_rows, look_rows, worked_rows};
-pub use start::{LibraryFault, StartedVolume, library_of_volumes};
+pub use rows::{asked_rows, look_rows};
 pub use store::InventoryStore;

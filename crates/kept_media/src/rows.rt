@@ -2,31 +2,15 @@ ghost use Rattle.std.specs.Prelude.{◌≡◌, ◌≢◌, [], ◌∷◌, Err, No
 ghost use Rattle.device_server.specs.Attending.{WasAsked};
 ghost use Rattle.device_server.specs.Drive.{empty_drive};
 ghost use Rattle.device_server.specs.View.{DeviceView, Drive, Changer};
-ghost use Rattle.library_inventory.specs.declared.element.Element.TheVariants.{DataTransfer, Storage};
-ghost use Rattle.logical_unit.specs.Step.{made};
 ghost use Rattle.scsi_cdb.specs.declared.kind.Kind.TheVariants as kind;
 ghost use Rattle.tape_flush.specs.Images.{TapePartValue};
 ghost use Rattle.tape_flush.specs.declared.fault.FlushFault.{FlushFault};
 ghost use Rattle.tape_flush.specs.Kept.{KeptImageValue};
-ghost use Rattle.kept_media.specs.LookRows.{Notes, no_image, part_of_two_marks, settled_drive, up_to};
+ghost use Rattle.kept_media.specs.LookRows.{Notes, loaded_drive, no_image, part_of_two_marks, settled_drive, up_to};
 ghost use Rattle.kept_media.specs.Looking.{WasTaken, settled_by};
 ghost use Rattle.tape_flush.specs.declared.part_range.PartRange.{PartRange};
-ghost use Rattle.kept_media.specs.Starting.{ShelvesView, empty_shelves, IsShelved, IsLibraryOf};
-ghost use Rattle.kept_media.specs.StartRows.{two_marks, one_drive, in_slot_and_drive, with_one, loaded_drive, with_both};
 
 use tape_medium::VolumeTag;
-
-/// Worked rows: volumes that are put into a library of one drive and two slots, and what takes none.
-pub fn worked_rows(a: VolumeTag, b: VolumeTag)
-    ensures in_slot { IsShelved (empty_shelves one_drive) (Storage 1) (two_marks a 2) (with_one a) }
-    ensures in_drive { IsShelved (with_one a) (DataTransfer 0) (two_marks b 2) (with_both a b) }
-    ensures full_slot { (t : ShelvesView) → ¬ IsShelved (with_one a) (Storage 1) (two_marks b 2) t }
-    ensures full_drive { (t : ShelvesView) → ¬ IsShelved (with_both a b) (DataTransfer 0) (two_marks a 2) t }
-    ensures no_slot { (t : ShelvesView) → ¬ IsShelved (with_one a) (Storage 2) (two_marks b 2) t }
-    ensures no_drive { (t : ShelvesView) → ¬ IsShelved (with_one a) (DataTransfer 1) (two_marks b 2) t }
-    ensures library { IsLibraryOf one_drive (in_slot_and_drive a b)
-        (made (Changer (with_both a b).elements) 0 2 0 ∷ made (Drive (loaded_drive b)) 1 2 0 ∷ []) }
-{}
 
 /// Worked rows: what a look for a volume takes at a drive that has it, that has another, and that has none; and what it settles.
 pub fn look_rows(a: VolumeTag, b: VolumeTag)

@@ -9,8 +9,8 @@ use Rattle.logical_unit.specs.Step.{made}
 use Rattle.logical_unit.specs.UnitView.{UnitWithRoom, units_of}
 use Rattle.library_inventory.specs.declared.element.Element.{Element}
 use Rattle.library_inventory.specs.declared.element.Element.TheVariants.{DataTransfer, Storage, ImportExport}
-use Rattle.kept_media.specs.declared.start.StartedVolume.{StartedVolume}
-use Rattle.kept_media.specs.Starting.{ShelvesView, IsShelved, AreShelved, drive_units, units_at}
+use Rattle.placed_library.specs.declared.start.StartedVolume.{StartedVolume}
+use Rattle.placed_library.specs.Starting.{ShelvesView, IsShelved, AreShelved, drive_units, units_at}
 
 -- one volume more
 pub AreShelved-more : (s m t : ShelvesView) (xs : List StartedVolume) (x : StartedVolume) → AreShelved s xs m → IsShelved m x.element x.volume t

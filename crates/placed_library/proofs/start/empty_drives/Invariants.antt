@@ -1,6 +1,6 @@
 use Rattle.std.proofs.Common.{◌≡◌, replicate}
 use Rattle.device_server.specs.Drive.{empty_drive}
-use Rattle.kept_media.proofs.start.empty_drives.Given as goal
+use Rattle.placed_library.proofs.start.empty_drives.Given as goal
 
 -- as many as the loop has passed
 abbrev pub invariant-drives : goal.invariant-drives

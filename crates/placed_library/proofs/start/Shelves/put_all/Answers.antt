@@ -1,5 +1,5 @@
-use Rattle.kept_media.proofs.StartLemmas.{AreShelved-more}
-use Rattle.kept_media.proofs.start.Shelves.put_all.Goals as goal
+use Rattle.placed_library.proofs.StartLemmas.{AreShelved-more}
+use Rattle.placed_library.proofs.start.Shelves.put_all.Goals as goal
 
 pub volumes-preserved : goal.volumes-preserved
 volumes-preserved c =

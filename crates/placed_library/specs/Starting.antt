@@ -9,7 +9,7 @@ use Rattle.logical_unit.specs.UnitView.{UnitView}
 use Rattle.library_inventory.specs.declared.element.Element.{Element}
 use Rattle.library_inventory.specs.declared.element.Element.TheVariants.{DataTransfer, Storage, ImportExport}
 use Rattle.library_inventory.specs.declared.element.LibrarySize.{LibrarySize}
-use Rattle.kept_media.specs.declared.start.StartedVolume.{StartedVolume}
+use Rattle.placed_library.specs.declared.start.StartedVolume.{StartedVolume}
 
 -- a changer's elements, and the drives in the order of theirs
 pub record ShelvesView : Type 0 where

@@ -2,9 +2,9 @@ use Rattle.std.proofs.Common.{◌≡◌, ◌+◌, ◌∷◌, [], length, length-
 use Rattle.std.proofs.lemmas.Iterator.Consumers.{YieldsList-turn}
 use Rattle.std.proofs.lemmas.Iterator.Adapters.{YieldsList-from_vec}
 use Rattle.logical_unit.specs.UnitView.{units_of}
-use Rattle.kept_media.specs.Starting.{ShelvesView}
-use Rattle.kept_media.proofs.StartLemmas.{units_at-more}
-use Rattle.kept_media.proofs.start.units_over.Goals as goal
+use Rattle.placed_library.specs.Starting.{ShelvesView}
+use Rattle.placed_library.proofs.StartLemmas.{units_at-more}
+use Rattle.placed_library.proofs.start.units_over.Goals as goal
 
 pub drives-preserved : goal.drives-preserved
 drives-preserved c =

@@ -4,8 +4,8 @@ ghost use Rattle.std.specs.Prelude.{◌≡◌, ◌+◌, ◌≤◌, length, Ok, I
 ghost use Rattle.tape_medium.specs.Elements.{puts};
 ghost use Rattle.device_server.specs.Drive.{empty_drive};
 ghost use Rattle.logical_unit.specs.UnitView.{units_of};
-ghost use Rattle.kept_media.specs.Sizes.{IsMade};
-ghost use Rattle.kept_media.specs.Starting.{IsLoaded, AreShelved, units_at, IsLibraryOf};
+ghost use Rattle.placed_library.specs.Sizes.{IsMade};
+ghost use Rattle.placed_library.specs.Starting.{IsLoaded, AreShelved, units_at, IsLibraryOf};
 
 use changer_server::Changer;
 use device_server::DeviceServer;
@@ -57,7 +57,7 @@ struct Shelves {
 }
 
 impl Model for Shelves {
-    ghost use Rattle.kept_media.specs.Starting.{ShelvesView};
+    ghost use Rattle.placed_library.specs.Starting.{ShelvesView};
 
     ghost Value = { ShelvesView };
 
@@ -86,7 +86,7 @@ fn load_drive(drive: &mut TapeDrive, volume: Volume) -> Result<(), LibraryFault>
 }
 
 impl Shelves {
-    ghost use Rattle.kept_media.specs.Starting.{empty_shelves, IsShelved};
+    ghost use Rattle.placed_library.specs.Starting.{empty_shelves, IsShelved};
 
     /// Empty ones.
     fn new(alloc: Global, size: LibrarySize) -> Result<Shelves, LibraryFault>

@@ -6,8 +6,8 @@ use Rattle.tape_medium.specs.declared.volume.Volume.{Volume}
 use Rattle.device_server.specs.Drive.{DriveView, empty_drive}
 use Rattle.library_inventory.specs.declared.element.Element.TheVariants.{DataTransfer, Storage}
 use Rattle.library_inventory.specs.declared.element.LibrarySize.{LibrarySize}
-use Rattle.kept_media.specs.declared.start.StartedVolume.{StartedVolume}
-use Rattle.kept_media.specs.Starting.{ShelvesView}
+use Rattle.placed_library.specs.declared.start.StartedVolume.{StartedVolume}
+use Rattle.placed_library.specs.Starting.{ShelvesView}
 
 -- two filemarks
 abbrev pub two_marks : VolumeTag → (position : ℕ) → Volume

@@ -1,9 +1,9 @@
 use Rattle.std.proofs.Common.{length, ap, arith}
 use Rattle.std.proofs.lemmas.List.{length-replicate}
 use Rattle.device_server.specs.Drive.{empty_drive}
-use Rattle.kept_media.specs.Starting.{ShelvesView}
-use Rattle.kept_media.proofs.StartLemmas.{AreShelved-length}
-use Rattle.kept_media.proofs.start.library_of_volumes.Goals as goal
+use Rattle.placed_library.specs.Starting.{ShelvesView}
+use Rattle.placed_library.proofs.StartLemmas.{AreShelved-length}
+use Rattle.placed_library.proofs.start.library_of_volumes.Goals as goal
 
 pub units_over-requires : goal.units_over-requires
 units_over-requires c =

@@ -1,7 +1,7 @@
 use Rattle.std.proofs.Common.{◌≡◌, length}
 use Rattle.logical_unit.specs.UnitView.{units_of}
-use Rattle.kept_media.specs.Starting.{units_at}
-use Rattle.kept_media.proofs.start.units_over.Given as goal
+use Rattle.placed_library.specs.Starting.{units_at}
+use Rattle.placed_library.proofs.start.units_over.Given as goal
 
 -- the changer, and the drives that the loop has passed
 abbrev pub invariant-drives : goal.invariant-drives

@@ -1,6 +1,6 @@
 use Rattle.std.proofs.Common.{refl, lit<}
-use Rattle.kept_media.specs.StartRows.{with_one, with_both}
-use Rattle.kept_media.proofs.rows.worked_rows.Goals as goal
+use Rattle.placed_library.specs.StartRows.{with_one, with_both}
+use Rattle.placed_library.proofs.rows.worked_rows.Goals as goal
 
 pub returns-clause-library : goal.returns-clause-library
 returns-clause-library c = record {

@@ -1,5 +1,5 @@
-use Rattle.kept_media.specs.Starting.{AreShelved}
-use Rattle.kept_media.proofs.start.Shelves.put_all.Given as goal
+use Rattle.placed_library.specs.Starting.{AreShelved}
+use Rattle.placed_library.proofs.start.Shelves.put_all.Given as goal
 
 -- those that the loop has passed are in their elements
 abbrev pub invariant-volumes : goal.invariant-volumes
