@@ -61,7 +61,23 @@ SECRETS = {
         "a secret that is too short isn't taken, and isn't told", 0o600, "iqn.2026-11.a:b user short",
         ", line 1: a secret has 12 to 128 bytes"),
     "no-secret": Secrets("a line without a secret isn't taken", 0o600, "# a host\niqn.2026-11.a:b user", ", line 2: say NAME USER SECRET"),
+    "comment-for-a-secret": Secrets(
+        "a line with a comment in the place of a secret isn't taken", 0o600, "# none\n\niqn.a user # a-secret-of-16-b",
+        ", line 3: say NAME USER SECRET"),
+    "no-secret-of-the-target": Secrets(
+        "a line without the target's secret isn't taken", 0o600, "# none\n\niqn.a user a-secret-of-16-b target",
+        ", line 3: say NAME USER SECRET"),
+    "a-word-more": Secrets(
+        "a line with a word more isn't taken", 0o600, "# none\n\niqn.a user a-secret-of-16-b target the-targets-secret more",
+        ", line 3: say NAME USER SECRET"),
+    "eleven-bytes": Secrets(
+        "a secret of eleven bytes is too short", 0o600, "# none\n\niqn.a user eleven-byte", ", line 3: a secret has 12 to 128 bytes"),
+    "short-secret-of-the-target": Secrets(
+        "nor is a short one of the target taken", 0o600, "# none\n\niqn.a user a-secret-of-16-b target short",
+        ", line 3: a secret has 12 to 128 bytes"),
 }
+# What no line tells.
+SECRET = ["short", "a-secret-of-16-b", "the-targets-secret", "eleven-byte"]
 
 
 def secrets(of: Secrets) -> typing.Callable[[Tried], None]:
@@ -73,7 +89,8 @@ def secrets(of: Secrets) -> typing.Callable[[Tried], None]:
         same(f"the status behind {text!r}", status, 2)
         holds("what is told", text, of.words)
         holds("what is told", text, str(path))
-        lacks("what is told", text, "short")
+        for word in SECRET:
+            lacks("what is told", text, word)
 
     return play
 

@@ -1,8 +1,8 @@
+//! What the side of an initiator does with PDUs: it writes its own, and reads the target's.
 use super::assert_same;
 use iscsi_pdu::{
-    InitiatorHeader, LoginResponse, LoginStatus, ParsedInitiatorPdu, ParsedTargetPdu, SerialNumber,
-    Stage, TargetHeader, TargetPdu, parse_initiator_pdu, parse_target_pdu, write_initiator_pdu,
-    write_target_pdu,
+    LoginResponse, LoginStatus, ParsedInitiatorPdu, ParsedTargetPdu, SerialNumber, Stage,
+    TargetHeader, parse_initiator_pdu, parse_target_pdu, write_initiator_pdu,
 };
 
 /// A login from operational negotiation to full feature, by ISID 00023D000001h, with `A=b` and its NUL.
@@ -17,22 +17,6 @@ const LET_IN: &[u8] = &[
     0, 0, 1, 0, 0, 0, 0x20, 0, 0, 0, 0, 0, 0, 0, 0, 0, 0, 0, 0,
 ];
 
-/// A login as it is compared: the next stage, ISID and CID, the text, and how many bytes the PDU has.
-type Told<'a> = (Stage, u64, u16, &'a [u8], usize);
-
-/// The login that a stream of an initiator begins with.
-fn login_in(bytes: &[u8]) -> Option<Told<'_>> {
-    match parse_initiator_pdu(8192, bytes) {
-        ParsedInitiatorPdu::Complete(pdu, count) => match pdu.header {
-            InitiatorHeader::LoginRequest(login) => {
-                Some((login.next_stage, login.isid, login.cid, pdu.payload, count))
-            }
-            _ => None,
-        },
-        _ => None,
-    }
-}
-
 /// Adds the bytes of the PDU that a stream begins with, which is parsed and written. Says whether that was done.
 fn is_rewritten(bytes: &[u8], out: &mut Vec<u8>) -> bool {
     let ParsedInitiatorPdu::Complete(pdu, _) = parse_initiator_pdu(8192, bytes) else {
@@ -43,8 +27,6 @@ fn is_rewritten(bytes: &[u8], out: &mut Vec<u8>) -> bool {
     }
     write_initiator_pdu(out, &pdu).is_ok()
 }
-
-const TOLD: Told<'static> = (Stage::FullFeaturePhase, 0x0002_3D00_0001, 2, b"A=b\0", 52);
 
 const RESPONSE: LoginResponse = LoginResponse {
     transit: true,
@@ -110,30 +92,16 @@ fn response_in(bytes: &[u8]) -> Option<Answered<'_>> {
     }
 }
 
-/// Adds the bytes of the response. Says whether that was done.
-fn is_written(out: &mut Vec<u8>) -> bool {
-    let pdu = TargetPdu {
-        header: TargetHeader::LoginResponse(RESPONSE),
-        payload: &[],
-    };
-    write_target_pdu(out, &pdu).is_ok()
-}
-
 #[test]
 fn a_login_is_parsed_and_written(rt: HostRuntime) {
-    let shows = "next stage, ISID, CID, text and length";
-    assert_same(&rt, login_in(LOGIN), Some(TOLD), shows);
     let mut out = Vec::new(rt.alloc());
     let found = (is_rewritten(LOGIN, &mut out), out.as_slice());
     assert_same(&rt, found, (true, LOGIN), "the bytes again");
 }
 
 #[test]
-fn a_login_response_is_written_and_parsed(rt: HostRuntime) {
-    let mut out = Vec::new(rt.alloc());
-    let found = (is_written(&mut out), out.as_slice());
-    assert_same(&rt, found, (true, LET_IN), "the bytes");
+fn a_login_response_is_parsed(rt: HostRuntime) {
     let expected: Option<Answered<'_>> = Some((said_by(&RESPONSE), b"", 48));
-    let shows = "the response again, no text, and the length";
+    let shows = "the response, no text, and the length";
     assert_same(&rt, response_in(LET_IN), expected, shows);
 }

@@ -1,0 +1,26 @@
+//! How the faults of a file of secrets say what they are; the program says it in other words.
+use super::assert_same;
+use iscsi_chap::{LineFault, SecretsFault};
+
+const ROWS: [(LineFault, &'static str); 2] = [
+    (
+        LineFault::FieldCount,
+        "line 3: expected NAME USER SECRET, or NAME USER SECRET TARGET-USER TARGET-SECRET",
+    ),
+    (
+        LineFault::SecretLength,
+        "line 3: a secret has 12 to 128 bytes",
+    ),
+];
+
+#[test]
+fn faults_of_secrets_are_shown(rt: HostRuntime) {
+    for (what, shown) in &ROWS {
+        let fault = SecretsFault::Line {
+            number: 3,
+            what: *what,
+        };
+        let text = format!(in rt.alloc(); "{fault}").expect(&rt, "memory");
+        assert_same(&rt, text.as_str(), *shown, "a fault shows no secret");
+    }
+}

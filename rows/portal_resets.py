@@ -1,0 +1,58 @@
+"""Units that another session resets where commands wait."""
+from exchanges import WAS_RESET
+from portal_pdus import BY_RESET, CHANGER, DRIVE, checked, data_out, good, nop_in, nop_out, ready, wanted, write
+from portal_scenes import FIRST, RESET, TEST, WRITE, Scene, Table, begins, gets, sends, sends_first, sends_rest, under
+from portal_stage import Stage, Step
+from serving import same
+
+# LUNs as frames have them.
+OF_CHANGER, OF_DRIVE = 0, 1
+
+
+def resets(unit: int) -> Step:
+    """The host at the socket resets a unit."""
+    def do(stage: Stage) -> None:
+        same("how a reset is answered", stage.says(bytes([3, unit])).hex(), WAS_RESET.hex())
+
+    return do
+
+
+def asks_whether_there(tag: int, number: int) -> bytes:
+    """A NOP-Out that takes up no number. Its answer shows that all before it was taken."""
+    return nop_out(tag, number, now=True)
+
+
+# A session looks whether units were reset whenever it has read something. By the NOP-Out the commands before it wait before the reset.
+WRITE_WAITS = [*begins(), sends(write(2, 1)), gets(wanted(2, (3, 2, 32)))]
+DATA = data_out(2, b"abcd")
+PING = asks_whether_there(5, 3)
+
+
+def with_behind(lun: str) -> list[Step]:
+    """A command behind the write waits for its turn."""
+    return [*begins(), sends(write(2, 1), ready(3, 2, lun), asks_whether_there(4, 3)), gets(wanted(2, (3, 2, 32)), nop_in(4, (3, 3, 32)))]
+
+
+SCENES = under(
+    "commands at a unit that another session resets are not executed",
+    Scene("a write that waits for its data goes, and the command behind it is executed", [
+        *with_behind(CHANGER), resets(OF_DRIVE), sends_first(20, PING), gets(good(3, (4, 3, 34))), sends_rest(20, PING),
+        gets(nop_in(5, (5, 3, 34)))], drive=[RESET], changer=[TEST], tape=b""),
+    Scene("a command that waits for its turn goes, and the write before it is executed", [
+        *with_behind(CHANGER), resets(OF_CHANGER), sends(DATA), gets(good(2, (4, 3, 34)))], drive=[WRITE], changer=[RESET], tape=b"abcd"),
+    Scene("both are at the unit", [
+        *with_behind(DRIVE), resets(OF_DRIVE), sends(DATA, PING), gets(nop_in(5, (4, 3, 34)))], drive=[RESET], tape=b""),
+    Scene("the last of its data come, and it isn't executed", [
+        *WRITE_WAITS, sends_first(51, DATA), resets(OF_DRIVE), sends_rest(51, DATA), sends(asks_whether_there(4, 2)),
+        gets(nop_in(4, (3, 2, 33)))], drive=[RESET], tape=b""),
+    # It is told of the reset.
+    Scene("a command that comes behind the reset is executed", [
+        *WRITE_WAITS, sends_first(12, DATA), resets(OF_DRIVE), sends_rest(12, DATA), sends(ready(3, 2)),
+        gets(checked(3, (3, 3, 34), BY_RESET))], drive=[RESET, FIRST], tape=b""),
+    Scene("a reset before all", [
+        resets(OF_DRIVE), *begins(), sends(write(2, 1), DATA), gets(wanted(2, (3, 2, 32)), good(2, (3, 2, 33)))],
+        drive=[WRITE], tape=b"abcd"),
+    Scene("a reset of another unit", [
+        *WRITE_WAITS, resets(OF_CHANGER), sends(DATA), gets(good(2, (3, 2, 33)))], drive=[WRITE], changer=[RESET], tape=b"abcd"))
+
+TABLES = [Table("resets by another session", SCENES)]
