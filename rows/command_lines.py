@@ -140,6 +140,8 @@ SIZES_REFUSED = [
     ("vtl replay --volume-size=-16M", 2, "as 16M: -16M"),
     ("vtl replay --volume-size=", 2, "vtl: no size of a volume: say a number of bytes from 1M to 64G, as 16M: "),
     ("vtl serve --socket s --volume-size 1T", 2, "as 16M: 1T"),
+    ("vtl replay --volume-size 65537M", 2, "as 16M: 65537M"),
+    ("vtl replay --volume-size 67108865K", 2, "as 16M: 67108865K"),
     ("vtl client --volume-size 1M", 2, "unexpected argument"),
     ("vtl replay --media d", 2, "unexpected argument '--media'"),
     ("vtl client --media d", 2, "unexpected argument '--media'"),
@@ -147,13 +149,15 @@ SIZES_REFUSED = [
     ("vtl serve --socket s --media d --media e", 2, "cannot be used multiple times"),
     ("vtl serve --socket s --media d --drives 5", 2, "5 is not in 1..=4"),
     ("vtl serve --socket s --memory 1023K", 2, "from 1M to 65536G, as 4G: 1023K"),
+    ("vtl serve --socket s --memory 1048575", 2, "as 4G: 1048575"),
     ("vtl serve --socket s --memory 65537G", 2, "as 4G: 65537G"),
+    ("vtl serve --socket s --memory 70368744177665", 2, "as 4G: 70368744177665"),
     ("vtl serve --socket s --memory 4GB", 2, "as 4G: 4GB"),
     ("vtl serve --socket s --memory=", 2, "vtl: no size of memory"),
     ("vtl replay --memory 1G", 2, "unexpected argument '--memory'"),
 ]
 
-# Wrong lines of the other tasks, and of none. Behind each \udcff is a byte that is no UTF-8.
+# Wrong lines of the other tasks, and of none, in words where one has a blank. Behind each \udcff is a byte that is no UTF-8.
 REFUSED = [
     ("vtl", 2, "requires a subcommand"),
     ("vtl replay --grace 1", 2, "unexpected argument '--grace'"),
@@ -179,9 +183,18 @@ REFUSED = [
     ("vtl client --socket s --port 1", 2, "--sas <HEX>"),
     ("vtl client --socket s --sas 500000000000000a", 2, "--port <P>"),
     ("vtl client --socket s --sas 500000000000000 --port 1", 2, "vtl: bad nexus"),
+    ("vtl client --socket s --sas= --port 1", 2, "vtl: bad nexus\n"),
+    ("vtl client --socket s --sas 50000000000000a --port 1", 2, "vtl: bad nexus\n"),
+    ("vtl client --socket s --sas 5000000000000000a --port 1", 2, "vtl: bad nexus\n"),
+    ("vtl client --socket s --sas 500000000000000g --port 1", 2, "vtl: bad nexus\n"),
+    ("vtl client --socket s --sas 0x0000000000000a --port 1", 2, "vtl: bad nexus\n"),
+    ("vtl client --socket s --sas 500000000000000a.1 --port 1", 2, "vtl: bad nexus\n"),
     ("vtl client --socket s --sas 500000000000000a --port 5", 2, "5 is not in 1..=4"),
     ("vtl client --socket s --sas 500000000000000a --port 0", 2, "0 is not in 1..=4"),
     ("vtl cells WRITE", 2, "vtl: no class of commands is named WRITE"),
+    ("vtl cells READ", 2, "vtl: no class of commands is named READ\n"),
+    ("vtl cells ", 2, "vtl: no class of commands is named \n"),
+    (["vtl", "cells", "READ(6) "], 2, "vtl: no class of commands is named READ(6) \n"),
     ("vtl cells READ(6) WRITE(6)", 2, "unexpected argument"),
     ("vtl \udcff", 2, "vtl: arguments that are not text\n"),
     ("vtl replay --volume-size 1\udcffM", 2, "vtl: arguments that are not text\n"),
@@ -199,12 +212,18 @@ REPLAYS = [
     ("vtl replay --volume-size 1M", (1, 8, 0, 1, MEBIBYTE), False, 0),
     ("vtl replay --volume-size 1024K", (1, 8, 0, 1, MEBIBYTE), False, 0),
     ("vtl replay --volume-size 1048577", (1, 8, 0, 1, MEBIBYTE + 1), False, 0),
+    # Volumes too large to be filled.
+    ("vtl replay --volume-size=64g --volumes 8", (1, 8, 0, 8, None), False, 0),
+    ("vtl replay --volume-size 65536m", (1, 8, 0, 1, None), False, 0),
+    ("vtl replay --volume-size 67108864k", (1, 8, 0, 1, None), False, 0),
+    ("vtl replay --volume-size 68719476736", (1, 8, 0, 1, None), False, 0),
 ]
 
 # Of a line of client, whose socket's path is in front of it here: its nexus, and whether replies are said in words.
 CLIENTS = [
     ("vtl client --port 4 --sas 500000000000000B", (0x500000000000000B, 4), False),
     ("vtl client --explain --port 4 --sas 500000000000000B", (0x500000000000000B, 4), True),
+    ("vtl client --port 4 --sas 500000000000000a", (0x500000000000000A, 4), False),
 ]
 
 # The permission table (profile): under each type of reservation what a holder, a registered nexus and another may do, by the group of
@@ -234,6 +253,11 @@ CELLS = [
     ("vtl cells", [name for name, _ in CHART]),
     ("vtl cells WRITE(6)", ["WRITE(6)"]),
     ("vtl cells pr-in", ["PR-IN"]),
+    ("vtl cells READ(6)", ["READ(6)"]),
+    ("vtl cells REGISTER-MOVE", ["REGISTER-MOVE"]),
+    ("vtl cells REGISTER-IGNORE", ["REGISTER-IGNORE"]),
+    ("vtl cells read-element-status", ["READ-ELEMENT-STATUS"]),
+    ("vtl cells Read-Element-Status-CurData", ["READ-ELEMENT-STATUS-CURDATA"]),
 ]
 
 HOST = "500000000000000a.1"
@@ -248,7 +272,8 @@ LONGEST_BLOCK = 65_536
 
 def run(program, line, script=b""):
     """How the program ends by the words of a line, of which the first names it, what it prints and what it tells."""
-    return run_words(program, line.split(" ")[1:], script)
+    words = line.split(" ") if isinstance(line, str) else line
+    return run_words(program, words[1:], script)
 
 
 def check_told(program, line, status, text):
@@ -297,7 +322,7 @@ def check_volume_size(program, line, made, is_explained):
     """A volume takes just so many bytes of blocks."""
     size = made[4]
     if size is None:
-        return  # no volume shows it
+        return  # no volume shows it, or none that is filled soon
     begun = [(0, "0" * 12, ""), (1, "0" * 12, ""), (0, "a50000000400010000000000", ""), (1, "0" * 12, "")]
     wanted = [POWER_ON, POWER_ON, "00 - -", MEDIUM_CHANGED]
     longest = (1, "0a0001000000", "00" * LONGEST_BLOCK)

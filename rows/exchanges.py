@@ -80,7 +80,7 @@ NO_UNIT = bytes.fromhex("7f0006021f000000") + b" " * 28
 
 
 class Says(typing.NamedTuple):
-    """A host sends a frame by its connection, and reads this answer."""
+    """A host sends a frame by its connection, and reads this answer, or none where it is empty."""
 
     place: int
     frame: bytes
@@ -130,6 +130,8 @@ AT_ONCE = 100
 
 def says(connection: socket.socket, step: Says) -> None:
     connection.sendall(framed(step.frame))
+    if not step.answer:
+        return
     same(f"the answer to {step.frame[:9].hex()} of connection {step.place}", received(connection).hex(), step.answer.hex())
 
 

@@ -57,10 +57,14 @@ class Initiator(Wire):
         self.number += 1
         return self.number - 1
 
-    def log_in(self) -> None:
-        keys = login_keys(f"iqn.2026-11.example:{self.name}", {})
-        self.send(login_pdu(TO_FULL_FEATURE, keys, number=self.number))
+    def log_in(self, target: str = iscsi.TARGET) -> None:
+        self.ask_in(target)
         self.reads(LET_IN)
+
+    def ask_in(self, target: str = iscsi.TARGET) -> None:
+        """Asks for a session with a target, by a name of its own or of the examples."""
+        name = self.name if "." in self.name else f"iqn.2026-11.example:{self.name}"
+        self.send(login_pdu(TO_FULL_FEATURE, login_keys(name, {}, target), number=self.number))
 
     def ask(self, start: str) -> None:
         """TEST UNIT READY to the drive."""

@@ -125,14 +125,18 @@ class Told:
 
 
 class Server:
-    """The program that serves at a socket. Its lines go to a file, which may grow to so many bytes, or to where `output` says."""
+    """The program that serves, at a socket unless it is only at portals, and waits for its hosts for ever, or as is usual, but for the times that
+    are given. Its lines go to a file, which may grow to so many bytes, or to where `output` says."""
 
-    def __init__(self, tried: Tried, *words: str, output: int | None = None, room: int | None = None, **times: int):
+    def __init__(
+            self, tried: Tried, *words: str, output: int | None = None, room: int | None = None, has_socket: bool = True,
+            is_patient: bool = True, **times: int):
         self.path = tried.path("socket")
         self.lines_path = tried.path("lines")
-        options = PATIENT | {f"--{name.replace('_', '-')}": seconds for name, seconds in times.items()}
+        options = (PATIENT if is_patient else {}) | {f"--{name.replace('_', '-')}": seconds for name, seconds in times.items()}
         waits = [str(word) for option in options.items() for word in option]
-        command = [tried.program, "serve", "--socket", self.path, *words, *waits]
+        place = ["--socket", self.path] if has_socket else []
+        command = [tried.program, "serve", *place, *words, *waits]
         self.room = room
         with open(self.lines_path, "wb") as lines:
             # The signal for a file that may grow no further would end it, unless it is ignored, as Python does.
@@ -169,9 +173,9 @@ class Server:
         connection.connect(self.path)
         return connection
 
-    def portal(self) -> tuple[str, int]:
-        """Where its portal is."""
-        return "127.0.0.1", int(re.search(r"127\.0\.0\.1:([0-9]+)", self.told.text)[1])
+    def portal(self, address: str = "127.0.0.1") -> tuple[str, int]:
+        """Where its portal of this address is."""
+        return address.strip("[]"), int(re.search(re.escape(address) + ":([0-9]+)", self.told.text)[1])
 
     def client(self, script: str, sas: int) -> tuple[int, str, str]:
         """The program as a host that sends a script by target port 1: its status, its replies, and what it tells."""

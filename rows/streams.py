@@ -7,7 +7,8 @@ import termios
 import time
 import typing
 
-from exchanges import A, ACCEPTED, LOGGED_OUT, LOGIN_OF_A, LOGOUT, READY, login, power_on
+from exchanges import (
+    A, ACCEPTED, CHANGER, LOGGED_OUT, LOGIN_OF_A, LOGOUT, NOWHERE, READY, Asks, Says, asks, check, command, good, login, power_on, says)
 from serving import Row, Server, Tried, Wrong, patience, same, same_lines
 from sessions import LINES_OF_A
 
@@ -75,6 +76,61 @@ def whole(tried: Tried) -> None:
         server.ends()
         same_lines(server.lines(), LINES_OF_A)
         server.told.wait_for(f"vtl: {OF_A} ended by its LOGOUT after 1 commands")
+
+
+def at_once(tried: Tried) -> None:
+    with Server(tried, "--sessions", "1") as server:
+        connection = server.connect()
+        connection.sendall(ONE_SESSION)
+        same("the replies", rest_of(connection), REPLIES)
+        server.ends()
+        same_lines(server.lines(), LINES_OF_A)
+
+
+# A command to a unit that isn't there (SPC-4: 25h/00h), which has no record, and a reset of it.
+ABSENT = framed(LOGIN_OF_A) + framed(command(NOWHERE, "000000000000")) + framed(bytes([3, NOWHERE]))
+ABSENT_REPLIES = framed(ACCEPTED) + framed(check(0, 5, 0x25, 0)) + framed(b"\x83\x02")
+
+
+def absent(tried: Tried) -> None:
+    """What comes is answered byte by byte and all at once, by a LOGOUT or without."""
+    with Server(tried, "--workers", "1") as server:
+        for send in (trickle, socket.socket.sendall):
+            for last, answer in ((framed(LOGOUT), framed(LOGGED_OUT)), (b"", b"")):
+                connection = server.connect()
+                send(connection, ABSENT + last)
+                connection.shutdown(socket.SHUT_WR)
+                same("the replies", rest_of(connection).hex(), (ABSENT_REPLIES + answer).hex())
+        server.end()
+        server.ends()
+        same_lines(server.lines(), "")
+
+
+def numbered(tried: Tried) -> None:
+    """The number of a record has all of its bytes: here two, beside data."""
+    with Server(tried, "--sessions", "1") as server:
+        connection = server.connect()
+        says(connection, Says(0, LOGIN_OF_A, ACCEPTED))
+        says(connection, Says(0, READY, power_on(1)))
+        asks(connection, Asks(0, READY, 256, 0))
+        # READ KEYS of the changer, where nobody is registered.
+        says(connection, Says(0, command(CHANGER, "5e000000000000000800"), good(258, bytes(8))))
+        says(connection, Says(0, LOGOUT, LOGGED_OUT))
+        server.ends()
+
+
+def silent_behind(tried: Tried) -> None:
+    """Hosts that send so many bytes of a LOGIN and then nothing, for two seconds: the server's next read fails."""
+    with Server(tried, "--workers", str(LOGGED_IN), login_timeout=2) as server:
+        for length in range(LOGGED_IN):
+            server.connect().sendall(ONE_SESSION[:length])
+        for length, connection in enumerate(server.connections):
+            same(f"what comes behind {length} bytes", rest_of(connection), b"")
+        for number in range(1, LOGGED_IN + 1):
+            server.told.wait_for(f"vtl: session {number} before its LOGIN: nothing came in time\n")
+        server.end()
+        server.ends()
+        same_lines(server.lines(), "")
 
 
 def ended_behind(length: int) -> typing.Callable[[Tried], None]:
@@ -148,13 +204,15 @@ FAULTY = {
 
 
 def faulty(of: Faulty) -> typing.Callable[[Tried], None]:
+    """A fault is told by its last byte, and what comes at once with it is not answered."""
     def play(tried: Tried) -> None:
-        with Server(tried, "--sessions", "1") as server:
-            connection = server.connect()
-            trickle(connection, of.stream)
-            same("the replies", rest_of(connection), REPLIES[:of.replies])
-            server.ends(of.fault)
-            same_lines(server.lines(), "")
+        for number, (send, behind) in enumerate([(trickle, b""), (socket.socket.sendall, b""), (socket.socket.sendall, ONE_SESSION)]):
+            with Server(tried, "--sessions", "1") as server:
+                connection = server.connect()
+                send(connection, of.stream + behind)
+                same(f"the replies to stream {number}", rest_of(connection), REPLIES[:of.replies])
+                server.ends(of.fault)
+                same_lines(server.lines(), "")
 
     return play
 
@@ -164,7 +222,11 @@ READS = "a session ends by a read that fails, and the records that there are sta
 WRITES = "a session ends by a write that fails, and the records that there are stay"
 
 ROWS = [
+    Row("silent-behind", "a session ends where nothing more comes of its LOGIN, wherever that is, and leaves no record", silent_behind),
     Row("whole", "a session whose bytes come one by one has all its answers", whole),
+    Row("at-once", "a session whose bytes come at once has all its answers", at_once),
+    Row("absent", "a unit that isn't there is told to a command and to a reset", absent),
+    Row("numbered", "a reply has the number of its record, of several bytes", numbered),
     *(Row(f"ended-behind-{length}", ENDS_AS_ITS_STREAM, ended_behind(length)) for length in range(ALL)),
     *(Row(f"broken-behind-{length}", READS, broken_behind(length)) for length in range(LOGGED_IN, ALL)),
     *(Row(f"write-{number}-fails", WRITES, unheard_behind(length)) for number, length in enumerate([0, LOGGED_IN, ASKED], 1)),

@@ -24,9 +24,9 @@ def run(program, words, script=b""):
     return ran.returncode, ran.stdout.decode(), ran.stderr.decode()
 
 
-def answer_one(listener, replies, frames):
-    """Takes one connection as a library does (docs/PROTOCOL.md), keeps the bodies of the frames that come, and answers each by its kind."""
-    with listener.accept()[0] as stream, stream.makefile("rwb") as file:
+def answer_one(stream, replies, frames):
+    """Answers as a library does (docs/PROTOCOL.md): keeps the bodies of the frames that come, and answers each by its kind."""
+    with stream.makefile("rwb") as file:
         while head := file.read(4):
             frames.append(file.read(int.from_bytes(head, "big")))
             reply = replies.get(frames[-1][0], b"")
@@ -34,23 +34,39 @@ def answer_one(listener, replies, frames):
             file.flush()
 
 
-def run_client(program, words, script, replies):
-    """How the program ends as a client whose script goes to a socket, and the frames that came there."""
-    frames = []
+def run_at(program, words, script, talk, run_it=run):
+    """How the program ends as a client whose script goes to a socket, and what `talk` finds, which is a library to its one connection."""
+    found = []
+
+    def serve():
+        with listener.accept()[0] as stream:
+            stream.settimeout(LIMIT)
+            try:
+                found.append(talk(stream))
+            except OSError as fault:
+                found.append(f"a library whose client does otherwise: {fault}")
+
     # The path of a socket is short, so its file stands in the folder that the program runs in.
     with socket.socket(socket.AF_UNIX) as listener, socket.socket(socket.AF_UNIX) as last:
         listener.bind("here")
         try:
             listener.listen()
-            server = threading.Thread(target=answer_one, args=(listener, replies, frames), daemon=True)
+            server = threading.Thread(target=serve, daemon=True)
             server.start()
-            ended = run(program, [*words, "--socket", "here"], script)
+            ended = run_it(program, [*words, "--socket", "here"], script)
             # Where the client made no connection, this one is taken, and ends.
             last.connect("here")
             last.close()
             server.join(LIMIT)
         finally:
             os.remove("here")
+    return ended, found[0] if found else "a library that goes on"
+
+
+def run_client(program, words, script, replies):
+    """How the program ends as a client whose script goes to a socket, and the frames that came there."""
+    frames = []
+    ended, _ = run_at(program, words, script, lambda stream: answer_one(stream, replies, frames))
     return ended, frames
 
 

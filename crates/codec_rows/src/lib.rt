@@ -1,5 +1,5 @@
-//! Worked rows of bytes and texts that no run of the program shows: encodings, frames, tables and their chart, records, lines of scripts, and
-//! command lines.
+//! Worked rows of bytes, texts and records that no run of the program shows: a request's bytes, codes and lists of any length, the last number of
+//! a record, and trails that records are added to and handed out from.
 #![tactic(auto)]
 
 #[cfg(test)]

@@ -1,4 +1,4 @@
-//! Worked rows of a library that is served over sockets.
+//! Worked rows of a library that was served and can't be closed, and of the order of a server's faults.
 #![tactic(auto)]
 
 #[cfg(test)]

@@ -3,3 +3,4 @@ mod sessions;
 mod streams;
 
 use crate::comparing::assert_same;
+pub(crate) use sessions::Empty;

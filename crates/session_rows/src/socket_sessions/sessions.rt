@@ -1,12 +1,11 @@
+//! What no socket shows of a session: that reads are counted, keys of the directory, and a splitter, which is for other runtimes.
 ghost use Rattle.std.specs.Prelude.{◌<◌};
 
 use super::assert_same;
-use super::streams::{Failing, Trickle};
-use kept_unit::Done;
+use kept_unit::{Done, EventKind};
 use scsi_nexus::Nexus;
 use session::{Directory, End, Frame, Service, SessionFault, Splitter, serve};
 use std::alloc::Global;
-use std::io::{Read, Write};
 use std::process::Abort;
 
 const A: Nexus = Nexus {
@@ -24,20 +23,10 @@ const ONE_SESSION: &[u8] = b"\0\0\0\x0b\x01\x50\0\0\0\0\0\0\x0a\0\x01\
 
 const ACCEPTED: &[u8] = b"\0\0\0\x02\x81\0";
 
-/// The three replies, of a service that has no unit at all: 25h/00h, without a record.
-const REPLIES: &[u8] = b"\0\0\0\x02\x81\0\
-    \0\0\0\x1d\x82\x02\x12\x70\0\x05\0\0\0\0\x0a\0\0\0\0\x25\0\0\0\0\0\0\0\0\0\0\0\0\0\
-    \0\0\0\x01\x84";
-
-/// The first two replies.
-const TWO_REPLIES: &[u8] = b"\0\0\0\x02\x81\0\
-    \0\0\0\x1d\x82\x02\x12\x70\0\x05\0\0\0\0\x0a\0\0\0\0\x25\0\0\0\0\0\0\0\0\0\0\0\0\0";
-
-/// A service whose units are absent. It counts what was lost, and may have a session of the nexus already.
+/// A service whose units are absent. It counts what was lost. A reset of unit 1 finds no room.
 #[derive(Drop)]
-struct Empty {
-    losses: u64,
-    is_connected: bool,
+pub(crate) struct Empty {
+    pub(crate) losses: u64,
 }
 
 impl Service for Empty {
@@ -57,7 +46,11 @@ impl Service for Empty {
     }
 
     fn reset(&mut self, alloc: Global, lun: u8) -> Done<'static> {
-        Done::absent_reset(alloc, lun)
+        if lun == 1 {
+            Done::busy(alloc, None, lun, EventKind::Reset)
+        } else {
+            Done::absent_reset(alloc, lun)
+        }
     }
 
     fn lose(&mut self, alloc: Global, nexus: Nexus, lun: u8) -> Done<'static> {
@@ -70,240 +63,22 @@ impl Service for Empty {
     }
 
     fn login(&mut self, _nexus: Nexus) -> Result<usize, SessionFault> {
-        if self.is_connected {
-            Err(SessionFault::AlreadyConnected)
-        } else {
-            Ok(7)
-        }
+        Ok(7)
     }
 
     fn logout(&mut self, _key: usize) {}
 }
 
-/// What it shows, whether the nexus has a session already, a stream, which read of it fails, counted from 1, or 0 where none does, how the
-/// session must end, what it must be answered, and how often the nexus must be lost.
-type Row = (
-    &'static str,
-    bool,
-    &'static [u8],
-    u64,
-    Result<End, SessionFault>,
-    &'static [u8],
-    u64,
-);
-
-/// Serves a stream at a service: how that ends, and how often the nexus was lost.
-fn served<R: Read, W: Write>(
-    alloc: Global,
-    is_connected: bool,
-    reader: &mut R,
-    writer: &mut W,
-    turns: u64,
-) -> (Result<End, SessionFault>, u64) {
-    let mut service = Empty {
-        losses: 0,
-        is_connected,
-    };
-    let ended = serve(alloc, &mut service, reader, writer, turns);
-    (ended, service.losses)
-}
-
-/// Compares a session whose stream a reader gives, which is read so often at most.
-fn assert_read<R: Read>(rt: &impl Abort, alloc: Global, reader: &mut R, turns: u64, row: &Row) {
-    let mut output = Vec::new(alloc);
-    let (ended, losses) = served(alloc, row.1, reader, &mut output, turns);
-    let found = (ended, output.as_slice(), losses);
-    assert_same(rt, found, (row.4, row.5, row.6), row.0);
-}
-
-/// Compares a session whose stream comes byte by byte, and where no read fails another, whose stream comes all at once.
-fn assert_row(rt: &impl Abort, alloc: Global, row: &Row) {
-    if row.3 == 0 {
-        let mut at_once = row.2;
-        assert_read(rt, alloc, &mut at_once, 9, row);
-    }
-    let mut reader = Trickle::new(row.2, row.3);
-    assert_read(rt, alloc, &mut reader, 99, row);
-}
-
-const READ: Result<End, SessionFault> = Err(SessionFault::Read);
-
-const WRITE: Result<End, SessionFault> = Err(SessionFault::Write);
-
-const BAD_FRAME: Result<End, SessionFault> = Err(SessionFault::BadFrame);
-
-const TOO_LONG: Result<End, SessionFault> = Err(SessionFault::TooLong);
-
-const REFUSED: Result<End, SessionFault> = Err(SessionFault::AlreadyConnected);
-
-const ROWS: [Row; 3] = [
-    (
-        "serve answers login, test unit ready and logout",
-        false,
-        ONE_SESSION,
-        0,
-        Ok(End::Logout),
-        REPLIES,
-        2,
-    ),
-    (
-        "serve answers a reset and ends without logout",
-        false,
-        b"\0\0\0\x0b\x01\x50\0\0\0\0\0\0\x0a\0\x01\0\0\0\x02\x03\0",
-        0,
-        Ok(End::Closed),
-        b"\0\0\0\x02\x81\0\0\0\0\x02\x83\x02",
-        2,
-    ),
-    (
-        "login of a nexus with a session is refused",
-        true,
-        ONE_SESSION,
-        0,
-        REFUSED,
-        b"\0\0\0\x02\x81\x01",
-        0,
-    ),
-];
-
-/// Streams with a fault.
-const FAULTY: [Row; 6] = [
-    (
-        "serve stops at the first fault of a stream: no body",
-        false,
-        b"\0\0\0\0",
-        0,
-        BAD_FRAME,
-        b"",
-        0,
-    ),
-    (
-        "serve stops at the first fault of a stream: a body that is too long",
-        false,
-        b"\0\x02\0\x01",
-        0,
-        TOO_LONG,
-        b"",
-        0,
-    ),
-    (
-        "serve stops at the first fault of a stream: no frame",
-        false,
-        b"\0\0\0\x05\x09",
-        0,
-        BAD_FRAME,
-        b"",
-        0,
-    ),
-    (
-        "serve stops at the first fault of a stream: a LOGIN by target port 0",
-        false,
-        b"\0\0\0\x0b\x01\x50\0\0\0\0\0\0\x0a\0\0",
-        0,
-        BAD_FRAME,
-        b"",
-        0,
-    ),
-    (
-        "serve stops at the first fault of a stream: a second LOGIN",
-        false,
-        b"\0\0\0\x0b\x01\x50\0\0\0\0\0\0\x0a\0\x01\0\0\0\x0b\x01",
-        0,
-        BAD_FRAME,
-        ACCEPTED,
-        2,
-    ),
-    (
-        "serve stops at the first fault of a stream: a CDB that is too long",
-        false,
-        b"\0\0\0\x0b\x01\x50\0\0\0\0\0\0\x0a\0\x01\0\0\0\x13\x02\0\x11",
-        0,
-        BAD_FRAME,
-        ACCEPTED,
-        2,
-    ),
-];
-
-/// What is answered behind so many bytes of a session, and how often the nexus is lost.
-fn told_of(length: usize) -> (&'static [u8], u64) {
-    if length < 15 {
-        (b"", 0)
-    } else if length < 28 {
-        (ACCEPTED, 2)
-    } else {
-        (TWO_REPLIES, 2)
-    }
-}
-
-/// How a session ends whose stream has so many bytes: between two frames, or within one.
-fn end_of(length: usize) -> End {
-    match length {
-        0 | 15 | 28 => End::Closed,
-        _ => End::Cut,
-    }
-}
-
-/// The stream ends, or a read fails, behind so many bytes of a session.
-fn assert_end_behind(rt: &impl Abort, alloc: Global, length: usize) {
-    let (prefix, _) = ONE_SESSION.split_at(length.min(ONE_SESSION.len()));
-    let (replies, losses) = told_of(length);
-    let cut = (
-        "serve ends each prefix of a session closed or cut",
-        false,
-        prefix,
-        0,
-        Ok(end_of(length)),
-        replies,
-        losses,
-    );
-    let failed = (
-        "serve ends by a read that fails",
-        false,
-        ONE_SESSION,
-        (length as u64).saturating_add(1),
-        READ,
-        replies,
-        losses,
-    );
-    assert_row(rt, alloc, &cut);
-    assert_row(rt, alloc, &failed);
-}
-
-const ONE_READ: Row = (
-    "serve ends by a read that fails: one read too few",
-    false,
-    LOGIN,
-    0,
-    READ,
-    ACCEPTED,
-    2,
-);
-
-/// How a session ends whose writes fail from one on, and how often the nexus was lost.
-fn cut_off(alloc: Global, fails_at: u64) -> (Result<End, SessionFault>, u64) {
-    let mut reader = Trickle::new(ONE_SESSION, 0);
-    served(alloc, false, &mut reader, &mut Failing::new(fails_at), 99)
-}
-
+/// The one read of a session brings its LOGIN.
 #[test]
-fn serve_does_what_rows_say(rt: HostRuntime) {
-    for row in &ROWS {
-        assert_row(&rt, rt.alloc(), row);
-    }
-    for length in 0..ONE_SESSION.len() {
-        assert_end_behind(&rt, rt.alloc(), length);
-    }
+fn serve_ends_by_one_read_too_few(rt: HostRuntime) {
+    let mut service = Empty { losses: 0 };
     let mut reader = LOGIN;
-    assert_read(&rt, rt.alloc(), &mut reader, 1, &ONE_READ);
-}
-
-/// A write that fails ends a session, and the nexus is lost all the same.
-#[test]
-fn serve_loses_the_nexus_where_a_write_fails(rt: HostRuntime) {
-    for fails_at in 1..4 {
-        let found = cut_off(rt.alloc(), fails_at);
-        assert_same(&rt, found, (WRITE, 2), "a write fails");
-    }
+    let mut output = Vec::new(rt.alloc());
+    let ended = serve(rt.alloc(), &mut service, &mut reader, &mut output, 1);
+    let found = (ended, output.as_slice(), service.losses);
+    let expected = (Err(SessionFault::Read), ACCEPTED, 2);
+    assert_same(&rt, found, expected, "one read too few");
 }
 
 /// How a second session of A is refused, whether another nexus has another key, and whether A has its key again behind a logout.
@@ -370,19 +145,38 @@ fn stuck(alloc: Global, stream: &[u8]) -> (Option<SessionFault>, Option<SessionF
     (first, second, frames.len())
 }
 
-/// A LOGIN stands before some faults.
-fn assert_stuck(rt: &impl Abort, alloc: Global, row: &Row) {
-    let fault = row.4.err();
-    let expected = (fault, fault, usize::from(row.6 > 0));
-    let shows = "splitter repeats its fault";
-    assert_same(rt, stuck(alloc, row.2), expected, shows);
-}
+/// A stream with a fault, which it is, and how many frames stand before it.
+type Faulty = (&'static [u8], SessionFault, usize);
 
-/// Serve stops at the first fault of a stream. In a splitter a fault comes behind the frames before it, and again at each later piece.
+const FAULTY: [Faulty; 6] = [
+    (b"\0\0\0\0", SessionFault::BadFrame, 0),
+    (b"\0\x02\0\x01", SessionFault::TooLong, 0),
+    (b"\0\0\0\x05\x09", SessionFault::BadFrame, 0),
+    // A LOGIN by target port 0, a second LOGIN, and a CDB that is too long.
+    (
+        b"\0\0\0\x0b\x01\x50\0\0\0\0\0\0\x0a\0\0",
+        SessionFault::BadFrame,
+        0,
+    ),
+    (
+        b"\0\0\0\x0b\x01\x50\0\0\0\0\0\0\x0a\0\x01\0\0\0\x0b\x01",
+        SessionFault::BadFrame,
+        1,
+    ),
+    (
+        b"\0\0\0\x0b\x01\x50\0\0\0\0\0\0\x0a\0\x01\0\0\0\x13\x02\0\x11",
+        SessionFault::BadFrame,
+        1,
+    ),
+];
+
+/// In a splitter a fault comes behind the frames before it, and again at each later piece.
 #[test]
-fn faults_of_a_stream_stop_what_follows(rt: HostRuntime) {
+fn splitter_repeats_its_fault(rt: HostRuntime) {
     for row in &FAULTY {
-        assert_row(&rt, rt.alloc(), row);
-        assert_stuck(&rt, rt.alloc(), row);
+        let (stream, fault, frames) = *row;
+        let expected = (Some(fault), Some(fault), frames);
+        let shows = "splitter repeats its fault";
+        assert_same(&rt, stuck(rt.alloc(), stream), expected, shows);
     }
 }
