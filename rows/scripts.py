@@ -3,14 +3,17 @@
 
 A row is a script. `PROGRAM client` sends a host's script to a socket of this script's own: where it is good, the frames that come there are
 compared (docs/PROTOCOL.md), and where it isn't, its fault, its line and the exit status, and that nothing was sent. `PROGRAM replay` takes
-the longest comment. What differs is told by row, got and wanted; the last line is `N passed, M failed`. Other faults of a replay's
-script are cases of crates/script_cases.
+the longest comment, and tells of a script that can't be read and of replies that can't be written. What differs is told by row, got and
+wanted; the last line is `N passed, M failed`. Other faults of a replay's script are cases of crates/script_cases.
 """
+import contextlib
 import os
+import pty
+import subprocess
 import sys
 import tempfile
 
-from telling import compare, difference, run, run_client, tell
+from telling import LIMIT, compare, difference, run, run_client, tell
 
 # How long a line may be without its end (profile).
 LONGEST_LINE = 270_000
@@ -50,6 +53,16 @@ REPLAYED = [
     ("a replay refuses a comment above the longest line", "#" * (LONGEST_LINE + 1), (2, "", "vtl: line 1: too long\n")),
 ]
 
+# Resets, more than a replay has in one piece: each 4,096th is of the drive, and the others are of the changer.
+RESET_UNITS = [int(number % 4_096 == 0) for number in range(8_193)]
+
+UNREAD, UNWRITTEN = "the script could not be read", "the replies could not be written"
+# What is shown, where a replay's script comes from and its replies go to, and the fault that it ends by.
+FAILING = [
+    ("a replay whose script can't be read at all", "folder", None, UNREAD),
+    ("a replay whose second read fails", "terminal", None, UNREAD),
+    ("a replay whose replies can't be written", None, "/dev/full", UNWRITTEN),
+]
 
 CLIENT = ["client", "--sas", "500000000000000a", "--port", "1"]
 
@@ -69,10 +82,48 @@ def check_replayed(program, script, wanted):
     compare(run(program, ["replay"], script.encode()), wanted, "end")
 
 
+def check_resets(program, units, counts):
+    """Each unit has as many records, with its numbers in their order."""
+    status, printed, told = run(program, ["replay", "--audit"], "".join(f"reset {lun}\n" for lun in units).encode())
+    compare((status, told), (0, ""), "end")
+    records = [f"{number} - RESET 6 - - 00" for count in counts for number in range(1, count + 1)]
+    lines = printed.splitlines()
+    compare(len(lines), len(units) + len(records), "how many lines there are")
+    for number, (line, wanted) in enumerate(zip(lines, ["00 - -"] * len(units) + records), 1):
+        compare(line, wanted, f"line {number}")
+
+
+@contextlib.contextmanager
+def source_of(kind):
+    """A script's descriptor: that of a folder, of a terminal whose other end is gone behind a comment, or of a TEST UNIT READY."""
+    if kind == "folder":
+        reader = os.open(".", os.O_RDONLY)
+    elif kind == "terminal":
+        reader, writer = pty.openpty()
+        os.write(writer, b"###")
+        os.close(writer)
+    else:
+        reader, writer = os.pipe()
+        os.write(writer, b"500000000000000a.1 0 000000000000\n")
+        os.close(writer)
+    try:
+        yield reader
+    finally:
+        os.close(reader)
+
+
+def check_failing(program, source, output, fault):
+    with source_of(source) as reader, open(output or os.devnull, "wb") as writer:
+        ran = subprocess.run([program, "replay"], stdin=reader, stdout=writer, stderr=subprocess.PIPE, timeout=LIMIT, check=False)
+    compare((ran.returncode, ran.stderr.decode()), (4, f"vtl: device fault\nvtl: {fault}\n"), "end")
+
+
 ROWS = [
     *((check_sent, *row) for row in SENT),
     *((check_refused, *row) for row in REFUSED),
     *((check_replayed, *row) for row in REPLAYED),
+    (check_resets, "a replay takes more events than a piece has", RESET_UNITS, [8_190, 3]),
+    *((check_failing, *row) for row in FAILING),
 ]
 
 
@@ -81,7 +132,7 @@ def main():
     with tempfile.TemporaryDirectory() as folder:
         # A client's socket stands in the folder that the program runs in.
         os.chdir(folder)
-        found = [(shows, difference(check, program, script, wanted)) for check, shows, script, wanted in ROWS]
+        found = [(shows, difference(check, program, *row)) for check, shows, *row in ROWS]
         os.chdir("/")
     return tell(found)
 

@@ -3,8 +3,8 @@ import typing
 
 from exchanges import (
     ACCEPTED, ALREADY_CONNECTED, BLOCK, DRIVE_READY, END_OF_DATA, ENDS, INQUIRY_AT_9, KEYS, KEYS_CUT, LOGGED_OUT, LOGIN_OF_A, LOGIN_OF_B,
-    LOGOUT, NO_UNIT, POSITION, PREVENT, READ, READY, REGISTER, REGISTER_LONG, REGISTER_OTHER, RESERVATION, RESERVE, RESERVE_WRITES, REWIND,
-    TO_DRIVE, UNLOAD, WRITE, IsLeft, Says, Step, check, conflict, good, meet, position, power_on, reply)
+    LOGOUT, NO_UNIT, NOWHERE, POSITION, PREVENT, READ, READY, REGISTER, REGISTER_LONG, REGISTER_OTHER, RESERVATION, RESERVE,
+    RESERVE_WRITES, REWIND, TO_DRIVE, UNLOAD, WRITE, IsLeft, Says, Step, check, command, conflict, good, meet, position, power_on, reply)
 from serving import Row, Tried
 
 # A's one command, and its loss.
@@ -128,6 +128,8 @@ ONE_TAPE = [
     Says(0, READ, good(16, BLOCK)),
     Says(0, READ, reply(0x02, END_OF_DATA, 17)),
     Says(0, INQUIRY_AT_9, good(0, NO_UNIT)),
+    # TEST UNIT READY there: LOGICAL UNIT NOT SUPPORTED.
+    Says(0, command(NOWHERE, "000000000000"), check(0, 5, 0x25, 0x00)),
     Says(1, LOGOUT, LOGGED_OUT),
     IsLeft(1),
     Says(0, LOGOUT, LOGGED_OUT),

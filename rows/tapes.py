@@ -259,6 +259,7 @@ FULL_VOLUME = [
     BEGUN[1],
     (1, six(0x10, 0, 1_000_000), b"", GOOD),
     (1, six(0x10, 0, 1), b"", ("02", "f0004d000000010a00000000000200000000", "-")),
+    NO_ROOM,
     (1, bytes([0x34]) + bytes(9), b"", ("00", "-", "00000000000f4240000f42400000000000000000")),
     (1, six(0x01, 0, 0), b"", GOOD),
     *[(1, six(0x0A, 0, LONGEST_BLOCK), bytes.fromhex("00112233445566778899aabbccddeeff") * 4096, GOOD)] * 256,
@@ -267,9 +268,56 @@ FULL_VOLUME = [
 ]
 
 
+def blocks(size, count=1):
+    """WRITEs of so many blocks of a size."""
+    return [(1, six(0x0A, 0, size), BYTES[:size], GOOD)] * count
+
+
+def no_room(fixed, count, data):
+    """A WRITE of more than fits: VOLUME OVERFLOW with EOM, and how many bytes or blocks weren't written."""
+    return 1, six(0x0A, fixed, count), data, check(MEDIUM_FULL, 0, 2, count, eom=True)
+
+
+REWOUND = (1, six(0x01, 0, 0), b"", GOOD)
+
+# A volume of 1 MiB that is full: what a WRITE of more than fits would have written over is there; and it is written over, full again.
+OVER = [
+    *BEGUN,
+    *blocks(LONGEST_BLOCK, 15),
+    *blocks(32_768, 2),
+    no_room(False, 1, b"\0"),
+    # LOCATE behind the first of the two.
+    (1, bytes.fromhex("2b000000000010000000"), b"", GOOD),
+    no_room(False, 32_769, BYTES[:32_769]),
+    (1, six(0x08, 0, 32_768), b"", good(BYTES[:32_768])),
+    (1, six(0x08, 0, 1), b"", check(BLANK_CHECK, 0, 5, 1)),
+    REWOUND,
+    *blocks(LONGEST_BLOCK, 16),
+    no_room(False, 1, b"\0"),
+]
+
+# One with room for 1,000 bytes: MODE SELECT of blocks of 512, of which one fits.
+FIXED = [
+    *BEGUN,
+    *blocks(LONGEST_BLOCK, 15),
+    *blocks(LONGEST_BLOCK - 1_000),
+    (1, bytes([0x15, 0x10, 0, 0, 12, 0]), bytes.fromhex("000000080000000000000200"), GOOD),
+    no_room(True, 2, BYTES[:1024]),
+    (1, six(0x0A, 1, 1), BYTES[:512], GOOD),
+    no_room(True, 1, BYTES[:512]),
+]
+
+# What is shown, and the commands to a volume of 1 MiB with their answers.
+FULL = [
+    ("a WRITE of more than fits loses nothing, and the whole tape is written over", OVER),
+    ("a fixed WRITE of more than fits is a volume overflow", FIXED),
+]
+
+
 def main():
     program = sys.argv[1]
     found = [(shows, difference(program, "1M", list(commands_of(seed, longest)))) for shows, seed, longest in ROWS]
+    found += [(shows, difference(program, "1M", commands)) for shows, commands in FULL]
     found.append(("write filemarks takes a million, and write 256 blocks", difference(program, "16M", FULL_VOLUME)))
     return tell(found)
 

@@ -1,11 +1,9 @@
-//! Lasting media: images that are written and read, byte by byte, whole and cut, tapes that are lent and written over, images that are
-//! flushed to files of which each call fails in turn and read back, and inventories.
+//! Lasting media, as far as no file of a folder can say it: images whose reads are interrupted or fail, a file of which one call fails,
+//! what a drive's volume is kept by, and the memory that tapes share.
 
 mod failing_store;
 mod image_bytes;
 mod images;
-mod inventories;
 mod keeping;
 mod memory;
 mod readings;
-mod tapes;

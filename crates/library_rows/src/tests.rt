@@ -10,7 +10,6 @@ mod replays;
 mod tapes;
 mod targets;
 mod units;
-mod want_of_memory;
 
 const A: Nexus = Nexus {
     sas: 0x5000_0000_0000_000A,
@@ -23,6 +22,8 @@ const B: Nexus = Nexus {
 };
 
 const TAG: VolumeTag = VolumeTag([b'T'; 32]);
+
+const OTHER: VolumeTag = VolumeTag([b'O'; 32]);
 
 /// A changer over one drive, with one storage element and no volume.
 fn empty_changer(alloc: Global) -> Result<Changer, AllocError> {

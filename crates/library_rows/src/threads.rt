@@ -4,7 +4,6 @@ mod asking;
 mod attending;
 mod days;
 mod gates;
-mod numbers;
 mod opened;
 mod parts;
 mod playing;

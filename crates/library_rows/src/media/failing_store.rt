@@ -1,6 +1,6 @@
 use tape_flush::{ImageStore, StoreFault};
 
-/// A file in memory of which one call fails, counted from 1: a truncate leaves all, and an append adds the first half.
+/// A file in memory of which one call fails, counted from 1, and changes nothing.
 #[derive(Drop)]
 pub(crate) struct FailingStore {
     pub(crate) bytes: Vec<u8>,
@@ -9,38 +9,32 @@ pub(crate) struct FailingStore {
 }
 
 impl FailingStore {
-    fn fails(&mut self) -> bool {
+    fn counts(&mut self) -> Result<(), StoreFault> {
         self.calls = self.calls.saturating_add(1);
-        self.calls == self.fails_at
+        if self.calls == self.fails_at {
+            Err(StoreFault::Failed)
+        } else {
+            Ok(())
+        }
     }
 }
 
 impl ImageStore for FailingStore {
     fn truncate(&mut self, length: u64) -> Result<(), StoreFault> {
-        if self.fails() {
-            return Err(StoreFault::Failed);
-        }
+        self.counts()?;
         self.bytes.truncate(length as usize);
         Ok(())
     }
 
     fn append(&mut self, bytes: &[u8]) -> Result<(), StoreFault> {
-        let taken = if self.fails() {
-            bytes.len() / 2
-        } else {
-            bytes.len()
-        };
-        let added = self.bytes.extend_from_slice(&bytes[..taken]);
-        if added.is_err() || taken < bytes.len() {
-            return Err(StoreFault::Full);
+        self.counts()?;
+        match self.bytes.extend_from_slice(bytes) {
+            Ok(()) => Ok(()),
+            Err(_) => Err(StoreFault::Full),
         }
-        Ok(())
     }
 
     fn sync(&mut self) -> Result<(), StoreFault> {
-        if self.fails() {
-            return Err(StoreFault::Failed);
-        }
-        Ok(())
+        self.counts()
     }
 }

@@ -1,10 +1,9 @@
-use crate::comparing::{assert_list, assert_same};
+use crate::comparing::assert_same;
 use crate::trickle::Trickle;
 use std::alloc::{AllocError, Global};
 use std::process::Abort;
 use tape_image::{
-    ImageEnd, ImageFault, ImagePart, ImageReader, IndexFault, IndexedObject, index_image,
-    write_block, write_mark,
+    ImageEnd, ImagePart, ImageReader, IndexFault, index_image, write_block, write_mark,
 };
 
 /// "hi", a filemark and "odd", as SIMH keeps them.
@@ -12,62 +11,75 @@ const IMAGE: &[u8] = &[
     2, 0, 0, 0, b'h', b'i', 2, 0, 0, 0, 0, 0, 0, 0, 3, 0, 0, 0, b'o', b'd', b'd', 0, 3, 0, 0, 0,
 ];
 
-/// An image whose reads, each of a byte, are interrupted again and again.
-fn trickle(bytes: &[u8]) -> Trickle<'_> {
+/// The first so many bytes of the image, whose reads, each of a byte, are interrupted again and again.
+fn trickle(length: usize) -> Trickle<'static> {
     Trickle {
-        bytes,
+        bytes: &IMAGE[..length.min(IMAGE.len())],
         reads: 0,
         fails_at: 0,
         is_interrupted: true,
     }
 }
 
-/// Adds where the object begins that a reader of an image is at, and how long it is.
-fn push_part(image: &ImageReader, objects: &mut Vec<(u64, usize)>) -> Result<(), AllocError> {
-    match image.part() {
-        ImagePart::Block(block, _) => objects.push((image.offset(), block.len()))?,
-        ImagePart::Mark => objects.push((image.offset(), 0))?,
-        _ => {}
-    }
-    Ok(())
+/// Of objects: how many there are, the sum of the offsets where they begin, and how many bytes of blocks they have.
+type Sums = (u32, u64, usize);
+
+/// The same with the object that a reader of an image is at.
+fn with_part(image: &ImageReader, sums: Sums) -> Sums {
+    let size = match image.part() {
+        ImagePart::Block(block, _) => block.len(),
+        _ => 0,
+    };
+    (
+        sums.0.saturating_add(1),
+        sums.1.saturating_add(image.offset()),
+        sums.2.saturating_add(size),
+    )
 }
 
-/// Adds what a reader of an image gives, a line for each object, and says how the image ends.
-fn told(
-    rt: &impl Abort,
-    alloc: Global,
-    bytes: &[u8],
-    objects: &mut Vec<(u64, usize)>,
-) -> Option<ImageEnd> {
-    let mut reader = trickle(bytes);
+/// What is read of the first so many bytes of the image, and how that ends.
+fn told(rt: &impl Abort, alloc: Global, length: usize) -> (Sums, Option<ImageEnd>) {
+    let mut reader = trickle(length);
     let mut image = ImageReader::new(alloc).expect(rt, "memory");
+    let mut sums = (0, 0, 0);
     for _ in 0..200 {
         if image.await_part(&mut reader).is_err() {
             continue;
         }
         if image.end().is_some() {
-            return image.end();
+            break;
         }
-        push_part(&image, objects).expect(rt, "memory");
+        sums = with_part(&image, sums);
         image.pass().expect(rt, "an object");
     }
-    None
+    (sums, image.end())
 }
 
-/// Compares what is told of the first so many bytes of the image.
-fn assert_told(
-    rt: &impl Abort,
-    alloc: Global,
-    length: usize,
-    objects: &[(u64, usize)],
-    end: ImageEnd,
-    shows: &'static str,
-) {
-    let mut found = Vec::new(alloc);
-    let (bytes, _) = IMAGE.split_at(length.min(IMAGE.len()));
-    let ended = told(rt, alloc, bytes, &mut found);
-    assert_list(rt, &found, objects, shows);
-    assert_same(rt, ended, Some(end), shows);
+const WHOLE: ImageEnd = ImageEnd::WholeEnd { whole: 26 };
+
+/// A tail that was cut is told at each place.
+fn assert_cut(rt: &impl Abort, alloc: Global, length: usize) {
+    let lost = (length as u64).saturating_sub(14);
+    let cut = ImageEnd::CutTail { whole: 14, lost };
+    let expected = ((2, 10, 2), Some(cut));
+    assert_same(rt, told(rt, alloc, length), expected, "what a cut leaves");
+}
+
+#[test]
+fn an_image_is_read_object_by_object_though_reads_are_interrupted(rt: HostRuntime) {
+    let whole = ((3, 24, 5), Some(WHOLE));
+    assert_same(&rt, told(&rt, rt.alloc(), 26), whole, "three objects");
+    for length in 15..26usize {
+        assert_cut(&rt, rt.alloc(), length);
+    }
+}
+
+/// An index takes an interrupted read for one that failed.
+#[test]
+fn an_image_whose_read_fails_has_no_index(rt: HostRuntime) {
+    let index = index_image(rt.alloc(), &mut trickle(26));
+    let is_of_a_read = matches!(index.err(), Some(IndexFault::Read));
+    assert_same(&rt, is_of_a_read, true, "no index");
 }
 
 /// Writes "hi", a filemark and "odd".
@@ -78,68 +90,10 @@ fn write_image(image: &mut Vec<u8>) -> Result<(), AllocError> {
 }
 
 #[test]
-fn an_image_is_written_as_simh_keeps_it(rt: HostRuntime) {
+fn an_image_is_written_in_the_room_for_it(rt: HostRuntime) {
     let mut image = Vec::with_capacity(rt.alloc(), IMAGE.len()).expect(&rt, "memory");
     let room = image.capacity();
     write_image(&mut image).expect(&rt, "memory");
-    assert_list(&rt, image.as_slice(), IMAGE, "as SIMH keeps it");
-    assert_same(&rt, image.capacity(), room, "in the room for it");
-}
-
-const OBJECTS: [(u64, usize); 3] = [(0, 2), (10, 0), (14, 3)];
-
-const WHOLE_OBJECTS: [(u64, usize); 2] = [(0, 2), (10, 0)];
-
-const WHOLE: ImageEnd = ImageEnd::WholeEnd { whole: 26 };
-
-/// A tail that was cut is told at each place.
-fn assert_cuts(rt: &impl Abort, alloc: Global) {
-    for length in 15..26usize {
-        let lost = length as u64 - 14;
-        let cut = ImageEnd::CutTail { whole: 14, lost };
-        assert_told(rt, alloc, length, &WHOLE_OBJECTS, cut, "what a cut leaves");
-    }
-}
-
-#[test]
-fn an_image_is_read_object_by_object_though_reads_are_interrupted(rt: HostRuntime) {
-    assert_told(&rt, rt.alloc(), 26, &OBJECTS, WHOLE, "three objects");
-    assert_cuts(&rt, rt.alloc());
-}
-
-/// A gap, the image, and the beginning of a record of an unknown class.
-const FAULTY: &[u8] = &[
-    0xFE, 0xFF, 0xFF, 0xFF, 2, 0, 0, 0, b'h', b'i', 2, 0, 0, 0, 0, 0, 0, 0, 3, 0, 0, 0, b'o', b'd',
-    b'd', 0, 3, 0, 0, 0, 2, 0, 0, 0x80, b'h', b'i',
-];
-
-const BEFORE_A_FAULT: [IndexedObject; 3] = [
-    IndexedObject::Block { offset: 4, size: 2 },
-    IndexedObject::Mark { offset: 14 },
-    IndexedObject::Block {
-        offset: 18,
-        size: 3,
-    },
-];
-
-const FAULT: ImageEnd = ImageEnd::Faulty {
-    fault: ImageFault::UnknownClass,
-    objects: 3,
-    whole: 30,
-};
-
-/// How an index fails, which takes an interrupted read for one that failed.
-fn fault_of_a_read(alloc: Global) -> Option<IndexFault> {
-    index_image(alloc, &mut trickle(IMAGE)).err()
-}
-
-#[test]
-fn an_index_has_each_object_before_a_fault(rt: HostRuntime) {
-    let mut bytes = FAULTY;
-    let index = index_image(rt.alloc(), &mut bytes).expect(&rt, "an index");
-    assert_list(&rt, &index.objects, &BEFORE_A_FAULT, "behind a gap");
-    assert_same(&rt, index.end, FAULT, "the fault");
-    let is_of_a_read = matches!(fault_of_a_read(rt.alloc()), Some(IndexFault::Read));
-    let shows = "an image whose read fails has no index";
-    assert_same(&rt, is_of_a_read, true, shows);
+    let (length, capacity) = (image.len(), image.capacity());
+    assert_same(&rt, (length, capacity), (IMAGE.len(), room), "in its room");
 }

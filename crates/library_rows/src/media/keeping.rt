@@ -1,4 +1,5 @@
-//! A drive's volume that is kept in an image: what is copied when, also while a host writes on, and what is told where the disk is full.
+//! A drive's volume that is kept in an image: what is copied when, also while a host writes on, and by which commands it is brought to the
+//! disk.
 
 ghost use Rattle.device_server.specs.Attending.{WasAsked};
 ghost use Rattle.device_server.specs.Settled.{SameButSettled};
@@ -14,9 +15,7 @@ use std::process::Abort;
 use std::sync::{Mutex, Wait};
 use tape_flush::{ImageStore, KeptImage, StoreFault, open_image};
 use tape_image::index_image;
-use tape_keeper::{
-    GoodCommand, KeepChange, KeepEvent, KeepFault, KeepListener, KeptThing, TapeKeeper, TapeSource,
-};
+use tape_keeper::{GoodCommand, KeepEvent, KeepListener, TapeKeeper, TapeSource};
 use tape_medium::{Tape, Volume, VolumeTag};
 use tape_server::TapeDrive;
 
@@ -46,7 +45,6 @@ struct SharedFile {
     bytes: Vec<u8>,
     /// How many bytes were brought to the disk.
     synced: usize,
-    is_full: bool,
     /// Whether a host writes a filemark on the volume before the next part goes into the file: that would wait for ever if the drive
     /// were held meanwhile.
     is_written_on: bool,
@@ -81,9 +79,6 @@ impl<'a, R: Wait> ImageStore for SharedStore<'a, R> {
             let _ = self.bay.write_mark(self.rt, self.alloc);
         }
         let mut file = self.file.lock(self.rt);
-        if file.is_full {
-            return Err(StoreFault::Full);
-        }
         match file.bytes.extend_from_slice(bytes) {
             Ok(()) => Ok(()),
             Err(_) => Err(StoreFault::Full),
@@ -162,26 +157,12 @@ impl TapeSource<Device> for Bay {
     }
 }
 
-/// Notes what is told.
+/// Nobody is told.
 #[derive(Drop)]
-struct Notes<'a, R: Wait> {
-    rt: &'a R,
-    events: Mutex<Vec<KeepEvent>>,
-}
+struct NoListener;
 
-impl<'a, R: Wait> Notes<'a, R> {
-    fn new(rt: &'a R, alloc: Global) -> Notes<'a, R> {
-        Notes {
-            rt,
-            events: Mutex::new(Vec::new(alloc)),
-        }
-    }
-}
-
-impl<'a, R: Wait> KeepListener for Notes<'a, R> {
-    fn tell(&self, event: &KeepEvent) {
-        let _ = self.events.lock(self.rt).push(*event);
-    }
+impl KeepListener for NoListener {
+    fn tell(&self, _event: &KeepEvent) {}
 }
 
 /// A drive with an empty volume.
@@ -225,26 +206,22 @@ fn empty_file(alloc: Global) -> Mutex<SharedFile> {
     Mutex::new(SharedFile {
         bytes: Vec::new(alloc),
         synced: 0,
-        is_full: false,
         is_written_on: false,
     })
 }
 
-/// What is done, with the drive, its keeper or the disk.
+/// What is done, with the drive or its keeper.
 #[derive(Clone, Copy)]
 enum Act {
     /// "hi" is written.
     Write,
-    /// A filemark is written.
-    WriteMark,
     /// What a command left is kept that was GOOD: a WRITE of "hi", a WRITE FILEMARKS or a REWIND.
     KeepWrite,
     KeepMark,
     KeepRewind,
     WriteBehind,
-    KeepAll,
-    /// Whether the disk is full from now on, and whether a host is to write a filemark while the next part is written.
-    Disk(bool, bool),
+    /// The same, and a host writes a filemark while the next part is written.
+    WriteBehindWrittenOn,
 }
 
 /// A drive whose volume is kept in a file.
@@ -255,21 +232,9 @@ struct Scene<'a, R: Wait> {
     file: &'a Mutex<SharedFile>,
     bay: &'a Bay,
     keeper: MediaKeeper<SharedStore<'a, R>, NoStore>,
-    notes: Notes<'a, R>,
 }
 
 impl<'a, R: Abort + Wait> Scene<'a, R> {
-    fn new(rt: &'a R, alloc: Global, bay: &'a Bay, file: &'a Mutex<SharedFile>) -> Scene<'a, R> {
-        Scene {
-            rt,
-            alloc,
-            file,
-            bay,
-            keeper: keeper(rt, alloc, bay, file),
-            notes: Notes::new(rt, alloc),
-        }
-    }
-
     fn keep(&self, cdb: &[u8], length: usize) -> bool {
         let command = GoodCommand {
             lun: 1,
@@ -277,24 +242,13 @@ impl<'a, R: Abort + Wait> Scene<'a, R> {
             length,
         };
         self.keeper
-            .keep(self.rt, self.alloc, self.bay, &self.notes, command)
+            .keep(self.rt, self.alloc, self.bay, &NoListener, command)
     }
 
-    fn write_behind(&self) -> bool {
+    fn write_behind(&self, is_written_on: bool) -> bool {
+        self.file.lock(self.rt).is_written_on = is_written_on;
         self.keeper
-            .write_behind(self.rt, self.alloc, self.bay, &self.notes, 1);
-        true
-    }
-
-    fn keep_all(&self) -> bool {
-        self.keeper
-            .keep_all(self.rt, self.alloc, self.bay, &self.notes)
-    }
-
-    fn set_disk(&self, is_full: bool, is_written_on: bool) -> bool {
-        let mut file = self.file.lock(self.rt);
-        file.is_full = is_full;
-        file.is_written_on = is_written_on;
+            .write_behind(self.rt, self.alloc, self.bay, &NoListener, 1);
         true
     }
 
@@ -302,242 +256,77 @@ impl<'a, R: Abort + Wait> Scene<'a, R> {
     fn act(&self, act: Act) -> bool {
         match act {
             Act::Write => self.bay.write(self.rt, self.alloc).is_ok(),
-            Act::WriteMark => self.bay.write_mark(self.rt, self.alloc).is_ok(),
             Act::KeepWrite => self.keep(WRITE, 2),
             Act::KeepMark => self.keep(WRITE_FILEMARKS, 0),
             Act::KeepRewind => self.keep(REWIND, 0),
-            Act::WriteBehind => self.write_behind(),
-            Act::KeepAll => self.keep_all(),
-            Act::Disk(is_full, is_written_on) => self.set_disk(is_full, is_written_on),
+            Act::WriteBehind => self.write_behind(false),
+            Act::WriteBehindWrittenOn => self.write_behind(true),
         }
     }
 
     /// What the file has, and how many bytes of it are on the disk.
-    fn assert_file(&self, rt: &impl Abort, bytes: &[u8], synced: usize, shows: &'static str) {
+    fn go_on(&self, rt: &impl Abort, row: Row) {
+        let (shows, act, bytes, synced) = row;
+        assert_same(rt, self.act(act), true, shows);
         let file = self.file.lock(self.rt);
         assert_list(rt, &file.bytes, bytes, shows);
         assert_same(rt, file.synced, synced, shows);
     }
-
-    fn assert_told(&self, rt: &impl Abort, events: &[KeepEvent], shows: &'static str) {
-        assert_list(rt, &self.notes.events.lock(self.rt), events, shows);
-    }
-
-    fn go_on(&self, rt: &impl Abort, row: Row) {
-        let (shows, act, is_kept, told, bytes, synced) = row;
-        assert_same(rt, self.act(act), is_kept, shows);
-        self.assert_told(rt, events_of(told), shows);
-        self.assert_file(rt, bytes, synced, shows);
-    }
 }
 
-/// What is shown, what is done, whether it is kept, what was told by then, what the file has then, and how many bytes of it are on
-/// the disk.
-type Row = (&'static str, Act, bool, Told, &'static [u8], usize);
+/// What is shown, what is done, what the file has then, and how many bytes of it are on the disk.
+type Row = (&'static str, Act, &'static [u8], usize);
 
-/// What was told.
-#[derive(Clone, Copy)]
-enum Told {
-    Nothing,
-    /// The disk is full.
-    Full,
-    /// And then there is room again.
-    GoesOn,
-}
-
-const fn events_of(told: Told) -> &'static [KeepEvent] {
-    match told {
-        Told::Nothing => &[],
-        Told::Full => &[FULL],
-        Told::GoesOn => &[FULL, GOES_ON],
-    }
-}
-
-const FULL: KeepEvent = KeepEvent {
-    thing: KeptThing::Volume(TAG),
-    change: KeepChange::Fails(KeepFault::Full),
-};
-
-const GOES_ON: KeepEvent = KeepEvent {
-    thing: KeptThing::Volume(TAG),
-    change: KeepChange::GoesOn,
-};
-
-const OF_A_FILEMARK: [Row; 6] = [
+const ROWS: [Row; 8] = [
+    ("a block is written", Act::Write, &[], 0),
+    ("it isn't copied at once", Act::KeepWrite, &[], 0),
     (
-        "a block is written",
-        Act::Write,
-        true,
-        Told::Nothing,
-        &[],
-        0,
-    ),
-    (
-        "it isn't copied at once",
-        Act::KeepWrite,
-        true,
-        Told::Nothing,
-        &[],
-        0,
-    ),
-    (
-        "it is copied behind",
-        Act::WriteBehind,
-        true,
-        Told::Nothing,
-        BLOCK,
-        0,
-    ),
-    (
-        "a filemark is written",
-        Act::WriteMark,
-        true,
-        Told::Nothing,
-        BLOCK,
-        0,
-    ),
-    (
-        "a REWIND brings nothing to the disk",
-        Act::KeepRewind,
-        true,
-        Told::Nothing,
-        BLOCK,
-        0,
-    ),
-    (
-        "a filemark does",
-        Act::KeepMark,
-        true,
-        Told::Nothing,
-        BLOCK_AND_MARK,
-        14,
-    ),
-];
-
-const OF_A_FULL_DISK: [Row; 7] = [
-    (
-        "the disk is full",
-        Act::Disk(true, false),
-        true,
-        Told::Nothing,
-        &[],
-        0,
-    ),
-    (
-        "a block is written",
-        Act::Write,
-        true,
-        Told::Nothing,
-        &[],
-        0,
-    ),
-    (
-        "a filemark is written",
-        Act::WriteMark,
-        true,
-        Told::Nothing,
-        &[],
-        0,
-    ),
-    ("it isn't kept", Act::KeepMark, false, Told::Full, &[], 0),
-    (
-        "that is told once",
-        Act::KeepMark,
-        false,
-        Told::Full,
-        &[],
-        0,
-    ),
-    (
-        "there is room again",
-        Act::Disk(false, false),
-        true,
-        Told::Full,
-        &[],
-        0,
-    ),
-    (
-        "all is kept at the end",
-        Act::KeepAll,
-        true,
-        Told::GoesOn,
-        BLOCK_AND_MARK,
-        14,
-    ),
-];
-
-const OF_A_HOST_THAT_WRITES_ON: [Row; 6] = [
-    (
-        "a block is written",
-        Act::Write,
-        true,
-        Told::Nothing,
-        &[],
-        0,
-    ),
-    (
-        "a host is to write on meanwhile",
-        Act::Disk(false, true),
-        true,
-        Told::Nothing,
-        &[],
-        0,
-    ),
-    (
-        "nothing is copied at once",
-        Act::KeepWrite,
-        true,
-        Told::Nothing,
-        &[],
-        0,
-    ),
-    (
-        "what there was when the copy began",
-        Act::WriteBehind,
-        true,
-        Told::Nothing,
+        "a host writes on while a part is written: what there was when the copy began",
+        Act::WriteBehindWrittenOn,
         BLOCK,
         0,
     ),
     (
         "what came meanwhile is not copied at once",
         Act::KeepWrite,
-        true,
-        Told::Nothing,
         BLOCK,
         0,
     ),
     (
         "the filemark that came meanwhile is copied next",
         Act::WriteBehind,
-        true,
-        Told::Nothing,
         BLOCK_AND_MARK,
         0,
     ),
+    (
+        "a REWIND brings nothing to the disk",
+        Act::KeepRewind,
+        BLOCK_AND_MARK,
+        0,
+    ),
+    (
+        "a filemark is on the disk before it is answered",
+        Act::KeepMark,
+        BLOCK_AND_MARK,
+        14,
+    ),
+    ("nothing is behind", Act::WriteBehind, BLOCK_AND_MARK, 14),
 ];
 
-/// Has a drive with an empty volume, which is kept in an empty file, go through all rows.
-fn play<R: Abort + Wait>(rt: &R, alloc: Global, shows: &'static str, rows: &[Row]) {
-    let file = empty_file(alloc);
-    let bay = drive_with_volume(alloc);
-    let scene = Scene::new(rt, alloc, &bay, &file);
-    scene.assert_file(rt, &[], 0, shows);
-    for row in rows {
-        scene.go_on(rt, *row);
-    }
-}
-
-const FILEMARK: &str = "a filemark is on the disk before it is answered";
-
-const FULL_DISK: &str = "a full disk is told once and tried again";
-
-const WRITES_ON: &str = "a host writes on while a part is written";
-
+/// A drive with an empty volume, which is kept in an empty file, goes through all rows.
 #[test]
 fn volumes_in_a_drive_are_kept_as_rows_say(rt: HostRuntime) {
     let alloc = rt.alloc();
-    play(&rt, alloc, FILEMARK, &OF_A_FILEMARK);
-    play(&rt, alloc, FULL_DISK, &OF_A_FULL_DISK);
-    play(&rt, alloc, WRITES_ON, &OF_A_HOST_THAT_WRITES_ON);
+    let file = empty_file(alloc);
+    let bay = drive_with_volume(alloc);
+    let scene = Scene {
+        rt: &rt,
+        alloc,
+        file: &file,
+        bay: &bay,
+        keeper: keeper(&rt, alloc, &bay, &file),
+    };
+    for row in &ROWS {
+        scene.go_on(&rt, *row);
+    }
 }

@@ -1,61 +1,67 @@
-//! Replays that no case of `script_cases` can say: what fails beside the script, and what stands between two replays.
+//! Replays that no case of `script_cases` and no stream can say: how often a script is read.
 
 use super::assert_same;
-use device_server::DeviceServer;
-use library_device::Device;
+use crate::trickle::Trickle;
 use output_lines::{Audit, Explanations};
 use program_options::LibraryOptions;
 use replay::{ReplayFault, replay};
-use std::alloc::{AllocError, Global};
-use std::io::{Read, Write};
+use std::alloc::Global;
 use std::process::Abort;
 use stocked_library::library;
-use target_core::TargetCore;
 
-mod drain;
-mod faults;
+/// What it shows, how often a script of three bytes may be read, the exit status, and how often it is read, a byte each time. Its end is a
+/// read of its own.
+type Row = (&'static str, u64, u8, u64);
 
-/// Replays in a library what a reader gives. Each replay of these rows comes through here.
-fn replay_in<D: DeviceServer, R: Read, W: Write>(
-    alloc: Global,
-    core: &mut TargetCore<D>,
-    reader: &mut R,
-    writer: &mut W,
-    audit: Audit,
-    turns: u64,
-) -> Result<(), ReplayFault> {
-    replay(alloc, core, reader, writer, Explanations::Off, audit, turns)
-}
+const ROWS: [Row; 4] = [
+    ("it is read to its end", 4, 0, 4),
+    ("and no further", 5, 0, 4),
+    ("no more often than it may", 3, 4, 3),
+    ("not at all", 0, 4, 0),
+];
 
-/// All that a replay writes of a script.
-fn replayed<D: DeviceServer>(
-    rt: &impl Abort,
-    alloc: Global,
-    core: &mut TargetCore<D>,
-    audit: Audit,
-    script: &str,
-) -> Vec<u8> {
-    let mut reader = script.as_bytes();
+/// How a replay ends in the usual library that may read a comment so often, and how often it did.
+fn replayed(rt: &impl Abort, alloc: Global, turns: u64) -> (Result<(), ReplayFault>, u64) {
+    let mut core = library(alloc, &LibraryOptions::DEFAULT).expect(rt, "a library");
+    let mut reader = Trickle {
+        bytes: b"###",
+        reads: 0,
+        fails_at: 0,
+        is_interrupted: false,
+    };
     let mut output = Vec::new(alloc);
-    replay_in(alloc, core, &mut reader, &mut output, audit, u64::MAX).expect(rt, "a replay");
-    output
+    let ended = replay(
+        alloc,
+        &mut core,
+        &mut reader,
+        &mut output,
+        Explanations::Off,
+        Audit::Off,
+        turns,
+    );
+    (ended, reader.reads)
 }
 
-/// Replays a script, and compares all that is written.
-pub(super) fn assert_replayed<D: DeviceServer>(
-    rt: &impl Abort,
-    alloc: Global,
-    core: &mut TargetCore<D>,
-    audit: Audit,
-    script: &str,
-    expected: &str,
-    shows: &'static str,
-) {
-    let output = replayed(rt, alloc, core, audit, script);
-    assert_same(rt, output.as_slice(), expected.as_bytes(), shows);
+fn status_of(ended: Result<(), ReplayFault>) -> u8 {
+    match ended {
+        Ok(()) => 0,
+        Err(fault) => fault.status(),
+    }
 }
 
-/// The library that is made where no option says another size.
-fn usual(alloc: Global) -> Result<TargetCore<Device>, AllocError> {
-    library(alloc, &LibraryOptions::DEFAULT)
+#[test]
+fn replays_read_as_often_as_rows_say(rt: HostRuntime) {
+    for row in &ROWS {
+        let (shows, turns, status, reads) = *row;
+        let (ended, found) = replayed(&rt, rt.alloc(), turns);
+        assert_same(&rt, (status_of(ended), found), (status, reads), shows);
+    }
+}
+
+#[test]
+fn a_replay_without_memory_is_told(rt: HostRuntime) {
+    let text = ReplayFault::NoMemory.to_string(rt.alloc());
+    let shown = text.expect(&rt, "a text");
+    assert_same(&rt, shown.as_str(), "vtl: want of memory", "no memory");
+    assert_same(&rt, ReplayFault::NoMemory.status(), 3, "its status");
 }

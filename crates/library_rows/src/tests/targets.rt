@@ -1,15 +1,13 @@
-//! Targets and drives for the tests, a volume for them, and units that make no target.
+//! Drives and changers as units for the tests, a volume for them, and units that make no target.
 
-use super::{A, TAG, assert_same, empty_changer};
-use arrayvec::ArrayVec;
+use super::{TAG, assert_same, empty_changer};
 use device_server::DeviceServer;
 use library_device::Device;
-use logical_unit::{LogicalUnit, named};
+use logical_unit::LogicalUnit;
 use std::alloc::{AllocError, Global};
-use std::process::Abort;
 use tape_medium::{Tape, Volume, VolumeTag};
 use tape_server::TapeDrive;
-use target_core::{CoreFault, Event, TargetCore};
+use target_core::{CoreFault, TargetCore};
 
 /// How many bytes of blocks a volume takes.
 const CAPACITY: u64 = 16_777_216;
@@ -97,10 +95,29 @@ fn units_of(alloc: Global, kinds: &[Unit]) -> Result<Vec<LogicalUnit<Device>>, A
     Ok(units)
 }
 
+/// How many records a unit of a target hands out, if it is there.
+fn drained(alloc: Global, core: &mut TargetCore<Device>, lun: u8) -> Option<usize> {
+    match core.drain(alloc, lun) {
+        Some(records) => Some(records.len()),
+        None => None,
+    }
+}
+
+/// Whether a drive, unit 1, has no records, and no unit 2 has any.
+fn is_new(alloc: Global, core: &mut TargetCore<Device>) -> bool {
+    drained(alloc, core, 1) == Some(0) && drained(alloc, core, 2).is_none()
+}
+
 /// Why units make no target, and how many were handed back.
-fn refusal(units: Vec<LogicalUnit<Device>>) -> Option<(CoreFault, usize)> {
+fn refusal(alloc: Global, units: Vec<LogicalUnit<Device>>) -> Option<(CoreFault, usize)> {
     match TargetCore::new(units) {
-        Ok(_) => None,
+        Ok(mut core) => {
+            if is_new(alloc, &mut core) {
+                None
+            } else {
+                Some((CoreFault::Count, 0))
+            }
+        }
         Err((fault, units)) => Some((fault, units.len())),
     }
 }
@@ -138,48 +155,11 @@ const REFUSALS: [Refusal; 5] = [
     ),
 ];
 
-/// What it shows, how many drives there are, a command, and the drives that it names.
-type Naming = (&'static str, u8, &'static [u8], &'static [u8]);
-
-const TO_DRIVE_1: &[u8] = &[0xa5, 0, 0, 0, 4, 0, 1, 0, 0, 0, 0, 0];
-
-const BETWEEN_DRIVES: &[u8] = &[0xa5, 0, 0, 0, 1, 1, 1, 0, 0, 0, 0, 0];
-
-const BETWEEN_SHELVES: &[u8] = &[0xa5, 0, 0, 0, 4, 0, 4, 1, 0, 0, 0, 0];
-
-const NAMING: [Naming; 5] = [
-    (
-        "MOVE MEDIUM names its drives: into the drive",
-        1,
-        TO_DRIVE_1,
-        &[1],
-    ),
-    ("from drive 2 to drive 1", 2, BETWEEN_DRIVES, &[1, 2]),
-    ("there is no drive 2", 1, BETWEEN_DRIVES, &[1]),
-    ("from shelf to shelf", 2, BETWEEN_SHELVES, &[]),
-    ("TEST UNIT READY", 2, &[0; 6], &[]),
-];
-
 #[test]
-fn targets_are_made_and_drives_are_named_as_rows_say(rt: HostRuntime) {
+fn targets_are_made_as_rows_say(rt: HostRuntime) {
     for row in &REFUSALS {
         let (shows, kinds, refused) = *row;
         let units = units_of(rt.alloc(), kinds).expect(&rt, "memory");
-        assert_same(&rt, refusal(units), refused, shows);
-    }
-    for row in &NAMING {
-        let (shows, drives, cdb, expected) = *row;
-        let drives = named(drives, cdb);
-        assert_same(&rt, drives.as_slice(), expected, shows);
-    }
-}
-
-/// TEST UNIT READY of A.
-pub(super) fn ready_at(rt: &impl Abort, alloc: Global, lun: u8) -> Event {
-    Event::Command {
-        nexus: A,
-        lun,
-        cdb: ArrayVec::try_from([0; 6].as_slice()).expect(rt, "a CDB"),
-        bytes: Vec::new(alloc),
+        assert_same(&rt, refusal(rt.alloc(), units), refused, shows);
     }
 }

@@ -2,7 +2,6 @@
 
 use lun_router::Gate;
 use scsi_nexus::Nexus;
-use std::sync::Mutex;
 use std::sync::atomic::{AtomicBool, AtomicU64, Ordering};
 use std::thread;
 use std::time::{Clock, Duration};
@@ -19,9 +18,6 @@ pub(super) struct Flags {
     pub(super) answered: AtomicBool,
     /// Whether the gate stopped waiting for it.
     pub(super) ran_out: AtomicBool,
-    /// The numbers of the records that were handed out of drive 1, and of drive 2.
-    pub(super) first: Mutex<u128>,
-    pub(super) second: Mutex<u128>,
 }
 
 impl Flags {
@@ -30,8 +26,6 @@ impl Flags {
             entered: AtomicU64::new(0),
             answered: AtomicBool::new(false),
             ran_out: AtomicBool::new(false),
-            first: Mutex::new(0),
-            second: Mutex::new(0),
         }
     }
 

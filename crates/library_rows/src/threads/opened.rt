@@ -2,13 +2,11 @@
 
 use super::attending::Looks;
 use super::gates::TestGate;
-use super::numbers::with_numbers;
 use kept_unit::{Done, EventKind, NumberRange, UnitLedger};
 use library_device::Device;
 use lun_router::{CloseFault, Histories, Library, Seat};
 use scsi_nexus::Nexus;
 use std::alloc::{AllocError, Global};
-use std::process::Abort;
 use std::sync::Wait;
 
 /// What a library ends as: its histories, or itself and its seats again.
@@ -30,13 +28,11 @@ pub(super) trait Opened: Sized + Drop {
         event: EventKind<'static>,
     ) -> Done<'static>;
 
-    fn has_room<R: Wait>(&self, rt: &R, nexus: Nexus, lun: u8) -> bool;
-
     /// Lets an attendant at a unit: whether there is such a unit.
     fn attend<R: Wait>(&self, rt: &R, lun: u8, looks: &mut Looks) -> bool;
 
-    /// The numbers of the records that a unit hands out, if it is there.
-    fn drained<R: Abort + Wait>(&self, rt: &R, alloc: Global, lun: u8) -> Option<u128>;
+    /// How many records a unit hands out, if it is there.
+    fn drained<R: Wait>(&self, rt: &R, alloc: Global, lun: u8) -> Option<usize>;
 
     fn close(self, alloc: Global, seats: Vec<Self::Seat>) -> Closed<Self, Self::Seat>;
 
@@ -74,17 +70,12 @@ impl<'a, L0: UnitLedger, L1: UnitLedger, L2: UnitLedger, L3: UnitLedger, L4: Uni
         }
     }
 
-    fn has_room<R: Wait>(&self, rt: &R, nexus: Nexus, lun: u8) -> bool {
-        Library::has_room(self, rt, nexus, lun)
-    }
-
     fn attend<R: Wait>(&self, rt: &R, lun: u8, looks: &mut Looks) -> bool {
         Library::attend(self, rt, lun, looks)
     }
 
-    fn drained<R: Abort + Wait>(&self, rt: &R, alloc: Global, lun: u8) -> Option<u128> {
-        let records = self.drain(rt, alloc, lun)?;
-        Some(with_numbers(rt, 0, &records))
+    fn drained<R: Wait>(&self, rt: &R, alloc: Global, lun: u8) -> Option<usize> {
+        Some(self.drain(rt, alloc, lun)?.len())
     }
 
     fn close(

@@ -1,0 +1,195 @@
+"""Inventories of a folder: where volumes lie by them and by the files that are there, and what isn't taken for an inventory."""
+import struct
+import typing
+
+from exchanges import CHANGER, DRIVE
+from folders import HI, MARK, ODD, Folder, ended, told_by
+from hosts import Host
+from serving import Row, Tried, same
+
+NAME = "library.toml"
+SIZE = "version = 1\ndrives = 1\nslots = 4\nportals = 1\n"
+DRIVE_0, PORTAL_0, STORAGE_0 = 0x100, 0x200, 0x400
+# READ ELEMENT STATUS of all elements, with their volume tags.
+STATUS = "b8100000ffff0000ffff0000"
+
+
+def volume(name: str, element: str) -> str:
+    return f'\n[[volume]]\ntag = "{name}"\n{element}\n'
+
+
+def lying(host: Host) -> dict[int, str]:
+    """The tags of the volumes by the addresses of their elements (SMC-3, "READ ELEMENT STATUS command"): each page has a header of eight
+    bytes, and each descriptor the address, FULL in bit 0 of byte 2, and 36 bytes of a tag from byte 12 on."""
+    status, _, data = host.answer(CHANGER, STATUS)
+    same("the status of READ ELEMENT STATUS", status, 0)
+    found, at = {}, 8
+    while at < len(data):
+        size, length = struct.unpack_from(">H", data, at + 2)[0], int.from_bytes(data[at + 5:at + 8], "big")
+        for start in range(at + 8, at + 8 + length, size):
+            if data[start + 2] & 1:
+                found[struct.unpack_from(">H", data, start)[0]] = data[start + 12:start + 48].decode()
+        at += 8 + length
+    return found
+
+
+def same_places(host: Host, what: str, wanted: dict[int, str]) -> None:
+    """Compares where volumes lie, by their names; a tag is a name with blanks behind it, and then a number of zero."""
+    tags = lying(host)
+    for address, name in wanted.items():
+        same(f"{what}: the tag at {address:04x}h", tags.pop(address, None), f"{name:32}\0\0\0\0")
+    same(f"{what}: other tags", tags, {})
+
+
+WRITTEN = SIZE + volume("VOL00002", "storage = 1") + volume("A-1_b", "data_transfer = 0")
+# The same as it is written: drives, import/export elements, storage.
+AGAIN = SIZE + volume("A-1_b", "data_transfer = 0") + volume("VOL00002", "storage = 1")
+# Behind a move of the first to the import/export element.
+MOVED = SIZE + volume("A-1_b", "data_transfer = 0") + volume("VOL00002", "import_export = 0")
+
+
+def written_and_read(tried: Tried) -> None:
+    folder = Folder(tried, VOL00002=HI, **{"A-1_b": ODD})
+    folder.put(NAME, WRITTEN.encode())
+    for text in [WRITTEN, AGAIN]:
+        same("the inventory before a start", folder.inventory(), text)
+        with folder.served() as server:
+            same("what is told", told_by(server), [])
+            host = Host(server)
+            host.meets(CHANGER)
+            same_places(host, "where volumes lie", {DRIVE_0: "A-1_b", STORAGE_0 + 1: "VOL00002"})
+            host.meets(DRIVE)
+            host.reads(b"odd")
+            ended(server)
+        same("the inventory that is written at the end", folder.inventory(), AGAIN)
+    with folder.served() as server:
+        host = Host(server)
+        host.meets(CHANGER)
+        host.moves(STORAGE_0 + 1, PORTAL_0)
+        same("the inventory that is written behind a move", folder.inventory(), MOVED)
+        ended(server)
+    same("what is in the folder", folder.names(), ["A-1_b.tap", "VOL00002.tap", NAME, "lock"])
+
+
+ONE = '[[volume]]\ntag = "A"\nstorage = 3\n'
+
+
+def second(tag: str, element: str = "") -> str:
+    """A text whose second volume is one that is wrong."""
+    return f'{SIZE}{ONE}[[volume]]\ntag = "{tag}"\n{element}'
+
+
+NTH = "of the volumes, counted from 0, number 1:"
+NO_TAG = f"{NTH} no tag of 1 to 32 letters, digits, _ and -"
+# What is wrong with a text, the text, and what is told behind the path of its file.
+WRONG = {
+    "no-toml": ("no TOML", "version = ", "the text is no TOML"),
+    "version-2": ("another version", "version = 2\n", "unknown version 2"),
+    "no-version": ("no version", "drives = 1\n", "version is missing, or has a bad value"),
+    "256-drives": ("256 drives", "version = 1\ndrives = 256\nslots = 1\nportals = 0\n", "drives is missing, or has a bad value"),
+    "no-volumes": ("volumes that are none", f"{SIZE}volume = 1\n", "volume is missing, or has a bad value"),
+    "no-tag": ("a blank in a tag", second("A B", "storage = 0\n"), NO_TAG),
+    "no-element": ("no element", second("B"), f"{NTH} say one of data_transfer, storage and import_export"),
+    "element-twice": ("an element twice", second("B", "storage = 3\n"), f"{NTH} another volume lies in its element"),
+    "tag-twice": ("a tag twice", second("A", "storage = 2\n"), f"{NTH} another volume has its tag"),
+    "no-such-element": ("an element that there isn't", second("B", "storage = 4\n"), f"{NTH} no such element"),
+    "empty-tag": ("an empty tag", second("", "storage = 0\n"), NO_TAG),
+    "blank-tag": ("a tag of blanks", second(" " * 32, "storage = 0\n"), NO_TAG),
+    "path": ("a tag with a slash", second("a/b", "storage = 0\n"), NO_TAG),
+    "parent": ("a tag of dots", second("..", "storage = 0\n"), NO_TAG),
+    "long-tag": ("a tag of 33 digits", second("123456789012345678901234567890123", "storage = 0\n"), NO_TAG),
+}
+
+
+def wrong(text: str, words: str) -> typing.Callable[[Tried], None]:
+    def play(tried: Tried) -> None:
+        folder = Folder(tried, A=HI, B=ODD)
+        folder.put(NAME, text.encode())
+        same("the status and what is told", folder.refused(), (2, f"vtl: {folder.path_of(NAME)}: {words}\n"))
+        same("what is in the folder", folder.names(), ["A.tap", "B.tap", NAME, "lock"])
+        same("the inventory that is left", folder.inventory(), text)
+
+    return play
+
+
+def sizes(tried: Tried) -> None:
+    folder = Folder(tried)
+    folder.put(NAME, SIZE.encode())
+    words = "vtl: --slots 5 disagrees with the inventory, which has 4\n"
+    same("the status and what is told of other slots", folder.refused("--slots", "5"), (2, words))
+    same("the inventory that is left", folder.inventory(), SIZE)
+    with folder.served("--slots", "4") as server:
+        ended(server)
+    same("the inventory behind a start with the same slots", folder.inventory(), SIZE)
+
+
+def five_slots(tried: Tried) -> None:
+    folder = Folder(tried)
+    with folder.served("--slots", "5", "--volumes", "0") as server:
+        ended(server)
+    same("the inventory", folder.inventory(), "version = 1\ndrives = 1\nslots = 5\nportals = 0\n")
+
+
+def named(slots: int) -> str:
+    """An inventory of three volumes, of which the second has no image."""
+    return (
+        f"version = 1\ndrives = 1\nslots = {slots}\nportals = 0\n" + volume("VOL00002", "storage = 1") + volume("VOL00001", "storage = 2")
+        + volume("A", "data_transfer = 0"))
+
+
+PLACES = {DRIVE_0: "A", STORAGE_0: "B", STORAGE_0 + 1: "VOL00002", STORAGE_0 + 2: "VOL00003", STORAGE_0 + 3: "Z"}
+
+
+def placed(tried: Tried) -> None:
+    folder = Folder(tried, Z=HI, A=HI + MARK, B=ODD, VOL00002=MARK)
+    folder.put(NAME, named(4).encode())
+    with folder.served("--volumes", "5") as server:
+        missing = f"vtl: {folder.path_of('VOL00001.tap')}: it is missing: the volume lay in storage element 2"
+        same("what is told", told_by(server), [missing])
+        folder.same_image("the volume that is made", "VOL00003.tap", b"")
+        host = Host(server)
+        host.meets(CHANGER)
+        same_places(host, "where volumes lie", PLACES)
+        ended(server)
+    same("what is in the folder", folder.names(), ["A.tap", "B.tap", "VOL00002.tap", "VOL00003.tap", "Z.tap", NAME, "lock"])
+
+
+def too_many(tried: Tried) -> None:
+    folder = Folder(tried, Z=HI, A=HI + MARK, B=ODD, VOL00002=MARK)
+    folder.put(NAME, named(3).encode())
+    words = "vtl: more volumes than free storage elements: 3, and 2 are free\n"
+    same("the status and what is told", folder.refused("--volumes", "5"), (2, words))
+    same("what is in the folder", folder.names(), ["A.tap", "B.tap", "VOL00002.tap", "Z.tap", NAME, "lock"])
+
+
+# In the order of their tags, which are padded with blanks: these come before letters, digits, and what else a name has.
+ORDERED = ["A", "A-", "A0", "AA", "A_"]
+NO_NAMES = ["", "123456789012345678901234567890123", "a b", ".."]
+
+
+def names(tried: Tried) -> None:
+    """A file is a volume's by its name, that of one tag, and tags come in their order; others are left."""
+    images = {name: f"{name}.".encode() for name in [*ORDERED, *NO_NAMES]}
+    folder = Folder(tried, **{name: b"" if name in ORDERED else data for name, data in images.items()})
+    folder.put("readme.txt", b"no volume")
+    with folder.served() as server:
+        left = [f"vtl: {folder.path_of(f'{name}.tap')}: its name is no volume's: it is left" for name in NO_NAMES]
+        same("what is told", sorted(told_by(server)), sorted(left))
+        host = Host(server)
+        host.meets(CHANGER)
+        same_places(host, "where volumes lie", {STORAGE_0 + at: name for at, name in enumerate(ORDERED)})
+        ended(server)
+    for name in NO_NAMES:
+        folder.same_image("what is left", f"{name}.tap", images[name])
+
+
+ROWS = [
+    Row("written-and-read", "an inventory that is written is read back", written_and_read),
+    *(Row(f"wrong-{name}", f"a text that is no inventory is refused, with what is wrong: {shows}", wrong(text, words))
+      for name, (shows, text, words) in WRONG.items()),
+    Row("sizes", "options that disagree with an inventory are refused with both values", sizes),
+    Row("five-slots", "a library without an inventory is of the size that options say", five_slots),
+    Row("placed", "volumes lie where they lay and others in the first free elements", placed),
+    Row("too-many", "more volumes than free elements are refused", too_many),
+    Row("names", "a name is that of one tag, and a file of another name is left", names),
+]

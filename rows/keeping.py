@@ -1,0 +1,149 @@
+"""When volumes are kept: what is in an image behind a write and with a filemark's answer, and what becomes of that where a disk is full, a
+file can't be brought to the disk, or can't be written."""
+import contextlib
+import os
+import pathlib
+import resource
+import sys
+import typing
+
+from exchanges import DRIVE, B
+from folders import FIRST, HI, MARK, NEW, THREE, Folder, ended, told_by
+from hosts import ERASE, FILEMARK, NO_FILEMARK, REWIND, TO_THE_END, UNLOAD, WRITE_PROTECTED, Host, good, locate
+from serving import Row, Server, Tried, holds, same
+
+FAILED, AGAIN = "vtl: volume VOL00001 could not be written: ", "vtl: volume VOL00001 is written again\n"
+
+
+def is_ended(server: Server, sas: int) -> None:
+    """Another host's filemark has no answer either."""
+    host = Host(server, sas)
+    host.meets(DRIVE)
+    host.is_ended_by(DRIVE, NO_FILEMARK)
+
+
+def copied_behind(tried: Tried) -> None:
+    folder = Folder(tried)
+    with folder.served("--volumes", "1") as server:
+        host = Host(server)
+        host.loads()
+        host.writes(b"hi")
+        folder.await_image("what is copied behind a write", FIRST, HI)
+        host.asks(DRIVE, FILEMARK)
+        folder.same_image("what a filemark is answered behind", FIRST, HI + MARK)
+        ended(server)
+
+
+def never_synced(tried: Tried) -> None:
+    """/dev/null takes what is written, and can't be brought to a disk: so it shows by which commands that is tried. The volume lies in the
+    drive from the start on, since a move would try it too."""
+    folder = Folder(tried)
+    (folder.path / FIRST).symlink_to("/dev/null")
+    folder.put("library.toml", b'version = 1\ndrives = 1\nslots = 1\nportals = 0\n[[volume]]\ntag = "VOL00001"\ndata_transfer = 0\n')
+    with folder.served() as server:
+        host = Host(server)
+        host.meets(DRIVE)
+        host.writes(b"hi")
+        host.asks(DRIVE, REWIND)
+        host.asks(DRIVE, TO_THE_END)
+        same("what is told", told_by(server), [])
+        host.is_ended_by(DRIVE, FILEMARK)
+        server.told.wait_for(f"{FAILED}disk error\n")
+        # It is tried again, and told once.
+        is_ended(server, B)
+        server.end()
+        server.ends("not all of the media could be written")
+        same("how often it is told", server.told.text.count(FAILED), 1)
+        holds("what is told at the end", server.told.text, "vtl: volume VOL00001 is not whole on the disk\n")
+
+
+@contextlib.contextmanager
+def limited(folder: Folder, *words: str) -> typing.Iterator[tuple[Server, Host]]:
+    """A server whose files may grow up to a limit, and a host at its drive with a volume."""
+    with folder.served(*words, room=resource.RLIM_INFINITY) as server:
+        host = Host(server)
+        host.loads()
+        yield server, host
+
+
+def ends_well(server: Server) -> None:
+    """What was told once goes on once there is room, and all is kept at the end."""
+    ended(server)
+    same("how often it is told that it fails", server.told.text.count(FAILED), 1)
+    same("how often it is told that it goes on", server.told.text.count(AGAIN), 1)
+
+
+def full_and_mended(tried: Tried) -> None:
+    """A tape is written over from its second object on; of what replaces the others half finds room in the file. It is awaited, since the
+    server tries again by itself, and cuts the file back each time."""
+    folder = Folder(tried, VOL00001=THREE)
+    with limited(folder) as (server, host):
+        server.limit_lines(18)
+        host.asks(DRIVE, locate(1))
+        host.writes(b"new")
+        host.is_ended_by(DRIVE, FILEMARK)
+        server.told.wait_for(f"{FAILED}disk full\n")
+        folder.await_image("what stays, and a cut tail", FIRST, HI + NEW[:8])
+        is_ended(server, B)
+        folder.await_image("the same behind another try", FIRST, HI + NEW[:8])
+        server.limit_lines()
+        other = Host(server, B + 1)
+        other.meets(DRIVE)
+        other.asks(DRIVE, NO_FILEMARK)
+        folder.same_image("what the next filemark mends", FIRST, HI + NEW + MARK)
+        server.told.wait_for(AGAIN)
+        ends_well(server)
+    folder.same_image("the image at the end", FIRST, HI + NEW + MARK)
+
+
+def full_and_kept_at_the_end(tried: Tried) -> None:
+    folder = Folder(tried)
+    with limited(folder, "--volumes", "1") as (server, host):
+        server.limit_lines(0)
+        host.writes(b"hi")
+        host.is_ended_by(DRIVE, FILEMARK)
+        server.told.wait_for(f"{FAILED}disk full\n")
+        is_ended(server, B)
+        folder.same_image("nothing is kept", FIRST, b"")
+        server.limit_lines()
+        ends_well(server)
+    folder.same_image("all is kept at the end", FIRST, HI + MARK)
+
+
+def without_a_right(tried: Tried) -> Tried:
+    """The program without the right to write files that are for reading alone, which root has (CAP_DAC_OVERRIDE)."""
+    path = pathlib.Path(tried.path("bound"))
+    path.write_text(
+        f"#!{sys.executable}\nimport ctypes, os, sys\nctypes.CDLL(None).prctl(24, 1, 0, 0, 0)\n"
+        f"os.execv({tried.program!r}, [{tried.program!r}, *sys.argv[1:]])\n", encoding="utf-8")
+    path.chmod(0o700)
+    return Tried(str(path), tried.folder)
+
+
+def protected(tried: Tried) -> None:
+    folder = Folder(without_a_right(tried), VOL00001=HI)
+    os.chmod(folder.path_of(FIRST), 0o444)
+    with folder.served() as server:
+        same("what is told", told_by(server), [f"vtl: {folder.path_of(FIRST)}: it can't be written: the volume is protected"])
+        host = Host(server)
+        host.loads()
+        host.asks(DRIVE, "0a0000000100", WRITE_PROTECTED, b"\1")
+        host.asks(DRIVE, FILEMARK, WRITE_PROTECTED)
+        host.asks(DRIVE, NO_FILEMARK)
+        host.asks(DRIVE, ERASE, WRITE_PROTECTED)
+        host.reads(b"hi")
+        host.asks(DRIVE, UNLOAD)
+        # MODE SENSE of all pages: WP is set, buffered mode off, and the block descriptor says blocks of any length.
+        host.asks(DRIVE, "1a003f00ff00", good(bytes.fromhex("0b008008" "00000000" "00000000")))
+        ended(server)
+    folder.same_image("what is left", FIRST, HI)
+
+
+ROWS = [
+    Row("copied-behind", "a write is copied behind it, and a filemark is in the image before it is answered", copied_behind),
+    Row("never-synced", "a filemark is brought to the disk, a WRITE and a REWIND aren't; a sync that fails is told once and tried again",
+        never_synced),
+    Row("full-and-mended", "a flush that fails in its append is told once, tried again, and mended by the next", full_and_mended),
+    Row("full-and-kept-at-the-end", "a full disk is told once and tried again", full_and_kept_at_the_end),
+    Row("protected", "WRITE and ERASE leave a protected volume", protected),
+]
