@@ -6,8 +6,6 @@ breaks it off anywhere, or sends what is no reply (docs/PROTOCOL.md). Compared a
 how the program ends, and of answers to any command, with any data in them, that they are said in words. What differs is told by row, got
 and wanted; the last line is `N passed, M failed`.
 """
-import array
-import fcntl
 import os
 import resource
 import socket
@@ -18,7 +16,7 @@ import termios
 import time
 import typing
 
-from telling import LIMIT, Different, compare, difference, run_at, tell
+from telling import LIMIT, Different, compare, count_by, difference, rest_of, run_at, tell
 
 # Seconds after which no row is begun.
 TERM = 75
@@ -133,13 +131,6 @@ BAD_REPLIES = [
 BAD_LATER = [*BAD_REPLIES, ("one to LOGIN", ACCEPTED)]
 
 
-def count_by(stream: socket.socket, request: int) -> int:
-    """How many bytes a stream has, of those that it sent or of those that it is to read."""
-    count = array.array("i", [0])
-    fcntl.ioctl(stream, request, count)
-    return count[0]
-
-
 def wait_until(what: str, is_so: typing.Callable[[], bool]) -> None:
     end = time.monotonic() + LIMIT
     while not is_so():
@@ -157,17 +148,6 @@ def send_bytes(stream: socket.socket, replies: bytes) -> None:
     for byte in replies:
         stream.sendall(bytes([byte]))
         wait_until("a byte is read", lambda: count_by(stream, termios.TIOCOUTQ) == 0)
-
-
-def rest_of(stream: socket.socket) -> bytes:
-    """What comes until the end, which is told as a fault where the other end has closed without having read all."""
-    read = b""
-    try:
-        while piece := stream.recv(100_000):
-            read += piece
-    except ConnectionError:
-        pass
-    return read
 
 
 def answering(replies: bytes, send: Send, is_cut: bool = False) -> Talk:

@@ -1,6 +1,4 @@
 """One session, over streams that end anywhere, break, or are faulty. Each byte of a host is read by itself."""
-import array
-import fcntl
 import socket
 import struct
 import termios
@@ -11,6 +9,7 @@ from exchanges import (
     A, ACCEPTED, CHANGER, LOGGED_OUT, LOGIN_OF_A, LOGOUT, NOWHERE, READY, Asks, Says, asks, check, command, good, login, power_on, says)
 from serving import Row, Server, Tried, Wrong, patience, same, same_lines
 from sessions import LINES_OF_A
+from telling import count_by, rest_of
 
 from frames import exactly, framed  # of examples/
 
@@ -20,13 +19,6 @@ REPLIES = framed(ACCEPTED) + framed(power_on(1)) + framed(LOGGED_OUT)
 LOGGED_IN, ASKED, ALL = 15, 28, 33
 OF_A = "session 1 of 500000000000000a.1:"
 OF_NOBODY = "session 1 before its LOGIN:"
-
-
-def count_by(connection: socket.socket, request: int) -> int:
-    """How many bytes a connection has, of those that it sent or of those that it is to read."""
-    count = array.array("i", [0])
-    fcntl.ioctl(connection, request, count)
-    return count[0]
 
 
 def wait_until(what: str, is_so: typing.Callable[[], bool]) -> None:
@@ -55,17 +47,6 @@ def answered_to(length: int) -> int:
 def lines_behind(length: int) -> str:
     """The records that stay of a session of so many bytes."""
     return LINES_OF_A if length >= ASKED else ""
-
-
-def rest_of(connection: socket.socket) -> bytes:
-    """What comes until the end."""
-    read = b""
-    try:
-        while piece := connection.recv(1000):
-            read += piece
-    except ConnectionError:
-        pass
-    return read
 
 
 def whole(tried: Tried) -> None:

@@ -1,4 +1,6 @@
 """What scripts of rows have in common: a run of the program, how a row is told that differs, and how many passed."""
+import array
+import fcntl
 import os
 import socket
 import subprocess
@@ -81,6 +83,24 @@ def difference(check, program, *row):
     except (ValueError, IndexError) as fault:
         return f"no such answer: {fault}"
     return None
+
+
+def count_by(connection, request):
+    """How many bytes a connection has, of those that it sent or of those that it is to read."""
+    count = array.array("i", [0])
+    fcntl.ioctl(connection, request, count)
+    return count[0]
+
+
+def rest_of(connection):
+    """What comes until the end, which is told as a fault where the other end has closed without having read all."""
+    read = b""
+    try:
+        while piece := connection.recv(100_000):
+            read += piece
+    except ConnectionError:
+        pass
+    return read
 
 
 def tell(rows):
