@@ -9,7 +9,7 @@ use crate::reply_parse::parse_reply;
 use std::io::Read;
 
 /// What came of waiting for a reply.
-#[derive(Clone, Copy, Debug, PartialEq, Eq)]
+#[derive(Clone, Copy)]
 pub enum ReplyWait {
     /// What is pending begins with a reply, or with what is none.
     Arrived,

@@ -7,7 +7,7 @@ use crate::layout::*;
 use scsi_nexus::Nexus;
 
 /// What a client sends, where it lies among the bytes of the stream.
-#[derive(Clone, Copy, Debug)]
+#[derive(Clone, Copy)]
 pub enum FrameRef<'a> {
     /// The session's nexus.
     Login {

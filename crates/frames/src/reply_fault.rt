@@ -2,7 +2,7 @@ use thiserror::Error;
 
 /// What is wrong with a stream of replies, in the order in which it shows. A stream with a fault has no further
 /// replies.
-#[derive(Clone, Copy, Debug, PartialEq, Eq, Error)]
+#[derive(Clone, Copy, Debug, Error)]
 pub enum ReplyFault {
     /// A body of no bytes.
     #[error("reply of no bytes")]

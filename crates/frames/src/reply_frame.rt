@@ -8,7 +8,7 @@ use scsi_sense::{Sense, Status};
 use std::alloc::AllocError;
 
 /// How a LOGIN is answered.
-#[derive(Clone, Copy, Debug, PartialEq, Eq)]
+#[derive(Clone, Copy)]
 pub enum LoginAnswer {
     Accepted,
     /// The nexus has a session already.

@@ -4,7 +4,7 @@ ghost use Rattle.iscsi_chap.specs.Algorithms.{algorithm_number, is_number, is_of
 use iscsi_keys::number_in;
 
 /// The digest that answers a challenge.
-#[derive(Clone, Copy, Debug, PartialEq, Eq)]
+#[derive(Clone, Copy)]
 pub enum ChapAlgorithm {
     Sha256,
     Md5,

@@ -12,7 +12,7 @@ pub enum LineFault {
 }
 
 /// Why a secrets file isn't taken.
-#[derive(Clone, Copy, Debug, PartialEq, Eq, Error)]
+#[derive(Clone, Copy, Debug, Error)]
 pub enum SecretsFault {
     /// The first line with a fault, all lines counted from 1.
     #[error("line {number}: {what}")]

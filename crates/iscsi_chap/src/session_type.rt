@@ -1,5 +1,5 @@
 /// What a session is for (RFC 7143, "SessionType").
-#[derive(Clone, Copy, Debug, PartialEq, Eq)]
+#[derive(Clone, Copy)]
 pub enum SessionType {
     Normal,
     Discovery,

@@ -8,7 +8,7 @@ use crate::value::{boolean_in, has_word};
 use crate::word::Word;
 
 /// How a key is answered (RFC 7143, "Text Mode Negotiation").
-#[derive(Clone, Copy, Debug, PartialEq, Eq)]
+#[derive(Clone, Copy)]
 pub enum KeyAnswer {
     /// Not at all: the initiator has declared it.
     Nothing,

@@ -1,7 +1,7 @@
 use thiserror::Error;
 
 /// What in its keys ends a login.
-#[derive(Clone, Copy, Debug, PartialEq, Eq, Error)]
+#[derive(Clone, Copy, Debug, Error)]
 pub enum NegotiationFault {
     /// A key was offered twice.
     #[error("key offered twice")]
@@ -18,7 +18,7 @@ pub enum NegotiationFault {
 }
 
 /// What is wrong with the text of a request.
-#[derive(Clone, Copy, Debug, PartialEq, Eq, Error)]
+#[derive(Clone, Copy, Debug, Error)]
 pub enum TextFault {
     /// What is left has no NUL at its end.
     #[error("no NUL behind a value")]

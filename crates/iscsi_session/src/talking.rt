@@ -37,7 +37,7 @@ pub(crate) const ROOM: usize = 196_608;
 const PING_TAG: u32 = 0;
 
 /// Why answering paused.
-#[derive(Clone, Copy, PartialEq, Eq)]
+#[derive(Clone, Copy)]
 enum Pause {
     /// No whole PDU is left.
     NeedsInput,

@@ -4,7 +4,7 @@ use std::alloc::{AllocError, AllocFailed};
 use thiserror::Error;
 
 /// Why a task ends without having been executed: in CHECK CONDITION, with sense key ABORTED COMMAND (RFC 7143, "Sense Data").
-#[derive(Clone, Copy, Debug, PartialEq, Eq)]
+#[derive(Clone, Copy)]
 pub enum TaskFault {
     /// Unsolicited data that weren't agreed, or data that nothing has asked for.
     UnexpectedUnsolicitedData,
@@ -30,7 +30,7 @@ impl TaskFault {
 }
 
 /// Why a session can't go on.
-#[derive(Clone, Copy, Debug, PartialEq, Eq, Error)]
+#[derive(Clone, Copy, Debug, Error)]
 pub enum TasksFault {
     /// As many commands wait as may.
     #[error("too many commands wait")]

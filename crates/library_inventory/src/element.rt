@@ -2,7 +2,7 @@ ghost use Rattle.std.specs.Prelude.{◌↔◌, IsTrue};
 ghost use Rattle.library_inventory.specs.Elements.{IsElementOf};
 
 /// An element that can hold a volume, by its number within its type, from 0 on (SMC-3, "Element addresses").
-#[derive(Clone, Copy, Debug, PartialEq, Eq)]
+#[derive(Clone, Copy, PartialEq, Eq)]
 pub enum Element {
     /// A drive.
     DataTransfer(u16),
@@ -11,7 +11,7 @@ pub enum Element {
 }
 
 /// How many elements of each type a library has, beside its medium transport element.
-#[derive(Clone, Copy, Debug, PartialEq, Eq)]
+#[derive(Clone, Copy, Debug)]
 pub struct LibrarySize {
     /// Data transfer elements.
     pub drives: u8,

@@ -2,7 +2,7 @@ use std::alloc::{AllocError, AllocFailed};
 use thiserror::Error;
 
 /// An option that says what a library is made of.
-#[derive(Clone, Copy, Debug, PartialEq, Eq)]
+#[derive(Clone, Copy, Debug)]
 pub enum SizeOption {
     Drives,
     Slots,
@@ -10,7 +10,7 @@ pub enum SizeOption {
 }
 
 /// Why a volume isn't added to an inventory, in the order of the tests.
-#[derive(Clone, Copy, Debug, PartialEq, Eq, Error)]
+#[derive(Clone, Copy, Debug, Error)]
 pub enum AddFault {
     #[error("no such element")]
     NoElement,
@@ -34,7 +34,7 @@ impl<T: Drop> From<AllocFailed<T>> for AddFault {
 }
 
 /// Why a library can't be started.
-#[derive(Clone, Copy, Debug, PartialEq, Eq, Error)]
+#[derive(Clone, Copy, Debug, Error)]
 pub enum StartFault {
     #[error("want of memory")]
     NoMemory,

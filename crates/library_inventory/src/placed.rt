@@ -2,7 +2,7 @@ use crate::element::Element;
 use tape_medium::VolumeTag;
 
 /// A volume, and the element in which it lies.
-#[derive(Clone, Copy, Debug, PartialEq, Eq)]
+#[derive(Clone, Copy)]
 pub struct PlacedVolume {
     pub tag: VolumeTag,
     pub element: Element,

@@ -5,7 +5,7 @@ use std::alloc::AllocError;
 use thiserror::Error;
 
 /// A key of an inventory's text.
-#[derive(Clone, Copy, Debug, PartialEq, Eq)]
+#[derive(Clone, Copy, Debug)]
 pub enum InventoryKey {
     Version,
     Drives,
@@ -15,7 +15,7 @@ pub enum InventoryKey {
 }
 
 /// What is wrong with a volume of an inventory's text.
-#[derive(Clone, Copy, Debug, PartialEq, Eq, Error)]
+#[derive(Clone, Copy, Debug, Error)]
 pub enum VolumeFault {
     #[error("no table")]
     NoTable,
@@ -30,7 +30,7 @@ pub enum VolumeFault {
 }
 
 /// Why a text isn't that of an inventory.
-#[derive(Clone, Copy, Debug, PartialEq, Eq, Error)]
+#[derive(Clone, Copy, Debug, Error)]
 pub enum ReadFault {
     #[error("want of memory")]
     NoMemory,

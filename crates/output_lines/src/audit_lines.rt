@@ -8,7 +8,7 @@ use logical_unit::LogicalUnit;
 use std::alloc::{AllocError, Global};
 
 /// What is written of the units' records.
-#[derive(Clone, Copy, Debug, PartialEq, Eq)]
+#[derive(Clone, Copy)]
 pub enum Audit {
     /// Nothing.
     Off,

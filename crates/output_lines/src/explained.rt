@@ -7,7 +7,7 @@ use scsi_sense::{Sense, Status};
 use std::alloc::AllocError;
 
 /// Whether replies are said in words, too.
-#[derive(Clone, Copy, Debug, PartialEq, Eq)]
+#[derive(Clone, Copy)]
 pub enum Explanations {
     /// Their lines alone.
     Off,

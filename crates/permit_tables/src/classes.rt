@@ -1,5 +1,5 @@
 /// The classes of command that the permission table tells apart, a row each.
-#[derive(Clone, Copy, Debug, PartialEq, Eq)]
+#[derive(Clone, Copy, PartialEq, Eq)]
 pub enum Class {
     TestUnitReady,
     RequestSense,

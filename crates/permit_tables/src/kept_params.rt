@@ -10,13 +10,13 @@ use std::marker::Model;
 
 /// A PERSISTENT RESERVE OUT command in the room that it needs: that of a pointer, and behind it the
 /// fields with as many addresses as the list named. Its value is that of its `OutParams`.
-#[derive(Drop, Debug)]
+#[derive(Drop)]
 pub struct KeptParams {
     kept: Box<Contents>,
 }
 
 /// The fields of an `OutParams`.
-#[derive(Drop, Debug)]
+#[derive(Drop)]
 struct Contents {
     rk: u64,
     sark: u64,

@@ -1,6 +1,6 @@
 /// The rules on keys by which a command conflicts though its cell of the permission table allows it
 /// (SPC-4, "PERSISTENT RESERVE OUT command"). They are tested in this order.
-#[derive(Clone, Copy, Debug, PartialEq, Eq)]
+#[derive(Clone, Copy)]
 pub enum KeyRule {
     /// REGISTER that names a nexus that isn't registered, with a reservation key that isn't 0.
     K1,

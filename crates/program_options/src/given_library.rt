@@ -5,7 +5,7 @@ use crate::library_options::LibraryOptions;
 
 /// What was said of a library on a command line; of the rest nothing was said, so that it is as usual, or as it is in a library that is
 /// kept.
-#[derive(Clone, Copy, Debug, PartialEq, Eq)]
+#[derive(Clone, Copy)]
 pub struct GivenLibrary {
     pub drives: Option<u8>,
     /// Storage elements.

@@ -1,5 +1,5 @@
 /// How long a library is served, and by how many workers.
-#[derive(Clone, Copy, Debug, PartialEq, Eq)]
+#[derive(Clone, Copy)]
 pub enum ServeUntil {
     /// For so many sessions, each by a worker of its own.
     Sessions(u8),

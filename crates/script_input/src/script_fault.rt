@@ -3,7 +3,7 @@ use std::fmt;
 use thiserror::Error;
 
 /// Why a text gave no events.
-#[derive(Clone, Copy, Debug, PartialEq, Eq, Error)]
+#[derive(Clone, Copy, Debug, Error)]
 pub enum ScriptFault {
     /// The first line with a fault, counted from 1.
     Line { number: u64, what: LineFault },

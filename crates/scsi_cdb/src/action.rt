@@ -4,7 +4,7 @@ use crate::layout::*;
 
 /// The service actions of PERSISTENT RESERVE IN, in the order of their codes (SPC-4, "PERSISTENT
 /// RESERVE IN command").
-#[derive(Clone, Copy, Debug, PartialEq, Eq)]
+#[derive(Clone, Copy)]
 pub enum InServiceAction {
     ReadKeys,
     ReadReservation,

@@ -2,7 +2,7 @@ use thiserror::Error;
 
 /// Why bytes are no command of a kind of unit. A command may have more than one fault; `decode`
 /// says when each comes.
-#[derive(Clone, Copy, Debug, PartialEq, Eq, Error)]
+#[derive(Clone, Copy, Debug, Error)]
 pub enum CdbFault {
     /// No command of the kind has this OPERATION CODE.
     #[error("no such command")]

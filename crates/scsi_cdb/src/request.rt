@@ -3,7 +3,7 @@ use permit_tables::OutServiceAction;
 
 /// A command with its fields, each as the CDB has it. A field of bits is in the low bits of its
 /// number.
-#[derive(Clone, Copy, Debug, PartialEq, Eq)]
+#[derive(Clone, Copy)]
 pub enum Request {
     TestUnitReady,
     Rewind,

@@ -10,7 +10,7 @@ use thiserror::Error;
 pub const LIST_CAPACITY: usize = 256;
 
 /// The list has no room for one more nexus.
-#[derive(Clone, Copy, Debug, Drop, PartialEq, Eq, Error)]
+#[derive(Clone, Copy, Debug, Drop, Error)]
 #[error("no room for one more nexus")]
 pub struct ListFull;
 

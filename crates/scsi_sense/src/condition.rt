@@ -4,7 +4,7 @@ use std::fmt;
 
 /// What a command may have to report, by sense key and additional sense code with its qualifier
 /// (SPC-4, "Sense key and additional sense code definitions").
-#[derive(Clone, Copy, Debug, PartialEq, Eq)]
+#[derive(Clone, Copy)]
 pub enum Condition {
     /// NO SENSE, 00h/00h.
     NoAdditionalSenseInformation,

@@ -7,7 +7,7 @@ use crate::layout::*;
 use byteorder::{BigEndian, ByteOrder};
 
 /// What CHECK CONDITION and REQUEST SENSE report (SPC-4, "Fixed format sense data").
-#[derive(Clone, Copy, Debug, PartialEq, Eq)]
+#[derive(Clone, Copy)]
 pub struct Sense {
     /// INFORMATION is defined.
     pub valid: bool,

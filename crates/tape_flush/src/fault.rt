@@ -34,7 +34,7 @@ impl From<StoreFault> for FlushFault {
 }
 
 /// Why an image isn't written on.
-#[derive(Clone, Copy, Debug, PartialEq, Eq, Error)]
+#[derive(Clone, Copy, Debug, Error)]
 pub enum OpenFault {
     #[error("want of memory")]
     NoMemory,

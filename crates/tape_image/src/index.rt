@@ -11,7 +11,7 @@ use std::alloc::{AllocError, Global};
 use std::io::Read;
 
 /// Where a logical object of an image lies. Offsets and sizes are in bytes.
-#[derive(Clone, Copy, Debug, PartialEq, Eq)]
+#[derive(Clone, Copy)]
 pub enum IndexedObject {
     /// A logical block of `size` bytes, whose part begins at `offset`.
     Block { offset: u64, size: usize },

@@ -2,7 +2,7 @@ use std::{fmt, str};
 use tape_medium::VolumeTag;
 
 /// What is kept of a library.
-#[derive(Clone, Copy, Debug, PartialEq, Eq)]
+#[derive(Clone, Copy)]
 pub enum KeptThing {
     /// The tape of a volume, in its image.
     Volume(VolumeTag),
@@ -11,7 +11,7 @@ pub enum KeptThing {
 }
 
 /// Why something isn't kept.
-#[derive(Clone, Copy, Debug, PartialEq, Eq)]
+#[derive(Clone, Copy)]
 pub enum KeepFault {
     /// There is no room on the disk.
     Full,
@@ -23,7 +23,7 @@ pub enum KeepFault {
 }
 
 /// What happens to what is kept.
-#[derive(Clone, Copy, Debug, PartialEq, Eq)]
+#[derive(Clone, Copy)]
 pub enum KeepChange {
     /// It can't be kept from now on, and is tried again.
     Fails(KeepFault),
@@ -34,7 +34,7 @@ pub enum KeepChange {
 }
 
 /// What is told of keeping tapes.
-#[derive(Clone, Copy, Debug, PartialEq, Eq)]
+#[derive(Clone, Copy)]
 pub struct KeepEvent {
     pub thing: KeptThing,
     pub change: KeepChange,

@@ -4,7 +4,7 @@ ghost use Rattle.tape_medium.specs.Settling.{settled_to};
 use crate::tape::Tape;
 
 /// The primary volume tag of a volume: 32 bytes, padded with spaces (SMC-3, "READ ELEMENT STATUS command").
-#[derive(Clone, Copy, Debug, PartialEq, Eq, PartialOrd, Ord)]
+#[derive(Clone, Copy, PartialEq, Eq, PartialOrd, Ord)]
 pub struct VolumeTag(pub [u8; 32]);
 
 /// A removable volume.
