@@ -5,25 +5,8 @@ use Rattle.std.proofs.lemmas.List.Sums.{sum_by-append, sum_by-cons}
 use Rattle.kept_unit.specs.declared.entry.Entry.{Entry}
 use Rattle.kept_unit.specs.declared.number_range.NumberRange.{NumberRange}
 use Rattle.kept_unit.specs.Answers.{DoneValue, entry_of, count_at}
-use Rattle.lun_router.specs.Seats.{Amounts, SettledRanges, IsCounted, Rise, told_at}
-
-abbrev pub amounts : (zero one two three four : ℕ) → Amounts
-amounts a b c d e = record { zero = a; one = b; two = c; three = d; four = e }
-
--- a share that the call doesn't touch
-pub stays : (x n : ℕ) → n ≡ 0 → x ≡ x + n
-stays x n none = omega arith
-
-pub rises : (was : Amounts) (a b c d e a' b' c' d' e' : ℕ) (ns : List (ℕ × ℕ)) → amounts a b c d e ≡ was
-    → a' ≡ a + count_at 0 ns → b' ≡ b + count_at 1 ns → c' ≡ c + count_at 2 ns → d' ≡ d + count_at 3 ns → e' ≡ e + count_at 4 ns
-    → Rise was ns (amounts a' b' c' d' e')
-rises was a b c d e a' b' c' d' e' ns is p q r s t = (
-  p ∙ ap (λ (m : Amounts). m.zero + count_at 0 ns) is,
-  q ∙ ap (λ (m : Amounts). m.one + count_at 1 ns) is,
-  r ∙ ap (λ (m : Amounts). m.two + count_at 2 ns) is,
-  s ∙ ap (λ (m : Amounts). m.three + count_at 3 ns) is,
-  t ∙ ap (λ (m : Amounts). m.four + count_at 4 ns) is,
-)
+use Rattle.unit_locks.specs.Shares.{Amounts, Rise}
+use Rattle.lun_router.specs.Seats.{SettledRanges, IsCounted, told_at}
 
 -- one entry more
 told_more : (lun : ℕ) (rs : List NumberRange) (es : List Entry) (e : Entry) → told_at lun rs (es ++ e ∷ []) ≡ told_at lun rs es + count_at lun e.numbers

@@ -11,7 +11,8 @@ use Rattle.kept_unit.specs.declared.number_range.NumberRange.{NumberRange}
 use Rattle.kept_unit.specs.Answers.{at, count_at}
 use Rattle.kept_unit.specs.Listing.{listed_at}
 use Rattle.kept_unit.specs.Ranges.{numbers_in_ranges}
-use Rattle.lun_router.specs.Seats.{Amounts, SettledRanges, IsCounted, told_at}
+use Rattle.unit_locks.specs.Shares.{Amounts}
+use Rattle.lun_router.specs.Seats.{SettledRanges, IsCounted, told_at}
 use Rattle.lun_router.specs.Settling.{SettlesAll}
 
 at_both : (lun : ℕ) (xs ys : List (ℕ × ℕ)) → at lun (xs ++ ys) ≡ at lun xs ++ at lun ys

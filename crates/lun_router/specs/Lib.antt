@@ -3,4 +3,4 @@ pub mod Queue
 pub mod Settling
 pub mod SettlingRows
 pub mod Opening
-pub mod Answering
+pub use Rattle.unit_locks.specs.Answering

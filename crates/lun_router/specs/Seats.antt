@@ -1,5 +1,5 @@
 -- What a seat holds, what a call does to it, and what is settled of it.
-use Rattle.std.specs.Prelude.{◌≡◌, ◌⊎◌, ℕ, ◌+◌, ◌≤◌, nat_le, List, [], ◌∷◌, ◌++◌, length, drop, sum_by, Bool, false, ◌==◌, if◌then◌else◌, Option, Some, None, slice_get}
+use Rattle.std.specs.Prelude.{◌≡◌, ◌⊎◌, ℕ, ◌+◌, nat_le, List, [], ◌∷◌, ◌++◌, length, drop, sum_by, Bool, false, ◌==◌, if◌then◌else◌, Option, Some, None, slice_get}
 use Rattle.std.specs.List.{list_all, prefix_len}
 use Rattle.judgement.specs.Replies.{busy}
 use Rattle.kept_unit.specs.declared.entry.Entry.{Entry}
@@ -7,14 +7,7 @@ use Rattle.kept_unit.specs.declared.number_range.NumberRange.{NumberRange}
 use Rattle.kept_unit.specs.Answers.{DoneValue, entry_of, count_at}
 use Rattle.kept_unit.specs.Listing.{NotesValue, numbers_in}
 use Rattle.kept_unit.specs.Ranges.{numbers_in_ranges}
-
--- a seat's share of each unit's ledger
-pub record Amounts : Type 0 where
-  pub zero : ℕ
-  pub one : ℕ
-  pub two : ℕ
-  pub three : ℕ
-  pub four : ℕ
+use Rattle.unit_locks.specs.Shares.{Amounts, Rise}
 
 -- ranges of each unit's record numbers
 pub record SettledRanges : Type 0 where
@@ -53,11 +46,6 @@ told_at lun rs es = length (numbers_in_ranges rs) + sum_by (λ e. count_at lun e
 abbrev pub IsCounted : SettledRanges → List Entry → Amounts → Type 0
 IsCounted r es a =
     (a.zero ≡ told_at 0 r.zero es) × (a.one ≡ told_at 1 r.one es) × (a.two ≡ told_at 2 r.two es) × (a.three ≡ told_at 3 r.three es) × (a.four ≡ told_at 4 r.four es)
-
--- each share rises by one for each number at its unit, and no other does
-abbrev pub Rise : Amounts → (numbers : List (ℕ × ℕ)) → Amounts → Type 0
-Rise a ns b =
-    (b.zero ≡ a.zero + count_at 0 ns) × (b.one ≡ a.one + count_at 1 ns) × (b.two ≡ a.two + count_at 2 ns) × (b.three ≡ a.three + count_at 3 ns) × (b.four ≡ a.four + count_at 4 ns)
 
 -- the seat has the entry of the call, and its shares rose by its numbers; or it had no room for one, the call is BUSY, and nothing changed
 abbrev pub Notes : SeatValue → DoneValue → SeatValue → Type 0

@@ -4,23 +4,17 @@
 
 mod closing;
 mod entry_queue;
-mod gate;
 mod laws;
 mod library;
-mod locked;
-mod locks;
-mod moves;
 mod opening;
-mod raw_command;
 mod routes;
 mod seat;
 mod settling;
 mod unit_ranges;
 mod units_by_lun;
 
-pub use closing::{CloseFault, Histories};
-pub use gate::{Gate, Pass};
+pub use closing::CloseFault;
 pub use laws::settling_rows;
 pub use library::Library;
-pub use opening::Blanks;
-pub use seat::{Seat, SeatShares};
+pub use seat::Seat;
+pub use unit_locks::{Blanks, Gate, Histories, Pass, SeatShares};

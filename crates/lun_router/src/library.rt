@@ -1,8 +1,7 @@
-use crate::gate::Gate;
-use crate::locked::Locked;
 use device_server::DeviceServer;
 use kept_unit::UnitLedger;
 use std::marker::Model;
+use unit_locks::{Gate, UnitLocks};
 
 /// The units of a library, each under a lock of its own: a changer as logical unit 0 and one to four drives. Contracts see
 /// how many seats were made, and how many units there are.
@@ -26,13 +25,7 @@ pub struct Library<
     G: Gate,
 > {
     pub(crate) seats: usize,
-    pub(crate) count: u8,
-    pub(crate) changer: Locked<0, L0, D>,
-    pub(crate) first: Locked<1, L1, D>,
-    pub(crate) second: Option<Locked<2, L2, D>>,
-    pub(crate) third: Option<Locked<3, L3, D>>,
-    pub(crate) fourth: Option<Locked<4, L4, D>>,
-    pub(crate) gate: G,
+    pub(crate) locks: UnitLocks<L0, L1, L2, L3, L4, D, G>,
 }
 
 impl<
@@ -44,13 +37,11 @@ impl<
     D: DeviceServer,
     G: Gate,
 > Model for Library<L0, L1, L2, L3, L4, D, G> {
-    ghost use Rattle.lun_router.specs.Opening.{LibraryValue, HasUnits};
+    ghost use Rattle.lun_router.specs.Opening.{LibraryValue};
 
     ghost Value = { LibraryValue };
 
-    ghost view = { λ l. record { seats = l.seats; units = l.count } };
-
-    ghost invariant = { λ l. HasUnits l.count l.second l.third l.fourth };
+    ghost view = { λ l. record { seats = l.seats; units = l.locks.units } };
 }
 
 impl<
@@ -68,6 +59,6 @@ impl<
     pub fn units(&self) -> u8
         ensures { result ≡ self.now.units }
     {
-        self.count
+        self.locks.units()
     }
 }

@@ -1,79 +1,16 @@
-ghost use Rattle.std.specs.Prelude.{◌≡◌, ◌<◌, ◌+◌, All, IfOk, IfErr, is_some, length, vec_len};
-ghost use Rattle.std.specs.Option.{ForSome};
-ghost use Rattle.logical_unit.specs.UnitView.{last_number, units_of};
-ghost use Rattle.lun_router.specs.Opening.{IsAt, IsSince};
+ghost use Rattle.std.specs.Prelude.{◌≡◌, ◌<◌, ◌+◌, All, IfOk, IfErr, length, vec_len};
+ghost use Rattle.logical_unit.specs.UnitView.{units_of};
+ghost use Rattle.lun_router.specs.Opening.{IsSince};
 ghost use Rattle.lun_router.specs.Seats.{IsUntold};
 
-use crate::gate::Gate;
 use crate::library::Library;
-use crate::locked::Locked;
-use crate::seat::{Seat, SeatShares};
-use crate::units_by_lun::{UnitsByLun, split_units};
+use crate::seat::Seat;
+use crate::units_by_lun::split_units;
 use device_server::DeviceServer;
-use kept_unit::{Kept, UnitLedger};
-use logical_unit::LogicalUnit;
+use kept_unit::UnitLedger;
 use std::alloc::{AllocError, Global};
-use std::sync::ledger::{Blank, Share};
 use target_core::TargetCore;
-
-/// A new ledger for each logical unit number that a unit can have, each cut into as many parts as there will be seats.
-#[derive(Drop)]
-pub struct Blanks {
-    pub zero: Blank,
-    pub one: Blank,
-    pub two: Blank,
-    pub three: Blank,
-    pub four: Blank,
-}
-
-/// Puts a unit under a lock.
-fn put_under_lock<const LUN: u8, L: UnitLedger, D: DeviceServer>(
-    unit: LogicalUnit<D>,
-    blank: Blank,
-) -> (Locked<LUN, L, D>, Share<L>)
-    requires blank { (blank.name ≡ L.name) × (blank.parts ≡ L.parts) }
-    requires unit { IsAt LUN unit.unit }
-    requires since { last_number unit.unit ≡ L.since }
-    ensures parts { result.1.parts ≡ L.parts }
-    ensures amount { result.1.amount ≡ 0 }
-{
-    let (book, share) = blank.open::<L>();
-    (Locked::new(Kept::new(unit, book)), share)
-}
-
-/// The same where the unit may be absent. Its book then goes, and the shares stay at nothing.
-fn put_under_lock_if_there<const LUN: u8, L: UnitLedger, D: DeviceServer>(
-    unit: Option<LogicalUnit<D>>,
-    blank: Blank,
-) -> (Option<Locked<LUN, L, D>>, Share<L>)
-    requires blank { (blank.name ≡ L.name) × (blank.parts ≡ L.parts) }
-    requires unit { ForSome unit (λ u. IsAt LUN u.unit) }
-    requires since { ForSome unit (λ u. last_number u.unit ≡ L.since) }
-    ensures there { is_some result.0 ≡ is_some unit }
-    ensures parts { result.1.parts ≡ L.parts }
-    ensures amount { result.1.amount ≡ 0 }
-{
-    match unit {
-        Some(unit) => {
-            let (lock, share) = put_under_lock(unit, blank);
-            (Some(lock), share)
-        }
-        None => {
-            let (_, share) = blank.open::<L>();
-            (None, share)
-        }
-    }
-}
-
-/// The shares of all ledgers, before they are cut.
-#[derive(Drop)]
-struct AllShares<L0: UnitLedger, L1: UnitLedger, L2: UnitLedger, L3: UnitLedger, L4: UnitLedger> {
-    zero: Share<L0>,
-    one: Share<L1>,
-    two: Share<L2>,
-    three: Share<L3>,
-    four: Share<L4>,
-}
+use unit_locks::{AllShares, Blanks, Gate, UnitLocks};
 
 /// A seat with a part of each, which was told nothing.
 fn cut<L0: UnitLedger, L1: UnitLedger, L2: UnitLedger, L3: UnitLedger, L4: UnitLedger>(
@@ -86,21 +23,7 @@ fn cut<L0: UnitLedger, L1: UnitLedger, L2: UnitLedger, L3: UnitLedger, L4: UnitL
     ensures amounts { (shares.new.zero.amount ≡ 0) × (shares.new.one.amount ≡ 0) × (shares.new.two.amount ≡ 0) × (shares.new.three.amount ≡ 0) × (shares.new.four.amount ≡ 0) }
     ensures parts { (shares.new.zero.parts + 1 ≡ shares.old.zero.parts) × (shares.new.one.parts + 1 ≡ shares.old.one.parts) × (shares.new.two.parts + 1 ≡ shares.old.two.parts) × (shares.new.three.parts + 1 ≡ shares.old.three.parts) × (shares.new.four.parts + 1 ≡ shares.old.four.parts) }
 {
-    let AllShares {
-        zero,
-        one,
-        two,
-        three,
-        four,
-    } = shares;
-    let parts = SeatShares {
-        zero: zero.split_off(1, 0),
-        one: one.split_off(1, 0),
-        two: two.split_off(1, 0),
-        three: three.split_off(1, 0),
-        four: four.split_off(1, 0),
-    };
-    Seat::new(alloc, parts)
+    Seat::new(alloc, shares.cut())
 }
 
 impl<
@@ -144,46 +67,10 @@ impl<
         if let Err(refused) = all.reserve(seats) {
             return Err((refused.into(), core));
         }
-        let UnitsByLun {
-            count,
-            changer,
-            first,
-            second,
-            third,
-            fourth,
-        } = split_units(core);
-        let Blanks {
-            zero,
-            one,
-            two,
-            three,
-            four,
-        } = blanks;
-        let (changer, zero) = put_under_lock(changer, zero);
-        let (first, one) = put_under_lock(first, one);
-        let (second, two) = put_under_lock_if_there(second, two);
-        let (third, three) = put_under_lock_if_there(third, three);
-        let (fourth, four) = put_under_lock_if_there(fourth, four);
-        let mut shares = AllShares {
-            zero,
-            one,
-            two,
-            three,
-            four,
-        };
+        let (locks, mut shares) = UnitLocks::open(split_units(core), blanks, gate);
         for _i in 0..seats {
             all.push_reserved(cut(alloc, &mut shares));
         }
-        let library = Library {
-            seats,
-            count,
-            changer,
-            first,
-            second,
-            third,
-            fourth,
-            gate,
-        };
-        Ok((library, all))
+        Ok((Library { seats, locks }, all))
     }
 }

@@ -6,23 +6,18 @@ ghost use Rattle.kept_unit.specs.Answers as event;
 ghost use Rattle.kept_unit.specs.Answers.{IsAnswer};
 ghost use Rattle.kept_unit.specs.ActKinds.{act_kind_of, act_kind_if};
 ghost use Rattle.kept_unit.specs.Keeping.{kind_at};
-ghost use Rattle.lun_router.specs.Answering.{AnswersAsAbsent, LeavesNoneFor, LosesNoneFor, RefusesAsAbsent, IsSomeTrail};
-ghost use Rattle.lun_router.specs.Seats.{Rise, Notes};
+ghost use Rattle.unit_locks.specs.Answering.{AnswersAsAbsent, LeavesNoneFor, LosesNoneFor, RefusesAsAbsent, IsSomeTrail};
+ghost use Rattle.lun_router.specs.Seats.{Notes};
 
-use crate::gate::Gate;
 use crate::library::Library;
-use crate::locks::{
-    attend_at, attend_if_there, drain_at, drain_if_there, has_room_at, has_room_if_there, lose_at,
-    lose_if_there, reset_at, reset_if_there, step_at, step_if_there,
-};
-use crate::raw_command::RawCommand;
-use crate::seat::{Seat, SeatShares};
+use crate::seat::Seat;
 use audit_log::Record;
 use device_server::{Attendant, DeviceServer};
 use kept_unit::{Done, EventKind, UnitLedger};
 use scsi_nexus::Nexus;
 use std::alloc::Global;
 use std::sync::Wait;
+use unit_locks::{Gate, RawCommand};
 
 impl<
     L0: UnitLedger,
@@ -33,81 +28,6 @@ impl<
     D: DeviceServer,
     G: Gate,
 > Library<L0, L1, L2, L3, L4, D, G> {
-    /// A command at its unit, or at none.
-    fn route<'a, R: Wait>(
-        &self,
-        rt: &R,
-        alloc: Global,
-        parts: &mut SeatShares<L0, L1, L2, L3, L4>,
-        lun: u8,
-        raw: RawCommand<'a>,
-    ) -> Done<'a>
-        ensures answer { IsAnswer result (Some raw.entry.nexus) lun (event.Command raw.entry.cdb.now raw.entry.bytes.now) }
-        ensures act { result.act ≡ act_kind_if result.numbers (act_kind_of (act_of (kind_at lun) raw.entry.cdb.now raw.entry.bytes.now)) }
-        ensures absent { AnswersAsAbsent self.now.units lun raw.entry.cdb.now result.reply }
-        ensures unnumbered { LeavesNoneFor self.now.units lun result.numbers result.reply }
-        ensures rise { Rise parts.old result.numbers parts.new }
-    {
-        let gate = &self.gate;
-        match lun {
-            0 => self.step_changer(rt, alloc, parts, raw),
-            1 => step_at(rt, alloc, gate, &self.first, &mut parts.one, raw),
-            2 => step_if_there(rt, alloc, gate, &self.second, &mut parts.two, raw),
-            3 => step_if_there(rt, alloc, gate, &self.third, &mut parts.three, raw),
-            4 => step_if_there(rt, alloc, gate, &self.fourth, &mut parts.four, raw),
-            _ => Done::absent(alloc, raw.nexus, lun, raw.cdb, raw.bytes),
-        }
-    }
-
-    /// The loss of a nexus at a unit, or at none.
-    fn route_loss<R: Wait>(
-        &self,
-        rt: &R,
-        alloc: Global,
-        parts: &mut SeatShares<L0, L1, L2, L3, L4>,
-        nexus: Nexus,
-        lun: u8,
-    ) -> Done<'static>
-        ensures answer { IsAnswer result (Some nexus) lun event.Loss }
-        ensures act { result.act ≡ act_kind_if result.numbers kind.Loss }
-        ensures absent { RefusesAsAbsent self.now.units lun result.reply }
-        ensures unnumbered { LosesNoneFor self.now.units lun result.numbers result.reply }
-        ensures rise { Rise parts.old result.numbers parts.new }
-    {
-        match lun {
-            0 => lose_at(rt, alloc, &self.changer, &mut parts.zero, nexus),
-            1 => lose_at(rt, alloc, &self.first, &mut parts.one, nexus),
-            2 => lose_if_there(rt, alloc, &self.second, &mut parts.two, nexus),
-            3 => lose_if_there(rt, alloc, &self.third, &mut parts.three, nexus),
-            4 => lose_if_there(rt, alloc, &self.fourth, &mut parts.four, nexus),
-            _ => Done::absent_loss(alloc, nexus, lun),
-        }
-    }
-
-    /// A reset of a unit, or of none.
-    fn route_reset<R: Wait>(
-        &self,
-        rt: &R,
-        alloc: Global,
-        parts: &mut SeatShares<L0, L1, L2, L3, L4>,
-        lun: u8,
-    ) -> Done<'static>
-        ensures answer { IsAnswer result None lun event.Reset }
-        ensures act { result.act ≡ act_kind_if result.numbers kind.Reset }
-        ensures absent { RefusesAsAbsent self.now.units lun result.reply }
-        ensures unnumbered { LeavesNoneFor self.now.units lun result.numbers result.reply }
-        ensures rise { Rise parts.old result.numbers parts.new }
-    {
-        match lun {
-            0 => reset_at(rt, alloc, &self.changer, &mut parts.zero),
-            1 => reset_at(rt, alloc, &self.first, &mut parts.one),
-            2 => reset_if_there(rt, alloc, &self.second, &mut parts.two),
-            3 => reset_if_there(rt, alloc, &self.third, &mut parts.three),
-            4 => reset_if_there(rt, alloc, &self.fourth, &mut parts.four),
-            _ => Done::absent_reset(alloc, lun),
-        }
-    }
-
     /// A command of a nexus to a logical unit, with an entry of its answer in the seat. A MOVE MEDIUM goes to the changer
     /// with the drives that it names. The seat's room comes first: where it is refused, the answer is BUSY, and nothing has
     /// changed. May wait for another call at the same units.
@@ -131,7 +51,8 @@ impl<
         if !entries.make_room() {
             return Done::busy(alloc, Some(nexus), lun, EventKind::Command { cdb, bytes });
         }
-        let done = self.route(rt, alloc, parts, lun, RawCommand { nexus, cdb, bytes });
+        let raw = RawCommand { nexus, cdb, bytes };
+        let done = self.locks.step(rt, alloc, parts, lun, raw);
         entries.push_reserved(done.entry());
         done
     }
@@ -155,7 +76,7 @@ impl<
         if !entries.make_room() {
             return Done::busy(alloc, Some(nexus), lun, EventKind::Loss);
         }
-        let done = self.route_loss(rt, alloc, parts, nexus, lun);
+        let done = self.locks.lose(rt, alloc, parts, nexus, lun);
         entries.push_reserved(done.entry());
         done
     }
@@ -178,7 +99,7 @@ impl<
         if !entries.make_room() {
             return Done::busy(alloc, None, lun, EventKind::Reset);
         }
-        let done = self.route_reset(rt, alloc, parts, lun);
+        let done = self.locks.reset(rt, alloc, parts, lun);
         entries.push_reserved(done.entry());
         done
     }
@@ -188,14 +109,7 @@ impl<
     pub fn has_room<R: Wait>(&self, rt: &R, nexus: Nexus, lun: u8) -> bool
         ensures { self.now.units ≤ lun → result ≡ true }
     {
-        match lun {
-            0 => has_room_at(rt, &self.changer, nexus),
-            1 => has_room_at(rt, &self.first, nexus),
-            2 => has_room_if_there(rt, &self.second, nexus),
-            3 => has_room_if_there(rt, &self.third, nexus),
-            4 => has_room_if_there(rt, &self.fourth, nexus),
-            _ => true,
-        }
+        self.locks.has_room(rt, nexus, lun)
     }
 
     /// Lets an attendant look after the volumes of a unit's device, under its lock: nothing of the unit changes but how many objects of
@@ -206,14 +120,7 @@ impl<
         ensures asked { lun < self.now.units → WasAsked A.looks_after (kind_at lun) attendant.old attendant.new }
         ensures absent { result ≡ false → attendant.new ≡ attendant.old }
     {
-        match lun {
-            0 => attend_at(rt, &self.changer, attendant),
-            1 => attend_at(rt, &self.first, attendant),
-            2 => attend_if_there(rt, &self.second, attendant),
-            3 => attend_if_there(rt, &self.third, attendant),
-            4 => attend_if_there(rt, &self.fourth, attendant),
-            _ => false,
-        }
+        self.locks.attend(rt, lun, attendant)
     }
 
     /// Hands out the records of a unit, a legal trail; its numbers go on, and no entry is added. `None` where there is no
@@ -239,13 +146,6 @@ impl<
         ensures trail { IsTrue result → IsSomeTrail records.new.items }
         ensures absent { result ≡ false → records.new ≡ records.old }
     {
-        match lun {
-            0 => drain_at(rt, &self.changer, records),
-            1 => drain_at(rt, &self.first, records),
-            2 => drain_if_there(rt, &self.second, records),
-            3 => drain_if_there(rt, &self.third, records),
-            4 => drain_if_there(rt, &self.fourth, records),
-            _ => false,
-        }
+        self.locks.drain_into(rt, lun, records)
     }
 }

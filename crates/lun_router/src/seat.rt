@@ -1,39 +1,10 @@
 use crate::entry_queue::EntryQueue;
-use crate::locked::CachePadding;
 use crate::settling::settle;
 use crate::unit_ranges::{UnitRanges, no_ranges};
 use kept_unit::{Entry, NumberRange, UnitLedger};
 use std::alloc::{AllocError, Global};
 use std::marker::Model;
-use std::sync::ledger::Share;
-
-/// One part of each unit's ledger, with the count of the numbers that it was told. Contracts see the counts.
-#[derive(Drop)]
-pub struct SeatShares<
-    L0: UnitLedger,
-    L1: UnitLedger,
-    L2: UnitLedger,
-    L3: UnitLedger,
-    L4: UnitLedger,
-> {
-    pub(crate) zero: Share<L0>,
-    pub(crate) one: Share<L1>,
-    pub(crate) two: Share<L2>,
-    pub(crate) three: Share<L3>,
-    pub(crate) four: Share<L4>,
-}
-
-impl<L0: UnitLedger, L1: UnitLedger, L2: UnitLedger, L3: UnitLedger, L4: UnitLedger> Model
-    for SeatShares<L0, L1, L2, L3, L4> {
-    ghost use Rattle.std.specs.Prelude.{◌≡◌};
-    ghost use Rattle.lun_router.specs.Seats.{Amounts};
-
-    ghost Value = { Amounts };
-
-    ghost view = { λ p. record { zero = p.zero.amount; one = p.one.amount; two = p.two.amount; three = p.three.amount; four = p.four.amount } };
-
-    ghost invariant = { λ p. (p.zero.parts ≡ 1) × (p.one.parts ≡ 1) × (p.two.parts ≡ 1) × (p.three.parts ≡ 1) × (p.four.parts ≡ 1) };
-}
+use unit_locks::{CachePadding, SeatShares};
 
 /// What one worker holds of a library, session after session: a part of each ledger, and what it was told: ranges of record
 /// numbers that were settled, and then entries. Each part counts the numbers of its unit that the ranges and the entries have.

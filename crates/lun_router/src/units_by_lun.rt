@@ -2,22 +2,12 @@ ghost use Rattle.std.specs.Prelude.{◌≡◌, ◌+◌, ℕ, Some, None, length,
 ghost use Rattle.std.specs.Option.{ForSome, option_map};
 ghost use Rattle.logical_unit.specs.UnitView.{last_number, units_of};
 ghost use Rattle.target_core.specs.Faults.{fault_of};
-ghost use Rattle.lun_router.specs.Opening.{IsAt, IsSince, HasUnits};
+ghost use Rattle.unit_locks.specs.Units.{IsAt, HasUnits};
 
 use device_server::DeviceServer;
 use logical_unit::LogicalUnit;
 use target_core::TargetCore;
-
-/// The units of a target, one by one.
-#[derive(Drop)]
-pub(crate) struct UnitsByLun<D: DeviceServer> {
-    pub(crate) count: u8,
-    pub(crate) changer: LogicalUnit<D>,
-    pub(crate) first: LogicalUnit<D>,
-    pub(crate) second: Option<LogicalUnit<D>>,
-    pub(crate) third: Option<LogicalUnit<D>>,
-    pub(crate) fourth: Option<LogicalUnit<D>>,
-}
+use unit_locks::UnitsByLun;
 
 /// Takes the first unit off, if there is one.
 fn take_first<D: DeviceServer>(units: &mut Vec<LogicalUnit<D>>) -> Option<LogicalUnit<D>>

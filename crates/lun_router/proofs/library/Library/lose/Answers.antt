@@ -7,4 +7,4 @@ use Rattle.lun_router.proofs.library.Library.lose.Goals as goal
 pub invariant_of-seat-2 : goal.invariant_of-seat-2
 invariant_of-seat-2 g c =
     let more = c.push_reserved.ensures ∙ ap (λ (l : List Entry). l ++ c.entry.result ∷ []) c.make_room.ensures.same in
-    counted_more (ranges_of c.seat.inside.ranges) c.seat.inside.entries.entries c.push_reserved.new.self.entries c.entry.result c.route_loss-done.result c.seat.inside.parts c.route_loss-done.new.parts more c.entry.ensures c.seat.invariant c.route_loss-done.ensures.rise
+    counted_more (ranges_of c.seat.inside.ranges) c.seat.inside.entries.entries c.push_reserved.new.self.entries c.entry.result c.lose-done.result c.seat.inside.parts c.lose-done.new.parts more c.entry.ensures c.seat.invariant c.lose-done.ensures.rise

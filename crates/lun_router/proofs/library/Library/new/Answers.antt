@@ -28,23 +28,20 @@ loop-i-preserved g c =
 
 pub loop-i-init : goal.loop-i-init
 loop-i-init g c =
-    let zero = c.put_under_lock-changer.ensures.parts in
-    let one = c.put_under_lock-first.ensures.parts in
-    let two = c.put_under_lock_if_there-second.ensures.parts in
-    let three = c.put_under_lock_if_there-third.ensures.parts in
-    let four = c.put_under_lock_if_there-fourth.ensures.parts in
+    let parts = c.open-locks.ensures.parts in
+    let amounts = c.open-locks.ensures.amounts in
     let none : c.reserve.new.self.items ≡ [] = search rules in (
       search rules,
       subst (λ (l : List SeatValue). All (λ (s : SeatValue). IsUntold s) l) (sym none) (All-nil (λ (s : SeatValue). IsUntold s)),
       search rules,
-      omega (arith, zero, c.requires.zero.2),
-      omega (arith, one, c.requires.one.2),
-      omega (arith, two, c.requires.two.2),
-      omega (arith, three, c.requires.three.2),
-      omega (arith, four, c.requires.four.2),
-      c.put_under_lock-changer.ensures.amount,
-      c.put_under_lock-first.ensures.amount,
-      c.put_under_lock_if_there-second.ensures.amount,
-      c.put_under_lock_if_there-third.ensures.amount,
-      c.put_under_lock_if_there-fourth.ensures.amount,
+      omega (arith, parts.0, c.requires.zero.2),
+      omega (arith, parts.1, c.requires.one.2),
+      omega (arith, parts.2, c.requires.two.2),
+      omega (arith, parts.3, c.requires.three.2),
+      omega (arith, parts.4, c.requires.four.2),
+      amounts.0,
+      amounts.1,
+      amounts.2,
+      amounts.3,
+      amounts.4,
     )

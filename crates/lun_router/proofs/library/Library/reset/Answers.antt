@@ -7,4 +7,4 @@ use Rattle.lun_router.proofs.library.Library.reset.Goals as goal
 pub invariant_of-seat-2 : goal.invariant_of-seat-2
 invariant_of-seat-2 g c =
     let more = c.push_reserved.ensures ∙ ap (λ (l : List Entry). l ++ c.entry.result ∷ []) c.make_room.ensures.same in
-    counted_more (ranges_of c.seat.inside.ranges) c.seat.inside.entries.entries c.push_reserved.new.self.entries c.entry.result c.route_reset-done.result c.seat.inside.parts c.route_reset-done.new.parts more c.entry.ensures c.seat.invariant c.route_reset-done.ensures.rise
+    counted_more (ranges_of c.seat.inside.ranges) c.seat.inside.entries.entries c.push_reserved.new.self.entries c.entry.result c.reset-done.result c.seat.inside.parts c.reset-done.new.parts more c.entry.ensures c.seat.invariant c.reset-done.ensures.rise

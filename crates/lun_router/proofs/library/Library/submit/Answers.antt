@@ -13,4 +13,4 @@ returns-clause-act g c = search rules
 pub invariant_of-seat-2 : goal.invariant_of-seat-2
 invariant_of-seat-2 g c =
     let more = c.push_reserved.ensures ∙ ap (λ (l : List Entry). l ++ c.entry.result ∷ []) c.make_room.ensures.same in
-    counted_more (ranges_of c.seat.inside.ranges) c.seat.inside.entries.entries c.push_reserved.new.self.entries c.entry.result c.route-done.result c.seat.inside.parts c.route-done.new.parts more c.entry.ensures c.seat.invariant c.route-done.ensures.rise
+    counted_more (ranges_of c.seat.inside.ranges) c.seat.inside.entries.entries c.push_reserved.new.self.entries c.entry.result c.step-done.result c.seat.inside.parts c.step-done.new.parts more c.entry.ensures c.seat.invariant c.step-done.ensures.rise

@@ -1,6 +1,6 @@
 use Rattle.std.proofs.Common.{arith}
-use Rattle.lun_router.proofs.Rising.{rises, stays}
-use Rattle.lun_router.proofs.library.Library.route_reset.Goals as goal
+use Rattle.unit_locks.proofs.Rising.{rises, stays}
+use Rattle.unit_locks.proofs.all_locks.UnitLocks.reset.Goals as goal
 
 pub returns-in-0-clause-rise : goal.returns-in-0-clause-rise
 returns-in-0-clause-rise g c =

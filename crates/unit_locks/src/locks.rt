@@ -14,7 +14,7 @@ ghost use Rattle.kept_unit.specs.Answers as event;
 ghost use Rattle.kept_unit.specs.Answers.{IsAnswer, count_at, OnlyAt};
 ghost use Rattle.kept_unit.specs.ActKinds.{act_kind_of, act_kind_if};
 ghost use Rattle.kept_unit.specs.Keeping.{kind_at};
-ghost use Rattle.lun_router.specs.Answering.{IsSomeTrail};
+ghost use Rattle.unit_locks.specs.Answering.{IsSomeTrail};
 
 use crate::gate::Gate;
 use crate::locked::Locked;

@@ -2,8 +2,8 @@ use Rattle.std.proofs.Common.{ℕ, ap, sym, ◌∙◌, arith}
 use Rattle.judgement.specs.Commands.{act_of}
 use Rattle.kept_unit.specs.ActKinds.{act_kind_of, act_kind_if}
 use Rattle.kept_unit.specs.Keeping.{kind_at}
-use Rattle.lun_router.proofs.Rising.{rises, stays}
-use Rattle.lun_router.proofs.library.Library.route.Goals as goal
+use Rattle.unit_locks.proofs.Rising.{rises, stays}
+use Rattle.unit_locks.proofs.all_locks.UnitLocks.step.Goals as goal
 
 pub returns-in-1-clause-rise : goal.returns-in-1-clause-rise
 returns-in-1-clause-rise g c =

@@ -7,13 +7,13 @@ ghost use Rattle.logical_unit.specs.Route.{named};
 ghost use Rattle.kept_unit.specs.Answers as event;
 ghost use Rattle.kept_unit.specs.Answers.{IsAnswer};
 ghost use Rattle.kept_unit.specs.ActKinds.{act_kind_of, act_kind_if};
-ghost use Rattle.lun_router.specs.Seats.{Rise};
+ghost use Rattle.unit_locks.specs.Shares.{Rise};
 
+use crate::all_locks::UnitLocks;
 use crate::gate::Gate;
-use crate::library::Library;
 use crate::locks::{move_with_one, move_with_two};
 use crate::raw_command::RawCommand;
-use crate::seat::SeatShares;
+use crate::seat_shares::SeatShares;
 use device_server::DeviceServer;
 use kept_unit::{Done, Kept, UnitLedger};
 use logical_unit::named;
@@ -28,7 +28,7 @@ impl<
     L4: UnitLedger,
     D: DeviceServer,
     G: Gate,
-> Library<L0, L1, L2, L3, L4, D, G> {
+> UnitLocks<L0, L1, L2, L3, L4, D, G> {
     /// A MOVE MEDIUM that names one drive, with the changer's lock held.
     fn move_one<'a, R: Wait>(
         &self,

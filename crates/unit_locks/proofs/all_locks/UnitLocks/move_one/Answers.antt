@@ -1,6 +1,6 @@
 use Rattle.std.proofs.Common.{arith}
-use Rattle.lun_router.proofs.Rising.{rises, stays}
-use Rattle.lun_router.proofs.library.Library.move_one.Goals as goal
+use Rattle.unit_locks.proofs.Rising.{rises, stays}
+use Rattle.unit_locks.proofs.all_locks.UnitLocks.move_one.Goals as goal
 
 pub returns-in-1-clause-rise : goal.returns-in-1-clause-rise
 returns-in-1-clause-rise g c =

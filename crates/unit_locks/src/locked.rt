@@ -3,7 +3,7 @@ use kept_unit::{Kept, UnitLedger};
 use std::sync::Mutex;
 
 /// A cache line of zeros: what lies on its two sides never shares a line.
-pub(crate) type CachePadding = [u64; 8];
+pub type CachePadding = [u64; 8];
 
 /// A unit under its lock, with a cache line of nothing on each side: units lie side by side in a library, and a thread that
 /// takes one's lock must not take the line of another's.
