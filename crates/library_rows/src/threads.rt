@@ -10,6 +10,7 @@ mod playing;
 mod scenes;
 mod settling;
 mod targets;
+mod unclosed;
 
 use crate::comparing::assert_same;
 use days::run;

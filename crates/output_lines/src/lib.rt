@@ -1,4 +1,5 @@
-//! The text that a replay or a server writes: replies and records, a line each; and what is left of it where a writer takes no more.
+//! The text that a replay or a server writes: replies and records, a line each; and what is left of it where a writer takes no more, to be
+//! written later or told.
 #![tactic(auto)]
 
 mod audit_lines;
@@ -9,6 +10,7 @@ mod left_lines;
 mod left_records;
 mod record_output;
 mod reply_line;
+mod unwritten_records;
 mod writing;
 
 pub use audit_lines::{Audit, audit_text, records_text};
@@ -19,4 +21,5 @@ pub use left_lines::Lines;
 pub use left_records::{LeftRecords, LinesFault};
 pub use record_output::RecordOutput;
 pub use reply_line::{write_answer, write_reply};
+pub use unwritten_records::{UnwrittenListener, UnwrittenRecords, records_behind};
 pub use writing::write_out;

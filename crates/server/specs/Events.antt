@@ -2,12 +2,12 @@
 use Rattle.std.specs.Prelude.{ℕ, Bool, true, false, List, ◌++◌, codes, Option, Some, None}
 use Rattle.std.specs.Fmt.{decimal}
 use Rattle.scsi_nexus.specs.Text.{nexus_text}
+use Rattle.output_lines.specs.UnwrittenLines.{unwritten_text}
 use Rattle.session.specs.declared.fault.End.{End}
 use Rattle.session.specs.declared.fault.End.TheVariants as end
 use Rattle.server.specs.declared.event.Event.{Event}
 use Rattle.server.specs.declared.event.Event.TheVariants as event
 use Rattle.server.specs.declared.event.EndedSession.{EndedSession}
-use Rattle.server.specs.declared.event.UnwrittenRecords.{UnwrittenRecords}
 use Rattle.server.specs.Faults.{faulty_session_text, whose}
 
 -- who asks for no more than faults isn't told of sessions that begin and end, nor of BUSY
@@ -31,10 +31,6 @@ end_words None = codes "ended by a fault"
 abbrev pub ended_session_text : EndedSession → List ℕ
 ended_session_text s =
     decimal s.number ++ (whose s.nexus ++ (end_words s.end ++ (codes " after " ++ (decimal s.commands ++ (codes " commands and " ++ (decimal s.seconds ++ codes " seconds"))))))
-
-abbrev pub unwritten_text : UnwrittenRecords → List ℕ
-unwritten_text r =
-    decimal r.count ++ (codes " records of logical unit " ++ (decimal r.lun ++ (codes " were not written, numbers " ++ (decimal r.first ++ (codes " to " ++ decimal r.last)))))
 
 abbrev pub event_text : Event → List ℕ
 event_text (event.Begins number) = codes "vtl: session " ++ (decimal number ++ codes " begins")

@@ -2,6 +2,7 @@ ghost use Rattle.std.specs.Prelude.{◌≡◌};
 ghost use Rattle.server.specs.Events.{end_words, is_detail};
 
 use crate::faulty_session::FaultySession;
+use output_lines::UnwrittenRecords;
 use scsi_nexus::Nexus;
 use session::End;
 use std::fmt;
@@ -18,16 +19,6 @@ pub struct EndedSession {
     /// How many commands it sent.
     pub commands: u64,
     pub seconds: u64,
-}
-
-/// Records of a unit whose lines couldn't be written: they follow one another.
-#[derive(Clone, Copy)]
-pub struct UnwrittenRecords {
-    pub lun: u8,
-    pub count: u64,
-    /// The numbers of the first and the last.
-    pub first: u64,
-    pub last: u64,
 }
 
 /// What happens while a library is served, and is told at once.
@@ -119,24 +110,6 @@ impl fmt::Display for EndedSession {
                 "{number} of {nexus}: {end} after {commands} commands and {seconds} seconds"
             ),
         }
-    }
-}
-
-impl fmt::Display for UnwrittenRecords {
-    ghost use Rattle.std.specs.Prelude.{Some};
-    ghost use Rattle.server.specs.Events.{unwritten_text};
-
-    ghost output = { λ records. Some (unwritten_text records) };
-
-    fn fmt<W: fmt::Write>(&self, f: &mut fmt::Formatter<W>) -> fmt::Result {
-        let count = self.count;
-        let lun = self.lun;
-        let first = self.first;
-        let last = self.last;
-        write!(
-            f,
-            "{count} records of logical unit {lun} were not written, numbers {first} to {last}"
-        )
     }
 }
 

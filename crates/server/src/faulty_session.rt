@@ -8,7 +8,7 @@ use session::SessionFault;
 use std::fmt;
 
 /// Why a session ended early.
-#[derive(Clone, Copy, Debug, PartialEq, Eq)]
+#[derive(Clone, Copy, Debug)]
 pub enum Cause {
     Fault(SessionFault),
     /// The fault of a session of iSCSI.
@@ -30,7 +30,7 @@ impl Cause {
 }
 
 /// A session that had a fault.
-#[derive(Clone, Copy, Debug, PartialEq, Eq)]
+#[derive(Clone, Copy, Debug)]
 pub struct FaultySession {
     /// Its place in the order of accepting, from 1 on.
     pub number: u64,

@@ -28,7 +28,7 @@ mod worker_service;
 pub use acceptor::{Acceptor, ServeLimits, ServeTerm, WaitTimes};
 pub use caretaker::Caretaker;
 pub use door::Door;
-pub use event::{EndedSession, Event, UnwrittenRecords};
+pub use event::{EndedSession, Event};
 pub use faulty_session::{Cause, FaultySession, InOrder, first_by};
 pub use keeping::KeepTeller;
 pub use live_sessions::LiveSessions;

@@ -1,37 +1,18 @@
 -- A library that was closed, from what its parts say.
-use Rattle.std.proofs.Common.{◌≡◌, ◌∙◌, ℕ, refl, List, [], length, Option, Some, None, IfSome, subst, sym}
+use Rattle.std.proofs.Common.{◌≡◌, ◌∙◌, ℕ, refl, List, [], length, Option, subst, sym}
 use Rattle.std.specs.Prelude.{All}
-use Rattle.logical_unit.specs.UnitView.{UnitView, last_number}
-use Rattle.lun_router.specs.Opening.{IsSince, LastIs}
+use Rattle.logical_unit.specs.UnitView.{UnitView}
+use Rattle.lun_router.specs.Opening.{IsSince}
 use Rattle.lun_router.specs.Seats.{SeatValue, IsUntold}
 use Rattle.output_lines.specs.declared.audit_lines.Audit.{Audit}
 use Rattle.output_lines.specs.declared.record_output.RecordOutput.{RecordOutput}
 use Rattle.output_lines.specs.declared.record_output.RecordOutput.TheVariants.{AtTheEnd, AsTheyCome}
 use Rattle.output_lines.specs.RecordOutputs.{of_the_rest}
-use Rattle.server_socket.specs.ServedLibrary.{IsClosed, ServesLibrary, WritesBefore, WritesOut}
+use Rattle.library_closing.specs.ClosedLibrary.{IsClosed}
+use Rattle.server_socket.specs.ServedLibrary.{ServesLibrary, WritesBefore, WritesOut}
 use Rattle.server_socket.specs.ServedSeats.{IsOfSessions, SeatsCome}
 use Rattle.server_socket.proofs.HandingOut.{hands_more, hands_none}
 use Rattle.server_socket.proofs.ServedSeats.{of_sessions}
-use Rattle.std.specs.Io.KnownBytes.{Appends}
-use Rattle.std.specs.Option.{option_map}
-
--- what holds of the value that there is, if any, holds of its image
-pub some_mapped : {A : Type 0} {B : Type 0} (P : B → Type 0) (f : A → B) (o : Option A) → IfSome o (λ a. P (f a)) → IfSome (option_map f o) P
-some_mapped P f None h = h
-some_mapped P f (Some a) h = h
-
--- what was written, by what it is
-pub written_as : (w : Option (List ℕ)) (w' : Option (List ℕ)) (bytes : List ℕ) (lines : List ℕ) → bytes ≡ lines → Appends w w' bytes → Appends w w' lines
-written_as w w' bytes lines e h = rw (sym e) h
-
--- the last record number of a unit, or 0 where there is none
-abbrev pub last_of : Option UnitView → ℕ
-last_of None = 0
-last_of (Some u) = last_number u
-
-pub last_is : (o : Option UnitView) → LastIs o (last_of o)
-last_is None = tt
-last_is (Some u) = refl
 
 -- of the seats that a library was opened with
 pub seats_served : (core : List UnitView) (units count : ℕ) (opened seats : List SeatValue) → units ≡ length core → length opened ≡ count → All IsUntold opened → SeatsCome units opened seats

@@ -1,18 +1,24 @@
 -- Which fault is told, and what holds of it.
 use Rattle.std.proofs.Common.{◌≡◌, ℕ, refl, sym, subst, Bool, true, false, Option, Some, None, inl, inr, Ok, Err, OnOk}
 use Rattle.std.specs.Prelude.{◌⊎◌, IfErr, IfSome, Result, if◌then◌else◌}
-use Rattle.std.specs.Result.{result_err}
 use Rattle.lun_router.specs.declared.closing.CloseFault.TheVariants as close
+use Rattle.library_closing.specs.ClosingFaults.{MayEndWith}
+use Rattle.library_closing.specs.declared.closing_fault.ClosingFault.{ClosingFault}
+use Rattle.library_closing.specs.declared.closing_fault.ClosingFault.TheVariants as closing
 use Rattle.server.specs.declared.acceptor.ServeTerm.{ServeTerm}
 use Rattle.server.specs.declared.acceptor.ServeTerm.TheVariants as term
 use Rattle.server.specs.declared.faulty_session.FaultySession.{FaultySession}
 use Rattle.server_socket.specs.declared.server_fault.ServerFault.{ServerFault}
 use Rattle.server_socket.specs.declared.server_fault.ServerFault.TheVariants as fault
-use Rattle.server_socket.specs.ServerFaults.{MayEndWith, MayTell, earlier, is_before, own_fault, told_of}
+use Rattle.server_socket.specs.ServerFaults.{MayTell, closing_fault, earlier, fault_of_closing, is_before, own_fault, told_of}
 
 -- how it went that ends without a fault, or with one
 abbrev End : Type 0
 End = Result (Unit {0}) ServerFault
+
+-- how closing went
+abbrev Closed : Type 0
+Closed = Result (Unit {0}) ClosingFault
 
 -- of one fault or another, whichever is told
 some_of : (P : ServerFault → Type 0) (c : Bool) (a b : ServerFault) → P a → P b → IfSome (if c then Some a else Some b) P
@@ -28,17 +34,17 @@ told_keeps : (P : ServerFault → Type 0) (o : Option ServerFault) → IfSome o 
 told_keeps P None holds = tt
 told_keeps P (Some f) holds = holds
 
-err_keeps : (P : ServerFault → Type 0) (r : End) → IfErr r P → IfSome (result_err r) P
-err_keeps P (Ok u) holds = tt
-err_keeps P (Err f) holds = holds
+closing_keeps : (P : ServerFault → Type 0) (r : Closed) → IfErr r (λ f. P (fault_of_closing f)) → IfSome (closing_fault r) P
+closing_keeps P (Ok u) holds = tt
+closing_keeps P (Err f) holds = holds
 
 -- what holds of each fault holds of the one that is told
-pub first_keeps : (P : ServerFault → Type 0) (first left : Option ServerFault) (closed result : End) → result ≡ told_of (earlier first (earlier left (result_err closed))) → IfSome first P → IfSome left P
-    → IfErr closed P → IfErr result P
+pub first_keeps : (P : ServerFault → Type 0) (first left : Option ServerFault) (closed : Closed) (result : End) → result ≡ told_of (earlier first (earlier left (closing_fault closed))) → IfSome first P
+    → IfSome left P → IfErr closed (λ f. P (fault_of_closing f)) → IfErr result P
 first_keeps P first left closed result is of_serving of_writing of_closing =
-    let at_the_end = earlier_keeps P left (result_err closed) of_writing (err_keeps P closed of_closing) in
-    let told = earlier_keeps P first (earlier left (result_err closed)) of_serving at_the_end in
-    subst (λ (r : End). IfErr r P) (sym is) (told_keeps P (earlier first (earlier left (result_err closed))) told)
+    let at_the_end = earlier_keeps P left (closing_fault closed) of_writing (closing_keeps P closed of_closing) in
+    let told = earlier_keeps P first (earlier left (closing_fault closed)) of_serving at_the_end in
+    subst (λ (r : End). IfErr r P) (sym is) (told_keeps P (earlier first (earlier left (closing_fault closed))) told)
 
 one_told : (Q : Type 0) (c : Bool) (a b : ServerFault) → OnOk (told_of (if c then Some a else Some b)) Q
 one_told Q true a b = tt
@@ -56,15 +62,15 @@ told_where : (Q : Type 0) (o : Option ServerFault) → Q → OnOk (told_of o) Q
 told_where Q None q = q
 told_where Q (Some f) q = tt
 
-end_went : {O P Q : Type 0} (first left : Option ServerFault) (closed : End) → (O → P → Q) → (left ≡ None → O) → OnOk closed P → OnOk (told_of (earlier first (earlier left (result_err closed)))) Q
+end_went : {O P Q : Type 0} (first left : Option ServerFault) (closed : Closed) → (O → P → Q) → (left ≡ None → O) → OnOk closed P → OnOk (told_of (earlier first (earlier left (closing_fault closed)))) Q
 end_went {O} {P} {Q} first None (Ok u) so o p = told_where Q (earlier first None) (so (o refl) p)
-end_went {O} {P} {Q} first None (Err f) so o p = told_with Q first f
+end_went {O} {P} {Q} first None (Err f) so o p = told_with Q first (fault_of_closing f)
 end_went {O} {P} {Q} first (Some a) (Ok u) so o p = told_with Q first a
-end_went {O} {P} {Q} first (Some a) (Err f) so o p = told_with_one Q first (is_before f a) f a
+end_went {O} {P} {Q} first (Some a) (Err f) so o p = told_with_one Q first (is_before (fault_of_closing f) a) (fault_of_closing f) a
 
 -- where no fault is told, neither writing what was left nor closing had one
-pub all_went : {O P Q : Type 0} (first left : Option ServerFault) (closed result : End) → result ≡ told_of (earlier first (earlier left (result_err closed))) → (O → P → Q) → (left ≡ None → O)
-    → OnOk closed P → OnOk result Q
+pub all_went : {O P Q : Type 0} (first left : Option ServerFault) (closed : Closed) (result : End) → result ≡ told_of (earlier first (earlier left (closing_fault closed))) → (O → P → Q)
+    → (left ≡ None → O) → OnOk closed P → OnOk result Q
 all_went {O} {P} {Q} first left closed result is so o p = subst (λ (r : End). OnOk r Q) (sym is) (end_went first left closed so o p)
 
 -- ---- which faults these may be
@@ -84,16 +90,14 @@ left_may term None is = tt
 left_may term (Some f) (inl is) = subst (λ (g : ServerFault). MayTell term g) (sym is) tt
 left_may term (Some f) (inr is) = subst (λ (g : ServerFault). MayTell term g) (sym is) tt
 
-none_missing : (term : ServeTerm) (made seats : ℕ) (f : ServerFault) → seats ≡ made → MayEndWith made seats f → MayTell term f
-none_missing term made seats (fault.Session s) same may = absurd may
-none_missing term made seats (fault.Close close.Mismatch) same may = tt
-none_missing term made seats (fault.Close close.SeatMissing) same may = absurd (may same)
-none_missing term made seats (fault.Close close.NoMemory) same may = tt
-none_missing term made seats fault.Write same may = tt
-none_missing term made seats fault.Media same may = tt
-none_missing term made seats fault.NoMemory same may = tt
+none_missing : (term : ServeTerm) (made seats : ℕ) (f : ClosingFault) → seats ≡ made → MayEndWith made seats f → MayTell term (fault_of_closing f)
+none_missing term made seats (closing.Close close.Mismatch) same may = tt
+none_missing term made seats (closing.Close close.SeatMissing) same may = absurd (may same)
+none_missing term made seats (closing.Close close.NoMemory) same may = tt
+none_missing term made seats closing.Write same may = tt
+none_missing term made seats closing.NoMemory same may = tt
 
 -- of closing a library with as many seats as were made
-pub closed_may : (term : ServeTerm) (made seats : ℕ) (closed : End) → seats ≡ made → IfErr closed (λ f. MayEndWith made seats f) → IfErr closed (MayTell term)
+pub closed_may : (term : ServeTerm) (made seats : ℕ) (closed : Closed) → seats ≡ made → IfErr closed (λ f. MayEndWith made seats f) → IfErr closed (λ f. MayTell term (fault_of_closing f))
 closed_may term made seats (Ok u) same may = tt
 closed_may term made seats (Err f) same may = none_missing term made seats f same may

@@ -7,18 +7,11 @@ use Rattle.lun_router.specs.Answering.{IsSomeTrail}
 use Rattle.output_lines.specs.AuditLines.{lines_of_records}
 use Rattle.output_lines.specs.LeftLines as lines
 use Rattle.output_lines.specs.LeftLines.{GoesOn, whole_if}
+use Rattle.output_lines.specs.UnwrittenLines.{unwritten_records}
+use Rattle.output_lines.specs.declared.unwritten_records.UnwrittenRecords.{UnwrittenRecords}
 use Rattle.server.specs.declared.event.Event.{Event}
 use Rattle.server.specs.declared.event.Event.TheVariants as event
-use Rattle.server.specs.declared.event.UnwrittenRecords.{UnwrittenRecords}
 use Rattle.server_socket.specs.declared.batch.Batch.{Batch}
-
--- what is told of so many records of a unit that weren't written, by the first and the last of them, where there are any
-abbrev pub unwritten_between : (lun count : ℕ) → (first last : Option Record) → Option UnwrittenRecords
-unwritten_between lun count (Some e) (Some f) = Some (record { lun = lun; count = count; first = e.number; last = f.number })
-unwritten_between lun count _ _ = None
-
-abbrev pub unwritten_records : (lun : ℕ) → List Record → Option UnwrittenRecords
-unwritten_records lun es = unwritten_between lun (length es) (slice_get es 0) (slice_get es (length es - 1))
 
 -- the number of the last of records, where there are any
 abbrev pub number_of_last : List Record → Option ℕ

@@ -1,7 +1,9 @@
 -- The faults of a server: which of several is told, its exit status, and its two lines (profile).
-use Rattle.std.specs.Prelude.{◌≢◌, ℕ, nat_lt, Bool, true, false, IsTrue, List, ◌++◌, codes, Option, Some, None, Result, Ok, Err, ⊤}
+use Rattle.std.specs.Prelude.{ℕ, nat_lt, Bool, true, false, IsTrue, List, ◌++◌, codes, Option, Some, None, Result, Ok, Err, ⊤}
 use Rattle.lun_router.specs.declared.closing.CloseFault.{CloseFault}
 use Rattle.lun_router.specs.declared.closing.CloseFault.TheVariants as close
+use Rattle.library_closing.specs.declared.closing_fault.ClosingFault.{ClosingFault}
+use Rattle.library_closing.specs.declared.closing_fault.ClosingFault.TheVariants as closing
 use Rattle.server.specs.declared.acceptor.ServeTerm.{ServeTerm}
 use Rattle.server.specs.declared.acceptor.ServeTerm.TheVariants as term
 use Rattle.server.specs.declared.faulty_session.FaultySession.{FaultySession}
@@ -37,16 +39,15 @@ own_fault term None = None
 own_fault (term.Sessions count) (Some s) = Some (fault.Session s)
 own_fault term.UntilClosed (Some s) = None
 
--- which faults may come of closing a library that was made with so many seats, and of writing the lines of its records: a seat is missing only where
--- there aren't as many
-abbrev pub MayEndWith : (made seats : ℕ) → ServerFault → Type 0
-MayEndWith made seats (fault.Session s) = ⊥
-MayEndWith made seats (fault.Close close.Mismatch) = ⊤
-MayEndWith made seats (fault.Close close.SeatMissing) = seats ≢ made
-MayEndWith made seats (fault.Close close.NoMemory) = ⊤
-MayEndWith made seats fault.Write = ⊤
-MayEndWith made seats fault.Media = ⊥
-MayEndWith made seats fault.NoMemory = ⊤
+-- what of a fault of closing its library is the server's: all
+abbrev pub fault_of_closing : ClosingFault → ServerFault
+fault_of_closing (closing.Close f) = fault.Close f
+fault_of_closing closing.Write = fault.Write
+fault_of_closing closing.NoMemory = fault.NoMemory
+
+abbrev pub closing_fault : Result (Unit {0}) ClosingFault → Option ServerFault
+closing_fault (Ok u) = None
+closing_fault (Err f) = Some (fault_of_closing f)
 
 -- which faults a server may have: a session's where these are its own, and never a missing seat
 abbrev pub MayTell : ServeTerm → ServerFault → Type 0

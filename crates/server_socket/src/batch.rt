@@ -1,31 +1,16 @@
 //! Records that a unit handed out, until all of their lines are written.
-ghost use Rattle.std.specs.Prelude.{◌≡◌, ◌⊎◌, drop, IfErr, OnOk, OnErr, []};
+ghost use Rattle.std.specs.Prelude.{◌≡◌, ◌⊎◌, IfErr, OnOk, OnErr, []};
 ghost use Rattle.output_lines.specs.AuditLines.{lines_of_records};
 ghost use Rattle.output_lines.specs.LeftLines.{GoesOn};
-ghost use Rattle.server_socket.specs.Batches.{AreDrained, left_in, number_of_last, unwritten_in, unwritten_records};
+ghost use Rattle.server_socket.specs.Batches.{AreDrained, left_in, number_of_last, unwritten_in};
 ghost use Rattle.server_socket.specs.declared.server_fault.ServerFault.TheVariants as fault;
 
 use crate::record_source::RecordSource;
 use crate::server_fault::ServerFault;
-use audit_log::Record;
-use output_lines::{LeftRecords, LinesFault};
-use server::UnwrittenRecords;
+use output_lines::{LeftRecords, LinesFault, UnwrittenRecords, records_behind};
 use std::alloc::Global;
 use std::io::Write;
 use std::sync::Wait;
-
-/// The records behind so many of a unit's, if there are any.
-pub(crate) fn records_behind(lun: u8, records: &[Record], count: usize) -> Option<UnwrittenRecords>
-    ensures { result ≡ unwritten_records lun (drop count records.now) }
-{
-    let rest = records.get(count..)?;
-    Some(UnwrittenRecords {
-        lun,
-        count: rest.len() as u64,
-        first: rest.first()?.number,
-        last: rest.last()?.number,
-    })
-}
 
 /// Records that were taken out of a unit, as long as not all of their lines are written.
 #[derive(Drop)]

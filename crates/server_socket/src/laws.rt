@@ -6,14 +6,15 @@ ghost use Rattle.server.specs.Faults.{first_among};
 ghost use Rattle.server.specs.declared.acceptor.ServeTerm.{ServeTerm};
 ghost use Rattle.server.specs.declared.acceptor.ServeTerm.TheVariants.{Sessions, UntilClosed};
 ghost use Rattle.server.specs.declared.faulty_session.FaultySession.{FaultySession};
-ghost use Rattle.server_socket.specs.Rows.{LinesOfServing, StatusesOfServing, silent_session};
+ghost use Rattle.server_socket.specs.Rows.{LinesOfServing, OrderOfFaults, StatusesOfServing, silent_session};
 ghost use Rattle.server_socket.specs.ServerFaults.{MayTell};
 ghost use Rattle.server_socket.specs.declared.server_fault.ServerFault.TheVariants.{Close, Media, NoMemory, Session, Write};
 
-/// How serving ends by a fault.
+/// How serving ends by a fault, and by which of two.
 pub fn worked_rows()
     ensures statuses { StatusesOfServing }
     ensures lines { LinesOfServing }
+    ensures order { OrderOfFaults }
 {}
 
 /// Worked rows: which faults a server may have, and whose session's is told.

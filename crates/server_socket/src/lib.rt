@@ -1,9 +1,8 @@
 //! A library that is served at a socket whose file is made for it, at portals of iSCSI, or at both: for a number of sessions, or until
-//! standard input ends. What opens and closes a library stands here, with what keeps its tapes and writes the lines of its records meanwhile.
+//! standard input ends. What opens a library and has it closed stands here, with what keeps its tapes and writes the lines of its records meanwhile.
 #![tactic(auto)]
 
 mod batch;
-mod closing;
 mod handing_out;
 mod iscsi_target;
 mod keeping;
@@ -19,8 +18,8 @@ mod serving;
 mod socket;
 mod socket_fault;
 mod socket_file;
+mod unwritten_teller;
 
-pub use closing::close_and_write;
 pub use laws::{fault_rows, worked_rows};
 pub use library_service::LibraryService;
 pub use server_fault::{ServerFault, earlier};

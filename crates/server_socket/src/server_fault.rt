@@ -1,6 +1,7 @@
 ghost use Rattle.std.specs.Prelude.{◌≡◌};
-ghost use Rattle.server_socket.specs.ServerFaults.{close_words, earlier, is_before, own_fault, rank, told_of};
+ghost use Rattle.server_socket.specs.ServerFaults.{close_words, closing_fault, earlier, is_before, own_fault, rank, told_of};
 
+use library_closing::ClosingFault;
 use lun_router::CloseFault;
 use server::{FaultySession, InOrder, ServeTerm, first_by};
 use std::alloc::{AllocError, AllocFailed};
@@ -9,7 +10,7 @@ use thiserror::Error;
 
 /// Why a server has a fault. Of several that happened the first of this list is told, and of sessions the one
 /// that was accepted first.
-#[derive(Clone, Copy, Debug, PartialEq, Eq, Error)]
+#[derive(Clone, Copy, Debug, Error)]
 pub enum ServerFault {
     Session(FaultySession),
     /// The library couldn't be closed, so that there are no lines of its records.
@@ -79,6 +80,16 @@ pub(crate) fn own_fault(term: ServeTerm, session: Option<FaultySession>) -> Opti
     }
 }
 
+/// The server's fault, where closing its library had one.
+pub(crate) fn closing_fault(closed: Result<(), ClosingFault>) -> Option<ServerFault>
+    ensures { result ≡ closing_fault closed }
+{
+    match closed {
+        Ok(()) => None,
+        Err(fault) => Some(ServerFault::from(fault)),
+    }
+}
+
 /// How it went, where a fault may have happened.
 pub(crate) fn told_of(fault: Option<ServerFault>) -> Result<(), ServerFault>
     ensures { result ≡ told_of fault }
@@ -122,6 +133,20 @@ fn close_words(fault: CloseFault) -> &'static str
         CloseFault::Mismatch => "what the sessions were told is not what the records say",
         CloseFault::SeatMissing => "a seat is missing",
         CloseFault::NoMemory => "want of memory",
+    }
+}
+
+impl From<ClosingFault> for ServerFault {
+    ghost use Rattle.server_socket.specs.ServerFaults.{fault_of_closing};
+
+    ghost from_gives = { λ closing fault. fault ≡ fault_of_closing closing };
+
+    fn from(fault: ClosingFault) -> ServerFault {
+        match fault {
+            ClosingFault::Close(fault) => ServerFault::Close(fault),
+            ClosingFault::Write => ServerFault::Write,
+            ClosingFault::NoMemory => ServerFault::NoMemory,
+        }
     }
 }
 

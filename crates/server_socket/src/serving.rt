@@ -11,13 +11,14 @@ ghost use Rattle.server_socket.specs.ServedSeats.{SeatsCome};
 ghost use Rattle.server_socket.specs.declared.server_fault.ServerFault.TheVariants as fault;
 
 use crate::batch::Batch;
-use crate::closing::close_and_write;
 use crate::handing_out::hand_out_as_asked;
 use crate::keeping::{KeptTapes, keep_at_the_end};
 use crate::library_tapes::LibraryTapes;
 use crate::record_source::RecordSource;
-use crate::server_fault::{ServerFault, earlier, own_fault, told_of};
+use crate::server_fault::{ServerFault, closing_fault, earlier, own_fault, told_of};
+use crate::unwritten_teller::UnwrittenTeller;
 use kept_unit::UnitLedger;
+use library_closing::close_and_write;
 use library_device::Device;
 use library_service::{give_back, services_of};
 use lun_router::{Blanks, Library, Pass, Seat};
@@ -146,10 +147,11 @@ fn serve_with_ledgers<
     );
     let left = write_rest(rt, alloc, records, batch, writer, teller);
     let audit = records.of_the_rest();
-    let closed = close_and_write(rt, alloc, library, seats, audit, writer, teller);
+    let listener = UnwrittenTeller { rt, teller };
+    let closed = close_and_write(rt, alloc, library, seats, audit, writer, &listener);
     told_of(earlier(
         earlier(own_fault(acceptor.limits.term, served), kept),
-        earlier(left, closed.err()),
+        earlier(left, closing_fault(closed)),
     ))
 }
 

@@ -3,8 +3,10 @@
 use super::attending::Looks;
 use super::gates::TestGate;
 use kept_unit::{Done, EventKind, NumberRange, UnitLedger};
+use library_closing::{ClosingFault, close_and_write};
 use library_device::Device;
 use lun_router::{CloseFault, Histories, Library, Seat};
+use output_lines::{Audit, UnwrittenListener};
 use scsi_nexus::Nexus;
 use std::alloc::{AllocError, Global};
 use std::sync::Wait;
@@ -35,6 +37,15 @@ pub(super) trait Opened: Sized + Drop {
     fn drained<R: Wait>(&self, rt: &R, alloc: Global, lun: u8) -> Option<usize>;
 
     fn close(self, alloc: Global, seats: Vec<Self::Seat>) -> Closed<Self, Self::Seat>;
+
+    /// Closes it by none of its seats, and writes the lines of its records or tells which have none.
+    fn close_by_no_seat<R: Wait, H: UnwrittenListener>(
+        self,
+        rt: &R,
+        alloc: Global,
+        lines: &mut Vec<u8>,
+        listener: &H,
+    ) -> Result<(), ClosingFault>;
 
     /// How many entries a seat has.
     fn entries(seat: &Self::Seat) -> usize;
@@ -84,6 +95,17 @@ impl<'a, L0: UnitLedger, L1: UnitLedger, L2: UnitLedger, L3: UnitLedger, L4: Uni
         seats: Vec<Seat<L0, L1, L2, L3, L4>>,
     ) -> Closed<Library<L0, L1, L2, L3, L4, Device, TestGate<'a>>, Seat<L0, L1, L2, L3, L4>> {
         Library::close(self, alloc, seats)
+    }
+
+    fn close_by_no_seat<R: Wait, H: UnwrittenListener>(
+        self,
+        rt: &R,
+        alloc: Global,
+        lines: &mut Vec<u8>,
+        listener: &H,
+    ) -> Result<(), ClosingFault> {
+        let seats = Vec::new(alloc);
+        close_and_write(rt, alloc, self, seats, Audit::Lines, lines, listener)
     }
 
     fn entries(seat: &Seat<L0, L1, L2, L3, L4>) -> usize {

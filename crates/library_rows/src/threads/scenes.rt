@@ -127,6 +127,14 @@ const EVERY_SEAT: Plan = Plan {
     ..QUIET
 };
 
+/// The same, but the library is closed with no seat.
+const NO_SEAT: Plan = Plan {
+    shows: "a library that is not closed tells which records have no line",
+    acts: &[(0, &AT_THE_FIRST, &[]), (1, &AT_THE_SECOND, &[])],
+    closing: Closing::NoSeat,
+    ..QUIET
+};
+
 /// What each of two seats asks at one drive between its drains is settled, and what is settled has to be drained before the
 /// library is closed.
 const SETTLING: Plan = Plan {
@@ -150,7 +158,13 @@ const SETTLED_MOVES: Plan = Plan {
     ..QUIET
 };
 
-pub(super) const SCENES: [&'static Plan; 4] = [&HELD_UNIT, &EVERY_SEAT, &SETTLING, &SETTLED_MOVES];
+pub(super) const SCENES: [&'static Plan; 5] = [
+    &HELD_UNIT,
+    &EVERY_SEAT,
+    &NO_SEAT,
+    &SETTLING,
+    &SETTLED_MOVES,
+];
 
 /// The plan of the scene at a place. A scene goes to a library by its place, since a signature with a plan in it is none that the borrow
 /// checker covers there.

@@ -1,16 +1,15 @@
 use Rattle.std.proofs.Common.{◌≡◌, ◌∙◌, ap, Option}
 use Rattle.std.specs.Prelude.{IfSome, vec_len}
-use Rattle.std.specs.Result.{result_err}
 use Rattle.logical_unit.specs.UnitView.{units_of}
-use Rattle.server_socket.specs.ServerFaults.{MayTell, earlier, told_of}
+use Rattle.server_socket.specs.ServerFaults.{MayTell, closing_fault, earlier, told_of}
 use Rattle.server_socket.specs.declared.server_fault.ServerFault.{ServerFault}
 use Rattle.server_socket.proofs.Closed.{library_served, seats_back}
 use Rattle.server_socket.proofs.Told.{all_went, closed_may, earlier_keeps, first_keeps, left_may, media_may, own_may}
 use Rattle.server_socket.proofs.serving.serve_with_ledgers.Goals as goal
 
-told : (g : _) (c : goal.After-told_of g) → c.told_of.result ≡ told_of (earlier c.earlier.result (earlier c.write_rest-left.result (result_err c.close_and_write-closed.result)))
+told : (g : _) (c : goal.After-told_of g) → c.told_of.result ≡ told_of (earlier c.earlier.result (earlier c.write_rest-left.result (closing_fault c.close_and_write-closed.result)))
 told g c =
-    let at_the_end = c.earlier-2.ensures ∙ ap (λ (o : Option ServerFault). earlier c.write_rest-left.result o) c.err.ensures.value in
+    let at_the_end = c.earlier-2.ensures ∙ ap (λ (o : Option ServerFault). earlier c.write_rest-left.result o) c.closing_fault.ensures in
     c.told_of.ensures ∙ ap (λ (o : Option ServerFault). told_of o) (c.earlier-3.ensures ∙ ap (λ (o : Option ServerFault). earlier c.earlier.result o) at_the_end)
 
 pub returns-clause-served : goal.returns-clause-served

@@ -1,0 +1,2 @@
+pub mod ClosedLibrary
+pub mod ClosingFaults
