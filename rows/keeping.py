@@ -7,8 +7,8 @@ import resource
 import sys
 import typing
 
-from exchanges import DRIVE, B
-from folders import FIRST, HI, MARK, NEW, THREE, Folder, ended, told_by
+from exchanges import CHANGER, DRIVE, B
+from folders import FIRST, HI, MARK, NEW, ODD, THREE, Folder, ended, told_by
 from hosts import ERASE, FILEMARK, NO_FILEMARK, REWIND, TO_THE_END, UNLOAD, WRITE_PROTECTED, Host, good, locate
 from serving import Row, Server, Tried, holds, same
 
@@ -31,6 +31,26 @@ def copied_behind(tried: Tried) -> None:
         folder.await_image("what is copied behind a write", FIRST, HI)
         host.asks(DRIVE, FILEMARK)
         folder.same_image("what a filemark is answered behind", FIRST, HI + MARK)
+        ended(server)
+
+
+def each_drive(tried: Tried) -> None:
+    """A filemark is answered behind what the volume in its own drive has, and that in the other is left as it is."""
+    folder = Folder(tried)
+    with folder.served("--drives", "2", "--volumes", "2") as server:
+        host = Host(server)
+        host.meets(CHANGER)
+        for at in range(2):
+            host.moves(0x400 + at, 0x100 + at)
+            host.meets(DRIVE + at)
+        host.writes(b"hi")
+        host.asks(DRIVE, FILEMARK)
+        folder.same_image("the volume in the first drive behind its filemark", FIRST, HI + MARK)
+        folder.same_image("that in the second before it is written", "VOL00002.tap", b"")
+        host.writes(b"odd", lun=DRIVE + 1)
+        host.asks(DRIVE + 1, FILEMARK)
+        folder.same_image("the volume in the second drive behind its filemark", "VOL00002.tap", ODD + MARK)
+        folder.same_image("that in the first then", FIRST, HI + MARK)
         ended(server)
 
 
@@ -141,6 +161,7 @@ def protected(tried: Tried) -> None:
 
 ROWS = [
     Row("copied-behind", "a write is copied behind it, and a filemark is in the image before it is answered", copied_behind),
+    Row("each-drive", "whoever keeps volumes is let at the unit that was written at, and at no other", each_drive),
     Row("never-synced", "a filemark is brought to the disk, a WRITE and a REWIND aren't; a sync that fails is told once and tried again",
         never_synced),
     Row("full-and-mended", "a flush that fails in its append is told once, tried again, and mended by the next", full_and_mended),

@@ -1,5 +1,5 @@
 -- Worked records and their lines: A at port 1.
-use Rattle.std.specs.Prelude.{false, [], Some, None}
+use Rattle.std.specs.Prelude.{◌≡◌, ℕ, ◌+◌, false, List, [], ◌∷◌, length, Some, None}
 use Rattle.permit_tables.specs.declared.classes.Class.TheVariants as class
 use Rattle.permit_tables.specs.declared.service_action.OutServiceAction.TheVariants as out
 use Rattle.scsi_sense.specs.Conditions.{sense_for}
@@ -13,6 +13,7 @@ use Rattle.permit_tables.specs.declared.key_rule.KeyRule.TheVariants.{K1}
 use Rattle.audit_log.specs.declared.stage.Stage.TheVariants.{Decoding, ResetAttention, ReservationCheck, OtherAttention, Fields, Device}
 use Rattle.audit_log.specs.declared.act.Act.TheVariants.{Command, ReserveOut, Invalid, Loss, Reset, MediumIn, MediumOut}
 use Rattle.audit_log.specs.declared.record.Record.{Record}
+use Rattle.audit_log.specs.TrailView.{TrailView, last_of, IsNumbered}
 
 abbrev pub a : Nexus
 a = record { sas = 0x500000000000000A; port = 1 }
@@ -110,3 +111,30 @@ refused_field = record wrong_key {
 -- bytes of A that spell no command
 abbrev pub unknown_opcode : Record
 unknown_opcode = record first_contact { act = Invalid; stage = Decoding; sense = Some (sense_for InvalidCommandOperationCode) }
+
+-- a loss of A by its number
+abbrev pub loss : ℕ → Record
+loss n = record lost { number = n }
+
+abbrev pub trail : (base : ℕ) → List Record → (room : ℕ) → TrailView
+trail base records room = record { base = base; records = records; room = room }
+
+-- what is left of a trail whose records were handed out, by the room of the vector that they were handed out into, or none
+abbrev pub handed_out : TrailView → (room : ℕ) → TrailView
+handed_out t room = trail (last_of t) [] room
+
+-- the room of the vector that comes back with the records
+abbrev pub room_with : TrailView → ℕ
+room_with t = length t.records + t.room
+
+-- a trail hands out its records and goes on counting
+pub record HandedOut : Type 0 where
+  pub two : IsNumbered 0 (loss 1 ∷ loss 2 ∷ []) × (last_of (trail 0 (loss 1 ∷ loss 2 ∷ []) 0) ≡ 2)
+  pub drained : handed_out (trail 0 (loss 1 ∷ loss 2 ∷ []) 0) 0 ≡ trail 2 [] 0
+  pub goes_on : IsNumbered 2 (loss 3 ∷ []) × (last_of (trail 2 (loss 3 ∷ []) 0) ≡ 3)
+  -- into a vector with room for a hundred, which is given up, and comes back with what is handed out next
+  pub given_up : handed_out (trail 0 (loss 1 ∷ []) 0) 100 ≡ trail 1 [] 100
+  pub other_room : room_with (trail 0 (loss 1 ∷ []) 0) ≡ 1
+  pub in_its_room : IsNumbered 1 (loss 2 ∷ loss 3 ∷ []) × (last_of (trail 1 (loss 2 ∷ loss 3 ∷ []) 98) ≡ 3)
+  pub comes_back : room_with (trail 1 (loss 2 ∷ loss 3 ∷ []) 98) ≡ 100
+  pub goes_on_behind : last_of (handed_out (trail 1 (loss 2 ∷ loss 3 ∷ []) 98) 1) + 1 ≡ 4

@@ -2,7 +2,7 @@ ghost use Rattle.std.specs.Prelude.{◌≡◌, Some, None, codes};
 ghost use Rattle.permit_tables.specs.declared.res_type.ResType.TheVariants.{We, Earo, Wear, Eaar};
 ghost use Rattle.audit_log.specs.TrailView.{CountsUp};
 ghost use Rattle.audit_log.specs.Lines.{line_of, reservation_text};
-ghost use Rattle.audit_log.specs.Rows.{first_contact, ready, wrong_key, lost, was_reset, taken_out, brought_in, medium_changed, refused_field, unknown_opcode};
+ghost use Rattle.audit_log.specs.Rows.{first_contact, ready, wrong_key, lost, was_reset, taken_out, brought_in, medium_changed, refused_field, unknown_opcode, HandedOut};
 
 /// Worked rows: records and their lines.
 pub fn line_rows()
@@ -23,6 +23,11 @@ pub fn line_rows()
         ≡ codes "10 5000c500112233ff.2 REGISTER 5 REGISTER/WERO/REGISTERED - 02" }
     ensures unknown_opcode { line_of unknown_opcode
         ≡ codes "1 500000000000000a.1 INVALID 1 - - 02" }
+{}
+
+/// Worked rows: trails that records are handed out from.
+pub fn trail_rows()
+    ensures { HandedOut }
 {}
 
 /// Worked rows: reservations of a nexus, as they are written behind a line.

@@ -10,7 +10,7 @@ mod stage;
 mod trail;
 
 pub use act::Act;
-pub use laws::{line_rows, numbers_count_up, reservation_rows};
+pub use laws::{line_rows, numbers_count_up, reservation_rows, trail_rows};
 pub use lines::{line, write_line, write_reservation};
 pub use record::Record;
 pub use stage::Stage;

@@ -175,3 +175,65 @@ pub record PlacesOfAChanger (a b : VolumeTag) : Type 0 where
   pub marked_at_transport : marked (one_volume a) 0 (Some b) ≡ Err record {}
   pub marked_nowhere : marked (one_volume a) 0x101 (Some b) ≡ Err record {}
   pub reset : reset_of (two_volumes a b) ≡ two_volumes a b
+
+-- two data transfer, two import/export and three storage elements: a tag is noted at the second of the first, and a volume lies in the second
+-- import/export element
+abbrev pub two_drives : (first second : Option VolumeTag) → (port : Option Volume) → DeviceView
+two_drives first second port =
+    Changer (record { data_transfer = first ∷ second ∷ []; import_export = None ∷ port ∷ []; storage = None ∷ None ∷ None ∷ [] })
+
+-- what is held, goes out and is noted there goes by the kind of element
+pub record PlacesOfTwoDrives (a : VolumeTag) : Type 0 where
+  pub kind : kind_of (two_drives None None None) ≡ kind.Changer
+  pub drives : drives_of (two_drives None None None) ≡ 2
+  pub marked_drive : marked (two_drives None None None) 0x101 (Some a) ≡ Ok (two_drives None (Some a) None)
+  pub put_in : put (two_drives None (Some a) None) 0x201 (cartridge a) ≡ Ok (two_drives None (Some a) (Some (cartridge a)))
+  pub held_in_transport : held_in (two_drives None (Some a) (Some (cartridge a))) 0 ≡ None
+  pub held_in_empty_drive : held_in (two_drives None (Some a) (Some (cartridge a))) 0x100 ≡ None
+  pub held_in_drive : held_in (two_drives None (Some a) (Some (cartridge a))) 0x101 ≡ Some a
+  pub held_in_no_drive : held_in (two_drives None (Some a) (Some (cartridge a))) 0x102 ≡ None
+  pub held_in_port : held_in (two_drives None (Some a) (Some (cartridge a))) 0x201 ≡ Some a
+  pub taken_from_transport : taken (two_drives None (Some a) (Some (cartridge a))) 0 ≡ Err take_fault.BadPlace
+  pub taken_from_drive : taken (two_drives None (Some a) (Some (cartridge a))) 0x101 ≡ Err take_fault.BadPlace
+  pub taken_from_empty : taken (two_drives None (Some a) (Some (cartridge a))) 0x400 ≡ Err take_fault.Empty
+  pub taken_out : taken (two_drives None (Some a) (Some (cartridge a))) 0x201 ≡ Ok (cartridge a, two_drives None (Some a) None)
+  pub gone : held_in (two_drives None (Some a) None) 0x201 ≡ None
+  pub marked_other_drive : marked (two_drives None (Some a) None) 0x100 (Some a) ≡ Ok (two_drives (Some a) (Some a) None)
+  pub marked_slot : marked (two_drives None (Some a) None) 0x400 (Some a) ≡ Err record {}
+
+-- one data transfer and two storage elements
+abbrev pub two_slots : (mark : Option VolumeTag) → (first second : Option Volume) → DeviceView
+two_slots mark first second = Changer (record { data_transfer = mark ∷ []; import_export = []; storage = first ∷ second ∷ [] })
+
+-- volumes that go in and out at storage elements, and stay where they are else; what goes into a drive or out of it is the target's to move
+pub record SlotsOfAChanger (a b : VolumeTag) : Type 0 where
+  pub drives : drives_of (two_slots None None None) ≡ 1
+  pub put_in : put (two_slots None None None) 0x400 (cartridge a) ≡ Ok (two_slots None (Some (cartridge a)) None)
+  pub taken_from_empty : taken (two_slots None (Some (cartridge a)) None) 0x401 ≡ Err take_fault.Empty
+  pub taken_from_drive : taken (two_slots None (Some (cartridge a)) None) 0x100 ≡ Err take_fault.BadPlace
+  pub put_on_another : put (two_slots None (Some (cartridge a)) None) 0x400 (cartridge b) ≡ Err put_fault.Full
+  pub held : held_in (two_slots None (Some (cartridge a)) None) 0x400 ≡ Some a
+  pub put_in_drive : put (two_slots None (Some (cartridge a)) None) 0x100 (cartridge b) ≡ Err put_fault.BadPlace
+  pub taken_out : taken (two_slots None (Some (cartridge a)) None) 0x400 ≡ Ok (cartridge a, two_slots None None None)
+  pub put_in_second : put (two_slots None None None) 0x401 (cartridge b) ≡ Ok (two_slots None None (Some (cartridge b)))
+  pub reset : reset_of (two_slots None None (Some (cartridge b))) ≡ two_slots None None (Some (cartridge b))
+  pub held_in_first : held_in (two_slots None None (Some (cartridge b))) 0x400 ≡ None
+  pub held_in_second : held_in (two_slots None None (Some (cartridge b))) 0x401 ≡ Some b
+  pub held_in_drive : held_in (two_slots None None (Some (cartridge b))) 0x100 ≡ None
+
+-- MOVE MEDIUM goes by the marks of drives
+pub record MovesByMarks (a b : VolumeTag) : Type 0 where
+  pub into_drive : asked (two_slots None (Some (cartridge a)) None) (move 0x400 0x100)
+      ≡ checks (two_slots None (Some (cartridge a)) None) [] internal_failure
+  pub marked_drive : marked (two_slots None (Some (cartridge a)) None) 0x100 (Some b) ≡ Ok (two_slots (Some b) (Some (cartridge a)) None)
+  pub unmarked_no_drive : marked (two_slots (Some b) (Some (cartridge a)) None) 0x101 None ≡ Err record {}
+  pub unmarked_slot : marked (two_slots (Some b) (Some (cartridge a)) None) 0x400 None ≡ Err record {}
+  pub held : held_in (two_slots (Some b) (Some (cartridge a)) None) 0x100 ≡ Some b
+  pub into_marked_drive : asked (two_slots (Some b) (Some (cartridge a)) None) (move 0x400 0x100)
+      ≡ checks (two_slots (Some b) (Some (cartridge a)) None) [] destination_full
+  pub out_of_marked_drive : asked (two_slots (Some b) (Some (cartridge a)) None) (move 0x100 0x401)
+      ≡ checks (two_slots (Some b) (Some (cartridge a)) None) [] internal_failure
+  pub unmarked : marked (two_slots (Some b) (Some (cartridge a)) None) 0x100 None ≡ Ok (two_slots None (Some (cartridge a)) None)
+  pub out_of_drive : asked (two_slots None (Some (cartridge a)) None) (move 0x100 0x401)
+      ≡ checks (two_slots None (Some (cartridge a)) None) [] source_empty
+  pub stays : held_in (two_slots None (Some (cartridge a)) None) 0x400 ≡ Some a

@@ -272,3 +272,31 @@ pub record VolumesOfADrive (tag : VolumeTag) : Type 0 where
   pub held_in_empty : held_in (Drive empty_drive) 0 ≡ None
   pub held_elsewhere : held_in (loaded tag 0 (block_and_mark 2)) 1 ≡ None
   pub not_marked : marked (loaded tag 0 (block_and_mark 2)) 0 (Some tag) ≡ Err record {}
+
+-- two filemarks, and a protected volume of one, each with its tape at the end
+abbrev pub two_marks : VolumeTag → (position : ℕ) → Volume
+two_marks tag position = volume tag (record (blank 10) { objects = Mark ∷ Mark ∷ []; position = position })
+
+abbrev pub one_mark : VolumeTag → Volume
+one_mark tag = record { tag = tag; protected = true; tape = record (blank 10) { objects = Mark ∷ []; position = 1 } }
+
+-- a drive with the first of them
+abbrev pub of_two_marks : VolumeTag → (position : ℕ) → DeviceView
+of_two_marks tag position = Drive (record { bay = Some (two_marks tag position); loaded = true; block_length = 0 })
+
+-- a volume that goes into a bay and out of it is rewound, and one that another is refused for stays
+pub record BayOfADrive (tag : VolumeTag) : Type 0 where
+  pub kind : kind_of (Drive empty_drive) ≡ kind.Drive
+  pub drives : drives_of (Drive empty_drive) ≡ 0
+  pub empty : held_in (Drive empty_drive) 0 ≡ None
+  pub taken_from_empty : taken (Drive empty_drive) 0 ≡ Err take_fault.Empty
+  pub taken_from_no_bay : taken (Drive empty_drive) 1 ≡ Err take_fault.BadPlace
+  pub not_marked : marked (Drive empty_drive) 0 (Some tag) ≡ Err record {}
+  pub into_no_bay : put (Drive empty_drive) 1 (two_marks tag 2) ≡ Err put_fault.BadPlace
+  pub put_in : put (Drive empty_drive) 0 (two_marks tag 2) ≡ Ok (of_two_marks tag 0)
+  pub held : held_in (of_two_marks tag 0) 0 ≡ Some tag
+  pub held_in_no_other : held_in (of_two_marks tag 0) 1 ≡ None
+  pub put_on_another : put (of_two_marks tag 0) 0 (one_mark tag) ≡ Err put_fault.Full
+  pub to_the_end : asked (of_two_marks tag 0) (Space 3 (pos 0)) ≡ gives (of_two_marks tag 2) []
+  pub taken_out : taken (of_two_marks tag 2) 0 ≡ Ok (two_marks tag 0, Drive empty_drive)
+  pub not_ready : asked (Drive empty_drive) TestUnitReady ≡ checks (Drive empty_drive) [] not_present

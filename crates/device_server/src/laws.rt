@@ -1,8 +1,8 @@
 //! Worked rows that the definitions compute to, and laws of every step. Each function has an empty body: its clause is the row or the law.
 
 ghost use Rattle.tape_medium.specs.declared.volume.VolumeTag.{VolumeTag};
-ghost use Rattle.device_server.specs.Rows.{ReadsOfOtherLength, SuppressedLengths, SpacesBothWays, PositionsRead, ModesOfADrive, RefusedFields, RefusedLists, FixedTransfers, RefusedWrites, VolumesOfADrive};
-ghost use Rattle.device_server.specs.ChangerRows.{StatusOfAChanger, ModesOfAChanger, MovesOfAChanger, MovesOfADrive, PlacesOfAChanger};
+ghost use Rattle.device_server.specs.Rows.{ReadsOfOtherLength, SuppressedLengths, SpacesBothWays, PositionsRead, ModesOfADrive, RefusedFields, RefusedLists, FixedTransfers, RefusedWrites, VolumesOfADrive, BayOfADrive};
+ghost use Rattle.device_server.specs.ChangerRows.{StatusOfAChanger, ModesOfAChanger, MovesOfAChanger, MovesOfADrive, PlacesOfAChanger, PlacesOfTwoDrives, SlotsOfAChanger, MovesByMarks};
 ghost use Rattle.device_server.specs.Ends.{EndsItsOwnWay, StaysTheSameDevice, StaysTheSameByReset};
 ghost use Rattle.device_server.specs.Marks.{CommandsKeepMarks, ResetsKeepMarks, DrivesGive, DrivesGet, ChangersGive, ChangersGet, MarksOne, EachIsMarked};
 ghost use Rattle.device_server.specs.MarkRows.{MarksOfADrive, MarksOfAChanger};
@@ -45,6 +45,14 @@ pub fn refused_fields()
 /// Volumes that go in and out, and are loaded and unloaded.
 pub fn volumes()
     ensures { (tag : VolumeTag) → VolumesOfADrive tag }
+{}
+
+/// Volumes that are put and taken where no host asks, at elements and in a bay, and moves by the marks of drives.
+pub fn places()
+    ensures bay { (tag : VolumeTag) → BayOfADrive tag }
+    ensures elements { (a : VolumeTag) → PlacesOfTwoDrives a }
+    ensures slots { (a b : VolumeTag) → SlotsOfAChanger a b }
+    ensures moves { (a b : VolumeTag) → MovesByMarks a b }
 {}
 
 /// READ ELEMENT STATUS, and the commands that a changer is always ready for.

@@ -57,6 +57,16 @@ pub fn stream_rows()
     ensures two_logins { Reads false (login_by 1 ++ login_by 2) (Login a ∷ []) (Broken BadFrame) }
 {}
 
+/// Worked rows: streams with a fault, and the frames before it.
+pub fn broken_rows()
+    ensures no_body { Reads false (0 ∷ 0 ∷ 0 ∷ 0 ∷ []) [] (Broken BadFrame) }
+    ensures too_long { Reads false (0 ∷ 2 ∷ 0 ∷ 1 ∷ []) [] (Broken TooLong) }
+    ensures unknown_kind { Reads false (0 ∷ 0 ∷ 0 ∷ 5 ∷ 9 ∷ []) [] (Broken BadFrame) }
+    ensures port_0 { Reads false (login_by 0) [] (Broken BadFrame) }
+    ensures second_login { Reads false (login_by 1 ++ 0 ∷ 0 ∷ 0 ∷ 0x0B ∷ 1 ∷ []) (Login a ∷ []) (Broken BadFrame) }
+    ensures cdb_of_17 { Reads false (login_by 1 ++ 0 ∷ 0 ∷ 0 ∷ 0x13 ∷ 2 ∷ 0 ∷ 0x11 ∷ []) (Login a ∷ []) (Broken BadFrame) }
+{}
+
 /// Worked rows: replies, byte by byte.
 pub fn reply_rows()
     ensures accepted { reply_bytes (LoginReply Accepted) ≡ 0 ∷ 0 ∷ 0 ∷ 2 ∷ 0x81 ∷ 0 ∷ [] }

@@ -20,8 +20,8 @@ pub use awaiting::{ReplyWait, await_reply};
 pub use fault::FrameFault;
 pub use frame::{FrameRef, ParsedFrame};
 pub use laws::{
-    fault_rows, frame_rows, one_reading, partial_rows, pieces_join, reply_rows, stream_rows,
-    taken_is_read,
+    broken_rows, fault_rows, frame_rows, one_reading, partial_rows, pieces_join, reply_rows,
+    stream_rows, taken_is_read,
 };
 pub use layout::{LENGTH_FIELD, MAX_BODY, MAX_REPLY};
 pub use parse::parse_frame;
@@ -33,4 +33,4 @@ pub use reply_laws::{
 };
 pub use reply_parse::parse_reply;
 pub use sending::write_frame;
-pub use sending_laws::{frame_is_read, sent_rows};
+pub use sending_laws::{frame_is_read, sendable_rows, sent_rows};

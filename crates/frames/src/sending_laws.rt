@@ -13,6 +13,19 @@ pub fn sent_rows()
     ensures logout { frame_bytes Logout ≡ logout }
 {}
 
+/// Worked rows: what a client may send goes by the limits of a frame.
+#[tactic(auto, unfolding(crate::specs::Sending::IsSendable))]
+pub fn sendable_rows()
+    ensures longest { (bytes : List ℕ) → length bytes ≡ 131053 → IsSendable (Command 0 (replicate 16 0) bytes) }
+    ensures longer { (bytes : List ℕ) → length bytes ≡ 131054 → ¬ IsSendable (Command 0 (replicate 16 0) bytes) }
+    ensures no_cdb { ¬ IsSendable (Command 0 [] []) }
+    ensures cdb_of_17 { ¬ IsSendable (Command 0 (replicate 17 0) []) }
+    ensures login { IsSendable (Login a) }
+    ensures port_5 { ¬ IsSendable (Login (record { sas = 1; port = 5 })) }
+    ensures reset { IsSendable (Reset 255) }
+    ensures logout { IsSendable Logout }
+{}
+
 /// Law: a stream that begins with what a client writes for a frame has that very frame at its front, and then the
 /// rest. So the server reads each frame of a client, in their order.
 pub fn frame_is_read()

@@ -13,3 +13,4 @@ pub mod Turns
 pub mod Exchanges
 pub mod Runs
 pub mod ExchangeRuns
+pub mod Rows

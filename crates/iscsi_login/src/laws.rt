@@ -3,6 +3,7 @@ ghost use Rattle.iscsi_pdu.specs.Codes.{stage_code};
 ghost use Rattle.iscsi_pdu.specs.declared.stage.Stage.{Stage};
 ghost use Rattle.iscsi_pdu.specs.declared.login_request.LoginRequest.{LoginRequest};
 ghost use Rattle.iscsi_keys.specs.Parameters.{AreInRange};
+ghost use Rattle.iscsi_login.specs.Rows.{LoginsNoPortalShows};
 ghost use Rattle.iscsi_login.specs.Stages.{leads_to};
 ghost use Rattle.iscsi_login.specs.Logins.{begun, stepped, step_of};
 ghost use Rattle.iscsi_login.specs.Runs.{Coming, run, IsEntered};
@@ -46,4 +47,9 @@ pub fn end_stays()
 /// Law: no stage leads back, nor to itself.
 pub fn stages_ascend()
     ensures { (current next : Stage) → leads_to current next ≡ true → stage_code current < stage_code next }
+{}
+
+/// Worked rows: a login that has ended, one without a challenge, and a host that is named twice.
+pub fn login_rows()
+    ensures { (target : LoginTarget) (text : List ℕ) → LoginsNoPortalShows target text }
 {}

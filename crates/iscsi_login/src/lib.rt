@@ -27,7 +27,9 @@ pub use identity::LoginIdentity;
 pub use iscsi_chap::{
     Access, Admission, Authentication, Challenge, ChapPhase, Host, LONGEST_NAME, SessionType,
 };
-pub use laws::{begins_by_name, end_stays, reached_by_name, stages_ascend, told_as_begun};
+pub use laws::{
+    begins_by_name, end_stays, login_rows, reached_by_name, stages_ascend, told_as_begun,
+};
 pub use login::{FullFeature, Login, LoginEnd, LoginStep, OpenLogin};
 pub use names::declared_value;
 pub use progress::LoginProgress;

@@ -1,6 +1,8 @@
 -- PDUs byte by byte, a row of a figure after the other (RFC 7143, "iSCSI PDU Formats"), and what they say.
-use Rattle.std.specs.Prelude.{ℕ, true, false, List, [], ◌∷◌, ◌++◌, replicate, Some, None}
+use Rattle.std.specs.Prelude.{◌≡◌, ◌<◌, ℕ, Bool, true, false, List, [], ◌∷◌, ◌++◌, replicate, Some, None}
+use Rattle.iscsi_pdu.specs.Codes.{login_status_code}
 use Rattle.iscsi_pdu.specs.Pdus.{InitiatorPduValue, TargetPduValue}
+use Rattle.iscsi_pdu.specs.SerialNumbers.{next, distance, IsBefore}
 use Rattle.iscsi_pdu.specs.declared.serial_number.SerialNumber.{SerialNumber}
 use Rattle.iscsi_pdu.specs.declared.residual.Residual.TheVariants.{Overflow, Underflow}
 use Rattle.iscsi_pdu.specs.declared.initiator_header.InitiatorHeader.TheVariants as initiator
@@ -146,6 +148,17 @@ login_request_pdu = record {
   extended_cdb = [];
   payload = 0x49 ∷ 0x6E ∷ 0x69 ∷ 0x74 ∷ 0x69 ∷ 0x61 ∷ 0x74 ∷ 0x6F ∷ 0x72 ∷ 0x4E ∷ 0x61 ∷ 0x6D ∷ 0x65 ∷ 0x3D ∷ 0x61 ∷ 0 ∷ [];
 }
+
+-- the same login with another text: A=b
+abbrev pub short_login_row : List ℕ
+short_login_row =
+    0x43 ∷ 0x87 ∷ 0 ∷ 0 ∷ 0 ∷ 0 ∷ 0 ∷ 4 ∷ 0 ∷ 2 ∷ 0x3D ∷ 0 ∷ 0 ∷ 1 ∷ 0 ∷ 0
+    ∷ 0 ∷ 0 ∷ 0 ∷ 1 ∷ 0 ∷ 2 ∷ 0 ∷ 0 ∷ 0 ∷ 0 ∷ 0 ∷ 1 ∷ 0 ∷ 0 ∷ 0 ∷ 0
+    ∷ 0 ∷ 0 ∷ 0 ∷ 0 ∷ 0 ∷ 0 ∷ 0 ∷ 0 ∷ 0 ∷ 0 ∷ 0 ∷ 0 ∷ 0 ∷ 0 ∷ 0 ∷ 0
+    ∷ 0x41 ∷ 0x3D ∷ 0x62 ∷ 0 ∷ []
+
+abbrev pub short_login_pdu : InitiatorPduValue
+short_login_pdu = record login_request_pdu { payload = 0x41 ∷ 0x3D ∷ 0x62 ∷ 0 ∷ [] }
 
 -- SendTargets=All
 abbrev pub send_targets_row : List ℕ
@@ -345,6 +358,33 @@ not_let_in_pdu = record {
   payload = [];
 }
 
+-- the answer that lets a login in, as session 7
+abbrev pub let_in_row : List ℕ
+let_in_row =
+    0x23 ∷ 0x87 ∷ 0 ∷ 0 ∷ 0 ∷ 0 ∷ 0 ∷ 0 ∷ 0 ∷ 2 ∷ 0x3D ∷ 0 ∷ 0 ∷ 1 ∷ 0 ∷ 7
+    ∷ 0 ∷ 0 ∷ 0 ∷ 1 ∷ 0 ∷ 0 ∷ 0 ∷ 0 ∷ 0 ∷ 0 ∷ 0 ∷ 9 ∷ 0 ∷ 0 ∷ 0 ∷ 1
+    ∷ 0 ∷ 0 ∷ 0 ∷ 0x20 ∷ 0 ∷ 0 ∷ 0 ∷ 0 ∷ 0 ∷ 0 ∷ 0 ∷ 0 ∷ 0 ∷ 0 ∷ 0 ∷ 0 ∷ []
+
+abbrev pub let_in_pdu : TargetPduValue
+let_in_pdu = record {
+  header = target.LoginResponse (record {
+    transit = true;
+    continues = false;
+    current_stage = stage.LoginOperationalNegotiation;
+    next_stage = stage.FullFeaturePhase;
+    version_max = 0;
+    version_active = 0;
+    isid = 0x00023D000001;
+    tsih = 7;
+    initiator_task_tag = 1;
+    stat_sn = sn 9;
+    exp_cmd_sn = sn 1;
+    max_cmd_sn = sn 32;
+    status = login.Success;
+  });
+  payload = [];
+}
+
 -- a part of an answer, asked on by a tag
 abbrev pub part_of_text_row : List ℕ
 part_of_text_row =
@@ -501,3 +541,39 @@ rejected_pdu = record {
   });
   payload = 5 ∷ 0x80 ∷ 0 ∷ 0 ∷ [];
 }
+
+abbrev pub Holds : Bool → Type 0 → Type 0
+Holds true A = A
+Holds false A = ¬ A
+
+-- two numbers: the one after the first, how far the second is from the first, whether it comes behind it, and whether the first is one of
+-- 32 from the second on
+abbrev pub AreRoundTheCircle : (first second after steps : ℕ) → (is_before is_within : Bool) → Type 0
+AreRoundTheCircle first second after steps is_before is_within =
+    (next (sn first) ≡ sn after) × (distance (sn first) (sn second) ≡ steps)
+    × Holds is_before (IsBefore (sn first) (sn second)) × Holds is_within (distance (sn second) (sn first) < 32)
+
+-- round the circle of RFC 1982, with 32 bits
+pub record NumbersRoundTheCircle : Type 0 where
+  pub itself : AreRoundTheCircle 0 0 1 0 false true
+  pub one_on : AreRoundTheCircle 0 1 1 1 true false
+  pub one_back : AreRoundTheCircle 1 0 2 0xFFFFFFFF false true
+  pub over_the_end : AreRoundTheCircle 0xFFFFFFFF 0 0 1 true false
+  pub back_over_the_end : AreRoundTheCircle 0 0xFFFFFFFF 1 0xFFFFFFFF false true
+  pub last_of_32 : AreRoundTheCircle 0x1E 0xFFFFFFFF 0x1F 0xFFFFFFE1 false true
+  pub behind_32 : AreRoundTheCircle 0x1F 0xFFFFFFFF 0x20 0xFFFFFFE0 false false
+  pub near_the_end : AreRoundTheCircle 0xFFFFFFE0 0xFFFFFFE0 0xFFFFFFE1 0 false true
+  pub less_than_half : AreRoundTheCircle 0 0x7FFFFFFF 1 0x7FFFFFFF true false
+  pub half : AreRoundTheCircle 0 0x80000000 1 0x80000000 false false
+  pub half_back : AreRoundTheCircle 0x80000000 0 0x80000001 0x80000000 false false
+  pub less_than_half_on : AreRoundTheCircle 0x7FFFFFFF 0xFFFFFFFE 0x80000000 0x7FFFFFFF true false
+
+-- Status-Class and Status-Detail of those that no login of this target comes to
+pub record StatusesOfNoLogin : Type 0 where
+  pub moved_for_a_time : login_status_code login.TargetMovedTemporarily ≡ 0x0101
+  pub moved_for_good : login_status_code login.TargetMovedPermanently ≡ 0x0102
+  pub removed : login_status_code login.TargetRemoved ≡ 0x0204
+  pub not_in_the_session : login_status_code login.CannotIncludeInSession ≡ 0x0208
+  pub unavailable : login_status_code login.ServiceUnavailable ≡ 0x0301
+  -- and of one by which the target itself fails
+  pub failed : login_status_code login.TargetError ≡ 0x0300

@@ -73,7 +73,9 @@ pub use r2t::ReadyToTransfer;
 pub use reject::Reject;
 pub use reject_reason::RejectReason;
 pub use residual::Residual;
-pub use rows::{read_requests, read_responses, stream_rows, written_requests, written_responses};
+pub use rows::{
+    number_rows, read_requests, read_responses, stream_rows, written_requests, written_responses,
+};
 pub use scsi_command::ScsiCommand;
 pub use scsi_response::ScsiResponse;
 pub use scsi_status::ScsiStatus;

@@ -1,7 +1,6 @@
 //! Threads over a library of a changer and drives: each scene is played in one that is opened for it and closed behind it.
 
 mod asking;
-mod attending;
 mod days;
 mod gates;
 mod opened;

@@ -1,5 +1,5 @@
 -- Worked types and cells of the permission table.
-use Rattle.std.specs.Prelude.{◌≡◌, true, false, codes}
+use Rattle.std.specs.Prelude.{◌≡◌, ℕ, zero, suc, ◌+◌, true, false, List, [], ◌∷◌, map, is_some, codes, if◌then◌else◌}
 use Rattle.std.specs.Prelude as std
 use Rattle.permit_tables.specs.declared.classes.Class.TheVariants as class
 use Rattle.permit_tables.specs.declared.res_type.ResType.TheVariants.{None, We, Ea, Wero, Earo, Wear, Eaar}
@@ -8,7 +8,17 @@ use Rattle.permit_tables.specs.Types.{code_of, coded_type, is_registrants_only, 
 use Rattle.permit_tables.specs.Permission.{is_allowed}
 use Rattle.permit_tables.specs.Text.{cell_text}
 
+-- which of so many codes from the first on are those of types
+abbrev pub known_from : (first count : ℕ) → List ℕ
+known_from first zero = []
+known_from first (suc k) = if is_some (coded_type first) then first ∷ known_from (first + 1) k else known_from (first + 1) k
+
 pub record TypeRows : Type 0 where
+  -- of the codes 0 to 8; none above is one
+  pub coded : map coded_type (0 ∷ 1 ∷ 2 ∷ 3 ∷ 4 ∷ 5 ∷ 6 ∷ 7 ∷ 8 ∷ [])
+      ≡ std.None ∷ std.Some We ∷ std.None ∷ std.Some Ea ∷ std.None ∷ std.Some Wero ∷ std.Some Earo ∷ std.Some Wear ∷ std.Some Eaar ∷ []
+  pub codes_of_all : map code_of (We ∷ Ea ∷ Wero ∷ Earo ∷ Wear ∷ Eaar ∷ []) ≡ 1 ∷ 3 ∷ 5 ∷ 6 ∷ 7 ∷ 8 ∷ []
+  pub known_of_256 : known_from 0 256 ≡ 1 ∷ 3 ∷ 5 ∷ 6 ∷ 7 ∷ 8 ∷ []
   pub we : code_of We ≡ 0x01
   pub earo : code_of Earo ≡ 0x06
   pub eaar : coded_type 0x08 ≡ std.Some Eaar

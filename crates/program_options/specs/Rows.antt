@@ -59,6 +59,7 @@ pub record TimesWaited : Type 0 where
   pub grace : nanos_of 10 ≡ 10_000_000_000
   pub never : timeout_nanos 0 ≡ None
   pub ten_seconds : timeout_nanos 10 ≡ Some 10_000_000_000
+  pub half_a_minute : timeout_nanos 30 ≡ Some 30_000_000_000
 
 -- those of RFC 7143, "iSCSI Names", and what is none
 pub record NamesTaken : Type 0 where
@@ -99,6 +100,8 @@ pub record SizesRead : Type 0 where
   pub no_whole_unit : volume_size_in (codes "1048577") ≡ Ok 1048577
   pub kibibytes : volume_size_in (codes "1024K") ≡ Ok 1048576
   pub small_letter : volume_size_in (codes "2g") ≡ Ok 2147483648
+  pub a_gibibyte : volume_size_in (codes "1G") ≡ Ok 1073741824
+  pub most_by_a_small_letter : volume_size_in (codes "64g") ≡ Ok 68719476736
   pub zero : volume_size_in (codes "0") ≡ Err BadVolumeSize
   pub too_small : volume_size_in (codes "1023K") ≡ Err BadVolumeSize
   pub a_byte_too_small : volume_size_in (codes "1048575") ≡ Err BadVolumeSize
@@ -115,7 +118,10 @@ pub record SizesRead : Type 0 where
   pub fraction : volume_size_in (codes "1.5M") ≡ Err BadVolumeSize
   pub blank : volume_size_in (codes "16 M") ≡ Err BadVolumeSize
   pub least_memory : memory_size_in (codes "1024K") ≡ Ok 1048576
+  pub least_memory_in_mebibytes : memory_size_in (codes "1M") ≡ Ok 1048576
+  pub memory_of_three_gibibytes : memory_size_in (codes "3g") ≡ Ok 3221225472
   pub most_memory : memory_size_in (codes "65536g") ≡ Ok 70368744177664
+  pub most_memory_in_bytes : memory_size_in (codes "70368744177664") ≡ Ok 70368744177664
   pub little_memory : memory_size_in (codes "1048575") ≡ Err BadMemorySize
   pub much_memory : memory_size_in (codes "65537G") ≡ Err BadMemorySize
   pub no_memory : memory_size_in (codes "4GB") ≡ Err BadMemorySize

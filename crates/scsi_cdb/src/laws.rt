@@ -51,6 +51,8 @@ pub fn worked_rows()
         ≡ padded (0xA5 ∷ 0 ∷ 0 ∷ 0 ∷ 4 ∷ 0 ∷ 1 ∷ 0 ∷ []) }
     ensures all_elements { encoded (ReadElementStatus false 0 0 0xFFFF false false 0x1000)
         ≡ padded (0xB8 ∷ 0 ∷ 0 ∷ 0 ∷ 0xFF ∷ 0xFF ∷ 0 ∷ 0 ∷ 0x10 ∷ 0 ∷ []) }
+    ensures all_elements_with_current_data { encoded (ReadElementStatus false 0 0 0xFFFF true false 0x1000)
+        ≡ 0xB8 ∷ 0 ∷ 0 ∷ 0 ∷ 0xFF ∷ 0xFF ∷ 2 ∷ 0 ∷ 0x10 ∷ 0 ∷ 0 ∷ 0 ∷ 0 ∷ 0 ∷ 0 ∷ 0 ∷ [] }
 {}
 
 /// Worked rows of the commands that drives alone have.

@@ -1,11 +1,11 @@
-ghost use Rattle.std.specs.Prelude.{◌≡◌, Ok, Err, None, Some, [], ◌∷◌, ◌++◌, replicate, true, false, codes};
+ghost use Rattle.std.specs.Prelude.{◌≡◌, ◌≢◌, ◌≤◌, ℕ, Ok, Err, None, Some, [], ◌∷◌, ◌++◌, replicate, true, false, codes};
 ghost use Rattle.scsi_sense.specs.Conditions.{sense_for, reports, IsConditionOf, OneConditionAtMost, ConditionsReadBack};
 ghost use Rattle.scsi_sense.specs.FixedSense.{ReadsBack, fixed_sense, decoded_sense};
-ghost use Rattle.scsi_sense.specs.SenseKeys.{IsKeyOf, OneKeyAtMost};
+ghost use Rattle.scsi_sense.specs.SenseKeys.{key_code, IsKeyOf, OneKeyAtMost};
 ghost use Rattle.scsi_sense.specs.Text.{condition_name, key_name, status_name};
 ghost use Rattle.scsi_sense.specs.declared.condition.Condition.TheVariants.{NoAdditionalSenseInformation, PowerOnOrResetOccurred, RegistrationsPreempted, InvalidReleaseOfPersistentReservation, FilemarkDetected, EndOfDataDetected, NotReadyToReadyChange, InitializingCommandRequired, NexusLossOccurred, BeginningOfMediumDetected, EndOfMediumDetected};
 ghost use Rattle.scsi_sense.specs.declared.fault.SenseFault.TheVariants.{Short, NotFixed};
-ghost use Rattle.scsi_sense.specs.declared.sense_key.SenseKey.TheVariants.{UnitAttention, VolumeOverflow};
+ghost use Rattle.scsi_sense.specs.declared.sense_key.SenseKey.TheVariants.{NoSense, NotReady, HardwareError, IllegalRequest, UnitAttention, DataProtect, BlankCheck, VolumeOverflow};
 ghost use Rattle.scsi_sense.specs.declared.status.Status.TheVariants.{CheckCondition, ReservationConflict};
 
 /// Law: what was written is read again, where the format can carry it.
@@ -52,8 +52,23 @@ pub fn worked_rows()
     ensures end_of_data_read { decoded_sense
         (0xF0 ∷ 0 ∷ 8 ∷ 0 ∷ 0 ∷ 3 ∷ 0xE8 ∷ 0x0A ∷ 0 ∷ 0 ∷ 0 ∷ 0 ∷ 0 ∷ 5 ∷ 0 ∷ 0 ∷ 0 ∷ 0 ∷ 9 ∷ [])
         ≡ Ok (record (sense_for EndOfDataDetected) { valid = true; information = 1000 }) }
+    ensures cut { decoded_sense (0x70 ∷ 0 ∷ 6 ∷ 0 ∷ 0 ∷ 0 ∷ 0 ∷ 0x0A ∷ 0 ∷ 0 ∷ 0 ∷ 0 ∷ 0x29 ∷ 0 ∷ 0 ∷ 0 ∷ 0 ∷ []) ≡ Err Short }
     ensures short_before_format { decoded_sense (0x72 ∷ replicate 16 0) ≡ Err Short }
     ensures descriptor_format { decoded_sense (0x72 ∷ replicate 17 0) ≡ Err NotFixed }
+    ensures of_another_condition { sense_for PowerOnOrResetOccurred ≢ sense_for NexusLossOccurred }
+{}
+
+/// Worked rows: the eight sense keys, and the code that each is known by. No other code is one.
+pub fn worked_keys()
+    ensures no_sense { key_code NoSense ≡ 0 }
+    ensures not_ready { key_code NotReady ≡ 2 }
+    ensures hardware_error { key_code HardwareError ≡ 4 }
+    ensures illegal_request { key_code IllegalRequest ≡ 5 }
+    ensures unit_attention { key_code UnitAttention ≡ 6 }
+    ensures data_protect { key_code DataProtect ≡ 7 }
+    ensures blank_check { key_code BlankCheck ≡ 8 }
+    ensures volume_overflow { key_code VolumeOverflow ≡ 13 }
+    ensures no_other { (code : ℕ) → 14 ≤ code → IsKeyOf code None }
 {}
 
 /// Worked rows: the words for statuses, keys and conditions, and the condition of sense data.

@@ -11,7 +11,9 @@ mod status;
 
 pub use condition::Condition;
 pub use fault::SenseFault;
-pub use laws::{condition_reads_back, key_is_unique, sense_reads_back, worked_rows, worked_words};
+pub use laws::{
+    condition_reads_back, key_is_unique, sense_reads_back, worked_keys, worked_rows, worked_words,
+};
 pub use layout::SENSE_LENGTH;
 pub use sense::Sense;
 pub use sense_key::SenseKey;

@@ -28,5 +28,5 @@ pub use part::TapePart;
 pub use part_range::PartRange;
 pub use read_fault::ReadTapeFault;
 pub use reading::{ReadTape, read_tape};
-pub use rows::worked_rows;
+pub use rows::{flush_rows, store_rows, worked_rows};
 pub use store::{ImageStore, StoreFault};

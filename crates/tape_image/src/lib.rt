@@ -26,5 +26,5 @@ pub use laws::{
 pub use layout::{LENGTH_FIELD, MAX_PART};
 pub use part::{ImagePart, parse_image};
 pub use reader::ImageReader;
-pub use rows::{cut_rows, fault_rows, image_rows, part_rows};
+pub use rows::{cut_rows, fault_rows, image_rows, part_rows, tail_rows};
 pub use writing::{write_block, write_mark};

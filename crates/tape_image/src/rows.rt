@@ -63,3 +63,18 @@ pub fn image_rows()
     ensures cut_tail { image_end 1 (Waiting 10 (3 ∷ 0 ∷ 0 ∷ 0 ∷ 0x6F ∷ [])) ≡ CutTail 10 5 }
     ensures fault { image_end 1 (Broken 10 UnknownClass) ≡ Faulty UnknownClass 1 10 }
 {}
+
+/// Worked rows: how an image ends whose third object, behind two that take 14 bytes, is cut at each place.
+pub fn tail_rows()
+    ensures at_1 { image_end 2 (Waiting 14 (take 1 odd)) ≡ CutTail 14 1 }
+    ensures at_2 { image_end 2 (Waiting 14 (take 2 odd)) ≡ CutTail 14 2 }
+    ensures at_3 { image_end 2 (Waiting 14 (take 3 odd)) ≡ CutTail 14 3 }
+    ensures at_4 { image_end 2 (Waiting 14 (take 4 odd)) ≡ CutTail 14 4 }
+    ensures at_5 { image_end 2 (Waiting 14 (take 5 odd)) ≡ CutTail 14 5 }
+    ensures at_6 { image_end 2 (Waiting 14 (take 6 odd)) ≡ CutTail 14 6 }
+    ensures at_7 { image_end 2 (Waiting 14 (take 7 odd)) ≡ CutTail 14 7 }
+    ensures at_8 { image_end 2 (Waiting 14 (take 8 odd)) ≡ CutTail 14 8 }
+    ensures at_9 { image_end 2 (Waiting 14 (take 9 odd)) ≡ CutTail 14 9 }
+    ensures at_10 { image_end 2 (Waiting 14 (take 10 odd)) ≡ CutTail 14 10 }
+    ensures at_11 { image_end 2 (Waiting 14 (take 11 odd)) ≡ CutTail 14 11 }
+{}

@@ -1,14 +1,14 @@
-use Rattle.std.specs.Prelude.{◌≡◌, ℕ, pos, negsuc, [], ◌∷◌, ◌++◌, replicate, Option, Some, None, Ok, Err, true, false}
+use Rattle.std.specs.Prelude.{◌≡◌, ℕ, ℤ, pos, negsuc, List, length, [], ◌∷◌, ◌++◌, replicate, Option, Some, None, Ok, Err, true, false}
 use Rattle.tape_medium.specs.Object.{Block, Mark}
 use Rattle.tape_medium.specs.TapeView.{TapeView}
-use Rattle.tape_medium.specs.Tape.{blank, moved_to, settled, erased, writes_block, writes_marks, object_at, item_of, bytes_of, passed}
+use Rattle.tape_medium.specs.Tape.{blank, moved_to, settled, erased, writes_block, writes_blocks, writes_marks, object_at, item_of, bytes_of, passed}
 use Rattle.tape_medium.specs.Space.{spaced}
-use Rattle.tape_medium.specs.Elements.{Elements, takes, puts, notes, moves, move_refusal}
+use Rattle.tape_medium.specs.Elements.{Elements, empty_elements, reads, takes, puts, notes, moves, move_refusal}
 use Rattle.tape_medium.specs.Volumes.{volumes}
 use Rattle.tape_medium.specs.declared.volume.Volume.{Volume}
 use Rattle.tape_medium.specs.ElementStatus.{element_status}
 use Rattle.tape_medium.specs.declared.item.Item.TheVariants as item
-use Rattle.tape_medium.specs.declared.fault.TapeFault.TheVariants.{Overflow}
+use Rattle.tape_medium.specs.declared.fault.TapeFault.TheVariants.{BlockLength, Overflow}
 use Rattle.tape_medium.specs.declared.space.Stop.{Stop}
 use Rattle.tape_medium.specs.declared.space.Stop.TheVariants.{Done, AtMark, AtEnd, AtStart}
 use Rattle.tape_medium.specs.declared.space.SpaceCode.TheVariants.{Blocks, Marks, EndOfData}
@@ -149,3 +149,31 @@ pub record VolumesOfAChanger (a b : VolumeTag) : Type 0 where
       ≡ Ok (changer None None (Some (cartridge b)) (Some (cartridge a)))
   pub noted : notes (changer (Some (cartridge b)) None None None) 0x100 (Some (record { 0 = replicate 32 0x41 }))
       ≡ Ok (changer (Some (cartridge b)) None None None)
+
+-- a volume in the first storage element of a changer with two drives
+abbrev pub of_two_drives : VolumeTag → Elements
+of_two_drives tag =
+    record { data_transfer = None ∷ None ∷ []; import_export = None ∷ None ∷ []; storage = Some (cartridge tag) ∷ None ∷ None ∷ [] }
+
+-- elements by themselves move nothing into a drive, and tell nothing of what they don't have: of an unknown type a header of zeros
+pub record ElementsOfTwoDrives (tag : VolumeTag) : Type 0 where
+  pub put_in : puts (empty_elements 2 2 3) 0x400 (cartridge tag) ≡ Ok (of_two_drives tag)
+  pub into_drive : moves (of_two_drives tag) 0x400 0x100 ≡ Err BadAddress
+  pub stays : reads (of_two_drives tag) 0x400 ≡ Ok (Some tag)
+  pub no_drive : reads (of_two_drives tag) 0x102 ≡ Err BadAddress
+  pub unknown_type : element_status (empty_elements 2 2 3) 5 0 9 true ≡ replicate 8 0
+
+-- SPACE goes back by the lowest count that there is, which no SPACE(6) has
+abbrev pub lowest : ℤ
+lowest = negsuc 2147483647
+
+-- what no host's write has: no bytes, no length, a part of a block, and blocks that are too long
+pub record TapesBySizes : Type 0 where
+  pub back_by_the_lowest : spaced Marks (block_and_mark 2) lowest ≡ (block_and_mark 0, space_end 1 AtStart)
+  pub nothing : writes_blocks (blank 200000) [] 1 ≡ Ok (blank 200000)
+  pub no_length : writes_blocks (blank 200000) (replicate 4 7) 0 ≡ Err BlockLength
+  pub nothing_of_no_length : writes_blocks (blank 200000) [] 0 ≡ Err BlockLength
+  pub part_of_a_block : writes_blocks (blank 200000) (replicate 7 7) 2 ≡ Err BlockLength
+  pub too_long_blocks : (bytes : List ℕ) → length bytes ≡ 131074 → writes_blocks (blank 200000) bytes 65537 ≡ Err BlockLength
+  pub empty_block : (tape : TapeView) → writes_block tape [] ≡ Err BlockLength
+  pub too_long_a_block : (tape : TapeView) (bytes : List ℕ) → length bytes ≡ 65537 → writes_block tape bytes ≡ Err BlockLength

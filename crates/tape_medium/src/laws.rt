@@ -1,6 +1,6 @@
 //! Worked rows that the definitions compute to, and laws of every call. Each function has an empty body: its clause is the row or the law.
 
-ghost use Rattle.tape_medium.specs.Rows.{ReadsOfOtherLength, SpacesBothWays, OverflowKeepsTape, UnchangedBeforeThePosition, ElementStatusOfOneDrive, MovesOfOneDrive, VolumesOfAChanger, StatusOfAPort};
+ghost use Rattle.tape_medium.specs.Rows.{ReadsOfOtherLength, SpacesBothWays, OverflowKeepsTape, UnchangedBeforeThePosition, ElementStatusOfOneDrive, MovesOfOneDrive, VolumesOfAChanger, StatusOfAPort, ElementsOfTwoDrives, TapesBySizes};
 ghost use Rattle.tape_medium.specs.Changes.{UnchangedStayInFront};
 ghost use Rattle.tape_medium.specs.Volumes.{TakesOne, AddsOne, KeepsAll, NotesMoveNothing};
 ghost use Rattle.tape_medium.specs.declared.volume.VolumeTag.{VolumeTag};
@@ -32,6 +32,12 @@ pub fn element_status()
     ensures status { ElementStatusOfOneDrive }
     ensures moves { (tag : VolumeTag) → MovesOfOneDrive tag }
     ensures port { (tag : VolumeTag) → StatusOfAPort tag }
+{}
+
+/// Elements where no host asks, and tapes by counts and sizes that no host sends.
+pub fn asked_by_no_host()
+    ensures elements { (tag : VolumeTag) → ElementsOfTwoDrives tag }
+    ensures tapes { TapesBySizes }
 {}
 
 /// Law: no volume is lost and none comes from nowhere. Taking out takes just one out of a changer's elements, putting in adds just one, a

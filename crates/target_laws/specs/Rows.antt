@@ -257,6 +257,7 @@ pub record UnitsOfATarget : Type 0 where
   pub no_drive : fault_of (changer_of 0 1 ∷ []) ≡ Some Count
   pub five_drives : fault_of (changer_with 5 0 6 ∷ drive_of 1 6 ∷ drive_of 2 6 ∷ drive_of 3 6 ∷ drive_of 4 6 ∷ drive_of 5 6 ∷ []) ≡ Some Count
   pub two_changers : fault_of (changer_of 0 2 ∷ changer_of 1 2 ∷ []) ≡ Some Order
+  pub no_changer : fault_of (drive_of 1 2 ∷ drive_of 1 2 ∷ []) ≡ Some Order
   pub drive_first : fault_of (drive_of 0 2 ∷ changer_of 1 2 ∷ []) ≡ Some Order
   pub no_unit_2 : fault_of (changer_with 2 0 3 ∷ drive_of 1 3 ∷ drive_of 3 3 ∷ []) ≡ Some Order
   pub from_1 : fault_of (changer_of 1 2 ∷ drive_of 2 2 ∷ []) ≡ Some Order

@@ -5,3 +5,4 @@ pub mod AttentionRows
 pub mod TrailRows
 pub mod MoveRows
 pub mod AuditRows
+pub mod NumberRows

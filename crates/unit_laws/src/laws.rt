@@ -53,6 +53,7 @@ pub fn moves_keep_units()
 {}
 
 ghost use Rattle.tape_medium.specs.declared.volume.VolumeTag.{VolumeTag};
+ghost use Rattle.unit_laws.specs.NumberRows.{NumbersRunOut};
 ghost use Rattle.unit_laws.specs.Rows.{AtTheCheck, Unloading, Sensing, FirstContact, Preventing, RefusedMedia, RefusedAsDue, IllegalRecords, LegalRecords};
 
 /// A command that the reservation check allows, one that it denies, and one that breaks a rule on keys.
@@ -102,6 +103,7 @@ pub fn preventions_end()
 pub fn refused_media()
     ensures faults { (tag : VolumeTag) → RefusedMedia tag }
     ensures due { (tag : VolumeTag) → RefusedAsDue tag }
+    ensures ends { (tag : VolumeTag) → NumbersRunOut tag }
 {}
 
 /// Records that stand in a legal trail, and records that don't.

@@ -1,33 +1,19 @@
 use tape_flush::{ImageStore, StoreFault};
 
-/// A file in memory of which one call fails, counted from 1, and changes nothing.
+/// A file in memory of which the next call that brings it to the disk fails.
 #[derive(Drop)]
 pub(crate) struct FailingStore {
     pub(crate) bytes: Vec<u8>,
-    pub(crate) calls: u32,
-    pub(crate) fails_at: u32,
-}
-
-impl FailingStore {
-    fn counts(&mut self) -> Result<(), StoreFault> {
-        self.calls = self.calls.saturating_add(1);
-        if self.calls == self.fails_at {
-            Err(StoreFault::Failed)
-        } else {
-            Ok(())
-        }
-    }
+    pub(crate) fails: bool,
 }
 
 impl ImageStore for FailingStore {
     fn truncate(&mut self, length: u64) -> Result<(), StoreFault> {
-        self.counts()?;
         self.bytes.truncate(length as usize);
         Ok(())
     }
 
     fn append(&mut self, bytes: &[u8]) -> Result<(), StoreFault> {
-        self.counts()?;
         match self.bytes.extend_from_slice(bytes) {
             Ok(()) => Ok(()),
             Err(_) => Err(StoreFault::Full),
@@ -35,6 +21,11 @@ impl ImageStore for FailingStore {
     }
 
     fn sync(&mut self) -> Result<(), StoreFault> {
-        self.counts()
+        if self.fails {
+            self.fails = false;
+            Err(StoreFault::Failed)
+        } else {
+            Ok(())
+        }
     }
 }

@@ -1,5 +1,5 @@
-//! A drive's volume that is kept in an image: what is copied when, also while a host writes on, and by which commands it is brought to the
-//! disk.
+//! A drive's volume that is kept in an image, and that a host writes on while a part of it is copied. When an image is brought to the disk,
+//! files of a folder show.
 
 ghost use Rattle.device_server.specs.Attending.{WasAsked};
 ghost use Rattle.device_server.specs.Settled.{SameButSettled};
@@ -10,7 +10,7 @@ use kept_media::{InventoryStore, MediaKeeper, VolumeImage};
 use library_device::Device;
 use library_inventory::{Inventory, LibrarySize};
 use scsi_cdb::Request;
-use std::alloc::{AllocError, Global};
+use std::alloc::Global;
 use std::process::Abort;
 use std::sync::{Mutex, Wait};
 use tape_flush::{ImageStore, KeptImage, StoreFault, open_image};
@@ -28,66 +28,58 @@ const SIZE: LibrarySize = LibrarySize {
     portals: 0,
 };
 
-const WRITE: &[u8] = &[0x0a, 0, 0, 0, 2, 0];
+/// A WRITE of "hi" that was GOOD.
+const WRITE: GoodCommand<'static> = GoodCommand {
+    lun: 1,
+    cdb: &[0x0a, 0, 0, 0, 2, 0],
+    length: 2,
+};
 
-const WRITE_FILEMARKS: &[u8] = &[0x10, 0, 0, 0, 1, 0];
+/// The same as it comes to the drive, and a WRITE FILEMARKS of one.
+const WRITE_HI: Request = Request::Write {
+    fixed: false,
+    transfer_length: 2,
+};
 
-const REWIND: &[u8] = &[0x01, 0, 0, 0, 0, 0];
+const WRITE_MARK: Request = Request::WriteFilemarks {
+    write_setmarks: false,
+    filemark_count: 1,
+};
 
 /// The image of "hi", and of "hi" and a filemark.
 const BLOCK: &[u8] = &[2, 0, 0, 0, b'h', b'i', 2, 0, 0, 0];
 
 const BLOCK_AND_MARK: &[u8] = &[2, 0, 0, 0, b'h', b'i', 2, 0, 0, 0, 0, 0, 0, 0];
 
-/// A file that others look at, too.
-#[derive(Drop)]
-struct SharedFile {
-    bytes: Vec<u8>,
-    /// How many bytes were brought to the disk.
-    synced: usize,
-    /// Whether a host writes a filemark on the volume before the next part goes into the file: that would wait for ever if the drive
-    /// were held meanwhile.
-    is_written_on: bool,
-}
-
-/// The file of the volume in a drive.
+/// The file of the volume in a drive. Nothing of it is written over here, so that it is never cut back.
 #[derive(Drop)]
 struct SharedStore<'a, R: Wait> {
     rt: &'a R,
     alloc: Global,
     bay: &'a Bay,
-    file: &'a Mutex<SharedFile>,
-}
-
-impl<'a, R: Wait> SharedStore<'a, R> {
-    fn is_written_on(&self) -> bool {
-        let mut file = self.file.lock(self.rt);
-        let is_written_on = file.is_written_on;
-        file.is_written_on = false;
-        is_written_on
-    }
+    file: &'a Mutex<Vec<u8>>,
+    /// Whether a host writes a filemark on the volume before the next part goes into the file: that would wait for ever if the drive
+    /// were held meanwhile.
+    is_written_on: bool,
 }
 
 impl<'a, R: Wait> ImageStore for SharedStore<'a, R> {
-    fn truncate(&mut self, length: u64) -> Result<(), StoreFault> {
-        self.file.lock(self.rt).bytes.truncate(length as usize);
+    fn truncate(&mut self, _length: u64) -> Result<(), StoreFault> {
         Ok(())
     }
 
     fn append(&mut self, bytes: &[u8]) -> Result<(), StoreFault> {
-        if self.is_written_on() {
-            let _ = self.bay.write_mark(self.rt, self.alloc);
+        if self.is_written_on {
+            self.is_written_on = false;
+            let _is_done = self.bay.performs(self.rt, self.alloc, &WRITE_MARK, &[]);
         }
-        let mut file = self.file.lock(self.rt);
-        match file.bytes.extend_from_slice(bytes) {
+        match self.file.lock(self.rt).extend_from_slice(bytes) {
             Ok(()) => Ok(()),
             Err(_) => Err(StoreFault::Full),
         }
     }
 
     fn sync(&mut self) -> Result<(), StoreFault> {
-        let mut file = self.file.lock(self.rt);
-        file.synced = file.bytes.len();
         Ok(())
     }
 }
@@ -109,35 +101,10 @@ struct Bay {
 }
 
 impl Bay {
-    /// The drive performs a request.
-    fn perform<R: Wait>(
-        &self,
-        rt: &R,
-        alloc: Global,
-        request: &Request,
-        bytes: &[u8],
-    ) -> Result<(), AllocError> {
+    /// The drive performs a request, where it finds memory.
+    fn performs<R: Wait>(&self, rt: &R, alloc: Global, request: &Request, bytes: &[u8]) -> bool {
         let mut device = self.device.lock(rt);
-        let _outcome = device.perform(alloc, request, bytes)?;
-        Ok(())
-    }
-
-    /// Writes "hi".
-    fn write<R: Wait>(&self, rt: &R, alloc: Global) -> Result<(), AllocError> {
-        let request = Request::Write {
-            fixed: false,
-            transfer_length: 2,
-        };
-        self.perform(rt, alloc, &request, b"hi")
-    }
-
-    /// Writes a filemark.
-    fn write_mark<R: Wait>(&self, rt: &R, alloc: Global) -> Result<(), AllocError> {
-        let request = Request::WriteFilemarks {
-            write_setmarks: false,
-            filemark_count: 1,
-        };
-        self.perform(rt, alloc, &request, &[])
+        device.perform(alloc, request, bytes).is_ok()
     }
 }
 
@@ -179,35 +146,20 @@ fn drive_with_volume(alloc: Global) -> Bay {
     }
 }
 
+type Keeper<'a, R> = MediaKeeper<SharedStore<'a, R>, NoStore>;
+
 /// The keeper of the volume, whose file is empty.
 fn keeper<'a, R: Abort + Wait>(
     rt: &'a R,
     alloc: Global,
-    bay: &'a Bay,
-    file: &'a Mutex<SharedFile>,
-) -> MediaKeeper<SharedStore<'a, R>, NoStore> {
+    store: SharedStore<'a, R>,
+) -> Keeper<'a, R> {
     let mut nothing: &[u8] = &[];
     let index = index_image(alloc, &mut nothing).expect(rt, "an index");
-    let store = SharedStore {
-        rt,
-        alloc,
-        bay,
-        file,
-    };
     let opened = open_image(alloc, store, &index).expect(rt, "an image");
-    let mut images = Vec::new(alloc);
-    images
-        .push(VolumeImage::new(TAG, KeptImage::new(opened.image)))
-        .expect(rt, "memory");
+    let image = VolumeImage::new(TAG, KeptImage::new(opened.image));
+    let images = Vec::from_array(alloc, [image]).expect(rt, "memory");
     MediaKeeper::new(SIZE, images, NoStore)
-}
-
-fn empty_file(alloc: Global) -> Mutex<SharedFile> {
-    Mutex::new(SharedFile {
-        bytes: Vec::new(alloc),
-        synced: 0,
-        is_written_on: false,
-    })
 }
 
 /// What is done, with the drive or its keeper.
@@ -215,118 +167,68 @@ fn empty_file(alloc: Global) -> Mutex<SharedFile> {
 enum Act {
     /// "hi" is written.
     Write,
-    /// What a command left is kept that was GOOD: a WRITE of "hi", a WRITE FILEMARKS or a REWIND.
-    KeepWrite,
-    KeepMark,
-    KeepRewind,
+    /// What that left is kept.
+    Keep,
+    /// What is behind is copied.
     WriteBehind,
-    /// The same, and a host writes a filemark while the next part is written.
-    WriteBehindWrittenOn,
 }
 
-/// A drive whose volume is kept in a file.
-#[derive(Drop)]
-struct Scene<'a, R: Wait> {
-    rt: &'a R,
-    alloc: Global,
-    file: &'a Mutex<SharedFile>,
-    bay: &'a Bay,
-    keeper: MediaKeeper<SharedStore<'a, R>, NoStore>,
-}
+/// What is shown, what is done, and what the file has then.
+type Row = (&'static str, Act, &'static [u8]);
 
-impl<'a, R: Abort + Wait> Scene<'a, R> {
-    fn keep(&self, cdb: &[u8], length: usize) -> bool {
-        let command = GoodCommand {
-            lun: 1,
-            cdb,
-            length,
-        };
-        self.keeper
-            .keep(self.rt, self.alloc, self.bay, &NoListener, command)
-    }
-
-    fn write_behind(&self, is_written_on: bool) -> bool {
-        self.file.lock(self.rt).is_written_on = is_written_on;
-        self.keeper
-            .write_behind(self.rt, self.alloc, self.bay, &NoListener, 1);
-        true
-    }
-
-    /// Does what is to be done, and says whether it was kept, where that is asked.
-    fn act(&self, act: Act) -> bool {
-        match act {
-            Act::Write => self.bay.write(self.rt, self.alloc).is_ok(),
-            Act::KeepWrite => self.keep(WRITE, 2),
-            Act::KeepMark => self.keep(WRITE_FILEMARKS, 0),
-            Act::KeepRewind => self.keep(REWIND, 0),
-            Act::WriteBehind => self.write_behind(false),
-            Act::WriteBehindWrittenOn => self.write_behind(true),
-        }
-    }
-
-    /// What the file has, and how many bytes of it are on the disk.
-    fn go_on(&self, rt: &impl Abort, row: Row) {
-        let (shows, act, bytes, synced) = row;
-        assert_same(rt, self.act(act), true, shows);
-        let file = self.file.lock(self.rt);
-        assert_list(rt, &file.bytes, bytes, shows);
-        assert_same(rt, file.synced, synced, shows);
-    }
-}
-
-/// What is shown, what is done, what the file has then, and how many bytes of it are on the disk.
-type Row = (&'static str, Act, &'static [u8], usize);
-
-const ROWS: [Row; 8] = [
-    ("a block is written", Act::Write, &[], 0),
-    ("it isn't copied at once", Act::KeepWrite, &[], 0),
+const ROWS: [Row; 5] = [
+    ("a block is written", Act::Write, &[]),
+    ("it isn't copied at once", Act::Keep, &[]),
     (
         "a host writes on while a part is written: what there was when the copy began",
-        Act::WriteBehindWrittenOn,
+        Act::WriteBehind,
         BLOCK,
-        0,
     ),
     (
         "what came meanwhile is not copied at once",
-        Act::KeepWrite,
+        Act::Keep,
         BLOCK,
-        0,
     ),
     (
         "the filemark that came meanwhile is copied next",
         Act::WriteBehind,
         BLOCK_AND_MARK,
-        0,
     ),
-    (
-        "a REWIND brings nothing to the disk",
-        Act::KeepRewind,
-        BLOCK_AND_MARK,
-        0,
-    ),
-    (
-        "a filemark is on the disk before it is answered",
-        Act::KeepMark,
-        BLOCK_AND_MARK,
-        14,
-    ),
-    ("nothing is behind", Act::WriteBehind, BLOCK_AND_MARK, 14),
 ];
+
+/// Does what is to be done, and says whether it was.
+fn is_done<R: Wait>(rt: &R, alloc: Global, bay: &Bay, keeper: &Keeper<'_, R>, act: Act) -> bool {
+    match act {
+        Act::Write => bay.performs(rt, alloc, &WRITE_HI, b"hi"),
+        Act::Keep => keeper.keep(rt, alloc, bay, &NoListener, WRITE),
+        Act::WriteBehind => {
+            keeper.write_behind(rt, alloc, bay, &NoListener, 1);
+            true
+        }
+    }
+}
+
+fn assert_row<R: Abort + Wait>(rt: &R, file: &Mutex<Vec<u8>>, is_done: bool, row: &Row) {
+    let (shows, _, bytes) = *row;
+    assert_same(rt, is_done, true, shows);
+    assert_list(rt, &file.lock(rt), bytes, shows);
+}
 
 /// A drive with an empty volume, which is kept in an empty file, goes through all rows.
 #[test]
 fn volumes_in_a_drive_are_kept_as_rows_say(rt: HostRuntime) {
     let alloc = rt.alloc();
-    let file = empty_file(alloc);
+    let file = Mutex::new(Vec::new(alloc));
     let bay = drive_with_volume(alloc);
-    let scene = Scene {
+    let store = SharedStore {
         rt: &rt,
         alloc,
-        file: &file,
         bay: &bay,
-        keeper: keeper(&rt, alloc, &bay, &file),
+        file: &file,
+        is_written_on: true,
     };
+    let keeper = keeper(&rt, alloc, store);
     for row in &ROWS {
-        scene.go_on(&rt, *row);
+        assert_row(&rt, &file, is_done(&rt, alloc, &bay, &keeper, row.1), row);
     }
 }

@@ -57,11 +57,3 @@ fn replays_read_as_often_as_rows_say(rt: HostRuntime) {
         assert_same(&rt, (status_of(ended), found), (status, reads), shows);
     }
 }
-
-#[test]
-fn a_replay_without_memory_is_told(rt: HostRuntime) {
-    let text = ReplayFault::NoMemory.to_string(rt.alloc());
-    let shown = text.expect(&rt, "a text");
-    assert_same(&rt, shown.as_str(), "vtl: want of memory", "no memory");
-    assert_same(&rt, ReplayFault::NoMemory.status(), 3, "its status");
-}

@@ -1,6 +1,5 @@
 //! An open library as scenes see it: by what comes back alone. The contracts of its calls, which no row needs, stay behind the trait.
 
-use super::attending::Looks;
 use super::gates::TestGate;
 use kept_unit::{Done, EventKind, NumberRange, UnitLedger};
 use library_closing::{ClosingFault, close_and_write};
@@ -29,9 +28,6 @@ pub(super) trait Opened: Sized + Drop {
         lun: u8,
         event: EventKind<'static>,
     ) -> Done<'static>;
-
-    /// Lets an attendant at a unit: whether there is such a unit.
-    fn attend<R: Wait>(&self, rt: &R, lun: u8, looks: &mut Looks) -> bool;
 
     /// How many records a unit hands out, if it is there.
     fn drained<R: Wait>(&self, rt: &R, alloc: Global, lun: u8) -> Option<usize>;
@@ -81,12 +77,11 @@ impl<'a, L0: UnitLedger, L1: UnitLedger, L2: UnitLedger, L3: UnitLedger, L4: Uni
         }
     }
 
-    fn attend<R: Wait>(&self, rt: &R, lun: u8, looks: &mut Looks) -> bool {
-        Library::attend(self, rt, lun, looks)
-    }
-
     fn drained<R: Wait>(&self, rt: &R, alloc: Global, lun: u8) -> Option<usize> {
-        Some(self.drain(rt, alloc, lun)?.len())
+        match self.drain(rt, alloc, lun) {
+            Some(records) => Some(records.len()),
+            None => None,
+        }
     }
 
     fn close(

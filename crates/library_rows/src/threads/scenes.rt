@@ -1,15 +1,13 @@
 //! Scenes, with what they must be answered and what they must leave.
 
 use super::asking::{A, Ask, B, DONE, NO_MEDIUM, NO_UNIT, POWER_ON, Row};
-use super::attending::{Asked, NOTHING};
 use super::playing::{Closing, Plan};
-use super::settling::{NONE, Settled};
+use super::settling::{NO_UNIT_THERE, NONE, Settled};
 
 /// A scene in which nothing is done, which leaves no record.
 const QUIET: Plan = Plan {
     shows: "",
     acts: &[],
-    sights: &[],
     holds: false,
     closing: Closing::AtOnce,
     records: (0, 0, 0),
@@ -41,34 +39,38 @@ const A_TWICE_AND_NO_RECORD: [Row; 3] = [
 
 const FOUR_SETTLED: [Settled; 2] = [
     (
-        None,
+        NO_UNIT_THERE,
         [0; 5],
         4,
-        [(1, NONE), (2, NONE)],
+        (1, NONE),
+        (2, NONE),
         "nothing was drained",
     ),
     (
-        Some(1),
+        1,
         [0, 4, 0, 0, 0],
         0,
-        [(1, (2, (1, 1), (3, 4))), (2, NONE)],
+        (1, (2, (1, 1), (3, 4))),
+        (2, NONE),
         "A's, and of no other unit",
     ),
 ];
 
 const OF_B: [Settled; 1] = [(
-    None,
+    NO_UNIT_THERE,
     [0, 4, 0, 0, 0],
     0,
-    [(1, (1, (2, 2), (0, 0))), (2, NONE)],
+    (1, (1, (2, 2), (0, 0))),
+    (2, NONE),
     "B's",
 )];
 
 const ONE_JOINED: [Settled; 1] = [(
-    None,
+    NO_UNIT_THERE,
     [0, 5, 0, 0, 0],
     1,
-    [(1, (2, (1, 1), (3, 5))), (2, NONE)],
+    (1, (2, (1, 1), (3, 5))),
+    (2, NONE),
     "one is joined, and record 6 isn't drained",
 )];
 
@@ -80,34 +82,21 @@ const A_MOVES: [Row; 2] = [
 
 const MOVES_SETTLED: [Settled; 2] = [
     (
-        Some(0),
+        0,
         [2, 0, 0, 0, 0],
         1,
-        [(0, (1, (1, 1), (0, 0))), (1, NONE)],
+        (0, (1, (1, 1), (0, 0))),
+        (1, NONE),
         "before the move: the drive isn't drained",
     ),
     (
-        Some(1),
+        1,
         [2, 1, 0, 0, 0],
         0,
-        [(0, (1, (1, 2), (0, 0))), (1, (1, (1, 1), (0, 0)))],
+        (0, (1, (1, 2), (0, 0))),
+        (1, (1, (1, 1), (0, 0))),
         "of the changer and of the drive: both are drained",
     ),
-];
-
-const ASKED: [Asked; 6] = [
-    (0, true, "a changer", 1, "the changer"),
-    (
-        1,
-        true,
-        "a drive with a volume",
-        1,
-        "the drive with a volume",
-    ),
-    (2, true, "an empty drive", 1, "the drive without one"),
-    (3, false, NOTHING, 0, "no third drive"),
-    (4, false, NOTHING, 0, "no fourth drive"),
-    (9, false, NOTHING, 0, "no unit"),
 ];
 
 /// A command at each drive, of which one is held at its gate.
@@ -150,11 +139,10 @@ const SETTLING: Plan = Plan {
     ..QUIET
 };
 
-/// A move is settled once both its units are drained, and then an attendant is let at each unit, of which one drive has a volume.
+/// A move is settled once both its units are drained.
 const SETTLED_MOVES: Plan = Plan {
-    shows: "settle of a move waits for the drain of both units, and attend asks the attendant once at each unit",
+    shows: "settle of a move waits for the drain of both units",
     acts: &[(0, &A_MOVES, &MOVES_SETTLED)],
-    sights: &ASKED,
     ..QUIET
 };
 

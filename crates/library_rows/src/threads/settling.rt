@@ -15,7 +15,17 @@ pub(super) const NONE: Ranges = (0, (0, 0), (0, 0));
 
 /// Which unit is drained before, how many entries a seat has once it was told up to which numbers the units were drained,
 /// its ranges at two units, and what that shows.
-pub(super) type Settled = (Option<u8>, [u64; 5], usize, [(u8, Ranges); 2], &'static str);
+pub(super) type Settled = (
+    u8,
+    [u64; 5],
+    usize,
+    (u8, Ranges),
+    (u8, Ranges),
+    &'static str,
+);
+
+/// No unit, of which nothing is drained.
+pub(super) const NO_UNIT_THERE: u8 = 9;
 
 fn ends_at(ranges: &[NumberRange], place: usize) -> (u64, u64) {
     match ranges.get(place) {
@@ -28,6 +38,16 @@ fn shown_of(ranges: &[NumberRange]) -> Ranges {
     (ranges.len(), ends_at(ranges, 0), ends_at(ranges, 1))
 }
 
+fn assert_ranges<T: Opened, R: Abort>(
+    rt: &R,
+    seat: &T::Seat,
+    (lun, expected): (u8, Ranges),
+    shows: &'static str,
+) {
+    let found = shown_of(T::settled(seat, lun));
+    assert_same(rt, found, expected, shows);
+}
+
 /// Settles a seat, and compares what it has.
 pub(super) fn assert_settled<T: Opened, R: Abort + Wait>(
     rt: &R,
@@ -36,14 +56,10 @@ pub(super) fn assert_settled<T: Opened, R: Abort + Wait>(
     seat: &mut T::Seat,
     row: &Settled,
 ) {
-    let (drains, drained, entries, ranges, shows) = row;
-    if let Some(lun) = *drains {
-        let _handed_out = library.drained(rt, alloc, lun);
-    }
-    T::settle(seat, drained).expect(rt, "memory");
-    assert_same(rt, T::entries(seat), *entries, shows);
-    for (lun, expected) in ranges {
-        let found = shown_of(T::settled(seat, *lun));
-        assert_same(rt, found, *expected, shows);
-    }
+    let (drains, drained, entries, first, second, shows) = *row;
+    let _handed_out = library.drained(rt, alloc, drains);
+    let is_settled = T::settle(seat, &drained).is_ok();
+    assert_same(rt, (is_settled, T::entries(seat)), (true, entries), shows);
+    assert_ranges::<T, R>(rt, seat, first, shows);
+    assert_ranges::<T, R>(rt, seat, second, shows);
 }

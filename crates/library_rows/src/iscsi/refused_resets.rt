@@ -1,12 +1,11 @@
 //! Resets that units refuse, where a write waits for its data: unit 0 is absent, and unit 1 has no room.
 use super::assert_same;
 use crate::socket_sessions::Empty;
-use iscsi_login::{Access, Authentication, Host, LoginTarget};
+use iscsi_login::{Access, Authentication, LoginTarget};
 use iscsi_session::{Portal, SessionIdentity, SessionRegister, serve};
 use scsi_nexus::Nexus;
 use std::alloc::Global;
 use std::process::Abort;
-use std::test::Fail;
 
 /// No other session lives, none is to end, and none has reset a unit.
 #[derive(Drop)]
@@ -88,41 +87,36 @@ const ROWS: [Row; 3] = [
     ),
 ];
 
-/// The target `iqn.t`, which lets in the host `iqn.a`.
-fn target(alloc: Global) -> Result<LoginTarget, Fail> {
-    let host = Host {
-        name: Vec::from_slice(alloc, b"iqn.a")?,
-        sas: 0x5000_0000_0000_000A,
-    };
-    Ok(LoginTarget {
-        name: Vec::from_slice(alloc, b"iqn.t")?,
-        access: Access {
-            hosts: Vec::from_array(alloc, [host])?,
-            any_host: false,
-        },
-        authentication: Authentication::None,
-    })
-}
-
 /// What an initiator sends: a login, a write, the function of a row, and the data of the write.
-fn sent_by(alloc: Global, row: &Row) -> Result<Vec<u8>, Fail> {
+fn sent_by(rt: &impl Abort, alloc: Global, row: &Row) -> Vec<u8> {
     let mut function = FUNCTION;
     function[1] = row.1;
     function[9] = row.2;
-    Ok([LOGIN, WRITE, function.as_slice(), DATA].concat(alloc)?)
+    let parts = [LOGIN, WRITE, function.as_slice(), DATA];
+    parts.concat(alloc).expect(rt, "memory")
 }
 
-/// What is told, and how often the nexus is lost.
-fn served(alloc: Global, sent: &[u8]) -> Result<(Vec<u8>, u64), Fail> {
-    let target = target(alloc)?;
+/// The target `iqn.t`, which lets in every host.
+fn target(rt: &impl Abort, alloc: Global) -> LoginTarget {
+    LoginTarget {
+        name: Vec::from_slice(alloc, b"iqn.t").expect(rt, "memory"),
+        access: Access {
+            hosts: Vec::new(alloc),
+            any_host: true,
+        },
+        authentication: Authentication::None,
+    }
+}
+
+/// How often the nexus is lost, with what is told.
+fn served(alloc: Global, target: &LoginTarget, sent: &[u8], told: &mut Vec<u8>) -> u64 {
     let portal = Portal {
-        target: &target,
+        target,
         group: 1,
         address: "10.0.0.1:3260",
         portals: &[],
     };
     let mut service = Empty { losses: 0 };
-    let mut told = Vec::new(alloc);
     let mut reader = sent;
     let _ = serve(
         alloc,
@@ -132,25 +126,24 @@ fn served(alloc: Global, sent: &[u8]) -> Result<(Vec<u8>, u64), Fail> {
         None,
         7,
         &mut reader,
-        &mut told,
+        told,
         999,
     );
-    Ok((told, service.losses))
+    service.losses
 }
 
-fn assert_row(rt: &impl Abort, alloc: Global, row: &Row) -> Result<(), Fail> {
-    let sent = sent_by(alloc, row)?;
-    let (told, losses) = served(alloc, sent.as_slice())?;
-    let result = told.as_slice().get(RESULT).copied();
-    let found = (result, told.len(), losses);
+fn assert_row(rt: &impl Abort, alloc: Global, target: &LoginTarget, row: &Row) {
+    let sent = sent_by(rt, alloc, row);
+    let mut told = Vec::new(alloc);
+    let losses = served(alloc, target, &sent, &mut told);
+    let found = (told.get(RESULT).copied(), told.len(), losses);
     assert_same(rt, found, (Some(row.3), row.4, 2), row.0);
-    Ok(())
 }
 
 #[test]
-fn resets_are_refused_as_rows_say(rt: HostRuntime) -> Result<(), Fail> {
+fn resets_are_refused_as_rows_say(rt: HostRuntime) {
+    let target = target(&rt, rt.alloc());
     for row in &ROWS {
-        assert_row(&rt, rt.alloc(), row)?;
+        assert_row(&rt, rt.alloc(), &target, row);
     }
-    Ok(())
 }

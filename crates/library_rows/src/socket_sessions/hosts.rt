@@ -1,13 +1,12 @@
-//! What no socket does to a host's session, and a fault that no run of the program comes to.
+//! What no socket does to a host's session.
 
 use super::assert_same;
-use super::streams::{Failing, Trickle};
+use super::streams::Sink;
+use crate::trickle::Trickle;
 use client_session::{ClientSessionFault, converse};
 use output_lines::Explanations;
 use scsi_nexus::Nexus;
 use std::alloc::Global;
-use std::io::{Read, Write};
-use std::process::Abort;
 
 const A: Nexus = Nexus {
     sas: 0x5000_0000_0000_000A,
@@ -25,23 +24,30 @@ const REPLIES: &[u8] = b"\0\0\0\x02\x81\0\
 
 const LINES: &[u8] = b"02 700006000000000a00000000290000000000 -\n00 - -\n";
 
-/// How a session of A by the script ends.
-fn conversed<R: Read, W: Write>(
+/// How a session of A by the script ends, with the replies byte by byte and so many reads at most, where each write fails or none.
+fn conversed(
     alloc: Global,
-    reader: &mut R,
-    writer: &mut W,
+    fails: bool,
     out: &mut Vec<u8>,
     turns: u64,
 ) -> Option<ClientSessionFault> {
     let script = SCRIPT.as_bytes();
+    let mut reader = Trickle {
+        bytes: REPLIES,
+        reads: 0,
+        fails_at: 0,
+        is_interrupted: false,
+    };
+    let mut writer = Sink { fails };
+    let words = Explanations::Off;
     converse(
         alloc,
-        reader,
-        writer,
+        &mut reader,
+        &mut writer,
         A,
         script,
         out,
-        Explanations::Off,
+        words,
         turns,
     )
     .err()
@@ -50,27 +56,9 @@ fn conversed<R: Read, W: Write>(
 #[test]
 fn converse_ends_by_one_read_too_few_and_by_its_first_write(rt: HostRuntime) {
     let mut out = Vec::new(rt.alloc());
-    let mut sent = Vec::new(rt.alloc());
-    let mut reader = Trickle::new(REPLIES);
-    let ended = conversed(rt.alloc(), &mut reader, &mut sent, &mut out, 58);
-    let found = (ended, out.as_slice());
+    let ended = conversed(rt.alloc(), false, &mut out, 58);
     let expected = (Some(ClientSessionFault::Read), LINES);
-    assert_same(&rt, found, expected, "one read too few");
-    let mut at_once = REPLIES;
-    let ended = conversed(rt.alloc(), &mut at_once, &mut Failing, &mut out, 99);
+    assert_same(&rt, (ended, out.as_slice()), expected, "one read too few");
+    let ended = conversed(rt.alloc(), true, &mut out, 99);
     assert_same(&rt, ended, Some(ClientSessionFault::Write), "a write fails");
-}
-
-fn assert_told(rt: &impl Abort, alloc: Global, fault: ClientSessionFault) {
-    match format!(in alloc; "{fault}") {
-        Ok(told) => assert_same(rt, told.as_str(), "vtl: want of memory", "the fault"),
-        Err(_) => assert_same(rt, "no text", "", "the fault"),
-    }
-}
-
-#[test]
-fn want_of_memory_has_its_line_and_status(rt: HostRuntime) {
-    let fault = ClientSessionFault::NoMemory;
-    assert_same(&rt, fault.status(), 3, "want of memory");
-    assert_told(&rt, rt.alloc(), fault);
 }
