@@ -26,7 +26,7 @@ pub struct Access {
 }
 
 /// As whom an initiator is let in.
-#[derive(Clone, Copy, Debug, PartialEq, Eq)]
+#[derive(Clone, Copy)]
 pub enum Admission {
     /// As the host of this SAS address.
     Listed(u64),

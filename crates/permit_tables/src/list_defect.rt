@@ -1,7 +1,7 @@
 use thiserror::Error;
 
 /// What is wrong with a parameter list of the right length, in the order of the tests.
-#[derive(Clone, Copy, Debug, Drop, PartialEq, Eq, Error)]
+#[derive(Clone, Copy, Debug, Drop, Error)]
 pub enum ListDefect {
     /// APTPL is set, or SPEC_I_PT with REGISTER AND IGNORE EXISTING KEY, neither of which is
     /// supported, or the TransportIDs that SPEC_I_PT names aren't whole or are above 256 (profile).

@@ -6,7 +6,7 @@ use scsi_nexus::Nexus;
 
 /// A PERSISTENT RESERVE OUT command with its parameter list (SPC-4, "PERSISTENT RESERVE OUT
 /// command").
-#[derive(Clone, Drop, PartialEq, Eq)]
+#[derive(Clone, Drop)]
 pub struct OutParams {
     /// The RESERVATION KEY, 0 for none.
     pub rk: u64,

@@ -2,7 +2,7 @@ use std::fmt;
 use thiserror::Error;
 
 /// Why options that are each within their range mean nothing, and what to say in their place.
-#[derive(Clone, Copy, Debug, PartialEq, Eq, Error)]
+#[derive(Clone, Copy, Debug, Error)]
 pub enum OptionFault {
     /// There are more volumes than storage elements.
     MoreVolumes,

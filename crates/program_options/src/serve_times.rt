@@ -6,7 +6,7 @@ ghost use Rattle.program_options.specs.ServeTimes.{nanos_of, timeout_nanos};
 use std::time::Duration;
 
 /// How long a served library waits for its hosts (profile).
-#[derive(Clone, Copy, Debug, PartialEq, Eq)]
+#[derive(Clone, Copy)]
 pub struct ServeTimes {
     /// How long sessions go on once no more connections are accepted.
     pub grace: Duration,

@@ -6,7 +6,7 @@ use byteorder::{BigEndian, ByteOrder};
 use thiserror::Error;
 
 /// Why bytes are no TransportID of a SAS initiator port, in the order of the tests.
-#[derive(Clone, Copy, Debug, Drop, PartialEq, Eq, Error)]
+#[derive(Clone, Copy, Debug, Drop, Error)]
 pub enum TransportIdFault {
     /// They are not exactly one TransportID of 24 bytes.
     #[error("not 24 bytes long")]

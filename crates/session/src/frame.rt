@@ -6,7 +6,7 @@ use scsi_nexus::Nexus;
 use std::alloc::{AllocError, Global};
 
 /// What a client sends, with bytes of its own.
-#[derive(Debug, Drop)]
+#[derive(Drop)]
 pub enum Frame {
     /// The session's nexus.
     Login {

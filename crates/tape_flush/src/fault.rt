@@ -4,7 +4,7 @@ use tape_image::ImageFault;
 use thiserror::Error;
 
 /// Why an image isn't that of the tape.
-#[derive(Clone, Copy, Debug, PartialEq, Eq, Error)]
+#[derive(Clone, Copy, Debug, Error)]
 pub enum FlushFault {
     #[error("want of memory")]
     NoMemory,

@@ -1,7 +1,7 @@
 use crate::fault::ImageFault;
 
 /// How an image ends. Offsets and counts are of bytes.
-#[derive(Clone, Copy, Debug, PartialEq, Eq)]
+#[derive(Clone, Copy)]
 pub enum ImageEnd {
     /// At its last byte, or by the end mark: up to the offset `whole` it is whole.
     WholeEnd {

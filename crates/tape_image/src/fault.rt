@@ -1,7 +1,7 @@
 use thiserror::Error;
 
 /// What is wrong with an image. Where its next part would begin isn't known, so an image with a fault has no further objects.
-#[derive(Clone, Copy, Debug, PartialEq, Eq, Error)]
+#[derive(Clone, Copy, Debug, Error)]
 pub enum ImageFault {
     /// A record of a class other than 0: a length whose highest four bits are not zero, other than the marks.
     #[error("record of an unknown class")]

@@ -15,7 +15,7 @@ use thiserror::Error;
 const UNITS: usize = 5;
 
 /// Why units make no target, in the order of the tests.
-#[derive(Clone, Copy, Debug, PartialEq, Eq, Error)]
+#[derive(Clone, Copy, Debug, Error)]
 pub enum CoreFault {
     /// There are fewer than two, or more than five: a target has a changer and one to four drives.
     #[error("a target has a changer and one to four drives")]
