@@ -2,7 +2,7 @@ ghost use Rattle.std.specs.Prelude.{◌≡◌};
 
 /// The stages in which a command is judged, in their order (profile). A record has the first that
 /// answered the command, and `Device` for what isn't a command. What is answered BUSY has no record.
-#[derive(Clone, Copy)]
+#[derive(Clone, Copy, PartialEq, Eq)]
 pub enum Stage {
     /// What the bytes spell: the operation code, the length of the CDB, the service action, NACA and
     /// the length of a parameter list of PERSISTENT RESERVE OUT.

@@ -40,7 +40,7 @@ impl LogoutReason {
 }
 
 /// How a logout was answered (RFC 7143, "Response" of the Logout Response).
-#[derive(Clone, Copy)]
+#[derive(Clone, Copy, PartialEq, Eq)]
 pub enum LogoutResult {
     /// The connection or session is closed.
     Closed,

@@ -1,7 +1,7 @@
 ghost use Rattle.std.specs.Prelude.{◌≡◌};
 
 /// How a task management function was answered (RFC 7143, "Response" of the Task Management Function Response).
-#[derive(Clone, Copy)]
+#[derive(Clone, Copy, PartialEq, Eq)]
 pub enum TaskManagementResult {
     FunctionComplete,
     TaskDoesNotExist,

@@ -3,7 +3,7 @@ ghost use Rattle.std.specs.Prelude.{◌≡◌, ℕ, Some};
 use std::fmt;
 
 /// The type of a persistent reservation, or none (SPC-4, "Persistent reservations type").
-#[derive(Clone, Copy)]
+#[derive(Clone, Copy, PartialEq, Eq)]
 pub enum ResType {
     /// Nothing is reserved.
     None,

@@ -5,7 +5,7 @@ use crate::layout::*;
 
 /// The service actions of PERSISTENT RESERVE OUT, in the order of their codes (SPC-4, "PERSISTENT
 /// RESERVE OUT command").
-#[derive(Clone, Copy)]
+#[derive(Clone, Copy, PartialEq, Eq)]
 pub enum OutServiceAction {
     Register,
     Reserve,
