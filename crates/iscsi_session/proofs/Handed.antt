@@ -2,8 +2,8 @@
 use Rattle.std.proofs.Common.{◌≡◌, ℕ, zero, suc, Bool, true, false, cond, MatchBool, List, [], ◌∷◌, ◌++◌, length, Option, Some, None, Result, Ok, Err, inl, inr, refl, sym, ap, subst, ◌∙◌, append_assoc, append-nil}
 use Rattle.std.proofs.lemmas.List.{map-append}
 use Rattle.scsi_nexus.specs.declared.nexus.Nexus.{Nexus}
-use Rattle.kept_unit.specs.Answers as event
-use Rattle.kept_unit.specs.Answers.{DoneValue, EventValue}
+use Rattle.logical_unit.specs.Answers as event
+use Rattle.logical_unit.specs.Answers.{DoneValue, EventValue}
 use Rattle.iscsi_pdu.specs.Luns.{unit_of}
 use Rattle.iscsi_pdu.specs.Pdus.{InitiatorPduValue, TargetPduValue}
 use Rattle.iscsi_pdu.specs.declared.initiator_header.InitiatorHeader.{InitiatorHeader}

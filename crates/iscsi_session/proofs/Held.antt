@@ -1,7 +1,7 @@
 -- A normal session, from its login at the service to its end.
 use Rattle.std.proofs.Common.{◌≡◌, ℕ, Bool, sym, subst, inr}
 use Rattle.scsi_nexus.specs.declared.nexus.Nexus.{Nexus}
-use Rattle.kept_unit.specs.Answers.{DoneValue}
+use Rattle.logical_unit.specs.Answers.{DoneValue}
 use Rattle.session.specs.Answering.{ComesByCalls}
 use Rattle.session.specs.Serving.{IsLostBelow}
 use Rattle.iscsi_session.specs.Leaving.{Leaves}

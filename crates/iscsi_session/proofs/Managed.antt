@@ -1,7 +1,7 @@
 -- A task management function, and the work on tasks.
 use Rattle.std.proofs.Common.{◌≡◌, ◌∙◌, ℕ, Bool, true, false, if◌then◌else◌, ◌⊎◌, Result, Ok, Err, IsErr, OnOk, inl, inr, List, [], ◌∷◌, ◌++◌, refl, sym, ap, subst}
 use Rattle.scsi_nexus.specs.declared.nexus.Nexus.{Nexus}
-use Rattle.kept_unit.specs.Answers.{DoneValue}
+use Rattle.logical_unit.specs.Answers.{DoneValue}
 use Rattle.iscsi_pdu.specs.Pdus.{InitiatorPduValue, TargetPduValue}
 use Rattle.iscsi_pdu.specs.declared.serial_number.SerialNumber.{SerialNumber}
 use Rattle.iscsi_pdu.specs.declared.task_management_request.TaskManagementRequest.{TaskManagementRequest}

@@ -5,7 +5,7 @@ use Rattle.std.proofs.lemmas.List.{drop-append-le}
 use Rattle.std.proofs.lemmas.Grind.{flat_map-append}
 use Rattle.std.specs.Io.KnownBytes.{Appends}
 use Rattle.scsi_nexus.specs.declared.nexus.Nexus.{Nexus}
-use Rattle.kept_unit.specs.Answers.{DoneValue}
+use Rattle.logical_unit.specs.Answers.{DoneValue}
 use Rattle.iscsi_pdu.specs.Pdus.{InitiatorPduValue, TargetPduValue, initiator_found, parsed_initiator}
 use Rattle.iscsi_pdu.specs.declared.serial_number.SerialNumber.{SerialNumber}
 use Rattle.iscsi_pdu.specs.Segments.{Found, Partial, Complete, Invalid, IsKnown, SegmentsValue, segments}

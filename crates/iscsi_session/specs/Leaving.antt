@@ -1,7 +1,7 @@
 -- What a connection leaves at the service. `notes s d t` says that a call with the answer d makes t of the service s.
 use Rattle.std.specs.Prelude.{◌≡◌, ◌⊎◌, ℕ, Bool}
 use Rattle.scsi_nexus.specs.declared.nexus.Nexus.{Nexus}
-use Rattle.kept_unit.specs.Answers.{DoneValue}
+use Rattle.logical_unit.specs.Answers.{DoneValue}
 use Rattle.session.specs.Answering.{ComesByCalls}
 use Rattle.session.specs.Serving.{IsLostBelow}
 

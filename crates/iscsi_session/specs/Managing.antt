@@ -3,8 +3,8 @@
 use Rattle.std.specs.Prelude.{◌≡◌, ℕ, zero, suc, nat_lt, MatchBool, List, [], ◌∷◌, Option, Some, None, if◌then◌else◌}
 use Rattle.scsi_sense.specs.declared.status.Status.{Status}
 use Rattle.scsi_sense.specs.declared.status.Status.TheVariants as status
-use Rattle.kept_unit.specs.Answers as event
-use Rattle.kept_unit.specs.Answers.{DoneValue, IsAnswer}
+use Rattle.logical_unit.specs.Answers as event
+use Rattle.logical_unit.specs.Answers.{DoneValue, IsAnswer}
 use Rattle.iscsi_pdu.specs.Luns.{unit_of}
 use Rattle.iscsi_pdu.specs.Pdus.{TargetPduValue}
 use Rattle.iscsi_pdu.specs.declared.serial_number.SerialNumber.{SerialNumber}

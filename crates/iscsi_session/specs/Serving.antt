@@ -1,7 +1,7 @@
 -- A whole session. `notes s d t` says that a call with the answer d makes t of the service s.
 use Rattle.std.specs.Prelude.{◌≡◌, ◌⊎◌, ◌≤◌, ℕ, Bool, true, List, ◌++◌, All, Option, Result, OnOk}
 use Rattle.std.specs.Io.KnownBytes.{Consumes, Appends}
-use Rattle.kept_unit.specs.Answers.{DoneValue}
+use Rattle.logical_unit.specs.Answers.{DoneValue}
 use Rattle.iscsi_pdu.specs.Pdus.{TargetPduValue}
 use Rattle.iscsi_login.specs.ExchangeRuns.{exchanged}
 use Rattle.iscsi_login.specs.Exchanges.{started}

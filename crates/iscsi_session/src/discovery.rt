@@ -1,4 +1,4 @@
-use kept_unit::Done;
+use logical_unit::Done;
 use scsi_nexus::Nexus;
 use session::{Service, SessionFault};
 use std::alloc::Global;

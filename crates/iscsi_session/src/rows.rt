@@ -1,5 +1,5 @@
 ghost use Rattle.std.specs.Prelude.{◌≡◌, List, [], ◌∷◌, true, replicate, Some, None};
-ghost use Rattle.kept_unit.specs.Answers as event;
+ghost use Rattle.logical_unit.specs.Answers as event;
 ghost use Rattle.iscsi_pdu.specs.Luns.{unit_of};
 ghost use Rattle.iscsi_pdu.specs.declared.reject_reason.RejectReason.TheVariants.{InvalidPduField};
 ghost use Rattle.iscsi_tasks.specs.Rows.{data_out, write};

@@ -1,51 +1,24 @@
 -- The numbers of a call, counted at each unit; and a unit that is kept stays so.
-use Rattle.std.proofs.Common.{◌≡◌, ◌≢◌, ◌⊎◌, ℕ, ◌+◌, ◌<◌, Bool, true, false, Option, Some, List, [], ◌∷◌, ◌++◌, length, refl, sym, ap, ◌∙◌, subst, inl, inr, arith, length-append}
+use Rattle.std.proofs.Common.{◌≡◌, ◌≢◌, ℕ, ◌+◌, ◌<◌, Bool, true, false, Option, List, [], ◌∷◌, ◌++◌, length, refl, sym, ap, ◌∙◌, subst, inl, inr, arith, length-append}
 use Rattle.std.specs.Prelude.{cond, nat_eq}
 use Rattle.std.proofs.lemmas.Bool.Decides.{nat_tests}
 use Rattle.std.proofs.lemmas.List.Sums.{sum_by-append}
 use Rattle.scsi_nexus.specs.declared.nexus.Nexus.{Nexus}
 use Rattle.unit_attention.specs.Queues.{has_slot}
-use Rattle.audit_log.specs.declared.act.Act.{Act}
-use Rattle.audit_log.specs.declared.record.Record.{Record}
 use Rattle.device_server.specs.View.{kind_of, drives_of}
-use Rattle.judgement.specs.JudgedUnit.{JudgedUnit}
-use Rattle.judgement.specs.declared.decision.Decision.{Decision}
 use Rattle.judgement.specs.declared.reply.Reply.{Reply}
-use Rattle.judgement.specs.Replies.{busy}
-use Rattle.judgement.specs.Commands.{act_of}
-use Rattle.logical_unit.specs.Move.{numbers_of, IsSameUnit, judged_at}
-use Rattle.logical_unit.specs.Step.{Executes, LosesAs, loses, IsLost, number_or_0, recorded, record_of}
+use Rattle.logical_unit.specs.Answers.{count_at, own_number}
+use Rattle.logical_unit.specs.Move.{numbers_of, IsSameUnit}
+use Rattle.logical_unit.specs.Step.{Executes, LosesAs, loses, IsLost, number_or_0}
 use Rattle.logical_unit.specs.UnitView.{UnitView, last_number}
 use Rattle.logical_unit.proofs.History.{executes_stays}
-use Rattle.logical_unit.proofs.Numbers.{none_more, one_more}
-use Rattle.kept_unit.specs.Answers.{count_at, own_number}
+use Rattle.logical_unit.proofs.NumbersOf.{none_more, one_more}
+use Rattle.logical_unit.proofs.Recorded.{executed, NoneOrOne}
 use Rattle.kept_unit.specs.Keeping.{IsKept}
 
 -- a unit's own number is at no other unit
 pub only_own : (lun n k : ℕ) → (k ≡ lun → ⊥) → count_at k (own_number lun n) ≡ 0
 only_own lun n k other = grind (arith, nat_tests)
-
--- one record more, of an act
-pub record Recorded (u v : UnitView) (asked : Act) : Type 0 where
-  pub entry : Record
-  pub records : v.records ≡ u.records ++ entry ∷ []
-  pub act : entry.act ≡ asked
-  pub last : last_number v ≡ last_number u + 1
-
-pub recorded_one : (u v : UnitView) (n : Nexus) (act : Act) (p : JudgedUnit) (f : Decision) (given r : Reply) → (v, r) ≡ recorded u n act (p, f, given) → Recorded u v act
-recorded_one u v n act p f given r e =
-    let more : v.records ≡ u.records ++ record_of (last_number u + 1) (Some n) act f given.status given.sense ∷ [] = ap (λ (x : UnitView × Reply). x.0.records) e in
-    let base : v.base.last ≡ u.base.last = ap (λ (x : UnitView × Reply). x.0.base.last) e in
-    let longer : length v.records ≡ length u.records + 1 = ap length more ∙ length-append u.records _ in
-    record { entry = record_of (last_number u + 1) (Some n) act f given.status given.sense; records = more; act = refl; last = omega (arith, base, longer) }
-
--- a command is BUSY with nothing changed, or it has a record
-pub executed : (u v : UnitView) (n : Nexus) (cdb bytes : List ℕ) (r : Reply) → Executes u n cdb bytes (v, r)
-    → ((v ≡ u) × (r ≡ busy)) ⊎ (Recorded u v (act_of (kind_of u.device) cdb bytes) × (r.number ≡ last_number u + 1))
-executed u v n cdb bytes r (inl e) = inl (ap (λ (x : UnitView × Reply). x.0) e, ap (λ (x : UnitView × Reply). x.1) e)
-executed u v n cdb bytes r (inr e) =
-    let j = judged_at u n cdb bytes in
-    inr (recorded_one u v n (act_of (kind_of u.device) cdb bytes) j.0 j.1 j.2 r e.2, ap (λ (x : UnitView × Reply). x.1.number) e.2)
 
 none_counted : (lun n : ℕ) → n ≡ 0 → count_at lun (own_number lun n) ≡ 0
 none_counted lun n none = rw none refl
@@ -58,16 +31,6 @@ pub grown : (lun : ℕ) (u v : UnitView) (n : Nexus) (cdb bytes : List ℕ) (r :
 grown lun u v n cdb bytes r step = elim (executed u v n cdb bytes r step) [
   | inl same ↦ ap last_number same.0 ∙ rw (none_counted lun r.number (ap (λ (x : Reply). x.number) same.1)) (omega arith)
   | inr more ↦ rw (one_counted lun r.number (last_number u) more.1) more.0.last
-]
-
--- a command without a number is BUSY
-none_is_zero : (lun n : ℕ) → own_number lun n ≡ [] → n ≡ 0
-none_is_zero lun n none = grind (arith, nat_tests)
-
-pub unnumbered : (lun : ℕ) (u v : UnitView) (n : Nexus) (cdb bytes : List ℕ) (r : Reply) → Executes u n cdb bytes (v, r) → own_number lun r.number ≡ [] → r ≡ busy
-unnumbered lun u v n cdb bytes r step none = elim (executed u v n cdb bytes r step) [
-  | inl same ↦ same.1
-  | inr more ↦ absurd (let zero = none_is_zero lun r.number none in let one = more.1 in omega (arith, zero, one))
 ]
 
 -- after a command the unit is kept
@@ -135,10 +98,7 @@ lost_kept lun u v n r count total total' was since step kept is more =
       first = kept.first;
     }
 
--- THE NUMBERS OF SEVERAL UNITS: each has one record more, or none
-abbrev pub NoneOrOne : UnitView → UnitView → Type 0
-NoneOrOne u v = (last_number v ≡ last_number u) ⊎ (last_number v ≡ last_number u + 1)
-
+-- THE NUMBERS OF SEVERAL UNITS
 count_single : (k n : ℕ) → count_at k ((k, n) ∷ []) ≡ 1
 count_single k n = grind (arith, nat_tests)
 

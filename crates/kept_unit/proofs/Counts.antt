@@ -2,8 +2,9 @@
 use Rattle.std.proofs.Common.{◌≡◌, ◌≢◌, ℕ, ◌+◌, ◌<◌, List, ◌++◌, ap, ◌∙◌, arith}
 use Rattle.logical_unit.specs.Move.{numbers_of}
 use Rattle.logical_unit.specs.UnitView.{UnitView, last_number}
-use Rattle.kept_unit.specs.Answers.{count_at}
-use Rattle.kept_unit.proofs.Counting.{NoneOrOne, count_own, count_other, count_both}
+use Rattle.logical_unit.specs.Answers.{count_at}
+use Rattle.logical_unit.proofs.Recorded.{NoneOrOne}
+use Rattle.kept_unit.proofs.Counting.{count_own, count_other, count_both}
 
 pub record OneCounts (c d v e : UnitView) (lun : ℕ) (items : List (ℕ × ℕ)) : Type 0 where
   pub changer : last_number v ≡ last_number c + count_at 0 items

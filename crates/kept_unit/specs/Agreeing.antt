@@ -4,9 +4,9 @@
 use Rattle.std.specs.Prelude.{◌≡◌, ◌⊎◌, ℕ, ◌+◌, ◌-◌, ◌≤◌, List, [], ◌∷◌, length, Some, None, Bool, true, ◌&&◌, ◌==◌, nat_lt, MatchBool, All, slice_get, IsPermutation}
 use Rattle.std.specs.List.{flat_map}
 use Rattle.audit_log.specs.declared.record.Record.{Record}
-use Rattle.kept_unit.specs.declared.act_kind.ActKind.TheVariants.{Medium}
-use Rattle.kept_unit.specs.declared.entry.Entry.{Entry}
-use Rattle.kept_unit.specs.ActKinds.{act_kind_of}
+use Rattle.logical_unit.specs.declared.act_kind.ActKind.TheVariants.{Medium}
+use Rattle.logical_unit.specs.declared.entry.Entry.{Entry}
+use Rattle.logical_unit.specs.ActKinds.{act_kind_of}
 use Rattle.kept_unit.specs.Listing.{NotesValue, numbers_in}
 use Rattle.kept_unit.specs.Ranges.{span}
 

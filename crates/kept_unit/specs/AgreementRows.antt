@@ -8,8 +8,8 @@ use Rattle.scsi_sense.specs.declared.status.Status.TheVariants.{Good, Reservatio
 use Rattle.audit_log.specs.declared.act.Act.TheVariants as act
 use Rattle.audit_log.specs.declared.record.Record.{Record}
 use Rattle.audit_log.specs.declared.stage.Stage.TheVariants.{Device}
-use Rattle.kept_unit.specs.declared.act_kind.ActKind.TheVariants as kind
-use Rattle.kept_unit.specs.declared.entry.Entry.{Entry}
+use Rattle.logical_unit.specs.declared.act_kind.ActKind.TheVariants as kind
+use Rattle.logical_unit.specs.declared.entry.Entry.{Entry}
 use Rattle.kept_unit.specs.declared.number_range.NumberRange.{NumberRange}
 use Rattle.kept_unit.specs.Agreeing.{Agrees}
 use Rattle.kept_unit.specs.Listing.{NotesValue}

@@ -1,6 +1,3 @@
-pub mod ActKinds
-pub mod Answers
-pub mod EventValue
 pub mod Keeping
 pub mod Ranges
 pub mod Listing

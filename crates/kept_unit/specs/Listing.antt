@@ -1,9 +1,9 @@
 -- What a seat has noted of one unit: numbers that were settled, and entries.
 use Rattle.std.specs.Prelude.{ℕ, List, ◌++◌}
 use Rattle.std.specs.List.{flat_map}
-use Rattle.kept_unit.specs.declared.entry.Entry.{Entry}
+use Rattle.logical_unit.specs.declared.entry.Entry.{Entry}
 use Rattle.kept_unit.specs.declared.number_range.NumberRange.{NumberRange}
-use Rattle.kept_unit.specs.Answers.{at}
+use Rattle.logical_unit.specs.Answers.{at}
 use Rattle.kept_unit.specs.Ranges.{numbers_in_ranges}
 
 -- the numbers at one unit that entries have, in order

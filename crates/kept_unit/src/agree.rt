@@ -4,12 +4,12 @@ ghost use Rattle.kept_unit.specs.Listing.{listed_at};
 ghost use Rattle.kept_unit.specs.Ranges.{numbers_in_ranges};
 ghost use Rattle.kept_unit.specs.SeatNotes.{notes_value};
 
-use crate::entry::Entry;
 use crate::fitting::are_told;
 use crate::number_range::NumberRange;
 use crate::ranges::{end_by, follows, listed_ranges, rise_to};
 use crate::seat_notes::SeatNotes;
 use audit_log::Record;
+use logical_unit::Entry;
 use std::alloc::{AllocError, Global};
 
 /// The ranges of the numbers of one unit in entries, if they rise above a number.

@@ -5,16 +5,13 @@ ghost use Rattle.judgement.specs.Replies.{busy};
 ghost use Rattle.judgement.specs.Commands.{act_of};
 ghost use Rattle.logical_unit.specs.Move.{MovesOne, MovesTwo, numbers_of};
 ghost use Rattle.logical_unit.specs.Route.{named};
-ghost use Rattle.kept_unit.specs.Answers as event;
-ghost use Rattle.kept_unit.specs.Answers.{IsAnswer, count_at};
-ghost use Rattle.kept_unit.specs.ActKinds.{act_kind_of, act_kind_if};
+ghost use Rattle.logical_unit.specs.Answers as event;
+ghost use Rattle.logical_unit.specs.Answers.{IsAnswer, count_at};
+ghost use Rattle.logical_unit.specs.ActKinds.{act_kind_of, act_kind_if};
 
-use crate::act_kind::last_act_kind;
-use crate::done::{Done, EventKind, done_with};
 use crate::kept::{Kept, UnitLedger};
-use crate::numbers::count_at;
 use device_server::DeviceServer;
-use logical_unit::{move_one, move_two};
+use logical_unit::{Done, carry_out_move_one, carry_out_move_two};
 use scsi_nexus::Nexus;
 use std::alloc::Global;
 use std::sync::ledger::Share;
@@ -48,13 +45,10 @@ pub fn move_kept_one<'a, const LUN: u8, C: UnitLedger, L: UnitLedger, D: DeviceS
     ensures drive_part { drive_part.new.amount ≡ drive_part.old.amount + count_at LUN result.numbers }
     ensures parts { (part.new.parts ≡ part.old.parts) × (drive_part.new.parts ≡ drive_part.old.parts) }
 {
-    let receipt = move_one(alloc, &mut changer.unit, &mut drive.unit, nexus, cdb, bytes);
-    let numbers = receipt.numbers.as_slice();
-    changer.book.add(part, count_at(0, numbers));
-    drive.book.add(drive_part, count_at(LUN, numbers));
-    let act = last_act_kind(changer.unit.records(), numbers);
-    let asked = EventKind::Command { cdb, bytes };
-    done_with(Some(nexus), 0, asked, act, receipt)
+    let done = carry_out_move_one(alloc, &mut changer.unit, &mut drive.unit, nexus, cdb, bytes);
+    changer.book.add(part, done.count_at(0));
+    drive.book.add(drive_part, done.count_at(LUN));
+    done
 }
 
 /// The same for one that names two drives, the lower first.
@@ -97,7 +91,7 @@ pub fn move_kept_two<
     ensures high_part { high_part.new.amount ≡ high_part.old.amount + count_at HIGH result.numbers }
     ensures parts { (part.new.parts ≡ part.old.parts) × (low_part.new.parts ≡ low_part.old.parts) × (high_part.new.parts ≡ high_part.old.parts) }
 {
-    let receipt = move_two(
+    let done = carry_out_move_two(
         alloc,
         &mut changer.unit,
         &mut low.unit,
@@ -106,11 +100,8 @@ pub fn move_kept_two<
         cdb,
         bytes,
     );
-    let numbers = receipt.numbers.as_slice();
-    changer.book.add(part, count_at(0, numbers));
-    low.book.add(low_part, count_at(LOW, numbers));
-    high.book.add(high_part, count_at(HIGH, numbers));
-    let act = last_act_kind(changer.unit.records(), numbers);
-    let asked = EventKind::Command { cdb, bytes };
-    done_with(Some(nexus), 0, asked, act, receipt)
+    changer.book.add(part, done.count_at(0));
+    low.book.add(low_part, done.count_at(LOW));
+    high.book.add(high_part, done.count_at(HIGH));
+    done
 }

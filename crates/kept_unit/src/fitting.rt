@@ -1,9 +1,8 @@
 ghost use Rattle.std.specs.Prelude.{◌≡◌, ◌↔◌, All, IsTrue};
 ghost use Rattle.kept_unit.specs.Agreeing.{IsOwn, IsOfMove, Fits, Stands, IsTold};
 
-use crate::act_kind::{ActKind, act_kind_of};
-use crate::entry::Entry;
 use audit_log::Record;
+use logical_unit::{ActKind, Entry, act_kind_of};
 use scsi_sense::Sense;
 
 /// Whether two answers report the same sense data, or both none.

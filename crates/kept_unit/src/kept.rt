@@ -8,20 +8,18 @@ ghost use Rattle.logical_unit.specs.Legal.{IsTrail};
 ghost use Rattle.logical_unit.specs.Step.{Executes, IsLost, IsReset, drained};
 ghost use Rattle.logical_unit.specs.UnitView.{last_number};
 ghost use Rattle.kept_unit.specs.Agreeing.{Agrees};
-ghost use Rattle.kept_unit.specs.Answers as event;
-ghost use Rattle.kept_unit.specs.Answers.{IsAnswer, count_at, own_number, OnlyAt};
-ghost use Rattle.kept_unit.specs.ActKinds.{act_kind_of, act_kind_if};
+ghost use Rattle.logical_unit.specs.Answers as event;
+ghost use Rattle.logical_unit.specs.Answers.{IsAnswer, count_at, own_number, OnlyAt};
+ghost use Rattle.logical_unit.specs.declared.act_kind.ActKind.TheVariants as kind;
+ghost use Rattle.logical_unit.specs.ActKinds.{act_kind_of, act_kind_if};
 ghost use Rattle.kept_unit.specs.Keeping.{kind_at};
 ghost use Rattle.kept_unit.specs.SeatNotes.{notes_value};
 
-use crate::act_kind::{ActKind, last_act_kind};
 use crate::agree::agree;
-use crate::done::{Done, EventKind, done_with};
-use crate::numbers::{count_at, own_number};
 use crate::seat_notes::SeatNotes;
 use audit_log::Record;
 use device_server::{Attendant, DeviceServer};
-use logical_unit::{LogicalUnit, Receipt, Reply};
+use logical_unit::{Done, LogicalUnit};
 use scsi_nexus::Nexus;
 use std::alloc::{AllocError, Global};
 use std::marker::{Brand, Model};
@@ -54,16 +52,6 @@ impl<const LUN: u8, L: UnitLedger, D: DeviceServer> Model for Kept<LUN, L, D> {
     ghost view = { λ k. record { unit = k.unit.unit; total = k.book.total } };
 
     ghost invariant = { λ k. IsKept LUN k.unit.unit k.book.total k.first L.since };
-}
-
-/// The receipt of an event at one unit.
-fn own_receipt(lun: u8, reply: Reply) -> Receipt
-    ensures reply { result.reply ≡ reply }
-    ensures numbers { result.numbers.items ≡ own_number lun reply.number }
-    ensures only { OnlyAt lun result.numbers.items }
-{
-    let numbers = own_number(lun, reply.number);
-    Receipt { reply, numbers }
 }
 
 impl<const LUN: u8, L: UnitLedger, D: DeviceServer> Kept<LUN, L, D> {
@@ -169,6 +157,7 @@ impl<const LUN: u8, L: UnitLedger, D: DeviceServer> Kept<LUN, L, D> {
 
     /// One command at the unit, its record counted in the book and in the part. Without a number it is BUSY, and nothing
     /// has changed.
+    #[tactic(auto, using(crate::proofs::Counting::only_own))]
     pub fn step<'a>(
         &mut self,
         alloc: Global,
@@ -188,62 +177,47 @@ impl<const LUN: u8, L: UnitLedger, D: DeviceServer> Kept<LUN, L, D> {
         ensures part { part.new.amount ≡ part.old.amount + count_at LUN result.numbers }
         ensures parts { part.new.parts ≡ part.old.parts }
     {
-        let reply = self.unit.execute(alloc, nexus, cdb, bytes);
-        let receipt = own_receipt(LUN, reply);
-        let numbers = receipt.numbers.as_slice();
-        self.book.add(part, count_at(LUN, numbers));
-        let act = last_act_kind(self.unit.records(), numbers);
-        let asked = EventKind::Command { cdb, bytes };
-        done_with(Some(nexus), LUN, asked, act, receipt)
+        let done = self.unit.carry_out(alloc, nexus, cdb, bytes);
+        self.book.add(part, done.count_at(LUN));
+        done
     }
 
     /// An I_T nexus loss at the unit, its record counted in the book and in the part. Without a number it is BUSY with
     /// nothing changed, or the nexus has no slot.
+    #[tactic(auto, using(crate::proofs::Counting::only_own))]
     pub fn lose(&mut self, alloc: Global, part: &mut Share<L>, nexus: Nexus) -> Done<'static>
         requires { 0 < part.old.parts }
         ensures answer { IsAnswer result (Some nexus) LUN event.Loss }
         ensures step { IsLost self.old.unit nexus (self.new.unit, result.reply) }
         ensures numbers { result.numbers ≡ own_number LUN result.reply.number }
         ensures only { OnlyAt LUN result.numbers }
-        ensures act { result.act ≡ act_kind_if result.numbers ActKind.Loss }
+        ensures act { result.act ≡ act_kind_if result.numbers kind.Loss }
         ensures book { self.new.total ≡ self.old.total + count_at LUN result.numbers }
         ensures part { part.new.amount ≡ part.old.amount + count_at LUN result.numbers }
         ensures parts { part.new.parts ≡ part.old.parts }
     {
-        let reply = self.unit.lose_reply(alloc, nexus);
-        let receipt = own_receipt(LUN, reply);
-        let numbers = receipt.numbers.as_slice();
-        self.book.add(part, count_at(LUN, numbers));
-        let act = recorded_kind(ActKind::Loss, numbers);
-        done_with(Some(nexus), LUN, EventKind::Loss, act, receipt)
+        let done = self.unit.carry_out_loss(alloc, nexus);
+        self.book.add(part, done.count_at(LUN));
+        done
     }
 
     /// A reset of the unit, its record counted in the book and in the part. Without a number it is BUSY, and nothing has
     /// changed.
+    #[tactic(auto, using(crate::proofs::Counting::only_own))]
     pub fn reset(&mut self, alloc: Global, part: &mut Share<L>) -> Done<'static>
         requires { 0 < part.old.parts }
         ensures answer { IsAnswer result None LUN event.Reset }
         ensures step { IsReset self.old.unit (self.new.unit, result.reply) }
         ensures numbers { result.numbers ≡ own_number LUN result.reply.number }
         ensures only { OnlyAt LUN result.numbers }
-        ensures act { result.act ≡ act_kind_if result.numbers ActKind.Reset }
+        ensures act { result.act ≡ act_kind_if result.numbers kind.Reset }
         ensures unnumbered { result.numbers ≡ [] → result.reply ≡ busy }
         ensures book { self.new.total ≡ self.old.total + count_at LUN result.numbers }
         ensures part { part.new.amount ≡ part.old.amount + count_at LUN result.numbers }
         ensures parts { part.new.parts ≡ part.old.parts }
     {
-        let reply = self.unit.reset_reply(alloc);
-        let receipt = own_receipt(LUN, reply);
-        let numbers = receipt.numbers.as_slice();
-        self.book.add(part, count_at(LUN, numbers));
-        let act = recorded_kind(ActKind::Reset, numbers);
-        done_with(None, LUN, EventKind::Reset, act, receipt)
+        let done = self.unit.carry_out_reset(alloc);
+        self.book.add(part, done.count_at(LUN));
+        done
     }
-}
-
-/// The kind of an act, where the call left a record.
-fn recorded_kind(act: ActKind, numbers: &[(u8, u64)]) -> Option<ActKind>
-    ensures { result ≡ act_kind_if numbers.now act }
-{
-    if numbers.is_empty() { None } else { Some(act) }
 }

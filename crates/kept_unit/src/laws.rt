@@ -1,13 +1,8 @@
-ghost use Rattle.kept_unit.specs.Rows.{ActKindRows, NumberRows};
+ghost use Rattle.kept_unit.specs.Rows.{KindRows};
 
-/// Worked rows: what is kept of an act, and where.
-pub fn act_kind_rows()
-    ensures { ActKindRows }
-{}
-
-/// Worked rows: the numbers of records by unit, and the kinds of units.
-pub fn number_rows()
-    ensures { NumberRows }
+/// Worked rows: the kinds of units.
+pub fn kind_rows()
+    ensures { KindRows }
 {}
 
 ghost use Rattle.kept_unit.specs.RangeRows.{RangeRows};

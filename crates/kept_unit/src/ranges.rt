@@ -1,12 +1,12 @@
 //! Record numbers of one unit, as ranges.
 ghost use Rattle.std.specs.Prelude.{◌≡◌, ◌≤◌, ◌+◌, ◌++◌, ◌↔◌, All, IsTrue, IsSome, IfSome, IfOk, OnOk, OnErr, ◌∷◌, [], length};
 ghost use Rattle.std.specs.Vec.{vec_len, vec_capacity};
-ghost use Rattle.kept_unit.specs.Answers.{at};
+ghost use Rattle.logical_unit.specs.Answers.{at};
 ghost use Rattle.kept_unit.specs.Ranges.{numbers_between, numbers_in_ranges, rise_to, follows};
 ghost use Rattle.kept_unit.specs.Listing.{listed_at};
 
-use crate::entry::Entry;
 use crate::number_range::NumberRange;
+use logical_unit::Entry;
 use std::alloc::{AllocError, Global};
 
 /// The two as one range, if the second goes on where the first ends.

@@ -1,6 +1,6 @@
 -- A library's service for sessions.
 use Rattle.std.specs.Prelude.{◌≡◌, ℕ, List}
-use Rattle.kept_unit.specs.Answers.{DoneValue}
+use Rattle.logical_unit.specs.Answers.{DoneValue}
 use Rattle.lun_router.specs.Seats.{SeatValue, Notes, Settles}
 
 -- what its seat holds, and how many units the library has

@@ -1,5 +1,6 @@
-use kept_unit::{Done, UnitLedger};
+use kept_unit::UnitLedger;
 use library_device::Device;
+use logical_unit::Done;
 use lun_router::{Library, Pass, Seat};
 use scsi_nexus::Nexus;
 use session::{Directory, SeatService, Service, SessionFault};

@@ -8,7 +8,7 @@ pub mod NamedDrives
 pub mod Halves
 pub mod Moved
 pub mod SameUnits
-pub mod Numbers
+pub mod NumbersOf
 pub mod EndsOf
 pub mod OutsiderLeavesContents
 pub mod Contents
@@ -17,3 +17,5 @@ pub mod Executed
 pub mod HistoryOfRecords
 pub mod MoveBusy
 pub mod Replay
+pub mod Recorded
+pub mod Carried

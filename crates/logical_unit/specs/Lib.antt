@@ -8,3 +8,6 @@ pub mod Route
 pub mod Move
 pub mod MoveJudgement
 pub mod History
+pub mod ActKinds
+pub mod Answers
+pub mod EventValue

@@ -2,9 +2,9 @@
 use Rattle.std.specs.Prelude.{◌≡◌, ◌⊎◌, ℕ, ◌+◌, nat_le, List, [], ◌∷◌, ◌++◌, length, drop, sum_by, Bool, false, ◌==◌, if◌then◌else◌, Option, Some, None, slice_get}
 use Rattle.std.specs.List.{list_all, prefix_len}
 use Rattle.judgement.specs.Replies.{busy}
-use Rattle.kept_unit.specs.declared.entry.Entry.{Entry}
+use Rattle.logical_unit.specs.declared.entry.Entry.{Entry}
 use Rattle.kept_unit.specs.declared.number_range.NumberRange.{NumberRange}
-use Rattle.kept_unit.specs.Answers.{DoneValue, entry_of, count_at}
+use Rattle.logical_unit.specs.Answers.{DoneValue, entry_of, count_at}
 use Rattle.kept_unit.specs.Listing.{NotesValue, numbers_in}
 use Rattle.kept_unit.specs.Ranges.{numbers_in_ranges}
 use Rattle.unit_locks.specs.Shares.{Amounts, Rise}

@@ -1,7 +1,7 @@
 -- The ranges of a seat, and room for more.
 use Rattle.std.specs.Prelude.{◌≡◌, ℕ, ◌+◌, ◌≤◌, List, ◌++◌, drop}
 use Rattle.std.specs.Vec.{vec_len, vec_capacity}
-use Rattle.kept_unit.specs.declared.entry.Entry.{Entry}
+use Rattle.logical_unit.specs.declared.entry.Entry.{Entry}
 use Rattle.lun_router.specs.declared.unit_ranges.UnitRanges.{UnitRanges}
 use Rattle.kept_unit.specs.Listing.{listed_at}
 use Rattle.kept_unit.specs.Ranges.{numbers_in_ranges}

@@ -2,7 +2,7 @@
 use Rattle.std.specs.Prelude.{◌≡◌, ℕ, List, [], ◌∷◌, true, false, None}
 use Rattle.std.proofs.Common.{lit≤}
 use Rattle.scsi_sense.specs.declared.status.Status.TheVariants.{Good}
-use Rattle.kept_unit.specs.declared.entry.Entry.{Entry}
+use Rattle.logical_unit.specs.declared.entry.Entry.{Entry}
 use Rattle.kept_unit.specs.declared.number_range.NumberRange.{NumberRange}
 use Rattle.lun_router.specs.Seats.{SeatValue, untold, settled_at, is_drained, drained_count, Settles}
 

@@ -1,4 +1,4 @@
-use kept_unit::Entry;
+use logical_unit::Entry;
 use std::alloc::Global;
 use std::marker::Model;
 

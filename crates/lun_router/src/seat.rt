@@ -1,7 +1,8 @@
 use crate::entry_queue::EntryQueue;
 use crate::settling::settle;
 use crate::unit_ranges::{UnitRanges, no_ranges};
-use kept_unit::{Entry, NumberRange, UnitLedger};
+use kept_unit::{NumberRange, UnitLedger};
+use logical_unit::Entry;
 use std::alloc::{AllocError, Global};
 use std::marker::Model;
 use unit_locks::{CachePadding, SeatShares};

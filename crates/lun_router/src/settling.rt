@@ -6,7 +6,7 @@ ghost use Rattle.lun_router.specs.Settling.{ranges_of, SettlesAll};
 
 use crate::entry_queue::EntryQueue;
 use crate::unit_ranges::{UnitRanges, add_all, make_room_for, ranges_in};
-use kept_unit::Entry;
+use logical_unit::Entry;
 use std::alloc::AllocError;
 
 /// Whether the record of a number was handed out.

@@ -4,7 +4,8 @@ ghost use Rattle.kept_unit.specs.Ranges.{numbers_in_ranges};
 ghost use Rattle.lun_router.specs.Settling.{ranges_of, HasRoom};
 ghost use Rattle.lun_router.specs.Seats.{untold};
 
-use kept_unit::{Entry, NumberRange, add_ranges, listed_ranges, make_room};
+use kept_unit::{NumberRange, add_ranges, listed_ranges, make_room};
+use logical_unit::Entry;
 use std::alloc::{AllocError, Global};
 
 /// Ranges of the record numbers of each unit, by its logical unit number.

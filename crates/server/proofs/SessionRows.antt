@@ -2,8 +2,8 @@
 use Rattle.std.proofs.Common.{◌≡◌, ◌≢◌, true, List, [], ◌∷◌, ◌++◌, Some, None, inl, inr, refl, sym, ap, ◌∙◌, append_assoc, append-nil}
 use Rattle.std.specs.Prelude.{◌&&◌, not}
 use Rattle.scsi_nexus.specs.declared.nexus.Nexus.{Nexus}
-use Rattle.kept_unit.specs.Answers as event
-use Rattle.kept_unit.specs.Answers.{DoneValue, EventValue, IsAnswer}
+use Rattle.logical_unit.specs.Answers as event
+use Rattle.logical_unit.specs.Answers.{DoneValue, EventValue, IsAnswer}
 use Rattle.session.specs.Answering.{Calls, IsCall}
 use Rattle.session.specs.Leaving.{ComesBySession}
 use Rattle.session.specs.Serving.{is_busy}

@@ -7,7 +7,7 @@ use Rattle.std.proofs.Math.Seq.{take-append_seam}
 use denote.Ref.{MutBor}
 use denote.Param.Members.{Shared}
 use Rattle.scsi_nexus.specs.declared.nexus.Nexus.{Nexus}
-use Rattle.kept_unit.specs.Answers.{DoneValue}
+use Rattle.logical_unit.specs.Answers.{DoneValue}
 use Rattle.session.specs.Leaving.{Leaves}
 use Rattle.iscsi_session.specs.Leaving as iscsi
 use Rattle.server.specs.SeatService.{DoesForWorker, MaySettle}

@@ -1,8 +1,8 @@
 -- Values of worked rows: sessions at a service of one unit that keeps each answer and is never settled.
 use Rattle.std.specs.Prelude.{◌≡◌, ℕ, List, [], ◌∷◌, ◌++◌, Option, Some}
 use Rattle.scsi_nexus.specs.declared.nexus.Nexus.{Nexus}
-use Rattle.kept_unit.specs.Answers as event
-use Rattle.kept_unit.specs.Answers.{DoneValue, IsAnswer}
+use Rattle.logical_unit.specs.Answers as event
+use Rattle.logical_unit.specs.Answers.{DoneValue, IsAnswer}
 use Rattle.server.specs.Sessions.{Sessions}
 
 abbrev pub a : Nexus

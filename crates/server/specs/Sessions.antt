@@ -2,7 +2,7 @@
 -- it by these numbers does, and `count` how many units there are.
 use Rattle.std.specs.Prelude.{◌≡◌, ℕ, List, [], ◌∷◌, Option}
 use Rattle.scsi_nexus.specs.declared.nexus.Nexus.{Nexus}
-use Rattle.kept_unit.specs.Answers.{DoneValue}
+use Rattle.logical_unit.specs.Answers.{DoneValue}
 use Rattle.session.specs.Leaving.{ComesBySession}
 use Rattle.server.specs.SeatService.{DoesForWorker, MaySettle}
 

@@ -1,5 +1,5 @@
 ghost use Rattle.std.specs.Prelude.{[], ◌∷◌, Some, None};
-ghost use Rattle.kept_unit.specs.Answers.{DoneValue};
+ghost use Rattle.logical_unit.specs.Answers.{DoneValue};
 ghost use Rattle.server.specs.Rows.{Gives, IsCommandOf, IsLossOf, a, b};
 
 /// Worked rows: what sessions leave of two nexuses, and of nobody; and that a session makes no call of another nexus, and ends with the

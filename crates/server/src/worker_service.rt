@@ -7,7 +7,7 @@ use crate::record_drain::RecordDrain;
 use crate::reset_counts::ResetCounts;
 use crate::session_flags::SessionFlags;
 use crate::teller::Teller;
-use kept_unit::Done;
+use logical_unit::Done;
 use scsi_nexus::Nexus;
 use scsi_sense::Status;
 use session::{SeatService, Service, SessionFault};

@@ -4,7 +4,7 @@ use Rattle.std.specs.Prelude.{All}
 use Rattle.std.specs.List.{AllZip}
 use Rattle.std.proofs.lemmas.List.Elements.{All-nil, All-cons, All-head, All-tail}
 use Rattle.scsi_nexus.specs.declared.nexus.Nexus.{Nexus}
-use Rattle.kept_unit.specs.Answers.{DoneValue}
+use Rattle.logical_unit.specs.Answers.{DoneValue}
 use Rattle.lun_router.specs.Seats.{SeatValue, IsUntold, Notes, Settles}
 use Rattle.session.specs.Answering.{Calls}
 use Rattle.session.specs.Leaving.{ComesBySession}

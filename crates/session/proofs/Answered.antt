@@ -2,7 +2,7 @@
 use Rattle.std.proofs.Common.{◌≡◌, ℕ, true, List, [], ◌∷◌, ◌++◌, drop, refl, sym, ap, subst, ◌∙◌, append_assoc, append-nil, Option, Some, None}
 use Rattle.std.specs.Io.KnownBytes.{Appends}
 use Rattle.scsi_nexus.specs.declared.nexus.Nexus.{Nexus}
-use Rattle.kept_unit.specs.Answers.{DoneValue}
+use Rattle.logical_unit.specs.Answers.{DoneValue}
 use Rattle.frames.specs.Frames.{FrameValue, Login, Command, Reset, Logout, Complete, parsed_frame}
 use Rattle.frames.specs.Stream.{Takes}
 use Rattle.frames.specs.Replies.{ResetReply, LogoutReply, reply_bytes}

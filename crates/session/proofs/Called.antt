@@ -1,7 +1,7 @@
 -- Calls one after another.
 use Rattle.std.proofs.Common.{List, [], ◌∷◌, ◌++◌, refl, subst}
 use Rattle.scsi_nexus.specs.declared.nexus.Nexus.{Nexus}
-use Rattle.kept_unit.specs.Answers.{DoneValue}
+use Rattle.logical_unit.specs.Answers.{DoneValue}
 use Rattle.session.specs.Answering.{IsCall, Calls, ComesByCalls}
 
 calls_append : {S : Type 0} (notes : S → DoneValue → S → Type 0) (n : Nexus) (s : S) (ds es : List DoneValue) (t u : S) → Calls notes n s ds t → Calls notes n t es u → Calls notes n s (ds ++ es) u

@@ -1,7 +1,7 @@
 -- What a session leaves, from what it said and did.
 use Rattle.std.proofs.Common.{◌≡◌, ℕ, Bool, true, List, [], ◌∷◌, ◌++◌, Option, Some, None, inl, inr, refl, sym, subst, ◌⊎◌}
 use Rattle.scsi_nexus.specs.declared.nexus.Nexus.{Nexus}
-use Rattle.kept_unit.specs.Answers.{DoneValue}
+use Rattle.logical_unit.specs.Answers.{DoneValue}
 use Rattle.frames.specs.Frames.{FrameValue, Login, Command, Reset, Logout}
 use Rattle.session.specs.declared.fault.End.{End}
 use Rattle.session.specs.declared.fault.SessionFault.{SessionFault}

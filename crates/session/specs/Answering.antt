@@ -2,8 +2,8 @@
 use Rattle.std.specs.Prelude.{◌≡◌, ◌⊎◌, ◌≤◌, ℕ, true, List, [], ◌∷◌, ◌++◌, Option, Some, None}
 use Rattle.std.specs.Io.KnownBytes.{Appends}
 use Rattle.scsi_nexus.specs.declared.nexus.Nexus.{Nexus}
-use Rattle.kept_unit.specs.Answers as event
-use Rattle.kept_unit.specs.Answers.{DoneValue, IsAnswer}
+use Rattle.logical_unit.specs.Answers as event
+use Rattle.logical_unit.specs.Answers.{DoneValue, IsAnswer}
 use Rattle.frames.specs.Frames.{FrameValue, Login, Command, Reset, Logout}
 use Rattle.frames.specs.Stream.{Takes}
 use Rattle.frames.specs.Replies.{CommandReply, ResetReply, LogoutReply, reply_bytes}

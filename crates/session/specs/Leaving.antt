@@ -2,7 +2,7 @@
 -- d makes t of the service s, and `count` how many units it has.
 use Rattle.std.specs.Prelude.{◌≡◌, ℕ, Bool, Option, Some, None}
 use Rattle.scsi_nexus.specs.declared.nexus.Nexus.{Nexus}
-use Rattle.kept_unit.specs.Answers.{DoneValue}
+use Rattle.logical_unit.specs.Answers.{DoneValue}
 use Rattle.session.specs.Answering.{ComesByCalls}
 use Rattle.session.specs.Serving.{IsLostBelow}
 

@@ -4,8 +4,8 @@ use Rattle.std.specs.Io.KnownBytes.{Consumes, Appends, IsAtEnd}
 use Rattle.scsi_nexus.specs.declared.nexus.Nexus.{Nexus}
 use Rattle.scsi_sense.specs.declared.status.Status.{Status}
 use Rattle.scsi_sense.specs.declared.status.Status.TheVariants.{Good, CheckCondition, Busy, ReservationConflict}
-use Rattle.kept_unit.specs.Answers as event
-use Rattle.kept_unit.specs.Answers.{DoneValue, IsAnswer}
+use Rattle.logical_unit.specs.Answers as event
+use Rattle.logical_unit.specs.Answers.{DoneValue, IsAnswer}
 use Rattle.frames.specs.declared.reply_frame.LoginAnswer.TheVariants.{Accepted, AlreadyConnected}
 use Rattle.frames.specs.Frames.{FrameValue, Login, Logout, Partial, Complete, parsed_frame}
 use Rattle.frames.specs.Replies.{LoginReply, LogoutReply, reply_bytes}

@@ -1,17 +1,17 @@
 ghost use Rattle.std.specs.Prelude.{◌≡◌, ◌⊎◌, Some, None, IfErr};
 ghost use Rattle.session.specs.declared.fault.SessionFault.TheVariants.{AlreadyConnected, NoMemory};
-ghost use Rattle.kept_unit.specs.Answers as event;
-ghost use Rattle.kept_unit.specs.Answers.{IsAnswer};
+ghost use Rattle.logical_unit.specs.Answers as event;
+ghost use Rattle.logical_unit.specs.Answers.{IsAnswer};
 
 use crate::fault::SessionFault;
-use kept_unit::Done;
+use logical_unit::Done;
 use scsi_nexus::Nexus;
 use std::alloc::{AllocError, Global};
 
 /// Where a session stands: a seat in a library, and a directory of the nexuses that have a session.
 pub trait Service {
     ghost use Rattle.std.specs.Prelude.{ℕ};
-    ghost use Rattle.kept_unit.specs.Answers.{DoneValue};
+    ghost use Rattle.logical_unit.specs.Answers.{DoneValue};
 
     /// What a call with this answer does to the service.
     ghost notes: { Self → DoneValue → Self → Type 0 };

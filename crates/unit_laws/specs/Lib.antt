@@ -6,3 +6,4 @@ pub mod TrailRows
 pub mod MoveRows
 pub mod AuditRows
 pub mod NumberRows
+pub mod CallRows

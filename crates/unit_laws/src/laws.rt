@@ -158,3 +158,11 @@ pub fn refused_moves()
 pub fn numbers_of_records()
     ensures { NumbersOfRecords }
 {}
+
+ghost use Rattle.unit_laws.specs.CallRows.{ActKindRows, CountRows};
+
+/// Worked rows: what an entry keeps of an act, and the numbers of records by unit.
+pub fn numbers_of_calls()
+    ensures kinds { ActKindRows }
+    ensures numbers { CountRows }
+{}

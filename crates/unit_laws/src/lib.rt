@@ -6,7 +6,7 @@ mod laws;
 pub use laws::{
     accepted_commands, answers_at_the_check, attentions, audit_shows_reservations, carried_or_not,
     carried_volumes, conflicts_at_the_check, decided_at_the_check, judged_is_not_busy,
-    legal_and_illegal_records, moves_keep_units, named_drives, numbers_of_records, preventions,
-    preventions_end, records_of_legal_trails, refused_media, refused_moves, reservation_check,
-    told_attentions, trail_shows_history,
+    legal_and_illegal_records, moves_keep_units, named_drives, numbers_of_calls,
+    numbers_of_records, preventions, preventions_end, records_of_legal_trails, refused_media,
+    refused_moves, reservation_check, told_attentions, trail_shows_history,
 };

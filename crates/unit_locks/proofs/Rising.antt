@@ -1,6 +1,6 @@
 -- The shares of a caller after a call.
 use Rattle.std.proofs.Common.{◌≡◌, ℕ, ◌+◌, List, ap, ◌∙◌, arith}
-use Rattle.kept_unit.specs.Answers.{count_at}
+use Rattle.logical_unit.specs.Answers.{count_at}
 use Rattle.unit_locks.specs.Shares.{Amounts, Rise}
 
 abbrev pub amounts : (zero one two three four : ℕ) → Amounts

@@ -1,6 +1,6 @@
 -- A caller's share of each unit's ledger, and what a call adds to it.
 use Rattle.std.specs.Prelude.{◌≡◌, ℕ, ◌+◌, List}
-use Rattle.kept_unit.specs.Answers.{count_at}
+use Rattle.logical_unit.specs.Answers.{count_at}
 
 -- a seat's share of each unit's ledger
 pub record Amounts : Type 0 where

@@ -4,9 +4,9 @@ ghost use Rattle.device_server.specs.View.{drives_of};
 ghost use Rattle.judgement.specs.Replies.{busy};
 ghost use Rattle.judgement.specs.Commands.{act_of};
 ghost use Rattle.logical_unit.specs.Route.{named};
-ghost use Rattle.kept_unit.specs.Answers as event;
-ghost use Rattle.kept_unit.specs.Answers.{IsAnswer};
-ghost use Rattle.kept_unit.specs.ActKinds.{act_kind_of, act_kind_if};
+ghost use Rattle.logical_unit.specs.Answers as event;
+ghost use Rattle.logical_unit.specs.Answers.{IsAnswer};
+ghost use Rattle.logical_unit.specs.ActKinds.{act_kind_of, act_kind_if};
 ghost use Rattle.unit_locks.specs.Shares.{Rise};
 
 use crate::all_locks::UnitLocks;
@@ -15,8 +15,8 @@ use crate::locks::{move_with_one, move_with_two};
 use crate::raw_command::RawCommand;
 use crate::seat_shares::SeatShares;
 use device_server::DeviceServer;
-use kept_unit::{Done, Kept, UnitLedger};
-use logical_unit::named;
+use kept_unit::{Kept, UnitLedger};
+use logical_unit::{Done, named};
 use std::alloc::Global;
 use std::sync::Wait;
 

@@ -1,7 +1,7 @@
 //! What no socket shows of a session: that reads are counted, and keys of the directory.
 
 use super::assert_same;
-use kept_unit::{Done, EventKind};
+use logical_unit::{Done, EventKind};
 use scsi_nexus::Nexus;
 use session::{Directory, Service, SessionFault, serve};
 use std::alloc::Global;

@@ -2,8 +2,7 @@
 
 use super::opened::Opened;
 use crate::comparing::assert_same;
-use kept_unit::EventKind;
-use logical_unit::{Receipt, Reply};
+use logical_unit::{EventKind, Receipt, Reply};
 use scsi_nexus::Nexus;
 use scsi_sense::Status;
 use std::alloc::Global;

@@ -1,9 +1,10 @@
 //! An open library as scenes see it: by what comes back alone. The contracts of its calls, which no row needs, stay behind the trait.
 
 use super::gates::TestGate;
-use kept_unit::{Done, EventKind, NumberRange, UnitLedger};
+use kept_unit::{NumberRange, UnitLedger};
 use library_closing::{ClosingFault, close_and_write};
 use library_device::Device;
+use logical_unit::{Done, EventKind};
 use lun_router::{CloseFault, Histories, Library, Seat};
 use output_lines::{Audit, UnwrittenListener};
 use scsi_nexus::Nexus;

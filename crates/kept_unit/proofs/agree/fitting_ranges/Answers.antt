@@ -1,4 +1,4 @@
-use Rattle.std.proofs.Common.{◌≡◌, ℕ, rules, List, Bool, true, false, sym, ◌∙◌, Result, Ok, Err, Option, Some, None}
+use Rattle.std.proofs.Common.{◌≡◌, rules, Bool, true, false, sym, ◌∙◌, Result, Ok, Err, Option, Some, None}
 use Rattle.std.specs.Prelude.{IfOk, MatchOption}
 use Rattle.std.specs.Global.{Vec}
 use Rattle.kept_unit.specs.declared.number_range.NumberRange.{NumberRange}

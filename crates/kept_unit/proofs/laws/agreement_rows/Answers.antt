@@ -3,7 +3,7 @@ use Rattle.std.specs.Prelude.{All}
 use Rattle.std.proofs.lemmas.List.Elements.{All-nil, All-cons}
 use Rattle.audit_log.specs.declared.record.Record.{Record}
 use Rattle.scsi_sense.specs.declared.status.Status.TheVariants.{Good, ReservationConflict}
-use Rattle.kept_unit.specs.declared.entry.Entry.{Entry}
+use Rattle.logical_unit.specs.declared.entry.Entry.{Entry}
 use Rattle.kept_unit.specs.declared.number_range.NumberRange.{NumberRange}
 use Rattle.kept_unit.specs.Agreeing.{IsTold, SeatFits, Stands, rises}
 use Rattle.kept_unit.specs.AgreementRows.{ready, came_in, trail, asked, moved, listing, behind}

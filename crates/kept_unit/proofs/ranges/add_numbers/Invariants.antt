@@ -1,5 +1,5 @@
 use Rattle.std.proofs.Common.{◌≡◌, ◌++◌, take}
-use Rattle.kept_unit.specs.Answers.{at}
+use Rattle.logical_unit.specs.Answers.{at}
 use Rattle.kept_unit.specs.Ranges.{numbers_in_ranges}
 use Rattle.kept_unit.proofs.ranges.add_numbers.Given as goal
 

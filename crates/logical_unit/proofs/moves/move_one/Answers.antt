@@ -1,9 +1,9 @@
-use Rattle.std.proofs.Common.{[], Some, None, inl, sym, ap, ◌∙◌, refl}
+use Rattle.std.proofs.Common.{[], Some, None, inl, sym, ap, ◌∙◌, refl, rules}
 use Rattle.judgement.specs.declared.reply.Reply.{Reply}
 use Rattle.logical_unit.specs.UnitView.{UnitWithRoom, last_number}
 use Rattle.logical_unit.proofs.MoveBusy.{answered_lacks}
-use Rattle.logical_unit.proofs.Numbers.{noted, answered_noted, ends_noted, joined, unmoved, drive_noted}
-use Rattle.logical_unit.proofs.Outsiders.{never_left}
+use Rattle.logical_unit.proofs.NumbersOf.{noted, answered_noted, ends_noted, joined, unmoved, drive_noted}
+use Rattle.logical_unit.proofs.Outsiders.{never_left, one_unchanged}
 use Rattle.logical_unit.proofs.moves.move_one.Goals as goal
 
 pub returns-in-Answered-clause-busy : goal.returns-in-Answered-clause-busy
@@ -36,3 +36,10 @@ returns-in-Ok-clause-outsider g c closed = absurd (never_left c.args.changer.now
 
 pub returns-in-Ok-clause-stays : goal.returns-in-Ok-clause-stays
 returns-in-Ok-clause-stays g c closed = absurd (never_left c.args.changer.now.unit c.args.nexus c.args.cdb.now c.args.bytes.now c.args.drive.now.unit.kept.lun [] c.requires.named closed c.in-Left.ensures.left.left)
+
+pub returns-in-Answered-clause-units : goal.returns-in-Answered-clause-units
+returns-in-Answered-clause-units g c = search rules
+
+pub returns-in-Answered-clause-outsider : goal.returns-in-Answered-clause-outsider
+returns-in-Answered-clause-outsider g c closed =
+    (one_unchanged _ c.args.drive.now.unit _ c.args.drive.now.unit c.args.nexus c.args.cdb.now c.args.bytes.now _ c.args.drive.now.unit.kept.lun c.requires.named (returns-in-Answered-clause-units g c) closed).0

@@ -1,9 +1,10 @@
-use Rattle.std.proofs.Common.{[], ◌∷◌, Some, None, inl, sym, ap, ◌∙◌, refl}
+use Rattle.std.proofs.Common.{[], ◌∷◌, Some, None, inl, sym, ap, ◌∙◌, refl, rules}
 use Rattle.judgement.specs.declared.reply.Reply.{Reply}
 use Rattle.logical_unit.specs.UnitView.{UnitWithRoom, last_number}
 use Rattle.logical_unit.proofs.MoveBusy.{answered_lacks}
-use Rattle.logical_unit.proofs.Numbers.{noted, answered_noted, ends_noted, joined_two, unmoved_two, drive_noted}
-use Rattle.logical_unit.proofs.Outsiders.{never_left}
+use Rattle.logical_unit.proofs.NumbersOf.{noted, answered_noted, ends_noted, joined_two, unmoved_two, drive_noted}
+use Rattle.logical_unit.specs.Move.{TwoDrives}
+use Rattle.logical_unit.proofs.Outsiders.{never_left, two_unchanged}
 use Rattle.logical_unit.proofs.moves.move_two.Goals as goal
 
 pub returns-in-Answered-clause-busy : goal.returns-in-Answered-clause-busy
@@ -37,3 +38,11 @@ returns-in-Ok-clause-outsider g c closed = absurd (never_left c.args.changer.now
 
 pub returns-in-Ok-clause-stay : goal.returns-in-Ok-clause-stay
 returns-in-Ok-clause-stay g c closed = absurd (never_left c.args.changer.now.unit c.args.nexus c.args.cdb.now c.args.bytes.now c.args.low.now.unit.kept.lun (c.args.high.now.unit.kept.lun ∷ []) c.requires.named closed c.in-Left.ensures.left.left)
+
+pub returns-in-Answered-clause-units : goal.returns-in-Answered-clause-units
+returns-in-Answered-clause-units g c = search rules
+
+pub returns-in-Answered-clause-outsider : goal.returns-in-Answered-clause-outsider
+returns-in-Answered-clause-outsider g c closed =
+    let drives : TwoDrives = record { low = c.args.low.now.unit; high = c.args.high.now.unit } in
+    (two_unchanged _ _ drives drives c.args.nexus c.args.cdb.now c.args.bytes.now _ c.args.low.now.unit.kept.lun c.args.high.now.unit.kept.lun c.requires.named (returns-in-Answered-clause-units g c) closed).0

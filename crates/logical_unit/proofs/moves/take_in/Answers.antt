@@ -1,4 +1,4 @@
-use Rattle.logical_unit.proofs.Numbers.{in_last}
+use Rattle.logical_unit.proofs.NumbersOf.{in_last}
 use Rattle.logical_unit.proofs.moves.take_in.Goals as goal
 
 pub returns-clause-last : goal.returns-clause-last

@@ -1,4 +1,4 @@
-use Rattle.logical_unit.proofs.Numbers.{out_last}
+use Rattle.logical_unit.proofs.NumbersOf.{out_last}
 use Rattle.logical_unit.proofs.moves.take_out.Goals as goal
 
 pub returns-clause-last : goal.returns-clause-last

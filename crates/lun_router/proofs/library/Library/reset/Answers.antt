@@ -1,5 +1,5 @@
 use Rattle.std.proofs.Common.{List, [], ◌∷◌, ◌++◌, ap, ◌∙◌}
-use Rattle.kept_unit.specs.declared.entry.Entry.{Entry}
+use Rattle.logical_unit.specs.declared.entry.Entry.{Entry}
 use Rattle.lun_router.specs.Settling.{ranges_of}
 use Rattle.lun_router.proofs.Rising.{counted_more}
 use Rattle.lun_router.proofs.library.Library.reset.Goals as goal

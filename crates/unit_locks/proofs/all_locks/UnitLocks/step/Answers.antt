@@ -1,6 +1,6 @@
 use Rattle.std.proofs.Common.{ℕ, ap, sym, ◌∙◌, arith}
 use Rattle.judgement.specs.Commands.{act_of}
-use Rattle.kept_unit.specs.ActKinds.{act_kind_of, act_kind_if}
+use Rattle.logical_unit.specs.ActKinds.{act_kind_of, act_kind_if}
 use Rattle.kept_unit.specs.Keeping.{kind_at}
 use Rattle.unit_locks.proofs.Rising.{rises, stays}
 use Rattle.unit_locks.proofs.all_locks.UnitLocks.step.Goals as goal

@@ -44,26 +44,3 @@ impl Numbers {
         self.pairs.as_slice()
     }
 }
-
-ghost use Rattle.std.specs.Prelude.{◌≡◌, [], ◌∷◌, ◌==◌, if◌then◌else◌};
-ghost use Rattle.kept_unit.specs.Answers.{own_number, count_at, OnlyAt};
-
-/// The number of a unit's own record; 0 stands for none.
-#[tactic(auto, using(crate::proofs::Counting::only_own))]
-pub(crate) fn own_number(lun: u8, number: u64) -> ArrayVec<(u8, u64), 3>
-    ensures own { result.items ≡ own_number lun number }
-    ensures only { OnlyAt lun result.items }
-{
-    let mut numbers = ArrayVec::new();
-    if number != 0 {
-        numbers.push((lun, number));
-    }
-    numbers
-}
-
-/// How many of the numbers are of records at a unit.
-pub(crate) fn count_at(lun: u8, pairs: &[(u8, u64)]) -> u64
-    ensures { result ≡ count_at lun pairs.now }
-{
-    pairs.iter().filter(|pair| pair.0 == lun).count() as u64
-}

@@ -15,10 +15,10 @@ use Rattle.logical_unit.specs.UnitView.{UnitView, last_number}
 use Rattle.logical_unit.specs.declared.route.Route.{Route}
 use Rattle.logical_unit.proofs.Halves.{is_unloaded, is_loaded, is_passed}
 use Rattle.logical_unit.proofs.Moved.{Ends, Became, one_became, two_became}
-use Rattle.logical_unit.proofs.Numbers.{none_more, one_more, out_last, in_last}
-use Rattle.kept_unit.specs.declared.act_kind.ActKind.{ActKind}
-use Rattle.kept_unit.specs.ActKinds.{act_kind_of, act_kind_if}
-use Rattle.kept_unit.proofs.Counting.{Recorded, recorded_one, executed, NoneOrOne}
+use Rattle.logical_unit.proofs.NumbersOf.{none_more, one_more, out_last, in_last}
+use Rattle.logical_unit.specs.declared.act_kind.ActKind.{ActKind}
+use Rattle.logical_unit.specs.ActKinds.{act_kind_of, act_kind_if}
+use Rattle.logical_unit.proofs.Recorded.{Recorded, recorded_one, executed, NoneOrOne}
 
 -- what the changer and the drives have: nothing and BUSY, or a record of the command at the changer, and the drives as they were or after
 -- the volume was carried

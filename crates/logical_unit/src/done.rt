@@ -1,15 +1,16 @@
 ghost use Rattle.std.specs.Prelude.{◌≡◌, [], None, Some};
 ghost use Rattle.scsi_sense.specs.declared.condition.Condition.TheVariants.{LogicalUnitNotSupported};
 ghost use Rattle.judgement.specs.Replies.{AnswersAbsent, busy, check};
-ghost use Rattle.kept_unit.specs.Answers as event;
-ghost use Rattle.kept_unit.specs.Answers.{entry_of, IsAnswer, LeavesNothing};
-ghost use Rattle.kept_unit.specs.EventValue.{event_value};
+ghost use Rattle.logical_unit.specs.Answers as event;
+ghost use Rattle.logical_unit.specs.Answers.{count_at, entry_of, IsAnswer, LeavesNothing};
+ghost use Rattle.logical_unit.specs.EventValue.{event_value};
 
 use crate::act_kind::ActKind;
 use crate::entry::Entry;
 use crate::numbers::Numbers;
+use crate::receipt::Receipt;
 use arrayvec::ArrayVec;
-use logical_unit::{Receipt, Reply, absent};
+use judgement::{Reply, absent};
 use scsi_nexus::Nexus;
 use scsi_sense::Condition;
 use std::alloc::Global;
@@ -37,11 +38,11 @@ pub struct Done<'a> {
 }
 
 impl<'a> Model for Done<'a> {
-    ghost use Rattle.kept_unit.specs.Answers.{DoneValue};
+    ghost use Rattle.logical_unit.specs.Answers.{DoneValue};
 
     ghost Value = { DoneValue };
 
-    ghost use Rattle.kept_unit.specs.EventValue.{event_value};
+    ghost use Rattle.logical_unit.specs.EventValue.{event_value};
 
     ghost view = { λ d. record { nexus = d.nexus; lun = d.lun; asked = event_value d.asked; act = d.act; reply = d.receipt.reply; numbers = d.receipt.numbers.items } };
 }
@@ -145,6 +146,14 @@ impl<'a> Done<'a> {
         ensures numbers { result.now.numbers.items ≡ self.now.numbers }
     {
         &self.receipt
+    }
+
+    /// How many records of a unit the call left.
+    pub fn count_at(&self, lun: u8) -> u64
+        ensures { result ≡ count_at lun self.now.numbers }
+    {
+        let numbers = self.receipt.numbers.as_slice();
+        numbers.iter().filter(|pair| pair.0 == lun).count() as u64
     }
 
     /// What a seat keeps of the call. Takes no memory.

@@ -1,7 +1,7 @@
 -- An event of a unit, without where its bytes lie.
-use Rattle.kept_unit.specs.declared.done.EventKind.{EventKind}
-use Rattle.kept_unit.specs.declared.done.EventKind.TheVariants as kind
-use Rattle.kept_unit.specs.Answers.{EventValue, Loss, Reset, Command}
+use Rattle.logical_unit.specs.declared.done.EventKind.{EventKind}
+use Rattle.logical_unit.specs.declared.done.EventKind.TheVariants as kind
+use Rattle.logical_unit.specs.Answers.{EventValue, Loss, Reset, Command}
 
 abbrev pub event_value : EventKind → EventValue
 event_value kind.Loss = Loss

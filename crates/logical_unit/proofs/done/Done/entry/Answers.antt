@@ -1,5 +1,5 @@
 use Rattle.std.proofs.Common.{rules}
-use Rattle.kept_unit.proofs.done.Done.entry.Goals as goal
+use Rattle.logical_unit.proofs.done.Done.entry.Goals as goal
 
 pub returns : goal.returns
 returns c = search rules

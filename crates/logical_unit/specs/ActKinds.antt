@@ -3,8 +3,8 @@ use Rattle.std.specs.Prelude.{ℕ, List, [], ◌∷◌, Option, Some, None}
 use Rattle.permit_tables.specs.Classes.{class_of_action}
 use Rattle.audit_log.specs.declared.act.Act.{Act}
 use Rattle.audit_log.specs.declared.act.Act.TheVariants as act
-use Rattle.kept_unit.specs.declared.act_kind.ActKind.{ActKind}
-use Rattle.kept_unit.specs.declared.act_kind.ActKind.TheVariants as kind
+use Rattle.logical_unit.specs.declared.act_kind.ActKind.{ActKind}
+use Rattle.logical_unit.specs.declared.act_kind.ActKind.TheVariants as kind
 
 abbrev pub act_kind_of : Act → ActKind
 act_kind_of (act.Command class) = kind.Command class

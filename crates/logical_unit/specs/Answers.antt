@@ -2,8 +2,8 @@
 use Rattle.std.specs.Prelude.{◌≡◌, ◌≢◌, ℕ, List, [], ◌∷◌, count_by, map, filter, Option, None, ◌==◌, if◌then◌else◌}
 use Rattle.scsi_nexus.specs.declared.nexus.Nexus.{Nexus}
 use Rattle.judgement.specs.declared.reply.Reply.{Reply}
-use Rattle.kept_unit.specs.declared.act_kind.ActKind.{ActKind}
-use Rattle.kept_unit.specs.declared.entry.Entry.{Entry}
+use Rattle.logical_unit.specs.declared.act_kind.ActKind.{ActKind}
+use Rattle.logical_unit.specs.declared.entry.Entry.{Entry}
 
 -- an I_T nexus loss, a reset, or a command, by its CDB and the data sent with it
 pub data EventValue : Type 0 where

@@ -1,6 +1,6 @@
 ghost use Rattle.std.specs.Prelude.{◌≡◌, ◌≢◌, ◌∷◌, ◌++◌, [], List, None};
 ghost use Rattle.audit_log.specs.declared.record.Record.{Record};
-ghost use Rattle.kept_unit.specs.ActKinds.{act_kind_of, act_kind_if};
+ghost use Rattle.logical_unit.specs.ActKinds.{act_kind_of, act_kind_if};
 
 use audit_log::{Act, Record};
 use permit_tables::Class;
@@ -21,7 +21,7 @@ pub enum ActKind {
 }
 
 /// The kind of an act.
-pub(crate) fn act_kind_of(act: &Act) -> ActKind
+pub fn act_kind_of(act: &Act) -> ActKind
     ensures { result ≡ act_kind_of act.now }
 {
     match act {
