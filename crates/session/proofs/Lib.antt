@@ -2,6 +2,5 @@ pub mod Called
 pub mod Answered
 pub mod Read
 pub mod Conversed
-pub mod Splitting
 pub mod Left
 pub mod GivenBack

@@ -1,5 +1,4 @@
 pub mod Faults
-pub mod Splitting
 pub mod Answering
 pub mod Directories
 pub mod Login

@@ -5,7 +5,7 @@ use Rattle.std.specs.List.{concat}
 use Rattle.frames.specs.Frames.{FrameValue, parsed_frame}
 use Rattle.frames.specs.Stream.{Stop, Waiting, Reads, partial, Feeds}
 use Rattle.frames.proofs.Streams.{pieces_join, one_reading}
-use Rattle.session.specs.Splitting.{FeedsAll, Splits}
+use Rattle.frame_splitter.specs.Splitting.{FeedsAll, Splits}
 
 -- what was fed, and then pieces one after another, as one piece
 joined : (a : Stop) (p : List ℕ) (fs : List FrameValue) (s : Stop) (pieces : List (List ℕ)) (gs : List FrameValue) (t : Stop)

@@ -1,11 +1,11 @@
 ghost use Rattle.std.specs.Prelude.{◌≡◌, ◌≢◌, ◌≤◌, false, [], length, drop, Err, IfOk, OnErr, vec_len};
 ghost use Rattle.frames.specs.Stream.{Reads, Waiting};
 ghost use Rattle.session.specs.declared.fault.SessionFault.TheVariants.{NoMemory};
-ghost use Rattle.session.specs.Splitting.{values_of_frames, stopped, answer, Fed, Given};
+ghost use Rattle.frame_splitter.specs.Splitting.{values_of_frames, stopped, answer, Fed, Given};
 
-use crate::fault::SessionFault;
 use crate::frame::{Frame, copy_of};
 use frames::{FrameFault, ParsedFrame, parse_frame};
+use session::SessionFault;
 use std::alloc::{AllocError, Global};
 use std::marker::Model;
 
@@ -27,7 +27,7 @@ pub struct Splitter {
 
 impl Model for Splitter {
     ghost use Rattle.frames.specs.Stream.{Stop};
-    ghost use Rattle.session.specs.Splitting.{stopped};
+    ghost use Rattle.frame_splitter.specs.Splitting.{stopped};
 
     ghost Value = { Stop };
 

@@ -1,6 +1,6 @@
 use Rattle.std.proofs.Common.{arith, rules}
 use Rattle.std.proofs.lemmas.Grind.{common_steps}
-use Rattle.session.proofs.splitter.Splitter.feed.Goals as goal
+use Rattle.frame_splitter.proofs.splitter.Splitter.feed.Goals as goal
 
 pub returns-in-Err-clause-memory : goal.returns-in-Err-clause-memory
 returns-in-Err-clause-memory c = grind (arith, common_steps)

@@ -1,5 +1,5 @@
-use Rattle.session.proofs.Splitting.{splits_read, same_frames}
-use Rattle.session.proofs.splitting_laws.cuts_change_nothing.Goals as goal
+use Rattle.frame_splitter.proofs.Splitting.{splits_read, same_frames}
+use Rattle.frame_splitter.proofs.laws.cuts_change_nothing.Goals as goal
 
 pub returns-clause-stream : goal.returns-clause-stream
 returns-clause-stream c pieces frames stop so = splits_read pieces frames stop so

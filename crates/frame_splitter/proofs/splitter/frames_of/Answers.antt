@@ -5,8 +5,8 @@ use Rattle.frames.specs.Frames.{Partial, Invalid, Complete, parsed_frame}
 use Rattle.frames.specs.Stream.{partial, faulty}
 use Rattle.frames.specs.Views.{frame_value}
 use Rattle.frames.proofs.Streams.{all_read, one_more}
-use Rattle.session.specs.Splitting.{values_of_frames}
-use Rattle.session.proofs.splitter.frames_of.Goals as goal
+use Rattle.frame_splitter.specs.Splitting.{values_of_frames}
+use Rattle.frame_splitter.proofs.splitter.frames_of.Goals as goal
 
 pub returns-in-Partial-clause-read : goal.returns-in-Partial-clause-read
 returns-in-Partial-clause-read c =

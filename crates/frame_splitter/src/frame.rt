@@ -1,6 +1,6 @@
 ghost use Rattle.std.specs.Prelude.{◌≡◌, IfOk};
 ghost use Rattle.frames.specs.Views.{frame_value};
-ghost use Rattle.session.specs.Splitting.{value_of_frame};
+ghost use Rattle.frame_splitter.specs.Splitting.{value_of_frame};
 
 use scsi_nexus::Nexus;
 use std::alloc::{AllocError, Global};

@@ -3,8 +3,8 @@ use Rattle.std.specs.Prelude.{◌≡◌, ℕ, Bool, false, List, [], ◌∷◌, 
 use Rattle.frames.specs.declared.fault.FrameFault.{FrameFault}
 use Rattle.frames.specs.Frames.{FrameValue, Login, Command, Reset, Logout}
 use Rattle.frames.specs.Stream.{Stop, Waiting, Broken, Reads, Feeds}
-use Rattle.session.specs.declared.frame.Frame.{Frame}
-use Rattle.session.specs.declared.frame.Frame.TheVariants as frame
+use Rattle.frame_splitter.specs.declared.frame.Frame.{Frame}
+use Rattle.frame_splitter.specs.declared.frame.Frame.TheVariants as frame
 use Rattle.session.specs.declared.fault.SessionFault.{SessionFault}
 use Rattle.session.specs.Faults.{of_frame}
 

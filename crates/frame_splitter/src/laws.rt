@@ -4,7 +4,7 @@ ghost use Rattle.frames.specs.declared.fault.FrameFault.TheVariants.{BadFrame};
 ghost use Rattle.frames.specs.Frames.{FrameValue, Login};
 ghost use Rattle.frames.specs.Rows.{a, login_by, test_unit_ready, one_session, one_session_frames};
 ghost use Rattle.frames.specs.Stream.{Reads, Stop, Waiting, Broken};
-ghost use Rattle.session.specs.Splitting.{Splits};
+ghost use Rattle.frame_splitter.specs.Splitting.{Splits};
 
 /// Worked rows: streams in pieces, and their frames.
 pub fn splitting_rows()

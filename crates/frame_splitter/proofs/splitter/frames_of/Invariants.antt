@@ -1,8 +1,8 @@
 use Rattle.std.proofs.Common.{◌≡◌, ◌-◌, ◌≤◌, ◌++◌, length, drop, List}
 use Rattle.frames.specs.Frames.{FrameValue}
 use Rattle.frames.specs.Stream.{Reads, Stop}
-use Rattle.session.specs.Splitting.{values_of_frames}
-use Rattle.session.proofs.splitter.frames_of.Given as goal
+use Rattle.frame_splitter.specs.Splitting.{values_of_frames}
+use Rattle.frame_splitter.proofs.splitter.frames_of.Given as goal
 
 abbrev pub invariant-frames : goal.invariant-frames
 invariant-frames l =

@@ -3,7 +3,7 @@ use Rattle.frames.specs.declared.fault.FrameFault.TheVariants.{BadFrame}
 use Rattle.frames.specs.Frames.{Login, parsed_body, parsed_frame}
 use Rattle.frames.specs.Rows.{a, one_session, one_session_frames}
 use Rattle.frames.specs.Stream.{Waiting, Broken, partial, faulty, frame}
-use Rattle.session.proofs.splitting_laws.splitting_rows.Goals as goal
+use Rattle.frame_splitter.proofs.laws.splitting_rows.Goals as goal
 
 pub returns-clause-at_once : goal.returns-clause-at_once
 unfolding parsed_body parsed_frame
