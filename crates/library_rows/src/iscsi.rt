@@ -1,3 +1,4 @@
+mod pdus;
 mod refused_resets;
 mod secrets;
 

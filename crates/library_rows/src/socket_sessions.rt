@@ -1,5 +1,6 @@
 mod hosts;
 mod sessions;
+mod splitting;
 mod streams;
 
 use crate::comparing::assert_same;
