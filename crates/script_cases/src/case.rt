@@ -1,7 +1,6 @@
 ghost use Rattle.command_line.specs.Tasks.{IsDoable, MakesLibrary};
 
-use crate::case_fault::CaseFault;
-use command_line::{CommandLineFault, Task, task_of};
+use command_line::{Task, task_of};
 use output_lines::{Audit, Explanations};
 use program_options::{LibraryOptions, MAX_READS};
 use replay::{ReplayFault, replay};
@@ -19,15 +18,11 @@ pub(crate) struct Case {
 }
 
 impl Case {
-    /// A case with no line yet.
-    pub(crate) fn new(alloc: Global, heading: Vec<u8>) -> Result<Case, CaseFault> {
-        match String::from_utf8(heading) {
-            Ok(heading) => Ok(Case {
-                heading,
-                script: Vec::new(alloc),
-            }),
-            Err(_) => Err(CaseFault::NotText),
-        }
+    /// A case with no line yet, unless its heading is no text.
+    pub(crate) fn new(alloc: Global, heading: Vec<u8>) -> Option<Case> {
+        let heading = String::from_utf8(heading).ok()?;
+        let script = Vec::new(alloc);
+        Some(Case { heading, script })
     }
 
     /// Adds a line to the script.
@@ -37,36 +32,26 @@ impl Case {
         Ok(())
     }
 
-    /// Writes the heading as it stands, and then what a replay of the script writes, or the fault that it ends with.
-    pub(crate) fn tell(&self, rt: &(impl AllocGlobal + Print)) -> Result<(), CaseFault> {
+    /// Writes the heading as it stands, and then what a replay of the script writes, or the fault that it ends with. Options that
+    /// make no library together are told as the program tells them, and so is a heading that asks for no replay.
+    pub(crate) fn tell(&self, rt: &(impl AllocGlobal + Print)) -> io::Result<()> {
         println!(rt; "{}", self.heading)?;
         let words = words_of(rt.alloc(), &self.heading)?;
         match task_of(rt.alloc(), &words) {
             Ok(task) => self.tell_task(rt, task),
-            Err(fault) => self.tell_refusal(rt, fault),
+            Err(fault) => println!(rt; "{fault}"),
         }
     }
 
-    fn tell_task(&self, rt: &(impl AllocGlobal + Print), task: Task) -> Result<(), CaseFault>
+    fn tell_task(&self, rt: &(impl AllocGlobal + Print), task: Task) -> io::Result<()>
         requires { IsDoable task }
     {
         match task {
             Task::Replay(options, explanations, audit) => {
                 let outcome = replay_script(rt, &self.script, options, explanations, audit);
-                Ok(tell_fault(rt, outcome)?)
+                tell_fault(rt, outcome)
             }
-            _ => Err(CaseFault::NoReplay(self.heading.clone()?)),
-        }
-    }
-
-    /// Each option is in its range, so a case can show that they make no library together.
-    fn tell_refusal(&self, rt: &impl Print, fault: CommandLineFault) -> Result<(), CaseFault> {
-        match fault {
-            CommandLineFault::Options(fault) => Ok(println!(rt; "{fault}")?),
-            what => Err(CaseFault::Options {
-                heading: self.heading.clone()?,
-                what,
-            }),
+            _ => println!(rt; "no replay"),
         }
     }
 }

@@ -1,12 +1,11 @@
 use crate::case::Case;
-use crate::case_fault::CaseFault;
-use std::io::{BufRead, BufReader};
+use std::io::{self, BufRead, BufReader, ErrorKind};
 
 /// What a heading begins with.
 const HEAD: &[u8] = b"== ";
 
-/// Tells each case of standard input, in their order.
-pub(crate) fn tell_all(rt: &(impl AllocGlobal + Input + Print)) -> Result<(), CaseFault> {
+/// Tells each case of standard input, in their order. A line before the first heading, and a heading that is no text, are invalid data.
+pub(crate) fn tell_all(rt: &(impl AllocGlobal + Input + Print)) -> io::Result<()> {
     let mut case = None;
     for line in BufReader::new(rt.alloc(), rt.reader())?.split(rt.alloc(), b'\n') {
         take_line(rt, &mut case, line?)?;
@@ -19,18 +18,20 @@ fn take_line(
     rt: &(impl AllocGlobal + Print),
     case: &mut Option<Case>,
     line: Vec<u8>,
-) -> Result<(), CaseFault> {
+) -> io::Result<()> {
     if line.starts_with(HEAD) {
         tell(rt, case)?;
-        *case = Some(Case::new(rt.alloc(), line)?);
+        *case = Case::new(rt.alloc(), line);
         return Ok(());
     }
-    let current = case.as_mut().ok_or(CaseFault::NoHeading)?;
-    Ok(current.push_line(&line)?)
+    match case {
+        Some(case) => Ok(case.push_line(&line)?),
+        None => Err(ErrorKind::InvalidData.into()),
+    }
 }
 
 /// Tells a case that has ended, if there is one.
-fn tell(rt: &(impl AllocGlobal + Print), case: &Option<Case>) -> Result<(), CaseFault> {
+fn tell(rt: &(impl AllocGlobal + Print), case: &Option<Case>) -> io::Result<()> {
     match case {
         Some(case) => case.tell(rt),
         None => Ok(()),

@@ -5,10 +5,8 @@
 #![tactic(auto)]
 
 mod case;
-mod case_fault;
 mod cases;
 
-fn main(rt: HostRuntime) -> anyhow::Result<()> {
-    cases::tell_all(&rt)?;
-    Ok(())
+fn main(rt: HostRuntime) -> std::io::Result<()> {
+    cases::tell_all(&rt)
 }
