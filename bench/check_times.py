@@ -1,10 +1,12 @@
 #!/usr/bin/env python3
-"""What each function of a crate costs to prove: `bench/check_times.py CRATE [--test] [--top N]`.
+"""What each function of a crate costs to prove: `bench/check_times.py CRATE [--test] [--by-goals] [--top N]`.
 
 Checks the crate from nothing, one part after another, and goes by the files that the check leaves, one for each part of a function: their
 megabytes, and the seconds from one to the next. Behind each stands the share of the part that shows what is borrowed and how long, which
-grows with the statements of a function times its variables. The megabytes are the same in each run, and the most costly functions by them
-come first; seconds also tell what else the machine did, and those of the function that is proved first hold what comes before it.
+grows with the statements of a function times its variables, and last the seconds of its goals that have no written answer: where these are
+many, a goal is proved by a late one of the tactics that are tried, and an answer saves most of them. The megabytes are the same in each run,
+and the most costly functions by them come first, with `--by-goals` those whose goals take longest; seconds also tell what else the machine
+did, and those of the function that is proved first hold what comes before it.
 What stands for no function (loading, linking) is left out. Works as root, since what the kit kept of other checks is hidden meanwhile;
 libraries below that aren't proved yet are proved first.
 """
@@ -30,20 +32,23 @@ def check(folder, words):
 
 
 class Cost:
-    """Of a function: megabytes and seconds, each with the share of borrows."""
+    """Of a function: megabytes and seconds, each with the share of borrows, and the seconds of goals without an answer."""
 
     def __init__(self):
-        self.megabytes = self.borrowed_megabytes = self.seconds = self.borrowed_seconds = 0.0
+        self.megabytes = self.borrowed_megabytes = self.seconds = self.borrowed_seconds = self.goal_seconds = 0.0
 
-    def add(self, megabytes, seconds, is_of_borrows):
+    def add(self, megabytes, seconds, part):
         self.megabytes += megabytes
         self.seconds += seconds
-        if is_of_borrows:
+        if part == "Lts":
             self.borrowed_megabytes += megabytes
             self.borrowed_seconds += seconds
+        elif part == "Proof":
+            self.goal_seconds += seconds
 
     def line(self, name):
-        return f"{self.megabytes:7.2f} {self.borrowed_megabytes:7.2f} MB {self.seconds:6.1f} {self.borrowed_seconds:6.1f} s  {name}"
+        borrowed = f"{self.megabytes:7.2f} {self.borrowed_megabytes:7.2f} MB {self.seconds:6.1f} {self.borrowed_seconds:6.1f}"
+        return f"{borrowed} {self.goal_seconds:6.1f} s  {name}"
 
 
 def cost_by_function(crate, incremental):
@@ -54,7 +59,7 @@ def cost_by_function(crate, incremental):
         found = re.match(rf"Rattle-{crate}-proofs\.(.+?)\.({PARTS})\b", os.path.basename(path))
         if found:
             for cost in costs[found[1]], whole:
-                cost.add(size / 1e6, after - before, found[2] == "Lts")
+                cost.add(size / 1e6, after - before, found[2])
     return costs, whole
 
 
@@ -62,6 +67,7 @@ def main():
     arguments = argparse.ArgumentParser(description=__doc__.splitlines()[0])
     arguments.add_argument("crate")
     arguments.add_argument("--test", action="store_true", help="of its tests")
+    arguments.add_argument("--by-goals", action="store_true", help="those first whose goals without an answer take longest")
     arguments.add_argument("--top", type=int, default=20)
     asked = arguments.parse_args()
     folder = os.path.join(TOP, "crates", asked.crate)
@@ -71,7 +77,8 @@ def main():
     if checked.returncode:
         sys.exit(f"{checked.stdout}check_times: {asked.crate} isn't proved")
     costs, whole = cost_by_function(asked.crate, incremental)
-    for function, cost in sorted(costs.items(), key=lambda row: -row[1].megabytes)[: asked.top]:
+    weight = (lambda cost: cost.goal_seconds) if asked.by_goals else (lambda cost: cost.megabytes)
+    for function, cost in sorted(costs.items(), key=lambda row: -weight(row[1]))[: asked.top]:
         print(cost.line(function))
     print(whole.line(f"{len(costs)} functions in all"))
 
