@@ -1,7 +1,8 @@
 -- A unit at its place among units with their room.
-use Rattle.std.proofs.Common.{◌≡◌, ◌<◌, ◌≤◌, ℕ, zero, suc, true, List, [], ◌∷◌, length, Option, Some, None, refl, sym, ap, ◌∙◌, subst, inl, inr, arith}
+use Rattle.std.proofs.Common.{◌≡◌, ◌<◌, ◌≤◌, ℕ, zero, suc, true, List, [], ◌∷◌, ◌++◌, length, take, drop, take_at, Option, Some, None, refl, sym, ap, ◌∙◌, subst, inl, inr, arith}
 use Rattle.std.specs.Prelude.{slice_get, slice_set, slice_index_or, unwrap_or}
-use Rattle.std.proofs.lemmas.List.{map-set}
+use Rattle.std.proofs.lemmas.List.{length-map, map-set}
+use Rattle.std.proofs.lemmas.Option.{slice_get_past}
 use Rattle.scsi_nexus.specs.declared.nexus.Nexus.{Nexus}
 use Rattle.audit_log.specs.declared.record.Record.{Record}
 use Rattle.judgement.specs.declared.reply.Reply.{Reply}
@@ -54,3 +55,17 @@ module _ (us : List UnitWithRoom) (i : ℕ) (d w : UnitWithRoom) (within : i < l
   drains_at entries told same trail =
       subst (λ (o : Option UnitView). DrainsAt (units_of us) i o (units_of (slice_set us i w), Some entries)) (sym (placed us i d within))
       (ap (λ (vs : List UnitView). (vs, Some entries)) (units_of-set us i w ∙ ap (slice_set (units_of us) i) same) ∙ ap (λ (es : List Record). (slice_set (units_of us) i (drained (slice_index_or us i d).unit), Some es)) told, trail)
+
+-- what came of a vector's items as a slice stands in the vector again
+pub put_back : (Does : (us vs : List UnitView) → Type 0) (all lent new : List UnitWithRoom) (count : ℕ) → lent ≡ all → length lent ≡ count → length new ≡ length lent → Does (units_of lent) (units_of new)
+    → Does (units_of all) (units_of (take count (new ++ drop (length new) all)))
+put_back Does all lent new count same whole kept h =
+    subst (λ (xs : List UnitWithRoom). Does (units_of all) (units_of xs)) (sym (take_at new (drop (length new) all) count (kept ∙ whole)))
+    (subst (λ (xs : List UnitWithRoom). Does (units_of xs) (units_of new)) same h)
+
+-- where no unit is
+pub none_at : (us : List UnitWithRoom) (i count : ℕ) → count ≡ length us → count ≤ i → slice_get us i ≡ None
+none_at us i count is past = slice_get_past us i (subst (λ k. k ≤ i) is past)
+
+pub none_there : (us : List UnitWithRoom) (i count : ℕ) → count ≡ length us → count ≤ i → slice_get (units_of us) i ≡ None
+none_there us i count is past = slice_get_past (units_of us) i (subst (λ k. k ≤ i) (is ∙ sym (length-map us (λ (u : UnitWithRoom). u.unit))) past)

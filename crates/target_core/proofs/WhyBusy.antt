@@ -1,13 +1,18 @@
 -- Why an event is BUSY, at the places of the units that it touches.
-use Rattle.std.proofs.Common.{◌≡◌, ◌<◌, ◌≤◌, ◌-◌, ℕ, zero, suc, List, [], ◌∷◌, ◌++◌, length, Option, Some, None, refl, sym, ap, ◌∙◌, subst, arith}
-use Rattle.std.specs.Prelude.{slice_get, slice_index_or}
+use Rattle.std.proofs.Common.{◌≡◌, ◌<◌, ◌≤◌, ◌-◌, ℕ, zero, suc, Bool, true, false, inl, inr, List, [], ◌∷◌, ◌++◌, length, take, Option, Some, None, refl, sym, ap, ◌∙◌, subst, arith}
+use Rattle.std.specs.Prelude.{◌==◌, ◌&&◌, not, nat_lt, slice_get, slice_index_or, if◌then◌else◌}
 use Rattle.scsi_nexus.specs.declared.nexus.Nexus.{Nexus}
+use Rattle.scsi_cdb.specs.Bits.{bit, byte, two_bytes}
+use Rattle.scsi_sense.specs.declared.condition.Condition.TheVariants.{LogicalUnitNotSupported}
+use Rattle.scsi_sense.specs.declared.status.Status.TheVariants.{Good, Busy}
 use Rattle.judgement.specs.declared.reply.Reply.{Reply}
+use Rattle.judgement.specs.Replies.{AnswersAbsent, absent_answer, good}
+use Rattle.judgement.specs.UnitData.{absent_inquiry, sense_data}
 use Rattle.logical_unit.specs.Move.{OneIsBusyOnlyFor, TwoAreBusyOnlyFor}
 use Rattle.logical_unit.specs.Step.{IsBusyOnlyFor, IsBusyOnlyForRecord}
 use Rattle.logical_unit.specs.UnitView.{UnitWithRoom, units_of}
 use Rattle.target_core.specs.Busy.{MoveIsBusyOnlyFor, PassIsBusyOnlyFor, NamingIsBusyOnlyFor, BusyOnlyAt, CommandIsBusyOnlyFor, IsBusyOnlyForRecordAt}
-use Rattle.target_core.specs.Run.{NamesAt}
+use Rattle.target_core.specs.Run.{NamesAt, unsupported}
 use Rattle.target_core.proofs.MovesInPlace.{part_low, part_high}
 
 -- the unit at a place
@@ -63,3 +68,17 @@ module _ (n : Nexus) (cdb bytes : List ℕ) (r : Reply) where
 -- a loss or a reset
 pub record_busy : (xs : List UnitWithRoom) (i : ℕ) (d : UnitWithRoom) (r : Reply) → i < length xs → IsBusyOnlyForRecord (slice_index_or xs i d) r → IsBusyOnlyForRecordAt (slice_get xs i) r
 record_busy xs i d r within h = subst (λ (o : Option UnitWithRoom). IsBusyOnlyForRecordAt o r) (sym (there xs i d within)) h
+
+-- what comes where no unit is isn't BUSY, but for want of memory
+pub unsupported_busy : (r : Reply) → r ≡ unsupported → r.status ≡ Busy → ⊥
+unsupported_busy r is busy = cc
+
+answer_busy : (short inquiry sense : Bool) (held told : List ℕ) → (if short then unsupported else if inquiry then good held else if sense then good told else unsupported).status ≡ Busy → ⊥
+answer_busy true inquiry sense held told h = cc
+answer_busy false true sense held told h = cc
+answer_busy false false true held told h = cc
+answer_busy false false false held told h = cc
+
+pub absent_busy : (cdb : List ℕ) (r : Reply) → AnswersAbsent cdb r → r.status ≡ Busy → (absent_answer cdb).status ≡ Good
+absent_busy cdb r (inl want) busy = want.1
+absent_busy cdb r (inr is) busy = absurd (answer_busy (nat_lt (length cdb) 6) (byte cdb 0 == 0x12 && not (bit cdb 1 0)) (byte cdb 0 == 0x03) (take (two_bytes cdb 3) absent_inquiry) (take (byte cdb 4) (sense_data LogicalUnitNotSupported)) (sym (ap (λ (x : Reply). x.status) is) ∙ busy))
