@@ -1,5 +1,5 @@
 use Rattle.std.proofs.Common.{get_or, sym, ap, ◌∙◌}
-use Rattle.target_core.proofs.MovesInPlace.{names_at, alone_moved, empty_is, single_is, pair_is, lun_of, luns_of}
+use Rattle.target_core.proofs.MovesInPlace.{names_at, one_within, two_within, alone_moved, empty_is, single_is, pair_is, lun_of, luns_of}
 use Rattle.target_core.proofs.WhyBusy.{alone_busy}
 use Rattle.target_core.proofs.target.command_with_drives.Goals as goal
 
@@ -8,11 +8,26 @@ move_at-requires-clause-named g c =
     names_at c.args.changer.now c.args.drives.now c.args.cdb.now _ c.requires
     (sym c.named-luns.ensures ∙ sym c.as_slice.ensures.value ∙ single_is c.as_slice.result.now c.in-len1.len_at_least c.in-len1.len_below ∙ ap lun_of (sym c.from.ensures))
 
+pub move_at-requires-clause-place : goal.move_at-requires-clause-place
+move_at-requires-clause-place g c = (one_within c.args.changer.now c.args.drives.now c.args.cdb.now c.from.result c.requires (move_at-requires-clause-named g c)).0
+
+pub move_at-requires-clause-within : goal.move_at-requires-clause-within
+move_at-requires-clause-within g c = (one_within c.args.changer.now c.args.drives.now c.args.cdb.now c.from.result c.requires (move_at-requires-clause-named g c)).1
+
 pub move_between-requires-clause-named : goal.move_between-requires-clause-named
 move_between-requires-clause-named g c =
     names_at c.args.changer.now c.args.drives.now c.args.cdb.now _ c.requires
     (sym c.named-luns.ensures ∙ sym c.as_slice.ensures.value ∙ pair_is c.as_slice.result.now c.in-len2-up.len_at_least c.as_slice.ensures.fits
     ∙ ap (λ l. luns_of l (get_or c.as_slice.result.now 1 0)) (sym c.from-low.ensures) ∙ ap (luns_of c.from-low.result) (sym c.from-high.ensures))
+
+pub move_between-requires-clause-place : goal.move_between-requires-clause-place
+move_between-requires-clause-place g c = (two_within c.args.changer.now c.args.drives.now c.args.cdb.now c.from-low.result c.from-high.result c.requires (move_between-requires-clause-named g c)).0
+
+pub move_between-requires-clause-rising : goal.move_between-requires-clause-rising
+move_between-requires-clause-rising g c = (two_within c.args.changer.now c.args.drives.now c.args.cdb.now c.from-low.result c.from-high.result c.requires (move_between-requires-clause-named g c)).1
+
+pub move_between-requires-clause-within : goal.move_between-requires-clause-within
+move_between-requires-clause-within g c = (two_within c.args.changer.now c.args.drives.now c.args.cdb.now c.from-low.result c.from-high.result c.requires (move_between-requires-clause-named g c)).2
 
 pub returns-in-empty : goal.returns-in-empty
 returns-in-empty g c =
