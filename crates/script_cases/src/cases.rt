@@ -21,7 +21,7 @@ fn take_line(
 ) -> io::Result<()> {
     if line.starts_with(HEAD) {
         tell(rt, case)?;
-        *case = Case::new(rt.alloc(), line);
+        *case = Some(Case::new(rt.alloc(), line).ok_or(ErrorKind::InvalidData)?);
         return Ok(());
     }
     match case {
