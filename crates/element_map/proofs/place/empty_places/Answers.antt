@@ -5,8 +5,8 @@ use Rattle.element_map.proofs.place.empty_places.Goals as goal
 
 -- a refusal gives nothing
 none_ok : {A E : Type 0} (r : Result A E) (P : A → Type 0) → IsErr r → IfOk r P
-none_ok (Ok a) P h = search rules
-none_ok (Err e) P h = search rules
+none_ok (Ok a) P h = search rules fits 100
+none_ok (Err e) P h = search rules fits 100
 
 pub loop-init : goal.loop-init
 loop-init g c = c.in_ok-places.ensures.items

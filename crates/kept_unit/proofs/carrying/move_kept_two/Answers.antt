@@ -46,7 +46,7 @@ returns-clause-act g c =
     c.carry_out_move_two-done.ensures.act ∙ ap (λ (kind : Kind). act_kind_if c.carry_out_move_two-done.result.numbers (act_kind_of (act_of kind c.args.cdb.now c.args.bytes.now))) c.changer.invariant.kind
 
 pub returns-clause-high_book : goal.returns-clause-high_book
-returns-clause-high_book g c = search rules
+returns-clause-high_book g c = search rules fits 100
 
 pub returns-clause-high_part : goal.returns-clause-high_part
-returns-clause-high_part g c = search rules
+returns-clause-high_part g c = search rules fits 100

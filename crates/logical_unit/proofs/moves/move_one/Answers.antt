@@ -38,7 +38,7 @@ pub returns-in-Ok-clause-stays : goal.returns-in-Ok-clause-stays
 returns-in-Ok-clause-stays g c closed = absurd (never_left c.args.changer.now.unit c.args.nexus c.args.cdb.now c.args.bytes.now c.args.drive.now.unit.kept.lun [] c.requires.named closed c.in-Left.ensures.left.left)
 
 pub returns-in-Answered-clause-units : goal.returns-in-Answered-clause-units
-returns-in-Answered-clause-units g c = search rules
+returns-in-Answered-clause-units g c = search rules fits 100
 
 pub returns-in-Answered-clause-outsider : goal.returns-in-Answered-clause-outsider
 returns-in-Answered-clause-outsider g c closed =

@@ -10,4 +10,4 @@ invariant_of-self c =
     rw (c.remove.ensures, c.lose.ensures) (filter_have _ test c.self.inside.preventers (lost_have c.self.inside.queues c.args.nexus c.self.inside.preventers c.self.invariant))
 
 pub returns : goal.returns
-returns c = search rules
+returns c = search rules fits 100

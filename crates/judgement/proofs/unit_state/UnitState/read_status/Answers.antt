@@ -2,4 +2,4 @@ use Rattle.std.proofs.Common.{rules}
 use Rattle.judgement.proofs.unit_state.UnitState.read_status.Goals as goal
 
 pub returns : goal.returns
-returns c = search rules
+returns c = search rules fits 100

@@ -6,4 +6,4 @@ pub invariant_of-self : goal.invariant_of-self
 invariant_of-self c = rw c.clear.ensures (cleared_have c.self.inside.queues c.args.nexus c.args.kind c.self.inside.preventers c.self.invariant)
 
 pub returns-clause-state : goal.returns-clause-state
-returns-clause-state c = search rules
+returns-clause-state c = search rules fits 100

@@ -10,7 +10,7 @@ invariant_of-self c =
     told_have c.apply.result c.self.inside.queues c.apply.new.queues told c.self.inside.preventers c.apply.ensures.attentions c.apply.ensures.silent c.self.invariant
 
 pub preempt_and_abort-requires-clause-aborts : goal.preempt_and_abort-requires-clause-aborts
-preempt_and_abort-requires-clause-aborts c = search rules
+preempt_and_abort-requires-clause-aborts c = search rules fits 100
 
 pub returns-else-eq-clause-ok : goal.returns-else-eq-clause-ok
-returns-else-eq-clause-ok c = search rules
+returns-else-eq-clause-ok c = search rules fits 100

@@ -9,16 +9,16 @@ invariant_of-self g c =
     (c.count_at.ensures ∙ ap (count_at g.row.LUN) (c.carry_out-done.ensures.numbers ∙ ap (λ (lun : ℕ). own_number lun c.carry_out-done.result.reply.number) c.self.invariant.place)) c.add.ensures.total
 
 pub returns-clause-step : goal.returns-clause-step
-returns-clause-step g c = search rules
+returns-clause-step g c = search rules fits 100
 
 pub returns-clause-act : goal.returns-clause-act
-returns-clause-act g c = search rules
+returns-clause-act g c = search rules fits 100
 
 pub returns-clause-book : goal.returns-clause-book
-returns-clause-book g c = search rules
+returns-clause-book g c = search rules fits 100
 
 pub returns-clause-part : goal.returns-clause-part
-returns-clause-part g c = search rules
+returns-clause-part g c = search rules fits 100
 
 pub returns-clause-unnumbered : goal.returns-clause-unnumbered
-returns-clause-unnumbered g c = search rules
+returns-clause-unnumbered g c = search rules fits 100

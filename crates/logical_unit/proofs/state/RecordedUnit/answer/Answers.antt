@@ -13,4 +13,4 @@ invariant_of-self-2 g c =
     (answered_stands c.self.inside.base c.self.inside.kept c.judge.new.kept c.self.inside.trail.records _ _ c.args.nexus c.in_ok-decoded.decoded c.args.bytes.now _ c.in_ok-act.act c.in_ok-decision.decision c.in_ok-decision.reply c.self.invariant room plain c.in_ok-act.ensures.ok c.in_ok-decision.ensures.ok)
 
 pub returns-clause-ok : goal.returns-clause-ok
-returns-clause-ok g c = search rules
+returns-clause-ok g c = search rules fits 100

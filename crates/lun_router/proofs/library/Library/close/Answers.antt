@@ -37,4 +37,4 @@ returns-in-Ok-true-clause-fourth g c =
     (subst (λ (ss : List SeatValue). IfSome c.take-units.result.0.fourth (λ k. Agrees (notes_at 4) 4 g.L4.UnitLedger.since k.unit.base.last k.unit.records ss)) c.deref.ensures.value (c.in-Ok-true.ensures.fourth yes))
 
 pub returns-in-Ok-true-clause-missing : goal.returns-in-Ok-true-clause-missing
-returns-in-Ok-true-clause-missing g c = search rules
+returns-in-Ok-true-clause-missing g c = search rules fits 100

@@ -5,10 +5,10 @@ use Rattle.lun_router.proofs.Rising.{counted_more}
 use Rattle.lun_router.proofs.library.Library.submit.Goals as goal
 
 pub returns-clause-answer : goal.returns-clause-answer
-returns-clause-answer g c = search rules
+returns-clause-answer g c = search rules fits 100
 
 pub returns-clause-act : goal.returns-clause-act
-returns-clause-act g c = search rules
+returns-clause-act g c = search rules fits 100
 
 pub invariant_of-seat-2 : goal.invariant_of-seat-2
 invariant_of-seat-2 g c =

@@ -35,7 +35,7 @@ returns-then-is_all-clause-left g c =
     record { said = on.said; appended = appends_kept old new (g.W.Write.contents c.flush.new.self) on.said on.appended c.flush.ensures.bytes; rest = on.rest }
 
 pub returns-else-is_all-clause-all : goal.returns-else-is_all-clause-all
-returns-else-is_all-clause-all g c = search rules
+returns-else-is_all-clause-all g c = search rules fits 100
 
 pub returns-else-is_all-clause-left : goal.returns-else-is_all-clause-left
 returns-else-is_all-clause-left g c =
