@@ -1,3 +1,4 @@
+use Rattle.std.proofs.lemmas.Grind.{common_steps}
 use Rattle.std.proofs.Common.{◌≡◌, ◌∙◌, ap, sym, subst, length, arith}
 use Rattle.iscsi_login.specs.Exchanges.{taken}
 use Rattle.iscsi_login.specs.declared.progress.LoginProgress.{LoginProgress}
@@ -36,3 +37,6 @@ returns-in-Begins-clause-taken c =
     c.in_ok-progress-in-Complete.ensures.taken in
     subst (λ (p : LoginProgress). UnlessRefused p (Exchanges c.args.target.now c.args.exchange.now c.take_pdu.new.exchange c.args.read_buffer.now c.consume.new.self)) (sym c.in-Begins.is)
     (exchanges_more c.args.target.now c.args.exchange.now c.pdus.exchange _ c.args.read_buffer.now c.pdus.read_buffer c.consume.new.self (initiator_value pdu) size c.pdus.invariant here c.consume.ensures took)
+
+pub pdus-smaller : goal.pdus-smaller
+pdus-smaller c = grind (arith, common_steps)

@@ -1,3 +1,4 @@
+use Rattle.std.proofs.lemmas.Grind.{common_steps}
 use Rattle.std.proofs.Common.{◌≡◌, ◌∙◌, ap, sym, length, refl, arith}
 use Rattle.std.proofs.lemmas.List.{length-drop}
 use Rattle.iscsi_pdu.specs.Pdus.{parsed_initiator}
@@ -62,3 +63,9 @@ pdus-preserved g c = (
       answered_more g.S.Service.notes g.S.Service.count c.args.nexus c.args.connection.now.tasks c.pdus.connection.tasks _ c.args.service.now c.pdus.service _ c.args.read_buffer.now c.args.out.now.items c.pdus.read_buffer c.pdus.out.items
       c.consume.new.self _ (initiator_value pdu) size (c.pdus.invariant.2 normal) c.pdus.invariant.1 here c.consume.ensures (c.in_ok-ends-in-Complete.ensures.said normal),
 )
+
+pub returns-then-len-ge-BATCH-clause-full : goal.returns-then-len-ge-BATCH-clause-full
+returns-then-len-ge-BATCH-clause-full g c = grind (arith, common_steps)
+
+pub pdus-smaller : goal.pdus-smaller
+pdus-smaller g c = grind (arith, common_steps)

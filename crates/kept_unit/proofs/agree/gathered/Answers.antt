@@ -1,5 +1,5 @@
 use Rattle.std.proofs.Common.{◌≡◌, ℕ, ◌+◌, ◌<◌, List, [], ◌∷◌, ◌++◌, length, take, get_or, All, sym, ap, ◌∙◌, subst, arith, add-one, append-nil, append_assoc}
-use Rattle.std.proofs.lemmas.Grind.{flat_map-append}
+use Rattle.std.proofs.lemmas.Grind.{flat_map-append, common_steps}
 use Rattle.std.proofs.lemmas.List.Elements.{All-append, All-cons, All-nil}
 use Rattle.std.proofs.Math.Seq.{take-suc}
 use Rattle.audit_log.specs.declared.record.Record.{Record}
@@ -39,3 +39,6 @@ pub loop-seat-preserved : goal.loop-seat-preserved
 loop-seat-preserved c =
     let got = rw c.in-Some.is at c.in_ok-fitting_ranges.ensures in
     one_more notes_value c.args.lun c.args.first c.args.base c.args.records.now c.args.seats.now c.loop-seat.seat-index c.seat-item.result c.loop-seat.all.items c.add_noted.new.all.items c.in-Some.listed.items (omega arith) c.seat-item.is c.loop-seat.invariant.0 c.loop-seat.invariant.1 got.0 got.1 (c.in_ok-add_noted-in-Some.ensures ∙ ap (λ (l : List NumberRange). c.loop-seat.all.items ++ c.seat-item.result.settled.now ++ l) c.as_slice.ensures.value)
+
+pub returns : goal.returns
+returns c = grind (arith, common_steps)

@@ -1,4 +1,5 @@
-use Rattle.std.proofs.Common.{◌≡◌, List, ◌∙◌, ap, sym, subst, length, drop, ◌≤◌}
+use Rattle.std.proofs.lemmas.Grind.{common_steps}
+use Rattle.std.proofs.Common.{◌≡◌, List, ◌∙◌, ap, sym, subst, length, drop, ◌≤◌, arith}
 use Rattle.std.proofs.lemmas.List.{length-map}
 use Rattle.std.specs.Prelude.{nat_lt, slice_get}
 use Rattle.logical_unit.specs.UnitView.{UnitWithRoom, units_of}
@@ -54,3 +55,9 @@ returns-clause-fourth g c =
     let all = one_by_one (units_of c.args.core) (units_of c.take_first.new.units.items) (units_of c.take_first-2.new.units.items) (units_of c.take_first-second.new.units.items) (units_of c.take_first-third.new.units.items)
     (c.take_first.ensures.rest ∙ ap (drop 1) core) c.take_first-2.ensures.rest c.take_first-second.ensures.rest c.take_first-third.ensures.rest in
     placed_some (units_of c.args.core) 4 c.take_first-fourth.result c.into_units-units.ensures.ordered (c.take_first-fourth.ensures.unit ∙ all.fourth)
+
+pub returns-clause-count : goal.returns-clause-count
+returns-clause-count g c = grind (arith, common_steps)
+
+pub overflow_cast-count : goal.overflow_cast-count
+overflow_cast-count g c = grind (arith, common_steps)

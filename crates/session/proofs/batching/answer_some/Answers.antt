@@ -1,3 +1,4 @@
+use Rattle.std.proofs.lemmas.Grind.{common_steps}
 use Rattle.std.proofs.Common.{◌≡◌, ◌∙◌, true, ap, sym, length, arith}
 use Rattle.std.specs.Prelude.{Ok}
 use Rattle.std.proofs.lemmas.List.{length-drop}
@@ -51,3 +52,9 @@ returns-in-Again-clause-calls g c =
 pub returns-then-len-ge-BATCH-clause-calls : goal.returns-then-len-ge-BATCH-clause-calls
 returns-then-len-ge-BATCH-clause-calls g c =
     called_then g.S.Service.notes c.args.nexus c.args.service.now c.frames.service c.answer.new.service c.frames.invariant.4 c.answer.ensures.calls
+
+pub frames-smaller : goal.frames-smaller
+frames-smaller g c = grind (arith, common_steps)
+
+pub returns-then-len-ge-BATCH-clause-full : goal.returns-then-len-ge-BATCH-clause-full
+returns-then-len-ge-BATCH-clause-full g c = grind (arith, common_steps)

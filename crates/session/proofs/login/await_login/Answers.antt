@@ -1,3 +1,4 @@
+use Rattle.std.proofs.lemmas.Grind.{common_steps}
 use Rattle.std.proofs.Common.{◌≡◌, ◌∙◌, ◌*◌, ℕ, List, false, ap, sym, subst, refl, length, arith}
 use Rattle.std.specs.Io.KnownBytes.{Consumes}
 use Rattle.frames.specs.Frames.{Complete, parsed_frame}
@@ -56,3 +57,6 @@ returns-in-Complete-Logout-default-clause-kept_out g c =
     let read = c.fill.new.self in
     let shown : parsed_frame false read ≡ _ = sym (c.in-Complete-Logout-default.ensures.parsed ∙ ap (parsed_frame false) c.pending-in-reads.ensures) in
     record { read = read; consumed = consumes_filled _ _ _ _ _ _ c.reads.invariant.0 c.in-Ok.ensures.ok; shown = ap fault_before_login (shown ∙ ap (λ f. Complete (frame_value f) c.in-Complete-Logout-default.field-1) c.in-Complete-Logout-default.field-0-is) }
+
+pub returns-in-Ok-eq0-clause-reads : goal.returns-in-Ok-eq0-clause-reads
+returns-in-Ok-eq0-clause-reads g c = grind (arith, common_steps)

@@ -1,3 +1,4 @@
+use Rattle.std.proofs.lemmas.Grind.{common_steps}
 use Rattle.std.proofs.Common.{◌≡◌, ap, subst, ◌∙◌, arith, true, false, List, ℕ}
 use Rattle.std.specs.Prelude.{Ok}
 use Rattle.session.specs.Login.{end_of}
@@ -60,3 +61,6 @@ returns-in_err-answer_and_write-2-clause-calls g c =
 pub returns-then-not-branch-2-clause-calls : goal.returns-then-not-branch-2-clause-calls
 returns-then-not-branch-2-clause-calls g c =
     called_then g.S.Service.notes c.args.nexus c.args.service.now c.reads.service c.answer_and_write-in-reads.new.service c.reads.invariant.4 c.answer_and_write-in-reads.ensures.calls
+
+pub returns-in-Ok-eq0-clause-reads : goal.returns-in-Ok-eq0-clause-reads
+returns-in-Ok-eq0-clause-reads g c = grind (arith, common_steps)

@@ -1,3 +1,4 @@
+use Rattle.std.proofs.lemmas.Grind.{common_steps}
 use Rattle.std.proofs.Common.{◌≡◌, None, arith}
 use Rattle.logical_unit.specs.UnitView.{units_of}
 use Rattle.target_core.specs.Faults.{fault_of}
@@ -11,3 +12,6 @@ unreachable-requires c =
     let ordered : fault_of (units_of c.drives.units.items) ≡ None = rw (c.drives.invariant, all) (in_order c.args.options.now c.requires.range) in
     let fault = c.in-Err.ensures.err.0 in
     absurd cc
+
+pub drives-preserved : goal.drives-preserved
+drives-preserved c = grind (arith, common_steps)

@@ -1,3 +1,4 @@
+use Rattle.std.proofs.lemmas.Grind.{common_steps}
 use Rattle.std.proofs.Common.{◌≡◌, ◌≤◌, ◌++◌, ◌∙◌, ℕ, List, length, append_assoc, ap, sym, subst, arith, length-append}
 use Rattle.std.proofs.KnownBytes.{Consumes-trans}
 use Rattle.tape_image.specs.Parts.{Partial, image_part}
@@ -19,3 +20,12 @@ reads-preserved g c =
       );
       most = subst (λ (xs : List ℕ). HasNoMore (length xs) (image_part xs)) (sym one.1) (wanted_fits c.reads.part one.0 c.in-Partial.wanted wanted most);
     }
+
+pub returns-in-Ok-eq0-clause-most : goal.returns-in-Ok-eq0-clause-most
+returns-in-Ok-eq0-clause-most g c = grind (arith, common_steps)
+
+pub returns-in-Ok-eq0-clause-read : goal.returns-in-Ok-eq0-clause-read
+returns-in-Ok-eq0-clause-read g c = grind (arith, common_steps)
+
+pub reads-smaller : goal.reads-smaller
+reads-smaller g c = grind (arith, common_steps)

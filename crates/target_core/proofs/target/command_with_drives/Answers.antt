@@ -1,4 +1,5 @@
-use Rattle.std.proofs.Common.{get_or, sym, ap, ◌∙◌}
+use Rattle.std.proofs.lemmas.Grind.{common_steps}
+use Rattle.std.proofs.Common.{get_or, sym, ap, ◌∙◌, arith}
 use Rattle.target_core.proofs.MovesInPlace.{names_at, one_within, two_within, alone_moved, empty_is, single_is, pair_is, lun_of, luns_of}
 use Rattle.target_core.proofs.WhyBusy.{alone_busy}
 use Rattle.target_core.proofs.target.command_with_drives.Goals as goal
@@ -36,3 +37,6 @@ returns-in-empty g c =
       step = alone_moved c.args.changer.now c.execute.new.self c.args.drives.now c.args.nexus c.args.cdb.now c.args.bytes.now c.execute.result names c.execute.ensures.unit;
       busy = alone_busy c.args.nexus c.args.cdb.now c.args.bytes.now c.execute.result c.args.changer.now c.args.drives.now names c.execute.ensures.busy;
     }
+
+pub overflow_cast-drives : goal.overflow_cast-drives
+overflow_cast-drives g c = grind (arith, common_steps)

@@ -1,3 +1,4 @@
+use Rattle.std.proofs.lemmas.Grind.{common_steps}
 use Rattle.std.proofs.Common.{arith}
 use Rattle.tape_medium.proofs.PieceLemmas.{put-into-last, put-into-new, put-into-next}
 use Rattle.tape_medium.proofs.pieces.Pieces.put.Goals as goal
@@ -28,3 +29,6 @@ invariant_of-self-2 c =
 pub returns-clause-ok : goal.returns-clause-ok
 returns-clause-ok c =
     (put-into-next _ _ _ _ _ c.args.home c.args.end c.args.more.now c.self.view_is c.self.invariant.1 c.if-home-self-2.false (omega (arith, c.self.invariant.0, c.self.inside.pieces.ok.0)) c.in_ok-begin_at-2.ensures.ok c.cut_at.ensures.items c.requires.home).1
+
+pub put_into-requires-clause-room : goal.put_into-requires-clause-room
+put_into-requires-clause-room c = grind (arith, common_steps)

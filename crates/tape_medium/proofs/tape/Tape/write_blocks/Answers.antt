@@ -1,3 +1,4 @@
+use Rattle.std.proofs.lemmas.Grind.{common_steps}
 use Rattle.std.proofs.Common.{arith, ◌<◌, ◌/◌, length, length-append, take}
 use Rattle.tape_medium.specs.Tape.{blocks}
 use Rattle.tape_medium.proofs.BlockLemmas.{IsTape-put, length-blocks, bytes_in-whole}
@@ -15,3 +16,6 @@ invariant_of-self-2 c =
     let lengths = HaveLengths-blocks c.args.size count c.args.bytes.now (omega arith) (omega arith) (omega (arith, is)) in
     let longer = length-append (take c.self.inside.position c.self.inside.store) (blocks c.args.size count c.args.bytes.now) in
     rw (c.in-Ok.ensures.ok) (IsTape-put _ _ _ _ _ c.self.invariant.0 (length-blocks _ _ _) (omega (arith, whole)) (omega arith), HaveLengths-put c.self.inside.store (blocks c.args.size count c.args.bytes.now) c.self.inside.position c.self.invariant.1 lengths, omega (arith, longer, length-take-le c.self.inside.position c.self.inside.store c.self.invariant.0.within))
+
+pub overflow_add-bytes_before : goal.overflow_add-bytes_before
+overflow_add-bytes_before c = grind (arith, common_steps)
