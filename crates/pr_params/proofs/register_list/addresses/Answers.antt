@@ -1,3 +1,4 @@
+use Rattle.std.proofs.lemmas.Grind.{pieces}
 use Rattle.std.proofs.Common.{◌≤◌, [], ◌∷◌, length, length-append, ap, ◌∙◌, arith}
 use Rattle.pr_params.proofs.IdLaws.{all-step, read-more}
 use Rattle.pr_params.proofs.register_list.addresses.Goals as goal
@@ -14,3 +15,6 @@ loop-rest-preserved c =
       all = so_far.all ∙ all-step _ _ _ long cut.front cut.back sas.0;
       read = read-more _ _ _ _ _ _ _ long cut.front cut.back sas.1 c.push.ensures.items so_far.read;
     }
+
+pub returns-in-Err-clause-all : goal.returns-in-Err-clause-all
+returns-in-Err-clause-all c = search (pieces, arith) depth 5 fits 300

@@ -1,3 +1,4 @@
+use Rattle.std.proofs.lemmas.Grind.{common_steps}
 use Rattle.std.proofs.Common.{ℕ, ◌+◌, ◌*◌, ◌/◌, length, take, refl, ap, ◌∙◌, arith, rules}
 use Rattle.byteorder.specs.Endian.{big_bytes}
 use Rattle.scsi_nexus.specs.declared.nexus.Nexus.{Nexus}
@@ -14,3 +15,9 @@ returns c =
 
 pub loop-key-init : goal.loop-key-init
 loop-key-init c = search rules
+
+pub loop-key-preserved : goal.loop-key-preserved
+loop-key-preserved c = grind (arith, common_steps)
+
+pub overflow_cast-first : goal.overflow_cast-first
+overflow_cast-first c = grind (arith, common_steps)
