@@ -38,14 +38,18 @@ def check(crate, *words):
     return ran.returncode, ran.stdout
 
 
+def text_of(path):
+    with open(path, encoding="utf-8") as file:
+        return file.read()
+
+
 class Answers:
     """A function's file of answers: what stood in it, and the goals beside that, each with its place in the row."""
 
     def __init__(self, crate, function, offered):
         self.path = os.path.join(crate, "proofs", *function.split("::"), "Answers.antt")
-        self.stood = open(self.path, encoding="utf-8").read() if os.path.exists(self.path) else ""
-        with open(offered, encoding="utf-8") as file:
-            text = file.read()
+        self.stood = text_of(self.path) if os.path.exists(self.path) else ""
+        text = text_of(offered)
         self.goals_line = re.search(r"^use \S+\.Goals as goal$", text, re.M)[0]
         found = re.findall(r"^pub (\S+) : goal\.\S+\n\1((?: \S+)+) = \?", text, re.M)
         self.binders = {name: binders for name, binders in found if not re.search(rf"^pub {re.escape(name)} :", self.stood, re.M)}
