@@ -12,7 +12,7 @@ use Rattle.tape_flush.specs.Images.{ImageValue, end_at, ends_from, IsFlushed, Fa
 use Rattle.tape_flush.proofs.Holding.{Split, split, join, written, same_count, ReadsOn, reads_on, holds_nothing, first_cut, first_behind, first_written}
 
 -- bytes that hold objects for sure, and then the first of others
-abbrev Bytes : List ℕ → List ℕ → (known others : List Object) → Type 0
+abbrev pub Bytes : List ℕ → List ℕ → (known others : List Object) → Type 0
 Bytes ends bytes known others =
     (front tail : List ℕ) × (bytes ≡ front ++ tail) × HoldsAll 0 front known ends × HoldsFirst (length front) tail others
 
@@ -23,47 +23,25 @@ front_of stay ends bytes front tail known is s =
     ap (take (end_at ends stay)) all ∙ take_at s.front (s.back ++ tail) (end_at ends stay) size
 
 -- those that stay, and what was written behind them
-grown : (stay : ℕ) (ends bytes bytes' piece : List ℕ) (known others new : List Object) → stay ≤ length known → AreKeepable new → Bytes ends bytes known others
-    → bytes' ≡ take (end_at ends stay) bytes ++ (image_bytes new ++ piece)
-    → (front : List ℕ) × (bytes' ≡ front ++ piece) × HoldsAll 0 front (take stay known ++ new) (take stay ends ++ ends_from (end_at ends stay) new)
-grown stay ends bytes bytes' piece known others new within can h is =
-    let s : Split 0 stay h.0 known ends = split stay 0 h.0 known ends h.3 within in
-    let first : take (end_at ends stay) bytes ≡ s.front = front_of stay ends bytes h.0 h.1 known h.2 s in
-    let here : 0 + length s.front ≡ end_at ends stay = s.end in (
-      s.front ++ image_bytes new,
-      is ∙ ap (λ (z : List ℕ). z ++ (image_bytes new ++ piece)) first ∙ sym (append_assoc s.front (image_bytes new) piece),
-      join 0 s.front (image_bytes new) (take stay known) new (take stay ends) (ends_from (end_at ends stay) new) s.first
-          (subst (λ (k : ℕ). HoldsAll (0 + length s.front) (image_bytes new) new (ends_from k new)) here (written (0 + length s.front) new can)),
-    )
-
-whole_bytes : (stay : ℕ) (ends bytes bytes' : List ℕ) (known others new : List Object) → stay ≤ length known → AreKeepable new → Bytes ends bytes known others
+pub whole_bytes : (stay : ℕ) (ends bytes bytes' front tail : List ℕ) (known new : List Object) → stay ≤ length known → AreKeepable new → bytes ≡ front ++ tail → HoldsAll 0 front known ends
     → bytes' ≡ take (end_at ends stay) bytes ++ image_bytes new → HoldsAll 0 bytes' (take stay known ++ new) (take stay ends ++ ends_from (end_at ends stay) new)
-whole_bytes stay ends bytes bytes' known others new within can h is =
-    let g = grown stay ends bytes bytes' [] known others new within can h (is ∙ ap (λ (z : List ℕ). take (end_at ends stay) bytes ++ z) (sym (append-nil (image_bytes new)))) in
-    subst (λ (z : List ℕ). HoldsAll 0 z (take stay known ++ new) (take stay ends ++ ends_from (end_at ends stay) new)) (sym (append-nil g.0) ∙ sym g.1) g.2
+whole_bytes stay ends bytes bytes' front tail known new within can all h is =
+    let s : Split 0 stay front known ends = split stay 0 front known ends h within in
+    let first : take (end_at ends stay) bytes ≡ s.front = front_of stay ends bytes front tail known all s in
+    let here : 0 + length s.front ≡ end_at ends stay = s.end in
+    subst (λ (z : List ℕ). HoldsAll 0 z (take stay known ++ new) (take stay ends ++ ends_from (end_at ends stay) new))
+    (sym (is ∙ ap (λ (z : List ℕ). z ++ image_bytes new) first))
+    (
+    join 0 s.front (image_bytes new) (take stay known) new (take stay ends) (ends_from (end_at ends stay) new) s.first
+    (subst (λ (k : ℕ). HoldsAll (0 + length s.front) (image_bytes new) new (ends_from k new)) here (written (0 + length s.front) new can))
+    )
 
 abbrev Known : List ℕ → Option (List ℕ) → (known others : List Object) → Type 0
 Known ends c known others = IsSomeAnd c (λ bytes. Bytes ends bytes known others)
 
-known_stay : (ends : List ℕ) (c : Option (List ℕ)) (known others : List Object) (stay : ℕ) → Known ends c known others → stay ≤ length ends → stay ≤ length known
-known_stay ends None known others stay h within = absurd h
-known_stay ends (Some b) known others stay h within = omega (arith, same_count 0 h.0 known ends h.3)
-
-whole_contents : (stay : ℕ) (ends : List ℕ) (c c' : Option (List ℕ)) (known others new : List Object) → stay ≤ length known → AreKeepable new → Known ends c known others
-    → Replaces (end_at ends stay) c c' (image_bytes new) → IsSomeAnd c' (λ bytes. HoldsAll 0 bytes (take stay known ++ new) (take stay ends ++ ends_from (end_at ends stay) new))
-whole_contents stay ends None c' known others new within can h r = absurd h
-whole_contents stay ends (Some b) None known others new within can h r = absurd r
-whole_contents stay ends (Some b) (Some b') known others new within can h r = whole_bytes stay ends b b' known others new within can h r
-
-pub whole_after : (stay : ℕ) (old new : ImageValue) (known others objects : List Object) → stay ≤ length old.ends → AreKeepable objects → IsHeld old known others
-    → IsFlushed stay objects old new → IsWhole new (take stay known ++ objects)
-whole_after stay old new known others objects within can h f =
-    subst (λ (es : List ℕ). IsSomeAnd new.contents (λ bytes. HoldsAll 0 bytes (take stay known ++ objects) es)) (sym f.ends)
-    (whole_contents stay old.ends old.contents new.contents known others objects (known_stay old.ends old.contents known others stay h within) can h f.contents)
-
 -- A PART THAT FAILS
 
-cut_bytes : (stay left : ℕ) (ends bytes : List ℕ) (known others : List Object) → stay ≤ length known → end_at ends stay ≤ left → Bytes ends bytes known others
+pub cut_bytes : (stay left : ℕ) (ends bytes : List ℕ) (known others : List Object) → stay ≤ length known → end_at ends stay ≤ left → Bytes ends bytes known others
     → Bytes (take stay ends) (take left bytes) (take stay known) (drop stay known ++ others)
 cut_bytes stay left ends bytes known others within enough h =
     let s : Split 0 stay h.0 known ends = split stay 0 h.0 known ends h.3 within in
@@ -83,14 +61,7 @@ cut_bytes stay left ends bytes known others within enough h =
       first_cut (length s.front) (left - length s.front) (s.back ++ h.1) (drop stay known ++ others) behind,
     )
 
-cut_contents : (stay : ℕ) (ends : List ℕ) (c c' : Option (List ℕ)) (known others : List Object) → stay ≤ length known → Known ends c known others
-    → TruncatesInPart (end_at ends stay) c c' → Known (take stay ends) c' (take stay known) (drop stay known ++ others)
-cut_contents stay ends None c' known others within h r = absurd h
-cut_contents stay ends (Some b) None known others within h r = absurd r.2
-cut_contents stay ends (Some b) (Some b') known others within h r =
-    subst (λ (z : List ℕ). Bytes (take stay ends) z (take stay known) (drop stay known ++ others)) (sym r.2) (cut_bytes stay r.0 ends b known others within r.1 h)
-
-some_bytes : (stay count : ℕ) (ends bytes bytes' : List ℕ) (known others new : List Object) → stay ≤ length known → AreKeepable new → Bytes ends bytes known others
+pub some_bytes : (stay count : ℕ) (ends bytes bytes' : List ℕ) (known others new : List Object) → stay ≤ length known → AreKeepable new → Bytes ends bytes known others
     → bytes' ≡ take (end_at ends stay) bytes ++ take count (image_bytes new) → Bytes (take stay ends) bytes' (take stay known) new
 some_bytes stay count ends bytes bytes' known others new within can h is =
     let s : Split 0 stay h.0 known ends = split stay 0 h.0 known ends h.3 within in
@@ -101,47 +72,6 @@ some_bytes stay count ends bytes bytes' known others new within can h is =
       s.first,
       first_written (length s.front) count new can,
     )
-
-some_contents : (stay count : ℕ) (ends : List ℕ) (c c' : Option (List ℕ)) (known others new : List Object) → stay ≤ length known → AreKeepable new → Known ends c known others
-    → Replaces (end_at ends stay) c c' (take count (image_bytes new)) → Known (take stay ends) c' (take stay known) new
-some_contents stay count ends None c' known others new within can h r = absurd h
-some_contents stay count ends (Some b) None known others new within can h r = absurd r
-some_contents stay count ends (Some b) (Some b') known others new within can h r = some_bytes stay count ends b b' known others new within can h r
-
-pub held_after : (stay : ℕ) (old new : ImageValue) (known others objects : List Object) → stay ≤ length old.ends → AreKeepable objects → IsHeld old known others
-    → Fails stay objects old new → Leaves stay known others objects new
-held_after stay old new known others objects within can h (uncut ends cut) =
-    let here = known_stay old.ends old.contents known others stay h within in
-    inl (
-    subst (λ (es : List ℕ). Known es new.contents (take stay known) (drop stay known ++ others)) (sym ends)
-    (cut_contents stay old.ends old.contents new.contents known others here h cut)
-    )
-held_after stay old new known others objects within can h (unfinished count ends more) =
-    let here = known_stay old.ends old.contents known others stay h within in
-    inr (
-    subst (λ (es : List ℕ). Known es new.contents (take stay known) objects) (sym ends)
-    (some_contents stay count old.ends old.contents new.contents known others objects here can h more)
-    )
-
--- AS THEY ARE TOLD
-
-pub part_ok : (r : Result (Unit {0}) FlushFault) (stay : ℕ) (old old' new : ImageValue) (objects : List Object) → old' ≡ old → OnOk r (IsFlushed stay objects old' new)
-    → OnOk r (IsFlushed stay objects old new)
-part_ok r stay old old' new objects same h = subst (λ (v : ImageValue). OnOk r (IsFlushed stay objects v new)) same h
-
-pub part_err : (r : Result (Unit {0}) FlushFault) (stay : ℕ) (old old' new : ImageValue) (objects : List Object) → old' ≡ old → OnErr r (Fails stay objects old' new)
-    → OnErr r (Fails stay objects old new)
-part_err r stay old old' new objects same h = subst (λ (v : ImageValue). OnErr r (Fails stay objects v new)) same h
-
-pub part_whole : (r : Result (Unit {0}) FlushFault) (stay : ℕ) (old new : ImageValue) (known others objects : List Object) → stay ≤ length old.ends → AreKeepable objects
-    → IsHeld old known others → OnOk r (IsFlushed stay objects old new) → OnOk r (IsWhole new (take stay known ++ objects))
-part_whole (Ok done) stay old new known others objects within can held h = whole_after stay old new known others objects within can held h
-part_whole (Err fault) stay old new known others objects within can held h = tt
-
-pub part_held : (r : Result (Unit {0}) FlushFault) (stay : ℕ) (old new : ImageValue) (known others objects : List Object) → stay ≤ length old.ends → AreKeepable objects
-    → IsHeld old known others → OnErr r (Fails stay objects old new) → OnErr r (Leaves stay known others objects new)
-part_held (Ok done) stay old new known others objects within can held h = tt
-part_held (Err fault) stay old new known others objects within can held h = held_after stay old new known others objects within can held h
 
 -- HOW IT IS READ
 

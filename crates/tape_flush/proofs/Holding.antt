@@ -1,12 +1,17 @@
 -- What bytes hold, joined and cut.
-use Rattle.std.proofs.Common.{◌≡◌, ℕ, ◌+◌, ◌≤◌, zero, suc, List, [], ◌∷◌, ◌++◌, length, take, drop, map, get_or, refl, sym, ap, subst, ◌∙◌, append_assoc, length-append, arith}
+use Rattle.std.proofs.Common.{◌≡◌, inl, inr, ℕ, ◌+◌, ◌≤◌, zero, suc, Bool, true, false, cond, List, [], ◌∷◌, ◌++◌, length, take, drop, map, get_or, refl, sym, ap, subst, ◌∙◌, append_assoc, length-append, arith}
 use Rattle.std.proofs.lemmas.List.{append-nil, map-append}
+use Rattle.std.specs.Prelude.{nat_le}
+use Rattle.std.proofs.lemmas.Bool.{le-leb}
+use Rattle.std.proofs.lemmas.Bool.Decides.{leb_tells}
+use Rattle.std.proofs.lemmas.List.Sums.{take_while-cons}
 use Rattle.tape_medium.specs.Object.{Object}
 use Rattle.tape_image.specs.Images.{object_bytes, image_bytes, AreKeepable}
 use Rattle.tape_image.specs.Reading.{Placed, Stop, Waiting, Reads, partial, placed}
 use Rattle.tape_image.proofs.Parts.{short_is}
 use Rattle.tape_image.proofs.Images.{joined, each_reads, beginning}
 use Rattle.tape_image.proofs.Cuts.{image_whole}
+use Rattle.tape_flush.specs.Kept.{ends_within}
 use Rattle.tape_flush.specs.Images.{ends_from, object_in, HoldsOne, HoldsAll, HoldsFirst}
 
 -- where the first so many objects end, from an offset on
@@ -76,6 +81,64 @@ join o b c (x ∷ xs) ys (e ∷ es) ds h more =
 one_written : (o : ℕ) (x : Object) → AreKeepable (x ∷ []) → HoldsOne o (o + length (object_bytes x)) (object_bytes x) x
 one_written o x can =
     (o, subst (λ (b : List ℕ). Reads o b (placed o (x ∷ [])) (Waiting (o + length b) [])) (append-nil (object_bytes x)) (image_whole o (x ∷ []) can))
+
+-- they take as many bytes as the last of their ends says
+pub holds_length : (o : ℕ) (b : List ℕ) (xs : List Object) (es : List ℕ) → HoldsAll o b xs es → o + length b ≡ end_from o es (length es)
+holds_length o b [] [] h = omega (arith, ap length h)
+holds_length o b [] (e ∷ es) h = absurd h
+holds_length o b (x ∷ xs) [] h = absurd h
+holds_length o b (x ∷ xs) (e ∷ es) h =
+    let size : o + length b ≡ e + length h.1 = omega (arith, ap length h.2, length-append h.0 h.1, h.3) in
+    size ∙ holds_length e h.1 xs es h.5
+
+-- of some ends those within so many bytes
+within_step : (size e : ℕ) (es : List ℕ) (is : Bool) → nat_le e size ≡ is → ends_within size (e ∷ es) ≡ cond is (e ∷ ends_within size es) []
+within_step size e es is same = take_while-cons (λ end. nat_le end size) e es ∙ ap (λ (b : Bool). cond b (e ∷ ends_within size es) []) same
+
+pub within_is_first : (size : ℕ) (es : List ℕ) → ends_within size es ≡ take (length (ends_within size es)) es
+within_is_first size [] = refl
+within_is_first size (e ∷ es) = elim (leb_tells e size) [
+  | inl is ↦ (
+      let here : ends_within size (e ∷ es) ≡ e ∷ ends_within size es = within_step size e es true is.0 in
+      here ∙ ap (λ (ds : List ℕ). e ∷ ds) (within_is_first size es) ∙ ap (λ (n : ℕ). take n (e ∷ es)) (sym (ap length here))
+    )
+  | inr is ↦ (
+      let here : ends_within size (e ∷ es) ≡ [] = within_step size e es false is.0 in
+      here ∙ ap (λ (n : ℕ). take n (e ∷ es)) (sym (ap length here))
+    )
+]
+
+-- the last of them is
+pub within_ends : (o size : ℕ) (es : List ℕ) → o ≤ size → end_from o es (length (ends_within size es)) ≤ size
+within_ends o size [] le = le
+within_ends o size (e ∷ es) le = elim (leb_tells e size) [
+  | inl is ↦ (
+      let here : length (ends_within size (e ∷ es)) ≡ suc (length (ends_within size es)) = ap length (within_step size e es true is.0) in
+      let P : ℕ → Type 0 = λ n. end_from o (e ∷ es) n ≤ size in
+      subst P (sym here) (within_ends e size es is.1)
+    )
+  | inr is ↦ (
+      let here : length (ends_within size (e ∷ es)) ≡ 0 = ap length (within_step size e es false is.0) in
+      let P : ℕ → Type 0 = λ n. end_from o (e ∷ es) n ≤ size in
+      subst P (sym here) le
+    )
+]
+
+-- all of them, where the objects take no more
+pub all_within : (o size : ℕ) (b : List ℕ) (xs : List Object) (es : List ℕ) → HoldsAll o b xs es → o + length b ≤ size → ends_within size es ≡ es
+all_within o size b [] [] h le = refl
+all_within o size b [] (e ∷ es) h le = absurd h
+all_within o size b (x ∷ xs) [] h le = absurd h
+all_within o size b (x ∷ xs) (e ∷ es) h le =
+    let whole : o + length b ≡ e + length h.1 = omega (arith, ap length h.2, length-append h.0 h.1, h.3) in
+    within_step size e es true (le-leb e size (omega (arith, whole)))
+    ∙ ap (λ (ds : List ℕ). e ∷ ds) (all_within e size h.1 xs es h.5 (omega (arith, whole)))
+
+pub end_in_first : (o n m : ℕ) (es : List ℕ) → n ≤ m → end_from o (take m es) n ≡ end_from o es n
+end_in_first o zero m es le = refl
+end_in_first o (suc n) zero es le = absurd (omega arith)
+end_in_first o (suc n) (suc m) [] le = refl
+end_in_first o (suc n) (suc m) (e ∷ es) le = end_in_first e n m es (omega arith)
 
 -- objects that were written
 pub written : (o : ℕ) (xs : List Object) → AreKeepable xs → HoldsAll o (image_bytes xs) xs (ends_from o xs)

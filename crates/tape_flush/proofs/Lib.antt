@@ -1,7 +1,11 @@
 pub mod Pieces
+pub mod Going
+pub mod Knowing
+pub mod Cutting
 pub mod Holding
 pub mod Replaced
 pub mod Flushes
 pub mod Opened
 pub mod Readings
 pub mod CopyLemmas
+pub mod Survivors

@@ -1,19 +1,23 @@
 -- Each object of an image that was read ends where its index says.
 use Rattle.std.proofs.Common.{◌≡◌, ℕ, ◌+◌, ◌≤◌, Bool, true, false, cond, inl, inr, List, [], ◌∷◌, ◌++◌, length, take, drop, map, Option, Some, None, refl, sym, ap, subst, ◌∙◌, append_assoc, length-drop, length-append, arith}
 use Rattle.std.proofs.lemmas.Bool.{cases_lt}
-use Rattle.std.proofs.lemmas.List.{take-append-drop, length-take-le, drop-take, take-take, drop_at, drop_all}
+use Rattle.std.proofs.lemmas.List.{take-append-drop, length-take-le, drop-take, take-take, drop_at, drop_all, drop-drop, take_all}
 use Rattle.tape_medium.specs.Object.{Object, Block, Mark}
 use Rattle.tape_image.specs.declared.fault.ImageFault.TheVariants.{UnequalLengths}
 use Rattle.tape_image.specs.Images.{block_count}
 use Rattle.tape_image.specs.Indexes.{indexed}
 use Rattle.tape_image.specs.Parts.{PartValue, Partial, Complete, Gap, End, Invalid, sized, image_part}
-use Rattle.tape_image.specs.Reading.{Placed, Stop, Waiting, Reads, partial, ended, faulty, gap, object}
+use Rattle.tape_image.specs.Reading.{Placed, Stop, Waiting, Ended, Broken, Reads, partial, ended, faulty, gap, object}
 use Rattle.tape_image.proofs.Parts.{part_is, short_is, there, not_there, chosen}
 use Rattle.tape_image.proofs.Images.{known_some, stays}
 use Rattle.tape_image.proofs.Fits.{told}
 use Rattle.std.specs.Option.{IsSomeAnd}
 use Rattle.tape_image.specs.declared.index.IndexedObject.{IndexedObject}
-use Rattle.tape_flush.specs.Stores.{Truncates}
+use Rattle.tape_flush.specs.Stores.{FileValue}
+use Rattle.tape_flush.specs.Careful.{trusted_to, IsKnown}
+use Rattle.tape_flush.specs.Kept.{ends_within, Holds}
+use Rattle.tape_flush.proofs.Flushes.{Bytes}
+use Rattle.tape_flush.proofs.CopyLemmas.{holds_by, shrunk_bytes}
 use Rattle.tape_flush.specs.Images.{object_in, end_at, HoldsOne, HoldsAll}
 use Rattle.tape_flush.specs.Openings.{end_of_entry}
 use Rattle.tape_flush.proofs.Holding.{end_from, holds_nothing}
@@ -90,14 +94,18 @@ alone o n b x e within =
     let none : drop n (take n b) ≡ [] = drop_all n (take n b) (omega arith) in
     (o, object o (take n b) x n [] (Waiting (o + n) []) here (subst (λ (z : List ℕ). Reads (o + n) z [] (Waiting (o + n) [])) (sym none) (holds_nothing (o + n))))
 
--- what an image that is cut back to its last object holds
-pub record Cut (o : ℕ) (b : List ℕ) (xs : List Placed) : Type 0 where
+-- what an image holds up to its last object, and what is read behind it
+pub record Cut (o : ℕ) (b : List ℕ) (xs : List Placed) (s : Stop) : Type 0 where
   pub count : ℕ
   pub end : o + count ≡ end_from o (ends_in xs) (length (ends_in xs))
+  pub within : count ≤ length b
   pub holds : HoldsAll o (take count b) (map object_in xs) (ends_in xs)
+  pub rest : Reads (o + count) (drop count b) [] s
 
-no_object : (o : ℕ) (b : List ℕ) → Cut o b []
-no_object o b = record { count = 0; end = omega arith; holds = refl }
+no_object : (o : ℕ) (b : List ℕ) (s : Stop) → Reads o b [] s → Cut o b [] s
+no_object o b s r =
+    let here : o ≡ o + 0 = omega arith in
+    record { count = 0; end = omega arith; within = omega arith; holds = refl; rest = subst (λ (k : ℕ). Reads k b [] s) here r }
 
 take_add : (n m : ℕ) (b : List ℕ) → take (n + m) b ≡ take n b ++ take m (drop n b)
 take_add n m b =
@@ -113,14 +121,19 @@ gap_first o end b part x e within h =
           (subst (λ (z : List ℕ). Reads (o + 4) z (record { offset = h.0; object = x } ∷ []) (Waiting end [])) (sym behind) h.1),
     )
 
-behind_gap : (o : ℕ) (b : List ℕ) (xs : List Placed) → image_part b ≡ Gap → 4 ≤ length b → Cut (o + 4) (drop 4 b) xs → Cut o b xs
-behind_gap o b [] e within c = no_object o b
-behind_gap o b (x ∷ xs) e within c =
+rest_behind : (o n m : ℕ) (b : List ℕ) (s : Stop) → Reads (o + n + m) (drop m (drop n b)) [] s → Reads (o + (n + m)) (drop (n + m) b) [] s
+rest_behind o n m b s r =
+    subst (λ (z : List ℕ). Reads (o + (n + m)) z [] s) (drop-drop m n b) (subst (λ (k : ℕ). Reads k (drop m (drop n b)) [] s) (sym (assoc o n m)) r)
+
+behind_gap : (o : ℕ) (b : List ℕ) (xs : List Placed) (s : Stop) → image_part b ≡ Gap → 4 ≤ length b → Reads (o + 4) (drop 4 b) xs s → Cut (o + 4) (drop 4 b) xs s → Cut o b xs s
+behind_gap o b [] s e within more c = no_object o b s (gap o b [] s e more)
+behind_gap o b (x ∷ xs) s e within more c =
     let h = c.holds in
     let size : length (take 4 b) ≡ 4 = length-take-le 4 b within in
     record {
       count = 4 + c.count;
       end = assoc o 4 c.count ∙ c.end;
+      within = omega (arith, within, c.within, length-drop 4 b);
       holds = (
         take 4 b ++ h.0,
         h.1,
@@ -129,17 +142,19 @@ behind_gap o b (x ∷ xs) e within c =
         gap_first o _ b h.0 x.object e within h.4,
         h.5,
       );
+      rest = rest_behind o 4 c.count b s c.rest;
     }
 
-behind_object : (o n : ℕ) (b : List ℕ) (x : Object) (xs : List Placed) → image_part b ≡ Complete x n → n ≤ length b → Cut (o + n) (drop n b) xs
-    → Cut o b (record { offset = o; object = x } ∷ xs)
-behind_object o n b x xs e within c =
+behind_object : (o n : ℕ) (b : List ℕ) (x : Object) (xs : List Placed) (s : Stop) → image_part b ≡ Complete x n → n ≤ length b → Cut (o + n) (drop n b) xs s
+    → Cut o b (record { offset = o; object = x } ∷ xs) s
+behind_object o n b x xs s e within c =
     let first : Placed = record { offset = o; object = x } in
     let end : o + n ≡ end_of_entry (indexed first) = ap (λ (k : ℕ). o + k) (counted b x n e) ∙ sym (end_is o x) in
     let size : length (take n b) ≡ n = length-take-le n b within in
     record {
       count = n + c.count;
       end = assoc o n c.count ∙ c.end ∙ ap (λ (k : ℕ). end_from k (ends_in xs) (length (ends_in xs))) end;
+      within = omega (arith, within, c.within, length-drop n b);
       holds = (
         take n b,
         take c.count (drop n b),
@@ -148,30 +163,38 @@ behind_object o n b x xs e within c =
         subst (λ (k : ℕ). HoldsOne o k (take n b) x) end (alone o n b x e within),
         subst (λ (k : ℕ). HoldsAll k (take c.count (drop n b)) (map object_in xs) (ends_in xs)) end c.holds,
       );
+      rest = rest_behind o n c.count b s c.rest;
     }
 
-pub cut_to_last : (o : ℕ) (b : List ℕ) (xs : List Placed) (s : Stop) → Reads o b xs s → Cut o b xs
-cut_to_last _ _ _ _ (partial o b w e) = no_object o b
-cut_to_last _ _ _ _ (ended o b e) = no_object o b
-cut_to_last _ _ _ _ (faulty o b f e) = no_object o b
+pub cut_to_last : (o : ℕ) (b : List ℕ) (xs : List Placed) (s : Stop) → Reads o b xs s → Cut o b xs s
+cut_to_last _ _ _ _ (partial o b w e) = no_object o b (Waiting o b) (partial o b w e)
+cut_to_last _ _ _ _ (ended o b e) = no_object o b (Ended o) (ended o b e)
+cut_to_last _ _ _ _ (faulty o b f e) = no_object o b (Broken o f) (faulty o b f e)
 cut_to_last _ _ _ _ (gap o b others stop e more) =
-    behind_gap o b others e (known_some b Gap e) (cut_to_last (o + 4) (drop 4 b) others stop more)
+    behind_gap o b others stop e (known_some b Gap e) more (cut_to_last (o + 4) (drop 4 b) others stop more)
 cut_to_last _ _ _ _ (object o b x n others stop e more) =
-    behind_object o n b x others e (known_some b (Complete x n) e).1 (cut_to_last (o + n) (drop n b) others stop more)
+    behind_object o n b x others stop e (known_some b (Complete x n) e).1 (cut_to_last (o + n) (drop n b) others stop more)
 
--- A FILE that was cut back to there
+-- AN IMAGE THAT IS OPENED, of whose bytes so many are on the disk
 
-cut_known : (bytes : List ℕ) (c' : Option (List ℕ)) (ends : List ℕ) (xs : List Placed) (s : Stop) → Reads 0 bytes xs s → ends ≡ ends_in xs
-    → Truncates (end_at ends (length ends)) (Some bytes) c' → IsSomeAnd c' (λ b. HoldsAll 0 b (map object_in xs) ends)
-cut_known bytes None ends xs s r are cut = absurd cut
-cut_known bytes (Some b) ends xs s r are cut =
-    let c : Cut 0 bytes xs = cut_to_last 0 bytes xs s r in
-    let last : end_at ends (length ends) ≡ c.count = ap (λ (es : List ℕ). end_at es (length es)) are ∙ sym c.end ∙ zero_plus c.count in
-    subst (λ (z : List ℕ). HoldsAll 0 z (map object_in xs) ends) (sym (cut ∙ ap (λ (k : ℕ). take k bytes) last))
-    (subst (λ (es : List ℕ). HoldsAll 0 (take c.count bytes) (map object_in xs) es) (sym are) c.holds)
+opened_bytes : (b : List ℕ) (xs : List Placed) (s : Stop) → Reads 0 b xs s → Bytes (ends_in xs) b (map object_in xs) []
+opened_bytes b xs s r =
+    let c : Cut 0 b xs s = cut_to_last 0 b xs s r in
+    let size : 0 + c.count ≡ length (take c.count b) = omega (arith, length-take-le c.count b c.within) in (
+      take c.count b,
+      drop c.count b,
+      sym (take-append-drop c.count b),
+      c.holds,
+      ([], s, [], subst (λ (k : ℕ). Reads k (drop c.count b) [] s) size c.rest, refl),
+    )
 
-pub opened : (c c' : Option (List ℕ)) (ends : List ℕ) (entries : List IndexedObject) → ends ≡ map end_of_entry entries → Truncates (end_at ends (length ends)) c c'
-    → (bytes : List ℕ) (xs : List Placed) (s : Stop) → c ≡ Some bytes → Reads 0 bytes xs s → entries ≡ map indexed xs
-    → IsSomeAnd c' (λ b. HoldsAll 0 b (map object_in xs) ends)
-opened c c' ends entries are cut bytes xs s known r same =
-    cut_known bytes c' ends xs s r (are ∙ ap (map end_of_entry) same) (subst (λ (k : Option (List ℕ)). Truncates (end_at ends (length ends)) k c') known cut)
+pub opened_holds : (f : FileValue) (trusted : ℕ) (ends : List ℕ) (entries : List IndexedObject) (xs : List Placed) (s : Stop) → IsKnown (trusted_to trusted) f → Reads 0 f.contents xs s
+    → entries ≡ map indexed xs → ends ≡ ends_within trusted (map end_of_entry entries)
+    → Holds f (trusted_to trusted) ends (take (length ends) (map object_in xs)) (drop (length ends) (map object_in xs) ++ [])
+opened_holds f trusted ends entries xs s is reads same are =
+    let all : List ℕ = ends_in xs in
+    let entry_ends : map end_of_entry entries ≡ ends_in xs = ap (map end_of_entry) same in
+    let whole : take (length (ends_in xs)) (ends_in xs) ≡ ends_in xs = take_all (length (ends_in xs)) (ends_in xs) (omega arith) in
+    let are' : ends ≡ ends_within trusted (take (length (ends_in xs)) (ends_in xs)) = are ∙ ap (ends_within trusted) (entry_ends ∙ sym whole) in
+    holds_by f (trusted_to trusted) ends (take (length ends) (map object_in xs)) (drop (length ends) (map object_in xs) ++ []) is
+    (shrunk_bytes f.contents (ends_in xs) ends (map object_in xs) [] trusted (length (ends_in xs)) (opened_bytes f.contents xs s reads) (omega arith) are')

@@ -5,14 +5,13 @@ use Rattle.tape_image.specs.Images.{object_bytes, image_bytes, AreKeepable}
 use Rattle.tape_image.specs.Reading.{Placed, Stop, Waiting, Reads}
 use Rattle.tape_flush.specs.Stores.{TruncatesInPart, Replaces}
 
--- where each object ends in the file, the bytes of the file, and those that were brought to the disk last
+-- where each object ends in the file, and the bytes of the file
 pub record ImageValue : Type 0 where
   pub ends : List ℕ
   pub contents : Option (List ℕ)
-  pub synced : Option (List ℕ)
 
-abbrev pub image_value : (ends : List ℕ) → (contents synced : Option (List ℕ)) → ImageValue
-image_value ends contents synced = record { ends = ends; contents = contents; synced = synced }
+abbrev pub image_value : (ends : List ℕ) → (contents : Option (List ℕ)) → ImageValue
+image_value ends contents = record { ends = ends; contents = contents }
 
 -- where the first so many objects end
 abbrev pub end_at : (ends : List ℕ) → (count : ℕ) → ℕ

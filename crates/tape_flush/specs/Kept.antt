@@ -1,26 +1,69 @@
--- The image of a tape, with what is known of it, and how it is brought on.
-use Rattle.std.specs.Prelude.{◌≡◌, ◌⊎◌, ℕ, ◌≤◌, ◌<◌, min, Bool, true, false, List, ◌++◌, length, take, drop}
+-- The image of a tape, with what is known of its file, and how it is brought on.
+use Rattle.std.specs.Prelude.{◌≡◌, ◌⊎◌, ℕ, ◌≤◌, ◌<◌, min, nat_le, List, ◌++◌, length, take, drop, take_while, Option, Some, None}
 use Rattle.tape_medium.specs.Object.{Object}
 use Rattle.tape_medium.specs.TapeView.{TapeView}
 use Rattle.tape_medium.specs.Tape.{settled}
 use Rattle.tape_medium.specs.Changes.{Changes}
-use Rattle.tape_flush.specs.Images.{ImageValue, TapePartValue, end_at, between, IsPart, IsWhole, IsHeld}
+use Rattle.tape_flush.specs.declared.fault.FlushFault.{FlushFault}
+use Rattle.tape_flush.specs.declared.fault.FlushFault.TheVariants.{NoMemory, PastLastOffset, Store, Unsynced}
+use Rattle.tape_flush.specs.declared.known.Known.{Known}
 use Rattle.tape_flush.specs.declared.part_range.PartRange.{PartRange}
+use Rattle.tape_flush.specs.Stores.{StoreCall, FileValue, contents_of}
+use Rattle.tape_flush.specs.Careful.{GoesOn, IsKnown}
+use Rattle.tape_flush.specs.Watched.{IsEmptyAt}
+use Rattle.tape_flush.specs.Images.{ImageValue, image_value, TapePartValue, end_at, between, IsPart, IsHeld, HoldsAll, HoldsFirst}
 
-pub record KeptImageValue : Type 0 where
-  pub image : ImageValue
-  -- whether it is known to have its objects and nothing behind them
-  pub is_whole : Bool
-  -- whether all of it was brought to the disk
-  pub is_synced : Bool
+pub record KeptImageValue (S : Type 0) : Type 0 where
+  -- where each object ends that the file has for sure
+  pub ends : List ℕ
+  -- what is known of the file
+  pub known : Known
+  -- the file, and its bytes, where they are known
+  pub store : S
+  pub file : Option FileValue
 
--- the image has these objects, and behind them nothing, or where it isn't known to be whole perhaps the first of some others
-abbrev pub HasBy : (is_whole : Bool) → ImageValue → (known others : List Object) → Type 0
-HasBy true image known others = IsWhole image known
-HasBy false image known others = IsHeld image known others
+abbrev pub image_of : {S : Type 0} → KeptImageValue S → ImageValue
+image_of kept = image_value kept.ends (contents_of kept.file)
 
-abbrev pub Has : KeptImageValue → (known others : List Object) → Type 0
-Has kept known others = HasBy kept.is_whole kept.image known others
+-- where its last object ends
+abbrev pub last_end : List ℕ → ℕ
+last_end ends = end_at ends (length ends)
+
+-- of some ends the first, up to so many bytes
+abbrev pub ends_within : (size : ℕ) → List ℕ → List ℕ
+ends_within size ends = take_while (λ end. nat_le end size) ends
+
+-- it has these objects and nothing behind them, and may be written on
+abbrev pub IsWholeImage : {S : Type 0} → KeptImageValue S → Type 0
+IsWholeImage kept = IsEmptyAt (last_end kept.ends) kept.known
+
+-- all of that is on the disk, and so says its record
+pub record IsOnDisk {S : Type 0} (kept : KeptImageValue S) : Type 0 where
+  pub whole : IsWholeImage kept
+  pub synced : kept.known.synced ≡ last_end kept.ends
+  pub least : kept.known.least ≡ last_end kept.ends
+  pub most : kept.known.most ≡ last_end kept.ends
+
+-- WHAT A FILE HOLDS: what is known of it is so; of the bytes that are as they were written the first hold these objects, and those behind
+-- them a beginning of some others. Of what lies behind these nothing is said
+pub record Holds (file : FileValue) (known : Known) (ends : List ℕ) (objects others : List Object) : Type 0 where
+  pub is_known : IsKnown known file
+  pub front : List ℕ
+  pub behind : List ℕ
+  pub bytes : take known.sound file.contents ≡ front ++ behind
+  pub objects_are : HoldsAll 0 front objects ends
+  pub others_begin : HoldsFirst (length front) behind others
+
+abbrev pub HoldsIn : Option FileValue → Known → (ends : List ℕ) → (objects others : List Object) → Type 0
+HoldsIn None known ends objects others = ⊥
+HoldsIn (Some file) known ends objects others = Holds file known ends objects others
+
+abbrev pub Has : {S : Type 0} → KeptImageValue S → (objects others : List Object) → Type 0
+Has kept objects others = HoldsIn kept.file kept.known kept.ends objects others
+
+-- the first of some objects, as many as it has ends, and a beginning of others
+abbrev pub HasFirstOf : {S : Type 0} → List Object → KeptImageValue S → Type 0
+HasFirstOf objects kept = (others : List Object) × Has kept (take (length kept.ends) objects) others
 
 -- as far as a tape counts as unchanged, an image of these objects has those of the tape
 abbrev pub FollowsUpTo : (count : ℕ) → (known objects : List Object) → Type 0
@@ -30,19 +73,26 @@ abbrev pub Follows : (known : List Object) → TapeView → Type 0
 Follows known tape = FollowsUpTo (min tape.unchanged (length known)) known tape.objects
 
 -- a part is taken of a tape for its image: what follows on the tape behind the objects that stay
-pub record IsTaken (kept : KeptImageValue) (tape : TapeView) (range : PartRange) (part : TapePartValue) : Type 0 where
-  pub stay : range.stay ≡ min tape.unchanged (length kept.image.ends)
+pub record IsTaken {S : Type 0} (kept : KeptImageValue S) (tape : TapeView) (range : PartRange) (part : TapePartValue) : Type 0 where
+  pub stay : range.stay ≡ min tape.unchanged (length kept.ends)
   pub rising : range.stay ≤ range.end
   pub within : range.end ≤ length tape.objects
   pub some : range.stay < length tape.objects → range.stay < range.end
   pub count : range.count ≡ length tape.objects
-  pub taken : IsPart (end_at kept.image.ends range.stay) (between range.stay range.end tape.objects) part
+  pub taken : IsPart (end_at kept.ends range.stay) (between range.stay range.end tape.objects) part
 
 -- an image has those objects of the tape that stay, and behind them perhaps the first of those that it had there, or of the part
 abbrev pub Begins : PartRange → TapeView → (known others : List Object) → ImageValue → Type 0
 Begins range tape known others image =
     IsHeld image (take range.stay tape.objects) (drop range.stay known ++ others)
     ⊎ IsHeld image (take range.stay tape.objects) (between range.stay range.end tape.objects)
+
+-- which is so, unless a sync failed
+abbrev pub BeginsUnless : PartRange → TapeView → (known others : List Object) → ImageValue → FlushFault → Type 0
+BeginsUnless range tape known others image (Unsynced fault) = Unit {0}
+BeginsUnless range tape known others image NoMemory = Begins range tape known others image
+BeginsUnless range tape known others image PastLastOffset = Begins range tape known others image
+BeginsUnless range tape known others image (Store fault) = Begins range tape known others image
 
 -- an image of the first objects of a tape that was settled then, as many or fewer, follows what becomes of the tape
 abbrev pub ImagesFollowTapes : Type 0

@@ -1,5 +1,10 @@
 pub mod Stores
+pub mod Careful
+pub mod Watched
 pub mod Images
+pub mod Replacing
+pub mod Memory
 pub mod Openings
 pub mod Readings
 pub mod Kept
+pub mod Surviving

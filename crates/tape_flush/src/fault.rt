@@ -13,6 +13,9 @@ pub enum FlushFault {
     PastLastOffset,
     #[error("the image could not be written")]
     Store(StoreFault),
+    /// Behind what was brought to the disk before, the file may have anything.
+    #[error("the image could not be brought to the disk")]
+    Unsynced(StoreFault),
 }
 
 impl From<AllocError> for FlushFault {
@@ -48,8 +51,6 @@ pub enum OpenFault {
     /// The index has an object that would end at 2^64 bytes or more.
     #[error("image of 2^64 bytes or more")]
     PastLastOffset,
-    #[error("the image could not be cut back")]
-    Store(StoreFault),
 }
 
 impl From<AllocError> for OpenFault {
@@ -61,11 +62,5 @@ impl From<AllocError> for OpenFault {
 impl<T: Drop> From<AllocFailed<T>> for OpenFault {
     fn from(_error: AllocFailed<T>) -> OpenFault {
         OpenFault::NoMemory
-    }
-}
-
-impl From<StoreFault> for OpenFault {
-    fn from(fault: StoreFault) -> OpenFault {
-        OpenFault::Store(fault)
     }
 }

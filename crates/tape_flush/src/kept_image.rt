@@ -1,48 +1,86 @@
-ghost use Rattle.std.specs.Prelude.{◌≡◌, true, false, List, take, IfOk, OnOk, OnErr};
-ghost use Rattle.std.specs.Io.KnownBytes.{Keeps};
+ghost use Rattle.std.specs.Prelude.{◌≡◌, ◌↔◌, List, [], length, take, IsTrue, IfOk, OnOk, OnErr, IfErr};
 ghost use Rattle.tape_medium.specs.Object.{Object};
 ghost use Rattle.tape_medium.specs.TapeView.{TapeView};
-ghost use Rattle.tape_flush.specs.Images.{IsWhole};
-ghost use Rattle.tape_flush.specs.Kept.{Has, Follows, IsTaken, Begins};
+ghost use Rattle.tape_flush.specs.Careful.{GoesOn, trusted_to};
+ghost use Rattle.tape_flush.specs.Images.{IsHeld, IsWhole};
+ghost use Rattle.tape_flush.specs.Kept.{Has, HasFirstOf, Follows, IsTaken, IsOnDisk, IsWholeImage, BeginsUnless, image_of};
 
+use crate::ends::{end_at, keep_within, last_end};
 use crate::fault::FlushFault;
-use crate::image_file::ImageFile;
+use crate::known::Known;
 use crate::part::TapePart;
 use crate::part_range::PartRange;
+use crate::replacing::replace;
 use crate::store::{ImageStore, StoreFault};
+use crate::watched_file::WatchedFile;
 use std::marker::Model;
 use tape_medium::Tape;
 
-/// The image of a tape in a file, with what is known of it: whether it has all that was copied and nothing else, and whether that
-/// was brought to the disk.
+/// The image of a tape in a file: which of the tape's objects are in it for sure, where each ends, which takes 8 bytes an object, and what is
+/// known of the file.
 ///
 /// It is brought on part by part. A part is taken of the tape, which counts as unchanged up to the part's end from then on, and then it is
 /// written, while the tape may be written on.
+///
+/// ```text
+/// let range = image.take_part(&tape, &mut part)?;
+/// tape.settle(range.end);
+/// image.write_part(range, &part)?;
+/// image.sync()?;
+/// ```
 #[derive(Drop)]
 pub struct KeptImage<S: ImageStore> {
-    image: ImageFile<S>,
-    is_whole: bool,
-    is_synced: bool,
+    file: WatchedFile<S>,
+    ends: Vec<u64>,
 }
 
 impl<S: ImageStore> Model for KeptImage<S> {
     ghost use Rattle.tape_flush.specs.Kept.{KeptImageValue};
+    ghost use Rattle.tape_flush.specs.Careful.{IsInOrder};
 
-    ghost Value = { KeptImageValue };
+    ghost Value = { KeptImageValue S };
 
-    ghost view = { λ kept. record { image = kept.image; is_whole = kept.is_whole; is_synced = kept.is_synced } };
+    ghost view = { λ kept. record { ends = kept.ends.items; known = kept.file.known; store = kept.file.store; file = S.file kept.file.store } };
+
+    ghost invariant = { λ kept. IsInOrder kept.file.known };
 }
 
 impl<S: ImageStore> KeptImage<S> {
-    /// An image that was opened, and is whole.
-    pub fn new(image: ImageFile<S>) -> KeptImage<S>
-        ensures { result ≡ record { image = image; is_whole = true; is_synced = false } }
+    /// Of a file of which so many bytes are on the disk, as its record says, and whose objects end there.
+    pub(crate) fn opened(store: S, trusted: u64, ends: Vec<u64>) -> KeptImage<S>
+        ensures { result ≡ record { ends = ends.items; known = trusted_to trusted; store = store; file = S.file store } }
     {
-        KeptImage {
-            image,
-            is_whole: true,
-            is_synced: false,
-        }
+        let file = WatchedFile::new(store, Known::opened(trusted));
+        KeptImage { file, ends }
+    }
+
+    /// How many objects are in the file for sure.
+    pub fn count(&self) -> usize
+        ensures { result ≡ length self.now.ends }
+    {
+        self.ends.len()
+    }
+
+    pub fn store(&self) -> &S
+        ensures { result.now ≡ self.now.store }
+    {
+        self.file.store()
+    }
+
+    /// Whether it has its objects and nothing behind them, and may be written on.
+    pub fn is_whole(&self) -> bool
+        ensures { IsTrue result ↔ IsWholeImage self.now }
+    {
+        self.file.ends_at(last_end(&self.ends))
+    }
+
+    /// Whether all that it has is on the disk, as its record there says.
+    pub fn is_on_disk(&self) -> bool
+        ensures { IsTrue result ↔ IsOnDisk self.now }
+    {
+        let end = last_end(&self.ends);
+        let known = self.file.known();
+        self.file.ends_at(end) && known.synced == end && known.least == end && known.most == end
     }
 
     /// Takes a part of a tape whose first objects the image has, as many as count as unchanged: of those that it doesn't have the first,
@@ -51,44 +89,51 @@ impl<S: ImageStore> KeptImage<S> {
         ensures { IfOk result (λ range. IsTaken self.now tape.now range part.new) }
     {
         let count = tape.object_count();
-        let stay = (tape.unchanged() as usize).min(self.image.count()) as u32;
-        let end = stay + self.image.take_part(tape, stay, part)?;
+        let stay = (tape.unchanged() as usize).min(self.ends.len()) as u32;
+        let end = stay + part.gather(tape, stay, end_at(&self.ends, stay as usize))?;
         Ok(PartRange { stay, end, count })
     }
 
     /// Writes the part that was taken last, whatever became of the tape since. Then the image is that of the tape's objects up to the
-    /// part's end, as they were when it was taken. Where it fails, it has those that stay, and behind them perhaps the first of those that
-    /// it had, or of the part.
+    /// part's end, as they were when it was taken. Where it fails, the image has the first of those that stay, and where it wasn't a sync that
+    /// failed, the file has all of these, and behind them perhaps the first of those that it had, or of the part.
     pub fn write_part(&mut self, range: PartRange, part: &TapePart) -> Result<(), FlushFault>
-        ensures whole { (known others : List Object) (tape : TapeView) → Has self.old known others → Follows known tape → IsTaken self.old tape range part.now → OnOk result (IsWhole self.new.image (take range.end tape.objects)) }
-        ensures held { (known others : List Object) (tape : TapeView) → Has self.old known others → Follows known tape → IsTaken self.old tape range part.now → OnErr result (Begins range tape known others self.new.image) }
-        ensures ok { OnOk result (self.new.is_whole ≡ true) }
-        ensures err { OnErr result (self.new.is_whole ≡ false) }
+        ensures goes { GoesOn S.did self.old.store self.old.known self.new.store self.new.known }
+        ensures whole { (known others : List Object) (tape : TapeView) → Has self.old known others → Follows known tape → IsTaken self.old tape range part.now → OnOk result (IsWhole (image_of self.new) (take range.end tape.objects)) }
+        ensures ready { (known others : List Object) (tape : TapeView) → Has self.old known others → Follows known tape → IsTaken self.old tape range part.now → OnOk result (Has self.new (take range.end tape.objects) [] × IsWholeImage self.new) }
+        ensures held { (known others : List Object) (tape : TapeView) → Has self.old known others → Follows known tape → IsTaken self.old tape range part.now → OnErr result (HasFirstOf tape.objects self.new) }
+        ensures begins { (known others : List Object) (tape : TapeView) → Has self.old known others → IsHeld (image_of self.old) known others → Follows known tape → IsTaken self.old tape range part.now → IfErr result (BeginsUnless range tape known others (image_of self.new)) }
     {
-        let count = self.image.count();
-        if self.is_whole && part.is_empty() && range.stay as usize == count {
+        // A part that was taken of it has no more that stay.
+        let stay = (range.stay as usize).min(self.ends.len());
+        if part.is_empty() && stay == self.ends.len() && self.is_whole() {
             return Ok(());
         }
-        self.is_whole = false;
-        self.is_synced = false;
-        // A part that was taken of it has no more that stay.
-        let stay = (range.stay as usize).min(count) as u32;
-        self.image.write_part(stay, part)?;
-        self.is_whole = true;
-        Ok(())
+        if end_at(&self.ends, stay) > self.file.known().sound {
+            return Err(FlushFault::Store(StoreFault::Failed));
+        }
+        replace(&mut self.file, &mut self.ends, stay, part)
     }
 
-    /// Brings all of it to the disk, where it isn't there already.
+    /// Brings all of it to the disk, where it isn't there already, and has its record say so. An image that has more behind its objects, or may
+    /// have, isn't brought there: a part is to be written first. Where the sync fails, the image has what an earlier one brought to the disk.
     pub fn sync(&mut self) -> Result<(), StoreFault>
-        ensures contents { Keeps self.old.image.contents self.new.image.contents }
-        ensures whole { self.new.is_whole ≡ self.old.is_whole }
-        ensures ok { OnOk result (self.new.is_synced ≡ true) }
+        ensures goes { GoesOn S.did self.old.store self.old.known self.new.store self.new.known }
+        ensures ends { OnOk result (self.new.ends ≡ self.old.ends) }
+        ensures ok { OnOk result (IsOnDisk self.new) }
+        ensures same { (objects others : List Object) → Has self.old objects others → OnOk result (Has self.new objects others) }
+        ensures err { (objects others : List Object) → Has self.old objects others → OnErr result (HasFirstOf objects self.new) }
     {
-        if self.is_synced {
+        if !self.is_whole() {
+            return Err(StoreFault::Failed);
+        }
+        if self.is_on_disk() {
             return Ok(());
         }
-        self.image.sync()?;
-        self.is_synced = true;
-        Ok(())
+        if let Err(fault) = self.file.sync() {
+            keep_within(&mut self.ends, self.file.known().sound);
+            return Err(fault);
+        }
+        self.file.note(last_end(&self.ends))
     }
 }

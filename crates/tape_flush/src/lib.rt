@@ -4,8 +4,8 @@
 
 mod ends;
 mod fault;
-mod image_file;
 mod kept_image;
+mod known;
 mod laws;
 mod memory;
 mod object;
@@ -17,16 +17,20 @@ mod reading;
 mod replacing;
 mod rows;
 mod store;
+mod watched_file;
 
 pub use fault::{FlushFault, OpenFault};
-pub use image_file::ImageFile;
 pub use kept_image::KeptImage;
-pub use laws::{held_images_are_read, images_follow_tapes, whole_images_are_read};
+pub use known::{FileTail, Known};
+pub use laws::{
+    held_images_are_read, images_follow_tapes, synced_objects_survive, what_is_known_is_so,
+    whole_images_are_read,
+};
 pub use memory::MemoryStore;
 pub use opening::{OpenedImage, open_image};
 pub use part::TapePart;
 pub use part_range::PartRange;
 pub use read_fault::ReadTapeFault;
 pub use reading::{ReadTape, read_tape};
-pub use rows::{flush_rows, store_rows, worked_rows};
+pub use rows::{known_rows, store_rows, survival_rows, worked_rows};
 pub use store::{ImageStore, StoreFault};

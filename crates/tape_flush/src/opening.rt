@@ -1,12 +1,15 @@
 ghost use Rattle.std.specs.Prelude.{◌≡◌, ℕ, List, map, IfOk, IfSome};
 ghost use Rattle.tape_image.specs.Indexes.{indexed};
 ghost use Rattle.tape_image.specs.Reading.{Placed, Stop, Reads};
-ghost use Rattle.tape_flush.specs.Images.{object_in, IsWhole};
+ghost use Rattle.tape_flush.specs.Careful.{IsKnown, trusted_to};
+ghost use Rattle.tape_flush.specs.Images.{object_in};
+ghost use Rattle.tape_flush.specs.Kept.{HasFirstOf, ends_within};
 ghost use Rattle.tape_flush.specs.Openings.{end_of_entry, lost_of};
+ghost use Rattle.tape_flush.specs.Stores.{FileValue};
 
-use crate::ends::end_at;
+use crate::ends::keep_within;
 use crate::fault::OpenFault;
-use crate::image_file::ImageFile;
+use crate::kept_image::KeptImage;
 use crate::store::ImageStore;
 use std::alloc::Global;
 use tape_image::{ImageEnd, ImageIndex, IndexedObject, LENGTH_FIELD};
@@ -14,7 +17,7 @@ use tape_image::{ImageEnd, ImageIndex, IndexedObject, LENGTH_FIELD};
 /// An image that can be written on, and how many bytes of a cut tail were lost.
 #[derive(Drop)]
 pub struct OpenedImage<S: ImageStore> {
-    pub image: ImageFile<S>,
+    pub image: KeptImage<S>,
     pub lost: u64,
 }
 
@@ -65,21 +68,24 @@ fn lost_of(end: ImageEnd) -> Result<u64, OpenFault>
     }
 }
 
-/// Opens an image, by its index, to be written on: what lies behind its last object, as a tail that was cut, is cut off. An image
-/// with a fault is refused, and left as it is.
+/// Opens an image, by its index, of which so many bytes are on the disk, as its record says: of its objects those count that lie within
+/// these. Nothing is changed: what lies behind is cut off before something is written. An image with a fault is refused.
 pub fn open_image<S: ImageStore + Drop>(
     alloc: Global,
-    mut store: S,
+    store: S,
     index: &ImageIndex,
+    trusted: u64,
 ) -> Result<OpenedImage<S>, OpenFault>
-    ensures ends { IfOk result (λ opened. opened.image.ends ≡ map end_of_entry index.now.objects.items) }
+    ensures store { IfOk result (λ opened. opened.image.store ≡ store) }
+    ensures known { IfOk result (λ opened. opened.image.known ≡ trusted_to trusted) }
+    ensures ends { IfOk result (λ opened. opened.image.ends ≡ ends_within trusted (map end_of_entry index.now.objects.items)) }
     ensures lost { IfOk result (λ opened. lost_of index.now.end ≡ Ok opened.lost) }
-    ensures whole { (bytes : List ℕ) (objects : List Placed) (stop : Stop) → S.contents store ≡ Some bytes → Reads 0 bytes objects stop
-        → index.now.objects.items ≡ map indexed objects → IfOk result (λ opened. IsWhole opened.image (map object_in objects)) }
+    ensures whole { (file : FileValue) (objects : List Placed) (stop : Stop) → S.file store ≡ Some file → IsKnown (trusted_to trusted) file → Reads 0 file.contents objects stop
+        → index.now.objects.items ≡ map indexed objects → IfOk result (λ opened. HasFirstOf (map object_in objects) opened.image) }
 {
     let lost = lost_of(index.end)?;
-    let ends = ends_of(alloc, &index.objects)?;
-    store.truncate(end_at(&ends, ends.len()))?;
-    let image = ImageFile::with_ends(store, ends);
+    let mut ends = ends_of(alloc, &index.objects)?;
+    keep_within(&mut ends, trusted);
+    let image = KeptImage::opened(store, trusted, ends);
     Ok(OpenedImage { image, lost })
 }

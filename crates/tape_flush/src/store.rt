@@ -10,31 +10,39 @@ pub enum StoreFault {
     Failed,
 }
 
-/// A file that keeps an image. Each call may fail, and may be tried again.
+/// A file that keeps an image, and next to it a record on the disk of how much of the file is known to be there. Each call may fail, and
+/// may be tried again.
+///
+/// `did` says that a call led from one state of a store to another. A store need say nothing by it; but code that is generic over stores gets
+/// it from these calls alone, so a clause with it says which calls were made, in which order and with which result, of every store.
 pub trait ImageStore {
-    ghost use Rattle.std.specs.Prelude.{ℕ, List, Option, None, OnOk, OnErr};
-    ghost use Rattle.std.specs.Io.KnownBytes.{Appends, Keeps};
-    ghost use Rattle.tape_flush.specs.Stores.{Truncates, TruncatesInPart, AppendsInPart};
+    ghost use Rattle.std.specs.Prelude.{Option, None, is_ok};
+    ghost use Rattle.tape_flush.specs.Stores.{StoreCall, FileValue, DoesTo, Truncate, Append, Sync, Note};
 
-    // The bytes that reads give, where they are known.
-    ghost contents: { Self → Option (List ℕ) } = { λ _. None };
+    // The file, where its bytes are known.
+    ghost file: { Self → Option FileValue } = { λ _. None };
 
-    // Those that were brought to the disk last, where they are known.
-    ghost synced: { Self → Option (List ℕ) } = { λ _. None };
+    ghost did: { Self → StoreCall → Self → Type 0 };
 
-    /// Cuts the file back to its first `length` bytes, or leaves it where it has no more. Where it fails the file may have more
-    /// of its first bytes, also all.
-    fn truncate(&mut self, length: u64) -> Result<(), StoreFault>
-        ensures ok { OnOk result (Truncates length (contents self.old) (contents self.new)) }
-        ensures err { OnErr result (TruncatesInPart length (contents self.old) (contents self.new)) };
+    /// Cuts the file back to its first `size` bytes, or leaves it where it has no more. Where it fails the file may have more of its first
+    /// bytes, also all.
+    fn truncate(&mut self, size: u64) -> Result<(), StoreFault>
+        ensures { did self.old (Truncate size (is_ok result)) self.new };
 
-    /// Adds bytes at the end. Where it fails the first of them may have been added, also all.
-    fn append(&mut self, bytes: &[u8]) -> Result<(), StoreFault>
-        ensures ok { OnOk result (Appends (contents self.old) (contents self.new) bytes.now) }
-        ensures err { OnErr result (AppendsInPart (contents self.old) (contents self.new) bytes.now) };
+    /// Adds bytes at the end, which has to be at an offset: a file that ends elsewhere was changed by something else, and is left. Where it
+    /// fails the first of them may have been added, also all.
+    fn append(&mut self, offset: u64, bytes: &[u8]) -> Result<(), StoreFault>
+        ensures { did self.old (Append offset bytes.now (is_ok result)) self.new };
 
-    /// Brings the file to the disk, with its length, as fsync does.
+    /// Brings the file to the disk, with its length, as fdatasync does. A system reports once that this failed, and forgets what it had to
+    /// write: then the file has on the disk what an earlier sync brought there, and anything behind it.
     fn sync(&mut self) -> Result<(), StoreFault>
-        ensures contents { Keeps (contents self.old) (contents self.new) }
-        ensures ok { OnOk result (Keeps (contents self.old) (synced self.new)) };
+        ensures { did self.old (Sync (is_ok result)) self.new };
+
+    /// Notes on the disk that the first `size` bytes of the file are there. Where it fails the record may say either.
+    fn note(&mut self, size: u64) -> Result<(), StoreFault>
+        ensures { did self.old (Note size (is_ok result)) self.new };
+
+    // What a call does to a file whose bytes are known.
+    ghost does: { (before : Self) (call : StoreCall) (after : Self) → did before call after → DoesTo call (file before) (file after) };
 }

@@ -1,18 +1,18 @@
-use Rattle.std.proofs.Common.{◌≡◌, ℕ, List, length, map, sym, ap, subst, ◌∙◌, arith}
-use Rattle.tape_flush.specs.Images.{ImageValue, end_at, object_in, IsWhole}
+use Rattle.std.proofs.Common.{◌≡◌, ℕ, List, Option, Some, [], ◌++◌, map, drop, length, take, sym, ap, subst, ◌∙◌}
 use Rattle.tape_flush.specs.Openings.{end_of_entry}
-use Rattle.tape_flush.specs.Stores.{Truncates}
-use Rattle.tape_flush.proofs.Opened.{opened}
+use Rattle.tape_flush.specs.Images.{object_in}
+use Rattle.tape_flush.specs.Stores.{FileValue}
+use Rattle.tape_flush.specs.Careful.{trusted_to}
+use Rattle.tape_flush.specs.Kept.{KeptImageValue, HasFirstOf, HoldsIn, ends_within}
+use Rattle.tape_flush.proofs.Opened.{opened_holds}
 use Rattle.tape_flush.proofs.opening.open_image.Goals as goal
 
 pub returns-clause-whole : goal.returns-clause-whole
-returns-clause-whole g c bytes objects stop known reads same =
-    let ends = c.in_ok-ends.ends in
-    let old = g.S.ImageStore.contents c.args.store in
-    let new = g.S.ImageStore.contents c.truncate.new.self in
-    let count : c.len.result ≡ length ends.items = omega (arith, c.len.ensures, ends.ok.0) in
-    let last : c.end_at.result ≡ end_at ends.items (length ends.items) =
-    c.end_at.ensures ∙ ap (λ (es : List ℕ). end_at es c.len.result) c.deref-2.ensures.value ∙ ap (end_at ends.items) count in
-    subst (λ (v : ImageValue). IsWhole v (map object_in objects)) (sym c.with_ends-image.ensures)
-    (opened old new ends.items c.args.index.now.objects.items (c.in_ok-ends.ensures ∙ ap (map end_of_entry) c.deref.ensures.value)
-    (subst (λ (k : ℕ). Truncates k old new) last c.in_ok-truncate.ensures.ok) bytes objects stop known reads same)
+returns-clause-whole g c file objects stop known is reads same =
+    let ends = c.keep_within.new.ends.items in
+    let are : ends ≡ ends_within c.args.trusted (map end_of_entry c.args.index.now.objects.items) =
+        c.keep_within.ensures ∙ ap (ends_within c.args.trusted) (c.in_ok-ends.ensures ∙ ap (map end_of_entry) c.deref.ensures.value) in
+    let there : HoldsIn (g.S.ImageStore.file c.args.store) (trusted_to c.args.trusted) ends (take (length ends) (map object_in objects)) (drop (length ends) (map object_in objects) ++ []) =
+        subst (λ (f : Option FileValue). HoldsIn f (trusted_to c.args.trusted) ends (take (length ends) (map object_in objects)) (drop (length ends) (map object_in objects) ++ [])) (sym known)
+        (opened_holds file c.args.trusted ends c.args.index.now.objects.items objects stop is reads same are) in
+    subst (λ (v : KeptImageValue g.row.S.Denot). HasFirstOf (map object_in objects) v) (sym c.opened-image.ensures) (drop (length ends) (map object_in objects) ++ [], there)

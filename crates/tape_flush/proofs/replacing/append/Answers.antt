@@ -1,6 +1,5 @@
-use Rattle.std.proofs.Common.{arith}
-use Rattle.std.proofs.lemmas.Grind.{common_steps}
+use Rattle.tape_flush.specs.Careful.{stays}
 use Rattle.tape_flush.proofs.replacing.append.Goals as goal
 
-pub returns-in-Err-clause-ends_of_none : goal.returns-in-Err-clause-ends_of_none
-returns-in-Err-clause-ends_of_none g c = grind (arith, common_steps)
+pub returns-in_err-extend_from_slice-clause-goes : goal.returns-in_err-extend_from_slice-clause-goes
+returns-in_err-extend_from_slice-clause-goes g c = stays _ _
