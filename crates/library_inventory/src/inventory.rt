@@ -1,5 +1,5 @@
 ghost use Rattle.std.specs.Prelude.{◌≡◌, ◌++◌, ◌∷◌, [], OnOk, OnErr, IfErr};
-ghost use Rattle.library_inventory.specs.Kept.{AreKept, IsAddable, IsAddFault};
+ghost use Rattle.library_inventory.specs.Kept.{AreKept, IsAddable, IsAddFault, IsMissable, IsMissFault};
 
 use crate::among::{is_full, is_named};
 use crate::element::LibrarySize;
@@ -9,9 +9,14 @@ use std::alloc::Global;
 use std::marker::Model;
 
 /// Looks whether a volume may be added behind others.
-fn look(size: LibrarySize, volumes: &[PlacedVolume], volume: PlacedVolume) -> Result<(), AddFault>
-    ensures ok { OnOk result (IsAddable size volumes.now volume) }
-    ensures fault { IfErr result (IsAddFault size volumes.now volume) }
+fn look(
+    size: LibrarySize,
+    volumes: &[PlacedVolume],
+    missing: &[PlacedVolume],
+    volume: PlacedVolume,
+) -> Result<(), AddFault>
+    ensures ok { OnOk result (IsAddable size volumes.now missing.now volume) }
+    ensures fault { IfErr result (IsAddFault size volumes.now missing.now volume) }
 {
     if !size.has(volume.element) {
         return Err(AddFault::NoElement);
@@ -19,18 +24,38 @@ fn look(size: LibrarySize, volumes: &[PlacedVolume], volume: PlacedVolume) -> Re
     if is_full(volumes, volume.element) {
         return Err(AddFault::ElementTwice);
     }
-    if is_named(volumes, volume.tag) {
+    if is_named(volumes, volume.tag) || is_named(missing, volume.tag) {
         return Err(AddFault::TagTwice);
     }
     Ok(())
 }
 
-/// What a library is made of, and where its volumes lie: no two have one tag, no two lie in one element, and each element is one of
-/// the library.
+/// Looks whether a volume may be added as one that is missing.
+fn look_missing(
+    size: LibrarySize,
+    volumes: &[PlacedVolume],
+    missing: &[PlacedVolume],
+    volume: PlacedVolume,
+) -> Result<(), AddFault>
+    ensures ok { OnOk result (IsMissable size volumes.now missing.now volume) }
+    ensures fault { IfErr result (IsMissFault size volumes.now missing.now volume) }
+{
+    if !size.has(volume.element) {
+        return Err(AddFault::NoElement);
+    }
+    if is_named(volumes, volume.tag) || is_named(missing, volume.tag) {
+        return Err(AddFault::TagTwice);
+    }
+    Ok(())
+}
+
+/// What a library is made of, where its volumes lie, and where those lay that are missing: no two have one tag, no two lie in one element,
+/// and each element is one of the library.
 #[derive(Drop)]
 pub struct Inventory {
     size: LibrarySize,
     volumes: Vec<PlacedVolume>,
+    missing: Vec<PlacedVolume>,
 }
 
 impl Model for Inventory {
@@ -38,19 +63,20 @@ impl Model for Inventory {
 
     ghost Value = { InventoryValue };
 
-    ghost view = { λ inventory. record { size = inventory.size; volumes = inventory.volumes.items } };
+    ghost view = { λ inventory. record { size = inventory.size; volumes = inventory.volumes.items; missing = inventory.missing.items } };
 
-    ghost invariant = { λ inventory. AreKept inventory.size inventory.volumes.items };
+    ghost invariant = { λ inventory. AreKept inventory.size inventory.volumes.items inventory.missing.items };
 }
 
 impl Inventory {
     /// Of a library in which no volume lies.
     pub fn new(alloc: Global, size: LibrarySize) -> Inventory
-        ensures { result ≡ record { size = size; volumes = [] } }
+        ensures { result ≡ record { size = size; volumes = []; missing = [] } }
     {
         Inventory {
             size,
             volumes: Vec::new(alloc),
+            missing: Vec::new(alloc),
         }
     }
 
@@ -63,19 +89,38 @@ impl Inventory {
     /// The volumes, in the order in which they were added.
     pub fn volumes(&self) -> &[PlacedVolume]
         ensures value { result.now ≡ self.now.volumes }
-        ensures kept { AreKept self.now.size self.now.volumes }
+        ensures kept { AreKept self.now.size self.now.volumes self.now.missing }
     {
         &self.volumes
     }
 
+    /// The volumes that are missing, each with the element in which it lay, in the order in which they were added.
+    pub fn missing(&self) -> &[PlacedVolume]
+        ensures value { result.now ≡ self.now.missing }
+        ensures kept { AreKept self.now.size self.now.volumes self.now.missing }
+    {
+        &self.missing
+    }
+
     /// Adds a volume behind the others; where it is refused nothing changes.
     pub fn add(&mut self, volume: PlacedVolume) -> Result<(), AddFault>
-        ensures ok { OnOk result (self.new ≡ record { size = self.old.size; volumes = self.old.volumes ++ volume ∷ [] }) }
-        ensures fault { IfErr result (IsAddFault self.old.size self.old.volumes volume) }
+        ensures ok { OnOk result (self.new ≡ record { size = self.old.size; volumes = self.old.volumes ++ volume ∷ []; missing = self.old.missing }) }
+        ensures fault { IfErr result (IsAddFault self.old.size self.old.volumes self.old.missing volume) }
         ensures err { OnErr result (self.new ≡ self.old) }
     {
-        look(self.size, &self.volumes, volume)?;
+        look(self.size, &self.volumes, &self.missing, volume)?;
         self.volumes.push(volume)?;
+        Ok(())
+    }
+
+    /// Adds a volume that is missing, with the element in which it lay, behind the others that are; where it is refused nothing changes.
+    pub fn add_missing(&mut self, volume: PlacedVolume) -> Result<(), AddFault>
+        ensures ok { OnOk result (self.new ≡ record { size = self.old.size; volumes = self.old.volumes; missing = self.old.missing ++ volume ∷ [] }) }
+        ensures fault { IfErr result (IsMissFault self.old.size self.old.volumes self.old.missing volume) }
+        ensures err { OnErr result (self.new ≡ self.old) }
+    {
+        look_missing(self.size, &self.volumes, &self.missing, volume)?;
+        self.missing.push(volume)?;
         Ok(())
     }
 }

@@ -17,7 +17,7 @@ pub use element::{Element, LibrarySize};
 pub use fault::{AddFault, SizeOption, StartFault};
 pub use given::size_at_start;
 pub use inventory::Inventory;
-pub use laws::starts_hold_all_images;
+pub use laws::{starts_forget_no_volume, starts_hold_all_images};
 pub use name::{name_of_tag, tag_of_name};
 pub use placed::PlacedVolume;
 pub use placing::{Start, place};

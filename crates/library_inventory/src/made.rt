@@ -35,19 +35,26 @@ fn tag_of(number: u16) -> VolumeTag
     ])
 }
 
-/// The first so many tags that are neither an image's nor named, or all where there are fewer.
+/// The first so many tags that no file and no volume of an inventory has, or all where there are fewer.
 #[tactic(auto, unfolding(crate::specs::Tags::usual_tags))]
 pub(crate) fn made_tags(
     alloc: Global,
     named: &[PlacedVolume],
+    missing: &[PlacedVolume],
     images: &[VolumeTag],
+    left_out: &[VolumeTag],
     count: usize,
 ) -> Result<Vec<VolumeTag>, AllocError>
-    ensures { IfOk result (λ made. made.items ≡ take count (unused_tags named.now images.now)) }
+    ensures { IfOk result (λ made. made.items ≡ take count (unused_tags named.now missing.now images.now left_out.now)) }
 {
     (1..NUMBERS_END)
         .map(|number| tag_of(number))
-        .filter(|tag| !(has_tag(images, *tag) || is_named(named, *tag)))
+        .filter(|tag| {
+            !(has_tag(images, *tag)
+                || has_tag(left_out, *tag)
+                || is_named(named, *tag)
+                || is_named(missing, *tag))
+        })
         .take(count)
         .collect(alloc)
 }

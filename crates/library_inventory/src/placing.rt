@@ -1,7 +1,7 @@
-ghost use Rattle.std.specs.Prelude.{◌≡◌, ◌-◌, ◌<◌, ◌++◌, IfOk, IfErr, IsPermutation, map, zip};
+ghost use Rattle.std.specs.Prelude.{◌≡◌, ◌-◌, ◌<◌, ◌++◌, IfOk, IfErr, OnOk, IsPermutation, map, zip};
 ghost use Rattle.std.specs.List.Sorted.{IsSorted};
 ghost use Rattle.library_inventory.specs.Tags.{tag_cmp};
-ghost use Rattle.library_inventory.specs.Starts.{kept_volumes, missing_volumes, unnamed_images, free_storage, stored_at, IsStart, IsPlaceFault};
+ghost use Rattle.library_inventory.specs.Starts.{kept_volumes, put_back, lying_volumes, without_image, absent_volumes, other_images, made_count, free_storage, stored_at, IsStart, IsPlaceFault};
 
 use crate::among::{has_tag, is_full, is_named};
 use crate::element::Element;
@@ -17,11 +17,11 @@ pub struct Start {
     pub volumes: Vec<PlacedVolume>,
     /// The tags of those that are made, empty.
     pub made: Vec<VolumeTag>,
-    /// Those that are named, and have no image.
+    /// Those of the inventory whose images can't be read, with the elements in which they lay.
     pub missing: Vec<PlacedVolume>,
 }
 
-/// The named volumes whose images are there.
+/// The named volumes whose images can be read.
 fn kept_volumes(
     alloc: Global,
     named: &[PlacedVolume],
@@ -36,33 +36,97 @@ fn kept_volumes(
         .collect(alloc)
 }
 
-/// The named volumes whose images aren't there.
-fn missing_volumes(
+/// Puts a volume that was missing back into its element, if its image can be read again and none of the others lies there.
+fn put_back(
+    images: &[VolumeTag],
+    others: &mut Vec<PlacedVolume>,
+    volume: PlacedVolume,
+) -> Result<(), AllocError>
+    ensures { OnOk result (others.new.items ≡ put_back images.now others.old.items volume) }
+{
+    if has_tag(images, volume.tag) && !is_full(others, volume.element) {
+        others.push(volume)?;
+    }
+    Ok(())
+}
+
+/// The volumes that lie where they lay.
+fn lying_volumes(
     alloc: Global,
     named: &[PlacedVolume],
+    missing: &[PlacedVolume],
     images: &[VolumeTag],
 ) -> Result<Vec<PlacedVolume>, AllocError>
-    ensures { IfOk result (λ missing. missing.items ≡ missing_volumes named.now images.now) }
+    ensures { IfOk result (λ lying. lying.items ≡ lying_volumes named.now missing.now images.now) }
 {
-    named
+    let mut lying = kept_volumes(alloc, named, images)?;
+    'missing: for volume in missing {
+        put_back(images, &mut lying, *volume)?;
+    }
+    Ok(lying)
+}
+
+/// The volumes whose images can't be read.
+fn without_image(
+    alloc: Global,
+    volumes: &[PlacedVolume],
+    images: &[VolumeTag],
+) -> Result<Vec<PlacedVolume>, AllocError>
+    ensures { IfOk result (λ absent. absent.items ≡ without_image volumes.now images.now) }
+{
+    volumes
         .iter()
         .copied()
         .filter(|volume| !has_tag(images, volume.tag))
         .collect(alloc)
 }
 
-/// The images that aren't named.
-fn unnamed_images(
+/// The volumes of an inventory, named and missing ones, whose images can't be read.
+fn absent_volumes(
     alloc: Global,
     named: &[PlacedVolume],
+    missing: &[PlacedVolume],
+    images: &[VolumeTag],
+) -> Result<Vec<PlacedVolume>, AllocError>
+    ensures { IfOk result (λ absent. absent.items ≡ absent_volumes named.now missing.now images.now) }
+{
+    let mut absent = without_image(alloc, named, images)?;
+    let still = without_image(alloc, missing, images)?;
+    absent.extend_from_slice(&still)?;
+    Ok(absent)
+}
+
+/// How many volumes are made, so that there are `least` at least.
+fn count_to_make(
+    least: u16,
+    images: &[VolumeTag],
+    left_out: &[VolumeTag],
+    absent: &[PlacedVolume],
+) -> usize
+    ensures { result ≡ made_count least images.now left_out.now absent.now }
+{
+    let unlisted = left_out
+        .iter()
+        .filter(|tag| !is_named(absent, **tag))
+        .count();
+    usize::from(least)
+        .saturating_sub(images.len())
+        .saturating_sub(absent.len())
+        .saturating_sub(unlisted)
+}
+
+/// The images of volumes that don't lie where they lay.
+fn other_images(
+    alloc: Global,
+    lying: &[PlacedVolume],
     images: &[VolumeTag],
 ) -> Result<Vec<VolumeTag>, AllocError>
-    ensures { IfOk result (λ unnamed. unnamed.items ≡ unnamed_images named.now images.now) }
+    ensures { IfOk result (λ others. others.items ≡ other_images lying.now images.now) }
 {
     images
         .iter()
         .copied()
-        .filter(|tag| !is_named(named, *tag))
+        .filter(|tag| !is_named(lying, *tag))
         .collect(alloc)
 }
 
@@ -93,41 +157,46 @@ fn stored_volumes(
         .collect(alloc)
 }
 
-/// The images that aren't named and the tags of those that are made, in order.
+/// The tags of volumes that don't lie where they lay, and of those that are made, in order.
 fn other_tags(
     alloc: Global,
-    named: &[PlacedVolume],
+    lying: &[PlacedVolume],
     images: &[VolumeTag],
     made: &[VolumeTag],
 ) -> Result<Vec<VolumeTag>, AllocError>
     ensures sorted { IfOk result (λ others. IsSorted tag_cmp others.items) }
-    ensures same { IfOk result (λ others. IsPermutation (unnamed_images named.now images.now ++ made.now) others.items) }
+    ensures same { IfOk result (λ others. IsPermutation (other_images lying.now images.now ++ made.now) others.items) }
 {
-    let mut others = unnamed_images(alloc, named, images)?;
+    let mut others = other_images(alloc, lying, images)?;
     others.extend_from_slice(made)?;
     others.sort_unstable();
     Ok(others)
 }
 
-/// Where the volumes that an inventory names, the images that are there and volumes that are made lie, so that there are `least` at
-/// least, in a library of so many storage elements.
+/// Where volumes lie in a library of so many storage elements: those that its inventory names where they lay, if their images can be read;
+/// then those that it has as missing, and whose images can be read again, where they lay, if nothing lies there; then other images, and
+/// volumes that are made so that there are `least` at least, in the first free storage elements. Volumes of the inventory whose images
+/// can't be read are missing. They count among the least, and so do volumes that are left out since their files can't be served.
 pub fn place(
     alloc: Global,
     slots: u16,
     least: u16,
     named: &[PlacedVolume],
+    missing: &[PlacedVolume],
     images: &[VolumeTag],
+    left_out: &[VolumeTag],
 ) -> Result<Start, StartFault>
-    ensures ok { IfOk result (λ start. IsStart slots least named.now images.now start) }
-    ensures err { IfErr result (λ fault. IsPlaceFault slots least named.now images.now fault) }
+    ensures ok { IfOk result (λ start. IsStart slots least named.now missing.now images.now left_out.now start) }
+    ensures err { IfErr result (λ fault. IsPlaceFault slots least named.now missing.now images.now left_out.now fault) }
 {
-    let count = usize::from(least).saturating_sub(images.len());
-    let made = made_tags(alloc, named, images, count)?;
+    let absent = absent_volumes(alloc, named, missing, images)?;
+    let count = count_to_make(least, images, left_out, &absent);
+    let made = made_tags(alloc, named, missing, images, left_out, count)?;
     if made.len() < count {
         return Err(StartFault::NoTags);
     }
-    let others = other_tags(alloc, named, images, &made)?;
-    let mut volumes = kept_volumes(alloc, named, images)?;
+    let mut volumes = lying_volumes(alloc, named, missing, images)?;
+    let others = other_tags(alloc, &volumes, images, &made)?;
     let free = free_storage(alloc, slots, &volumes)?;
     if free.len() < others.len() {
         return Err(StartFault::MoreVolumes {
@@ -140,6 +209,6 @@ pub fn place(
     Ok(Start {
         volumes,
         made,
-        missing: missing_volumes(alloc, named, images)?,
+        missing: absent,
     })
 }

@@ -7,6 +7,8 @@ pub invariant_of-self-2 : goal.invariant_of-self-2
 invariant_of-self-2 c =
     let size = c.self.inside.size in
     let volumes = c.self.inside.volumes.items in
-    subst (λ (vs : List PlacedVolume). AreKept size vs) (sym c.in_ok-push.ensures.items)
-    (one_more volumes c.args.volume c.self.invariant
-    (subst (λ (vs : List PlacedVolume). IsAddable size vs c.args.volume) c.deref.ensures.value c.in_ok-look.ensures.ok))
+    let missing = c.self.inside.missing.items in
+    subst (λ (vs : List PlacedVolume). AreKept size vs missing) (sym c.in_ok-push.ensures.items)
+    (one_more volumes missing c.args.volume c.self.invariant
+    (subst (λ (ms : List PlacedVolume). IsAddable size volumes ms c.args.volume) c.deref-2.ensures.value
+    (subst (λ (vs : List PlacedVolume). IsAddable size vs c.deref-2.result.now c.args.volume) c.deref.ensures.value c.in_ok-look.ensures.ok)))
