@@ -23,7 +23,7 @@ serve
 "$work/media_load" "$work/vtl" "$gib"
 wait $server
 echo "kept in $work:"
-serve --media "$work/media"
+serve --media "$work/media" --new-library
 "$work/media_load" "$work/vtl" "$gib"
 wait $server
 begun=$(date +%s%N)

@@ -16,7 +16,7 @@ mkdir "$work/media" || exit 1
     printf '\377\377\377\377what was there before'
 } >"$work/media/FOREIGN.tap"
 
-"$top/vtl" serve --socket "$work/vtl" --media "$work/media" --volumes 1 --sessions 1 >"$work/records" 2>"$work/told" &
+"$top/vtl" serve --socket "$work/vtl" --media "$work/media" --new-library --volumes 1 --sessions 1 >"$work/records" 2>"$work/told" &
 server=$!
 until grep -qs '^vtl: serving at ' "$work/told"; do
     if ! kill -0 $server 2>/dev/null; then

@@ -214,8 +214,8 @@ class Library:
         self.size = size
 
     def start(self):
-        words = [self.program, "serve", "--socket", self.path, "--media", self.folder, "--drives", str(DRIVES), "--slots", str(SLOTS)]
-        words += ["--volumes", "3", "--volume-size", self.size, "--drain"]
+        words = [self.program, "serve", "--socket", self.path, "--media", self.folder, "--new-library", "--drives", str(DRIVES)]
+        words += ["--slots", str(SLOTS), "--volumes", "3", "--volume-size", self.size, "--drain"]
         with open(self.told, "wb") as told:
             self.process = subprocess.Popen(words, stdin=subprocess.PIPE, stdout=subprocess.DEVNULL, stderr=told)  # pylint: disable=consider-using-with
         for _turn in range(3000):

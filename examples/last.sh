@@ -8,7 +8,7 @@ media=${1:-$work/media}
 # Starts a server for one session, and waits until it is ready.
 start() {
     rm -f "$work/told"
-    "$top/vtl" serve --socket "$work/vtl" --media "$media" --slots 4 --volumes 2 --sessions 1 >"$work/records" 2>"$work/told" &
+    "$top/vtl" serve --socket "$work/vtl" --media "$media" --new-library --slots 4 --volumes 2 --sessions 1 >"$work/records" 2>"$work/told" &
     server=$!
     until grep -qs '^vtl: serving at ' "$work/told"; do
         if ! kill -0 $server 2>/dev/null; then

@@ -152,7 +152,7 @@ def media_fault(tried: Tried, room_of_lines: bool, fault: str, *words: str, faul
     reader, writer = os.pipe()
     try:
         output = writer if room_of_lines else None
-        with Server(tried, "--media", tried.path("media"), *words, output=output, room=1 << 20) as server:
+        with Server(tried, "--media", tried.path("media"), "--new-library", *words, output=output, room=1 << 20) as server:
             if faulty:
                 server.connect().sendall(BAD_FRAME)
                 server.told.wait_for(f"vtl: session 1 {NOBODY} bad frame\n")
@@ -174,7 +174,7 @@ def media_fault(tried: Tried, room_of_lines: bool, fault: str, *words: str, faul
 def no_memory(tried: Tried) -> None:
     """A kept volume has no room in the memory that there may be."""
     folder = tried.path("media")
-    with Server(tried, "--media", folder) as server:
+    with Server(tried, "--media", folder, "--new-library") as server:
         server.end()
         server.ends()
     block = struct.pack("<I", 65_536) + bytes(65_536) + struct.pack("<I", 65_536)

@@ -1,11 +1,12 @@
 """A library that is kept in a folder, as rows try it: the images of its volumes, byte by byte, and its inventory. docs/OPERATING.md has
 what lies in the folder, "Media that last"."""
+import os
 import pathlib
 import struct
 import time
 import typing
 
-from serving import Server, Tried, Wrong, patience, refused
+from serving import Server, Tried, Wrong, patience, refused, run
 
 # What SIMH keeps of "hi", of a filemark, of "odd", of an erase gap, and of the end of the medium.
 HI, MARK, ODD = b"\x02\0\0\0hi\x02\0\0\0", b"\0\0\0\0", b"\x03\0\0\0odd\0\x03\0\0\0"
@@ -30,12 +31,14 @@ class Folder:
         """With files of these names, each with the ending of an image."""
         self.tried = tried
         self.path = pathlib.Path(tried.path("media"))
-        self.path.mkdir()
+        self.path.mkdir(mode=0o700)
         for name, data in files.items():
             self.put(f"{name}.tap", data)
 
     def put(self, name: str, data: bytes) -> None:
+        """Writes a file, which its owner alone may read and write."""
         (self.path / name).write_bytes(data)
+        os.chmod(self.path / name, 0o600)
 
     def bytes_of(self, name: str) -> bytes:
         return (self.path / name).read_bytes()
@@ -65,12 +68,21 @@ class Folder:
             time.sleep(0.01)
         self.same_image(what, name, wanted)
 
+    def words(self) -> list[str]:
+        """The options by which the library is served that is in it, or one is made in it."""
+        is_new = not (self.path / "library.toml").exists()
+        return ["--media", str(self.path), *(["--new-library"] if is_new else [])]
+
     def served(self, *words: str, **how: typing.Any) -> Server:
-        return Server(self.tried, "--media", str(self.path), *words, **how)
+        return Server(self.tried, *self.words(), *words, **how)
 
     def refused(self, *words: str) -> tuple[int, str]:
         """The status and what is told of a start that is refused."""
-        return refused(self.tried, "--socket", self.tried.path("socket"), "--media", str(self.path), *words)
+        return refused(self.tried, "--socket", self.tried.path("socket"), *self.words(), *words)
+
+    def checked(self) -> tuple[int, str, str]:
+        """The status of a look over it, what that prints and what it tells."""
+        return run([self.tried.program, "media", "check", str(self.path)])
 
 
 def told_by(server: Server) -> list[str]:

@@ -162,7 +162,7 @@ KEPT = {
 def row(name: str, of: Kept) -> Row:
     def play(tried: Tried) -> None:
         # Room for as much as is wanted, until a step takes it away.
-        with Server(tried, "--media", tried.path("media"), *of.words.split(), "--log", room=1 << 30) as server:
+        with Server(tried, "--media", tried.path("media"), "--new-library", *of.words.split(), "--log", room=1 << 30) as server:
             talk(server, of.connections, of.steps)
             server.ends(of.fault)
             same_lines(server.lines(), of.lines)

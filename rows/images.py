@@ -1,10 +1,12 @@
 """Images of volumes: what is in them when a filemark is answered, what a start with given images does, and what is read of them."""
+import os
+import pathlib
 import typing
 
-from exchanges import DRIVE
+from exchanges import CHANGER, DRIVE
 from folders import END_OF_MEDIUM, FIRST, GAP, HI, MARK, NEW, ODD, THREE, Folder, block, ended, told_by
-from hosts import FILEMARK, LONGEST_BLOCK, NO_FILEMARK, POSITION, REWIND, Host, locate, overflow, standing_at
-from serving import Row, Tried, same
+from hosts import FILEMARK, LONGEST_BLOCK, NO_FILEMARK, POSITION, REWIND, WRITE_PROTECTED, Host, locate, overflow, standing_at
+from serving import Row, Server, Tried, same
 
 
 def written_over(tried: Tried) -> None:
@@ -64,18 +66,21 @@ def more_than_a_piece(tried: Tried) -> None:
 
 
 def cut_tails(tried: Tried) -> None:
-    """An image that ends within its third object, at each place."""
+    """An image that ends within its third object, at each place. It stays as it is until its volume is written."""
     lengths = range(15, 26)
     folder = Folder(tried, **{f"CUT{length}": THREE[:length] for length in lengths})
     with folder.served("--slots", "11") as server:
         same("what is told", told_by(server), [
             f"vtl: {folder.path_of(f'CUT{length}.tap')}: a tail of {length - 14} bytes that was cut off is lost" for length in lengths])
         for length in lengths:
-            folder.same_image("what a cut leaves", f"CUT{length}.tap", HI + MARK)
+            folder.same_image("what is there", f"CUT{length}.tap", THREE[:length])
         host = Host(server)
         host.loads()
         host.asks(DRIVE, POSITION, standing_at(0))
         host.reads(b"hi", None)
+        host.writes(b"new")
+        host.asks(DRIVE, NO_FILEMARK)
+        folder.same_image("what a write leaves", "CUT15.tap", HI + MARK + NEW)
         ended(server)
 
 
@@ -102,7 +107,10 @@ FAULTY = {
 def faulty(of: Faulty) -> typing.Callable[[Tried], None]:
     def play(tried: Tried) -> None:
         folder = Folder(tried, VOL00001=of.image)
-        same("the status and what is told", folder.refused(), (2, f"vtl: {folder.path_of(FIRST)}: {of.words}\n"))
+        left_out = f"vtl: {folder.path_of(FIRST)}: {of.words}: the volume is left out\n"
+        none_is_left = f"vtl: {folder.path}: none of the images here can be served\n"
+        same("the status and what is told", folder.refused(), (2, left_out + none_is_left))
+        same("what is in the folder", folder.names(), [FIRST])
         folder.same_image("what is left", FIRST, of.image)
 
     return play
@@ -122,9 +130,10 @@ IMAGES = {
     "whole": Image("an image is read as a tape that stands at its beginning", THREE, [b"hi", None, b"odd"], THREE, None),
     "gaps": Image(
         "a gap within an image is passed over, and what stands behind the end of the medium doesn't count",
-        HI + MARK + GAP + ODD + END_OF_MEDIUM + b"\x09", [b"hi", None, b"odd"], HI + MARK + GAP + ODD, None),
+        HI + MARK + GAP + ODD + END_OF_MEDIUM + b"\x09", [b"hi", None, b"odd"],
+        HI + MARK + GAP + ODD + END_OF_MEDIUM + b"\x09", None),
     "cut": Image(
-        "of a tail that was cut nothing is read", THREE[:20], [b"hi", None], HI + MARK, "a tail of 6 bytes that was cut off is lost"),
+        "of a tail that was cut nothing is read", THREE[:20], [b"hi", None], THREE[:20], "a tail of 6 bytes that was cut off is lost"),
     "empty": Image("an empty file is a blank tape", b"", [], b"", None),
 }
 
@@ -145,6 +154,109 @@ def image(of: Image) -> typing.Callable[[Tried], None]:
     return play
 
 
+def no_write_bit(tried: Tried) -> None:
+    """Root may write every file, and leaves one that nobody may write by its mode."""
+    folder = Folder(tried, VOL00001=HI)
+    os.chmod(folder.path_of(FIRST), 0o400)
+    with folder.served() as server:
+        same("what is told", told_by(server), [f"vtl: {folder.path_of(FIRST)}: it can't be written: the volume is protected"])
+        host = Host(server)
+        host.loads()
+        host.asks(DRIVE, "0a0000000100", WRITE_PROTECTED, b"\1")
+        ended(server)
+    folder.same_image("what is left", FIRST, HI)
+
+
+def others(tried: Tried) -> None:
+    """What has the name of an image and is no regular file of its own is left out, also where it can't be opened without waiting."""
+    folder = Folder(tried, A=HI, Z=ODD)
+    kept = pathlib.Path(tried.path("kept"))
+    kept.write_bytes(MARK)
+    kept.chmod(0o600)
+    (folder.path / "B.tap").hardlink_to(folder.path / "A.tap")
+    os.mkfifo(folder.path / "C.tap")
+    (folder.path / "D.tap").mkdir()
+    (folder.path / "E.tap").symlink_to("/dev/null")
+    (folder.path / "F.tap").symlink_to("Z.tap")
+    (folder.path / "G.tap").symlink_to("nowhere")
+    (folder.path / "H.tap").symlink_to(kept)
+    with folder.served() as server:
+        doubled, other = "it is another volume's file too", "it is no regular file"
+        words = {"B": doubled, "C": other, "D": other, "E": other, "G": "it can't be read", "Z": doubled}
+        same("what is told", told_by(server), [
+            f"vtl: {folder.path_of(f'{name}.tap')}: {why}: the volume is left out" for name, why in words.items()])
+        host = Host(server)
+        host.meets(CHANGER)
+        host.moves(0x401, 0x100)
+        host.meets(DRIVE)
+        host.reads(b"odd")
+        host.changes(0x401, 0x402)
+        host.reads(None)
+        host.writes(b"hi")
+        ended(server)
+    same("what is written behind a link", kept.read_bytes(), MARK + HI)
+    folder.same_image("what is left", "Z.tap", ODD)
+
+
+def modes(tried: Tried) -> None:
+    """What is made is its owner's alone, and it is told where others may read or write something."""
+    folder = pathlib.Path(tried.path("above"), "media")
+    for count in range(2):
+        with Server(tried, "--media", str(folder), "--new-library") as server:
+            same(f"what is told at start {count}", told_by(server), [])
+            server.end()
+            server.ends()
+    made = {path.name: path.stat().st_mode & 0o777 for path in [folder.parent, folder, *folder.iterdir()]}
+    same("the modes", made, {"above": 0o700, "media": 0o700, FIRST: 0o600, "library.toml": 0o600})
+    for path, mode in [(folder, 0o750), (folder / FIRST, 0o602), (folder / "library.toml", 0o644)]:
+        was = path.stat().st_mode
+        path.chmod(mode)
+        with Server(tried, "--media", str(folder)) as server:
+            words = f"vtl: {folder}: others than its owner may read or change it or files in it: say chmod -R go= {folder}"
+            same(f"what is told of {path.name}", told_by(server), [words])
+            server.end()
+            server.ends()
+        path.chmod(was)
+
+
+def checked(tried: Tried) -> None:
+    """A look over a folder prints a line for each volume, also beside a server, and changes nothing."""
+    folder = Folder(tried, A=THREE, B=THREE[:20])
+    folder.put("library.toml", b"version = 1\ndrives = 1\nslots = 4\nportals = 0\n")
+    whole = "A: 3 objects, 5 bytes in blocks, 1 filemarks, whole\nB: 2 objects, 2 bytes in blocks, 1 filemarks, a cut tail of 6 bytes\n"
+    same("what is printed of a folder that is well", folder.checked(), (0, whole, ""))
+    folder.put("C.tap", GAP + HI + UNKNOWN)
+    folder.put("D.tap", bytes(4_000_004))
+    (folder.path / "E.tap").symlink_to("A.tap")
+    os.mkfifo(folder.path / "F.tap")
+    away = b'[[volume]]\ntag = "G"\nstorage = 1\n[[missing]]\ntag = "H"\nstorage = 1\n'
+    folder.put("library.toml", folder.bytes_of("library.toml") + away)
+    faulty = (
+        f"{whole}C: record of an unknown class, at offset 14, behind 1 objects\nD: more than a volume holds, behind 1000000 objects\n"
+        "E: it is another volume's file too\nF: it is no regular file\nG: its file is missing\nH: its file is missing\n")
+    there = {name: folder.bytes_of(name) for name in folder.names() if name != "F.tap"}
+    same("what is printed of faults", folder.checked(), (2, faulty, f"vtl: {folder.path}: volumes with a fault: 6\n"))
+    same("what is there then", {name: folder.bytes_of(name) for name in folder.names() if name != "F.tap"}, there)
+    (folder.path / "B.tap").unlink()
+    (folder.path / "B.tap").symlink_to("nowhere")
+    faulty = faulty.replace(whole.splitlines()[1], "B: it can't be read")
+    told = f"vtl: device fault\nvtl: {folder.path}: volumes that can't be read: 1\n"
+    same("what is printed of a file that can't be read", folder.checked(), (4, faulty, told))
+
+
+def checked_beside(tried: Tried) -> None:
+    folder = Folder(tried)
+    told = f"vtl: {folder.path}: there is no library here (no library.toml); --new-library makes one\n"
+    same("a look over a folder without a library", folder.checked(), (2, "", told))
+    with folder.served("--volumes", "1") as server:
+        host = Host(server)
+        host.loads()
+        host.writes(b"hi")
+        host.asks(DRIVE, FILEMARK)
+        same("a look beside a server", folder.checked(), (0, "VOL00001: 2 objects, 2 bytes in blocks, 1 filemarks, whole\n", ""))
+        ended(server)
+
+
 def just_full(tried: Tried) -> None:
     """A volume of 1 MiB whose image has as many bytes of blocks, and one whose image has two more and takes no more either."""
     blocks = [bytes([number]) * LONGEST_BLOCK for number in range(16)]
@@ -162,10 +274,15 @@ def just_full(tried: Tried) -> None:
 
 
 ROWS = [
+    Row("no-write-bit", "an image that nobody may write is a protected volume", no_write_bit),
+    Row("other-files", "what is no image of its own is left out, and links are followed", others),
+    Row("modes", "files and folders that are made are their owner's alone, and others are told", modes),
+    Row("checked", "what images hold is printed, and their faults", checked),
+    Row("checked-beside", "a folder is looked over beside its server", checked_beside),
     Row("more-than-a-piece", "a tape of more than a piece is lent and written over", more_than_a_piece),
     Row("more-than-a-part", "more than a part is written in parts", more_than_a_part),
     Row("written-over", "an image is written as SIMH keeps it, and a tape is written over from an object on", written_over),
-    Row("cut-tails", "a tail that a crash cut is cut back and told", cut_tails),
+    Row("cut-tails", "a tail that a crash cut is told, and cut off by the next write", cut_tails),
     *(Row(name, of.shows, faulty(of)) for name, of in FAULTY.items()),
     *(Row(f"image-{name}", of.shows, image(of)) for name, of in IMAGES.items()),
     Row("just-full", "a tape that just takes its blocks, and one that has more takes what it has", just_full),

@@ -1,11 +1,13 @@
 """Inventories of a folder: where volumes lie by them and by the files that are there, and what isn't taken for an inventory."""
+import os
+import pathlib
 import struct
 import typing
 
 from exchanges import CHANGER, DRIVE
-from folders import HI, MARK, ODD, Folder, ended, told_by
+from folders import HI, MARK, ODD, THREE, Folder, ended, told_by
 from hosts import Host
-from serving import Row, Tried, same
+from serving import Row, Tried, holds, refused, same
 
 NAME = "library.toml"
 SIZE = "version = 1\ndrives = 1\nslots = 4\nportals = 1\n"
@@ -14,8 +16,12 @@ DRIVE_0, PORTAL_0, STORAGE_0 = 0x100, 0x200, 0x400
 STATUS = "b8100000ffff0000ffff0000"
 
 
-def volume(name: str, element: str) -> str:
-    return f'\n[[volume]]\ntag = "{name}"\n{element}\n'
+def volume(name: str, element: str, key: str = "volume") -> str:
+    return f'\n[[{key}]]\ntag = "{name}"\n{element}\n'
+
+
+def missing(name: str, element: str) -> str:
+    return volume(name, element, "missing")
 
 
 def lying(host: Host) -> dict[int, str]:
@@ -68,7 +74,7 @@ def written_and_read(tried: Tried) -> None:
         host.moves(STORAGE_0 + 1, PORTAL_0)
         same("the inventory that is written behind a move", folder.inventory(), MOVED)
         ended(server)
-    same("what is in the folder", folder.names(), ["A-1_b.tap", "VOL00002.tap", NAME, "lock"])
+    same("what is in the folder", folder.names(), ["A-1_b.tap", "VOL00002.tap", NAME])
 
 
 ONE = '[[volume]]\ntag = "A"\nstorage = 3\n'
@@ -79,6 +85,12 @@ def second(tag: str, element: str = "") -> str:
     return f'{SIZE}{ONE}[[volume]]\ntag = "{tag}"\n{element}'
 
 
+def missing_second(tag: str, element: str = "") -> str:
+    """The same whose first missing volume is wrong."""
+    return f'{SIZE}{ONE}[[missing]]\ntag = "{tag}"\n{element}'
+
+
+OF_THE_MISSING = "of the missing volumes, counted from 0, number 0:"
 NTH = "of the volumes, counted from 0, number 1:"
 NO_TAG = f"{NTH} no tag of 1 to 32 letters, digits, _ and -"
 # What is wrong with a text, the text, and what is told behind the path of its file.
@@ -91,6 +103,14 @@ WRONG = {
     "no-tag": ("a blank in a tag", second("A B", "storage = 0\n"), NO_TAG),
     "no-element": ("no element", second("B"), f"{NTH} say one of data_transfer, storage and import_export"),
     "element-twice": ("an element twice", second("B", "storage = 3\n"), f"{NTH} another volume lies in its element"),
+    "no-missing": ("missing volumes that are none", f"{SIZE}missing = 1\n", "missing is missing, or has a bad value"),
+    "missing-twice": (
+        "a tag of a volume that is missing, too", missing_second("A", "storage = 0\n"), f"{OF_THE_MISSING} another volume has its tag"),
+    "missing-nowhere": (
+        "a missing volume without an element", missing_second("B"),
+        f"{OF_THE_MISSING} say one of data_transfer, storage and import_export"),
+    "missing-beyond": (
+        "a missing volume whose element there isn't", missing_second("B", "storage = 4\n"), f"{OF_THE_MISSING} no such element"),
     "tag-twice": ("a tag twice", second("A", "storage = 2\n"), f"{NTH} another volume has its tag"),
     "no-such-element": ("an element that there isn't", second("B", "storage = 4\n"), f"{NTH} no such element"),
     "empty-tag": ("an empty tag", second("", "storage = 0\n"), NO_TAG),
@@ -106,7 +126,7 @@ def wrong(text: str, words: str) -> typing.Callable[[Tried], None]:
         folder = Folder(tried, A=HI, B=ODD)
         folder.put(NAME, text.encode())
         same("the status and what is told", folder.refused(), (2, f"vtl: {folder.path_of(NAME)}: {words}\n"))
-        same("what is in the folder", folder.names(), ["A.tap", "B.tap", NAME, "lock"])
+        same("what is in the folder", folder.names(), ["A.tap", "B.tap", NAME])
         same("the inventory that is left", folder.inventory(), text)
 
     return play
@@ -141,25 +161,140 @@ PLACES = {DRIVE_0: "A", STORAGE_0: "B", STORAGE_0 + 1: "VOL00002", STORAGE_0 + 2
 
 
 def placed(tried: Tried) -> None:
+    """Of six volumes one is missing, four are there, and one is made."""
     folder = Folder(tried, Z=HI, A=HI + MARK, B=ODD, VOL00002=MARK)
     folder.put(NAME, named(4).encode())
-    with folder.served("--volumes", "5") as server:
-        missing = f"vtl: {folder.path_of('VOL00001.tap')}: it is missing: the volume lay in storage element 2"
-        same("what is told", told_by(server), [missing])
+    with folder.served("--volumes", "6") as server:
+        same("what is told", told_by(server), [is_missing(folder, "VOL00001", "storage element 2")])
         folder.same_image("the volume that is made", "VOL00003.tap", b"")
         host = Host(server)
         host.meets(CHANGER)
         same_places(host, "where volumes lie", PLACES)
         ended(server)
-    same("what is in the folder", folder.names(), ["A.tap", "B.tap", "VOL00002.tap", "VOL00003.tap", "Z.tap", NAME, "lock"])
+    same("what is in the folder", folder.names(), ["A.tap", "B.tap", "VOL00002.tap", "VOL00003.tap", "Z.tap", NAME])
 
 
 def too_many(tried: Tried) -> None:
-    folder = Folder(tried, Z=HI, A=HI + MARK, B=ODD, VOL00002=MARK)
+    """A start that is refused has changed nothing."""
+    folder = Folder(tried, Z=HI, A=THREE[:20], B=ODD, VOL00002=MARK)
     folder.put(NAME, named(3).encode())
+    cut = f"vtl: {folder.path_of('A.tap')}: a tail of 6 bytes that was cut off is lost\n"
     words = "vtl: more volumes than free storage elements: 3, and 2 are free\n"
-    same("the status and what is told", folder.refused("--volumes", "5"), (2, words))
-    same("what is in the folder", folder.names(), ["A.tap", "B.tap", "VOL00002.tap", "Z.tap", NAME, "lock"])
+    same("the status and what is told", folder.refused("--volumes", "6"), (2, cut + words))
+    same("what is in the folder", folder.names(), ["A.tap", "B.tap", "VOL00002.tap", "Z.tap", NAME])
+    same("the inventory that is left", folder.inventory(), named(3))
+    folder.same_image("the image that is left", "A.tap", THREE[:20])
+
+
+def is_missing(folder: Folder, name: str, place: str) -> str:
+    return f"vtl: {folder.path_of(f'{name}.tap')}: it is missing: the volume lay in {place}"
+
+
+def lies_so(folder: Folder, told: list[str], places: dict[int, str], *words: str) -> None:
+    """A start tells this, and volumes lie there."""
+    with folder.served(*words) as server:
+        same("what is told", told_by(server), told)
+        host = Host(server)
+        host.meets(CHANGER)
+        same_places(host, "where volumes lie", places)
+        ended(server)
+
+
+BOTH = SIZE + volume("A", "data_transfer = 0") + volume("B", "storage = 2")
+GONE = SIZE + volume("A", "data_transfer = 0") + missing("B", "storage = 2")
+
+
+def file_away(tried: Tried) -> None:
+    """A volume whose file is away stays known, is told at each start, and none is made in its place. It goes back where it lay."""
+    folder = Folder(tried, A=HI)
+    folder.put(NAME, BOTH.encode())
+    for _ in range(2):
+        lies_so(folder, [is_missing(folder, "B", "storage element 2")], {DRIVE_0: "A"}, "--volumes", "2")
+        same("the inventory without the file", folder.inventory(), GONE)
+    with folder.served() as server:
+        host = Host(server)
+        host.meets(CHANGER)
+        host.moves(DRIVE_0, STORAGE_0 + 1)
+        same("the inventory behind a move", folder.inventory(), SIZE + volume("A", "storage = 1") + missing("B", "storage = 2"))
+        host.moves(STORAGE_0 + 1, DRIVE_0)
+        ended(server)
+    folder.put("B.tap", ODD)
+    lies_so(folder, [], {DRIVE_0: "A", STORAGE_0 + 2: "B"}, "--volumes", "2")
+    same("the inventory with the file", folder.inventory(), BOTH)
+
+
+def element_taken(tried: Tried) -> None:
+    """Where another volume lies in its element by then, it comes into the first free storage element, in the order of tags."""
+    folder = Folder(tried, A=HI, B=ODD, C=MARK, VOL00001=b"")
+    folder.put(NAME, (SIZE + volume("A", "storage = 2") + missing("C", "storage = 2") + missing("B", "import_export = 0")).encode())
+    lies_so(folder, [], {STORAGE_0 + 2: "A", PORTAL_0: "B", STORAGE_0: "C", STORAGE_0 + 1: "VOL00001"})
+
+
+def left_out(tried: Tried) -> None:
+    """A volume whose image has a fault is left out, and its element is empty; others are served. Once it is mended, it lies where it lay.
+    One of which nothing was known yet comes into the first free storage element then."""
+    folder = Folder(tried, A=HI, B=MARK + b"\x02\0\0\x80", C=struct.pack("<I", 2) + b"hi" + struct.pack("<I", 3))
+    folder.put(NAME, BOTH.encode())
+    faults = {
+        "B": "record of an unknown class, at offset 4, behind 1 objects",
+        "C": "lengths before and behind a block differ, at offset 0, behind 0 objects"}
+    told = [f"vtl: {folder.path_of(f'{name}.tap')}: {fault}: the volume is left out" for name, fault in faults.items()]
+    for _ in range(2):
+        lies_so(folder, told, {DRIVE_0: "A"}, "--volumes", "3")
+        same("the inventory", folder.inventory(), GONE)
+        same("what is in the folder", folder.names(), ["A.tap", "B.tap", "C.tap", NAME])
+    folder.put("B.tap", ODD)
+    folder.put("C.tap", MARK)
+    lies_so(folder, [], {DRIVE_0: "A", STORAGE_0: "C", STORAGE_0 + 2: "B"})
+
+
+def none_there(tried: Tried) -> None:
+    """Without a word for that no library is made, neither in a folder that isn't there nor in one that has none, and nothing changes."""
+    folder = pathlib.Path(tried.path("media"))
+    words = ["--socket", tried.path("socket"), "--media", str(folder)]
+    told = f"vtl: {folder}: there is no library here (no library.toml); --new-library makes one\n"
+    same("the status and what is told of no folder", refused(tried, *words), (2, told))
+    same("whether there is one then", folder.exists(), False)
+    folder.mkdir()
+    (folder / "A.tap").write_bytes(HI)
+    same("the status and what is told of a folder without a library", refused(tried, *words), (2, told))
+    same("what is in it then", [path.name for path in folder.iterdir()], ["A.tap"])
+    folder.rename(tried.path("away"))
+    folder.write_bytes(b"no folder")
+    same("the status and what is told of a file", refused(tried, *words), (2, told))
+    told = f"vtl: device fault\nvtl: cannot make {folder}\n"
+    same("the status and what is told of one that is to be made there", refused(tried, *words, "--new-library"), (4, told))
+
+
+def in_use(tried: Tried) -> None:
+    """A folder that has a server is refused to another one, whatever files are in it."""
+    folder = Folder(tried)
+    with folder.served() as server:
+        told = f"vtl: {folder.path}: another program has this folder\n"
+        other = ["--socket", tried.path("other"), "--media", str(folder.path)]
+        same("what is in the folder", folder.names(), ["VOL00001.tap", NAME])
+        for words in [[], ["--new-library"]]:
+            same("the status and what is told", refused(tried, *other, *words), (2, told))
+        ended(server)
+
+
+def folder_away(tried: Tried) -> None:
+    """An inventory isn't written into another folder that stands where the library's was: it fails, until that is there again."""
+    folder = Folder(tried, A=HI)
+    with folder.served() as server:
+        host = Host(server)
+        host.meets(CHANGER)
+        was = folder.inventory()
+        folder.path.rename(tried.path("away"))
+        folder.path.mkdir()
+        host.is_ended_by(CHANGER, f"a5000000{STORAGE_0:04x}{DRIVE_0:04x}00000000")
+        server.told.wait_for("vtl: the inventory could not be written: disk error\n")
+        same("what is in the other folder", folder.names(), [])
+        same("the inventory of the library", pathlib.Path(tried.path("away"), NAME).read_text(encoding="utf-8"), was)
+        folder.path.rmdir()
+        os.rename(tried.path("away"), folder.path)
+        ended(server)
+    holds("the inventory at the end", folder.inventory(), volume("A", "data_transfer = 0"))
 
 
 # In the order of their tags, which are padded with blanks: these come before letters, digits, and what else a name has.
@@ -190,6 +325,12 @@ ROWS = [
     Row("sizes", "options that disagree with an inventory are refused with both values", sizes),
     Row("five-slots", "a library without an inventory is of the size that options say", five_slots),
     Row("placed", "volumes lie where they lay and others in the first free elements", placed),
-    Row("too-many", "more volumes than free elements are refused", too_many),
+    Row("too-many", "more volumes than free elements are refused, and nothing is changed", too_many),
+    Row("file-away", "a volume whose file is away is missing, and none is made in its place", file_away),
+    Row("element-taken", "a volume that was missing goes back to its element if that is free", element_taken),
+    Row("left-out", "a volume whose image has a fault is left out, and others are served", left_out),
+    Row("none-there", "no library is made where none was asked for", none_there),
+    Row("in-use", "a folder has one server", in_use),
+    Row("folder-away", "an inventory is written into its own folder alone", folder_away),
     Row("names", "a name is that of one tag, and a file of another name is left", names),
 ]

@@ -3,7 +3,9 @@ file can't be brought to the disk, or can't be written."""
 import contextlib
 import os
 import pathlib
+import platform
 import resource
+import struct
 import sys
 import typing
 
@@ -54,11 +56,39 @@ def each_drive(tried: Tried) -> None:
         ended(server)
 
 
+def bound(tried: Tried, lines: str) -> Tried:
+    """The program behind lines of Python that bind it."""
+    path = pathlib.Path(tried.path("bound"))
+    path.write_text(
+        f"#!{sys.executable}\nimport ctypes, os, sys\n{lines}\nos.execv({tried.program!r}, [{tried.program!r}, *sys.argv[1:]])\n",
+        encoding="utf-8")
+    path.chmod(0o700)
+    return Tried(str(path), tried.folder)
+
+
+# Instructions of a filter for system calls (seccomp): fdatasync fails with EIO, and all others are let through.
+FDATASYNC = {"x86_64": 75, "aarch64": 83}
+NO_FDATASYNC = [(0x20, 0, 0, 0), (0x15, 0, 1, FDATASYNC.get(platform.machine(), 75)), (0x06, 0, 0, 0x5_0005), (0x06, 0, 0, 0x7FFF_0000)]
+
+
+def without_syncs(tried: Tried) -> Tried:
+    """The program, whose files can't be brought to the disk by fdatasync."""
+    filters = b"".join(struct.pack("=HBBI", *instruction) for instruction in NO_FDATASYNC)
+    return bound(tried, f"""
+class Program(ctypes.Structure):
+    _fields_ = [("length", ctypes.c_ushort), ("filters", ctypes.c_char_p)]
+
+
+libc = ctypes.CDLL(None)
+if libc.prctl(38, 1, 0, 0, 0) or libc.prctl(22, 2, ctypes.byref(Program({len(NO_FDATASYNC)}, {filters!r}))):
+    sys.exit("no filter for system calls")
+""")
+
+
 def never_synced(tried: Tried) -> None:
-    """/dev/null takes what is written, and can't be brought to a disk: so it shows by which commands that is tried. The volume lies in the
-    drive from the start on, since a move would try it too."""
-    folder = Folder(tried)
-    (folder.path / FIRST).symlink_to("/dev/null")
+    """A disk that can't take what a file has shows by which commands that is tried. The volume lies in the drive from the start on, since a
+    move would try it too."""
+    folder = Folder(without_syncs(tried), VOL00001=b"")
     folder.put("library.toml", b'version = 1\ndrives = 1\nslots = 1\nportals = 0\n[[volume]]\ntag = "VOL00001"\ndata_transfer = 0\n')
     with folder.served() as server:
         host = Host(server)
@@ -132,12 +162,7 @@ def full_and_kept_at_the_end(tried: Tried) -> None:
 
 def without_a_right(tried: Tried) -> Tried:
     """The program without the right to write files that are for reading alone, which root has (CAP_DAC_OVERRIDE)."""
-    path = pathlib.Path(tried.path("bound"))
-    path.write_text(
-        f"#!{sys.executable}\nimport ctypes, os, sys\nctypes.CDLL(None).prctl(24, 1, 0, 0, 0)\n"
-        f"os.execv({tried.program!r}, [{tried.program!r}, *sys.argv[1:]])\n", encoding="utf-8")
-    path.chmod(0o700)
-    return Tried(str(path), tried.folder)
+    return bound(tried, "ctypes.CDLL(None).prctl(24, 1, 0, 0, 0)")
 
 
 def protected(tried: Tried) -> None:

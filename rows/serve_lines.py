@@ -178,7 +178,7 @@ MEMORY = {
     "line-memory-bytes": Memory("eight mebibytes, in bytes, are taken by the room for blocks alone", "--memory 8388608", 2, 0),
     "line-memory-9m": Memory("room of eight mebibytes is in nine", "--memory=9m", 130, 128),
     "line-memory-3g": Memory("gibibytes of memory", "--memory=3g", 2, 2),
-    "line-memory-most": Memory("the most memory, of a library that is kept", "--media {} --memory 70368744177664", 2, 2),
+    "line-memory-most": Memory("the most memory, of a library that is kept", "--media {} --new-library --memory 70368744177664", 2, 2),
 }
 
 
@@ -230,10 +230,10 @@ def kept(of: Kept) -> typing.Callable[[Tried], None]:
     def play(tried: Tried) -> None:
         folder = tried.path("media")
         for start in of.starts[:-1]:
-            with Server(tried, "--media", folder, *start.split()) as server:
+            with Server(tried, "--media", folder, "--new-library", *start.split()) as server:
                 server.end()
                 server.ends()
-        last = [f"--media={folder}", *of.starts[-1].split()]
+        last = [f"--media={folder}", "--new-library", *of.starts[-1].split()]
         if of.made is None:
             status, told = refused(tried, "--socket", tried.path("socket"), *last)
             same(f"the status behind {told!r}", status, 2)

@@ -5,7 +5,7 @@ use Rattle.program_options.specs.Options.{AreGivenInRange, AreInRange}
 use Rattle.program_options.specs.ServeUntil.{workers_of}
 use Rattle.program_options.specs.declared.library_options.LibraryOptions.{LibraryOptions}
 use Rattle.command_line.specs.declared.task.Task.{Task}
-use Rattle.command_line.specs.declared.task.Task.TheVariants.{Replay, Serve, Client, Cells}
+use Rattle.command_line.specs.declared.task.Task.TheVariants.{Replay, Serve, Client, Cells, CheckMedia}
 use Rattle.command_line.specs.declared.task.ServeOptions.{ServeOptions}
 use Rattle.command_line.specs.declared.task.IscsiOptions.{IscsiOptions}
 use Rattle.command_line.specs.declared.task.MediaOptions.{MediaOptions}
@@ -53,3 +53,4 @@ IsDoable (Replay library explanations audit) = MakesLibrary library
 IsDoable (Serve library serving audit) = MakesServed library serving.media × IsServeOptions serving
 IsDoable (Client host explanations) = IsClientOptions host
 IsDoable (Cells class) = Unit {0}
+IsDoable (CheckMedia folder) = Unit {0}

@@ -1,8 +1,8 @@
 //! What the program's commands are and say of themselves.
 
 use crate::options::{
-    AUDIT, CELLS, CLIENT, EXPLAIN, ISCSI, LIBRARY, LOG, MEDIA, OptionRow, PLACE, RECORDS, TIMES,
-    with_options,
+    AUDIT, CELLS, CHECK, CLIENT, EXPLAIN, ISCSI, LIBRARY, LOG, MEDIA, OptionRow, PLACE, RECORDS,
+    TIMES, with_options,
 };
 use clap::Command;
 use std::alloc::{AllocError, Global};
@@ -37,6 +37,9 @@ const CLIENT_EXAMPLE: &str =
 const CELLS_EXAMPLE: &str = "Example, of who may write under which type of reservation:
   vtl cells 'WRITE(6)'";
 
+const MEDIA_EXAMPLE: &str = "Example, of what the images in a folder hold and where one has a fault:
+  vtl media check /var/lib/vtl";
+
 const EXAMPLES: &str = "Examples:
   vtl replay < examples/four_commands.script
   vtl cells 'WRITE(6)'
@@ -70,13 +73,31 @@ const COMMANDS: [CommandRow; 4] = [
     },
 ];
 
+/// What can be done with a library that is kept in a folder while it isn't served, or beside its server.
+const MEDIA_COMMANDS: [CommandRow; 1] = [CommandRow {
+    name: "check",
+    about: "Prints for each volume of a library that is kept in a folder what its image holds, or what is wrong with it",
+    examples: MEDIA_EXAMPLE,
+    tables: &[&CHECK],
+}];
+
 /// The program with its commands.
 pub(crate) fn program<'a>(alloc: Global) -> Result<Command<'a>, AllocError> {
     let mut program = bare_program(alloc);
     for row in &COMMANDS {
         program = with_command(alloc, program, row)?;
     }
-    Ok(program)
+    program.subcommand(media_command(alloc)?)
+}
+
+/// The command whose commands look after folders in which libraries are kept.
+fn media_command<'a>(alloc: Global) -> Result<Command<'a>, AllocError> {
+    let about = "Looks after the folder in which a library is kept";
+    let mut command = command_named(alloc, "media", about, MEDIA_EXAMPLE).subcommand_required(true);
+    for row in &MEDIA_COMMANDS {
+        command = with_command(alloc, command, row)?;
+    }
+    Ok(command)
 }
 
 fn bare_program<'a>(alloc: Global) -> Command<'a> {

@@ -102,7 +102,7 @@ pub(crate) const LIBRARY: [OptionRow; 5] = [
 ];
 
 /// Where a library is kept, and in how much memory.
-pub(crate) const MEDIA: [OptionRow; 2] = [
+pub(crate) const MEDIA: [OptionRow; 3] = [
     OptionRow {
         name: "media",
         value: OptionValue::Text("DIR"),
@@ -111,6 +111,14 @@ pub(crate) const MEDIA: [OptionRow; 2] = [
         needs: None,
         help: "The folder in which the library is kept, with what its volumes hold and where they lie; \
             without it nothing outlives the server",
+    },
+    OptionRow {
+        name: "new-library",
+        value: OptionValue::Switch,
+        presence: Presence::Optional,
+        excludes: None,
+        needs: Some("media"),
+        help: "Makes a library in the folder if it has none, and the folder if it isn't there; without it such a folder is refused",
     },
     OptionRow {
         name: "memory",
@@ -189,6 +197,16 @@ pub(crate) const CELLS: [OptionRow; 1] = [OptionRow {
     excludes: None,
     needs: None,
     help: "The one class of commands to print, by its name in the table",
+}];
+
+/// The folder that is looked over.
+pub(crate) const CHECK: [OptionRow; 1] = [OptionRow {
+    name: "dir",
+    value: OptionValue::Operand("DIR"),
+    presence: Presence::Required,
+    excludes: None,
+    needs: None,
+    help: "The folder in which the library is kept",
 }];
 
 /// Where a library is served, for how long, and to how many.

@@ -11,7 +11,8 @@ use permission_chart::class_named;
 use permit_tables::Class;
 use program_options::{
     CommandLineFault, GivenLibrary, LibraryOptions, NamedHost, OptionFault, ServeTimes, ServeUntil,
-    host_beside, is_iscsi_name, memory_size_of, nexus_of, portal_of, volume_size_of,
+    WithoutLibrary, host_beside, is_iscsi_name, memory_size_of, nexus_of, portal_of,
+    volume_size_of,
 };
 use scsi_nexus::TARGET_PORTS;
 use std::alloc::{AllocError, Global};
@@ -43,6 +44,9 @@ fn task_in(alloc: Global, matches: &ArgMatches) -> Result<Task, CommandLineFault
     }
     if let Some(cells) = matches.subcommand_matches("cells") {
         return Ok(Task::Cells(class_of(alloc, cells)?));
+    }
+    if let Some(media) = matches.subcommand_matches("media") {
+        return Ok(Task::CheckMedia(checked_folder_of(alloc, media)?));
     }
     match matches.subcommand_matches("replay") {
         Some(replay) => replay_task(alloc, replay),
@@ -168,10 +172,30 @@ fn media_options_of(alloc: Global, command: &ArgMatches) -> Result<Option<MediaO
     match command.get_str("media") {
         Some(folder) => Ok(Some(MediaOptions {
             folder: String::from_str(alloc, folder)?,
+            without: without_library_of(command),
             given: given_library_of(command),
         })),
         None => Ok(None),
     }
+}
+
+/// What is done where the folder of a command has no library.
+fn without_library_of(command: &ArgMatches) -> WithoutLibrary {
+    if command.get_flag("new-library") {
+        WithoutLibrary::Make
+    } else {
+        WithoutLibrary::Refuse
+    }
+}
+
+/// The folder that is to be looked over.
+fn checked_folder_of(alloc: Global, media: &ArgMatches) -> Result<String, AllocError> {
+    // `clap` asks for the subcommand, of which there is no other, and for the folder.
+    let folder = match media.subcommand_matches("check") {
+        Some(check) => check.get_str("dir").unwrap_or(""),
+        None => "",
+    };
+    String::from_str(alloc, folder)
 }
 
 /// How many bytes of memory volumes may take together, if a command says it.

@@ -1,6 +1,8 @@
 use output_lines::{Audit, Explanations};
 use permit_tables::Class;
-use program_options::{GivenLibrary, LibraryOptions, NamedHost, ServeTimes, ServeUntil};
+use program_options::{
+    GivenLibrary, LibraryOptions, NamedHost, ServeTimes, ServeUntil, WithoutLibrary,
+};
 use scsi_nexus::Nexus;
 use std::net::SocketAddr;
 
@@ -17,6 +19,8 @@ pub enum Task {
     Client(ClientOptions, Explanations),
     /// Print the permission table, or the line of one class of commands.
     Cells(Option<Class>),
+    /// Print what the images of the volumes hold that are in the folder at this path, and what is wrong with them.
+    CheckMedia(String),
 }
 
 /// Where a library is served and kept, for how long, when its records are printed, and what is told of its sessions.
@@ -44,6 +48,8 @@ pub struct ServeOptions {
 pub struct MediaOptions {
     /// The path of its folder.
     pub folder: String,
+    /// What is done where it has no library.
+    pub without: WithoutLibrary,
     /// What was said of the library.
     pub given: GivenLibrary,
 }

@@ -6,8 +6,6 @@ use library_inventory::{AddFault, LibrarySize, SizeOption, StartFault};
 use std::alloc::AllocError;
 use std::fmt;
 use std::io::ErrorKind;
-use tape_flush::{OpenFault, ReadTapeFault};
-use tape_image::ImageFault;
 use thiserror::Error;
 
 /// Why a folder isn't opened, or its inventory isn't written. Paths are those that were given, and of files in the folder.
@@ -18,26 +16,21 @@ pub enum FolderFault {
     CannotMake(String),
     CannotRead(String),
     CannotWrite(String),
+    CannotLock(String),
+    /// The path leads to another folder than the one that was opened, or nowhere.
+    Moved(String),
     /// Another program has the folder.
     InUse(String),
+    /// The folder isn't there, or has no inventory.
+    NoLibrary(String),
     /// The text of the inventory is none.
     BadInventory(String, ReadFault),
     /// No library is made of this.
     NoSize(LibrarySize),
     /// Options disagree with the inventory, or there are too few elements or tags.
     Start(StartFault),
-    /// A volume's file has a fault at the offset `whole`, in bytes, behind so many objects.
-    FaultyImage {
-        path: String,
-        fault: ImageFault,
-        objects: u64,
-        whole: u64,
-    },
-    /// A volume's file has more than a tape takes, behind so many objects.
-    TooLarge {
-        path: String,
-        objects: u32,
-    },
+    /// There are images in the folder, and none of them can be served.
+    NothingServed(String),
     /// A tag has no name that a file can have.
     NoName,
 }
@@ -48,6 +41,14 @@ impl FolderFault {
         match kind {
             ErrorKind::OutOfMemory => FolderFault::NoMemory,
             _ => FolderFault::CannotRead(path),
+        }
+    }
+
+    /// Why a folder isn't opened.
+    pub(crate) fn of_folder(path: String, kind: ErrorKind) -> FolderFault {
+        match kind {
+            ErrorKind::NotFound | ErrorKind::NotADirectory => FolderFault::NoLibrary(path),
+            _ => FolderFault::of_reading(path, kind),
         }
     }
 
@@ -67,34 +68,6 @@ impl FolderFault {
         }
     }
 
-    /// Why the image at a path isn't read.
-    pub(crate) fn of_image(path: String, fault: ReadTapeFault) -> FolderFault {
-        match fault {
-            ReadTapeFault::NoMemory => FolderFault::NoMemory,
-            ReadTapeFault::Read | ReadTapeFault::PastLastOffset => FolderFault::CannotRead(path),
-            ReadTapeFault::TooLarge { objects } => FolderFault::TooLarge { path, objects },
-        }
-    }
-
-    /// Why the image at a path isn't written on.
-    pub(crate) fn of_opening(path: String, fault: OpenFault) -> FolderFault {
-        match fault {
-            OpenFault::NoMemory => FolderFault::NoMemory,
-            OpenFault::Faulty {
-                fault,
-                objects,
-                whole,
-            } => FolderFault::FaultyImage {
-                path,
-                fault,
-                objects,
-                whole,
-            },
-            OpenFault::PastLastOffset => FolderFault::CannotRead(path),
-            OpenFault::Store(_) => FolderFault::CannotWrite(path),
-        }
-    }
-
     /// The exit status of a program that ends by it: 2 where something is to be put right before, 3 for want of memory, else 4
     /// (profile).
     pub fn status(&self) -> u8
@@ -102,14 +75,17 @@ impl FolderFault {
     {
         match self {
             FolderFault::NoMemory => 3,
-            FolderFault::CannotMake(_) | FolderFault::CannotRead(_) | FolderFault::CannotWrite(_) =>
-                4,
+            FolderFault::CannotMake(_)
+            | FolderFault::CannotRead(_)
+            | FolderFault::CannotWrite(_)
+            | FolderFault::CannotLock(_)
+            | FolderFault::Moved(_) => 4,
             FolderFault::InUse(_)
+            | FolderFault::NoLibrary(_)
             | FolderFault::BadInventory(_, _)
             | FolderFault::NoSize(_)
             | FolderFault::Start(_)
-            | FolderFault::FaultyImage { .. }
-            | FolderFault::TooLarge { .. }
+            | FolderFault::NothingServed(_)
             | FolderFault::NoName => 2,
         }
     }
@@ -143,6 +119,22 @@ impl fmt::Display for FolderFault {
             FolderFault::CannotWrite(path) => {
                 write!(f, "vtl: device fault\nvtl: cannot write {path}")
             }
+            FolderFault::CannotLock(path) => {
+                write!(f, "vtl: device fault\nvtl: cannot lock {path}")
+            }
+            FolderFault::Moved(path) => {
+                write!(
+                    f,
+                    "vtl: device fault\nvtl: {path} leads no longer to the folder that was opened"
+                )
+            }
+            FolderFault::NoLibrary(path) => write!(
+                f,
+                "vtl: {path}: there is no library here (no library.toml); --new-library makes one"
+            ),
+            FolderFault::NothingServed(path) => {
+                write!(f, "vtl: {path}: none of the images here can be served")
+            }
             FolderFault::InUse(path) => write!(f, "vtl: {path}: another program has this folder"),
             FolderFault::BadInventory(path, fault) => {
                 write!(f, "vtl: {path}: ")?;
@@ -150,19 +142,6 @@ impl fmt::Display for FolderFault {
             }
             FolderFault::NoSize(size) => write_size(f, size),
             FolderFault::Start(fault) => write_start_fault(f, fault),
-            FolderFault::FaultyImage {
-                path,
-                fault,
-                objects,
-                whole,
-            } => write!(
-                f,
-                "vtl: {path}: {fault}, at offset {whole}, behind {objects} objects"
-            ),
-            FolderFault::TooLarge { path, objects } => write!(
-                f,
-                "vtl: {path}: more than a volume holds, behind {objects} objects"
-            ),
             FolderFault::NoName => write!(f, "vtl: a volume has a tag that no file can have"),
         }
     }
@@ -216,6 +195,13 @@ fn write_read_fault<W: fmt::Write>(f: &mut fmt::Formatter<W>, fault: &ReadFault)
             let words = volume_words(*fault);
             write!(f, "of the volumes, counted from 0, number {nth}: {words}")
         }
+        ReadFault::Missing { nth, fault } => {
+            let words = volume_words(*fault);
+            write!(
+                f,
+                "of the missing volumes, counted from 0, number {nth}: {words}"
+            )
+        }
         _ => write!(f, "{fault}"),
     }
 }
@@ -227,6 +213,7 @@ fn key_name(key: InventoryKey) -> &'static str {
         InventoryKey::Slots => "slots",
         InventoryKey::Portals => "portals",
         InventoryKey::Volume => "volume",
+        InventoryKey::Missing => "missing",
     }
 }
 

@@ -4,33 +4,47 @@ ghost use Rattle.tape_medium.specs.Limits.{capacity_limit};
 ghost use Rattle.media_folder.specs.Sizes.{IsUsable};
 
 use crate::fault::FolderFault;
-use crate::images::{KeptVolume, list_volumes, make_volumes, open_volumes};
-use crate::inventory_file::read_inventory_file;
-use crate::lock::{FolderLock, lock_folder};
+use crate::images::{
+    FoundVolumes, KeptVolume, find_volumes, keep_volumes, make_volumes, read_volumes,
+};
+use crate::inventory_file::{is_inventory_open, kept_inventory};
+use crate::library_folder::{LibraryFolder, lock_folder};
 use crate::names::volume_path;
 use crate::notice::{Notice, tell};
 use crate::size::{decide_size, least_volumes};
-use library_inventory::{LibrarySize, PlacedVolume, Start, place};
-use program_options::GivenLibrary;
-use std::fs::{self, File, Files};
+use library_inventory::{Inventory, LibrarySize, PlacedVolume, Start, place};
+use program_options::{GivenLibrary, WithoutLibrary};
+use std::alloc::Global;
+use std::fs::{File, Files};
 use std::io::Write;
-use tape_medium::MemoryLimit;
+use tape_medium::{MemoryLimit, VolumeTag};
 
-/// A folder that is opened: what its library is made of, and its volumes. Nobody else has it as long as the lock lives.
+/// A folder that is opened: what its library is made of, its volumes, and those that are missing, with the elements in which they lay.
+/// Nobody else has it as long as `folder` lives.
 #[derive(Drop)]
 pub struct OpenedFolder {
-    pub path: String,
+    pub folder: LibraryFolder,
     pub size: LibrarySize,
     pub volumes: Vec<KeptVolume>,
-    pub lock: FolderLock,
+    pub missing: Vec<PlacedVolume>,
 }
 
-/// Opens the folder of a library, which is made where it isn't there, and so are blank volumes, until there are as many as were asked
-/// for. Each volume takes `volume_size` bytes of blocks, or as many as it has where these are more, and all take no more memory together
-/// than the limit says. What is lost or left is told on `errors`. The inventory is read and not written.
+/// What was read of a folder, in which nothing was changed yet.
+#[derive(Drop)]
+struct ReadLibrary {
+    size: LibrarySize,
+    found: FoundVolumes,
+    start: Start,
+}
+
+/// Opens the folder of a library. First everything in it is read: a volume whose file can't be served is left out, and one whose file isn't
+/// there is missing. Then blank volumes are made, until there are as many as were asked for. Each volume takes `volume_size` bytes of
+/// blocks, or as many as it has where these are more, and all take no more memory together than the limit says. What is lost, left or
+/// missing is told on `errors`. The inventory is read and not written.
 pub fn open_folder<R: AllocGlobal + Files<File = File>, E: Write>(
     rt: &R,
     path: String,
+    without: WithoutLibrary,
     given: GivenLibrary,
     volume_size: u64,
     memory: &MemoryLimit,
@@ -40,60 +54,115 @@ pub fn open_folder<R: AllocGlobal + Files<File = File>, E: Write>(
     requires within { volume_size ≤ capacity_limit }
     ensures { IfOk result (λ opened. IsUsable opened.size) }
 {
-    if fs::create_dir_all(rt, path.as_str()).is_err() {
-        return Err(FolderFault::CannotMake(path));
-    }
-    let lock = lock_folder(rt, path.as_str())?;
-    let (size, start) = decide(rt, path.as_str(), &given, errors)?;
-    tell_missing(rt, path.as_str(), &start.missing, errors)?;
-    make_volumes(rt, path.as_str(), &start.made)?;
-    let volumes = open_volumes(
+    let folder = lock_folder(rt, path, without)?;
+    let inventory = kept_inventory(rt, folder.path(), without)?;
+    let read = read_library(rt, &folder, &inventory, &given, volume_size, memory, errors)?;
+    let ReadLibrary {
+        size,
+        mut found,
+        start,
+    } = read;
+    let Start {
+        volumes: placed,
+        made,
+        missing,
+    } = start;
+    make_volumes(rt, &folder, &made)?;
+    find_volumes(
         rt,
-        path.as_str(),
-        &start.volumes,
+        folder.path(),
+        &made,
         volume_size,
         memory,
+        &mut found,
         errors,
     )?;
+    let volumes = keep_volumes(rt.alloc(), found.volumes, &placed)?;
     Ok(OpenedFolder {
-        path,
+        folder,
         size,
         volumes,
-        lock,
+        missing,
     })
 }
 
-/// What a library is made of, and where its volumes lie, by its inventory, the files that are there and the options.
-fn decide<R: AllocGlobal + Files, E: Write>(
+/// Reads what is in a folder beside its inventory, and decides what its library is made of and where its volumes lie.
+fn read_library<R: AllocGlobal + Files<File = File>, E: Write>(
     rt: &R,
-    folder: &str,
+    folder: &LibraryFolder,
+    inventory: &Option<Inventory>,
     given: &GivenLibrary,
+    volume_size: u64,
+    memory: &MemoryLimit,
     errors: &mut E,
-) -> Result<(LibrarySize, Start), FolderFault>
-    ensures { IfOk result (λ decided. IsUsable decided.0) }
+) -> Result<ReadLibrary, FolderFault>
+    requires some { 0 < volume_size }
+    requires within { volume_size ≤ capacity_limit }
+    ensures { IfOk result (λ read. IsUsable read.size) }
 {
-    let inventory = read_inventory_file(rt, folder)?;
-    let (kept, named): (Option<LibrarySize>, &[PlacedVolume]) = match &inventory {
-        Some(inventory) => (Some(inventory.size()), inventory.volumes()),
-        None => (None, &[]),
+    let kept = match inventory {
+        Some(inventory) => Some(inventory.size()),
+        None => None,
     };
     let size = decide_size(given, kept)?;
-    let tags = list_volumes(rt, folder, errors)?;
-    let least = least_volumes(given, kept);
-    match place(rt.alloc(), size.slots, least, named, &tags) {
-        Ok(start) => Ok((size, start)),
+    let found = read_volumes(rt, folder.path(), volume_size, memory, errors)?;
+    if found.is_nothing_served() {
+        return Err(FolderFault::NothingServed(String::from_str(rt.alloc(), folder.path())?));
+    }
+    let start = start_of(
+        rt.alloc(),
+        size,
+        least_volumes(given, kept),
+        inventory,
+        &found,
+    )?;
+    tell_missing(rt, folder.path(), &start.missing, &found.left_out, errors)?;
+    if found.is_open || folder.is_open_to_others() || is_inventory_open(rt, folder.path())? {
+        let folder = folder.path();
+        tell(errors, &Notice::OpenToOthers { folder });
+    }
+    Ok(ReadLibrary { size, found, start })
+}
+
+/// Where the volumes of a library lie, by its inventory and the files that are there.
+fn start_of(
+    alloc: Global,
+    size: LibrarySize,
+    least: u16,
+    inventory: &Option<Inventory>,
+    found: &FoundVolumes,
+) -> Result<Start, FolderFault> {
+    let (named, missing): (&[PlacedVolume], &[PlacedVolume]) = match inventory {
+        Some(inventory) => (inventory.volumes(), inventory.missing()),
+        None => (&[], &[]),
+    };
+    let images = found.tags(alloc)?;
+    match place(
+        alloc,
+        size.slots,
+        least,
+        named,
+        missing,
+        &images,
+        &found.left_out,
+    ) {
+        Ok(start) => Ok(start),
         Err(fault) => Err(FolderFault::of_start(fault)),
     }
 }
 
-/// Tells of volumes that the inventory names and whose files aren't there.
+/// Tells of missing volumes whose files aren't there. Of those that are left out it was told why.
 fn tell_missing<R: AllocGlobal, E: Write>(
     rt: &R,
     folder: &str,
     missing: &[PlacedVolume],
+    left_out: &[VolumeTag],
     errors: &mut E,
 ) -> Result<(), FolderFault> {
     for volume in missing {
+        if left_out.iter().any(|tag| *tag == volume.tag) {
+            continue;
+        }
         let path = volume_path(rt.alloc(), folder, &volume.tag)?;
         let notice = Notice::Missing {
             path: path.as_str(),

@@ -1,23 +1,25 @@
-//! The files of a folder's volumes.
-ghost use Rattle.std.specs.Prelude.{◌<◌, ◌≤◌, IfOk, ◌≡◌};
+//! The files of a folder's volumes: all of them are read first, and only then files are made and written.
+ghost use Rattle.std.specs.Prelude.{◌<◌, ◌≤◌};
 ghost use Rattle.tape_medium.specs.Limits.{capacity_limit};
 
 use crate::fault::FolderFault;
 use crate::inventory_file::sync_folder;
-use crate::names::{FileKind, kind_of, volume_path};
+use crate::library_folder::LibraryFolder;
+use crate::listing::list_volumes;
+use crate::names::volume_path;
 use crate::notice::{Notice, tell};
-use crate::size::{bytes_of_blocks, capacity_for};
-use crate::store::{FileAccess, FileStore};
+use crate::reading::{ReadVolume, read_volume};
+use crate::refusal::ImageRefusal;
+use crate::rights::{NEW_FILE, is_open_to_others};
+use crate::seen::SeenFiles;
+use crate::store::FileStore;
 use library_inventory::{Element, PlacedVolume};
 use std::alloc::{AllocError, Global};
-use std::fs::{self, File, Files, OpenFile, OpenOptions};
-use std::io::{self, BufReader, ErrorKind, Seek, SeekFrom, Write};
-use tape_flush::{ImageFile, OpenedImage, ReadTape, ReadTapeFault, open_image, read_tape};
-use tape_image::{IndexFault, index_image};
+use std::fs::{File, Files, OpenOptions};
+use std::io::{self, Write};
+use std::os::unix::fs::OpenOptionsExt;
+use tape_flush::ImageFile;
 use tape_medium::{MemoryLimit, Volume, VolumeTag};
-
-/// How many bytes of a file are read at once, 128 KiB: more than the longest block takes.
-const AT_ONCE: usize = 131_072;
 
 /// A volume that is kept in a file, and the element in which it lies. It is protected where its file can't be written.
 #[derive(Drop)]
@@ -27,53 +29,107 @@ pub struct KeptVolume {
     pub image: ImageFile<FileStore>,
 }
 
-/// The tags of the volumes whose files are in a folder, in their order. What has the ending of such a file and no volume's name is
-/// told and left.
-pub(crate) fn list_volumes<R: AllocGlobal + Files, E: Write>(
-    rt: &R,
-    folder: &str,
-    errors: &mut E,
-) -> Result<Vec<VolumeTag>, FolderFault> {
-    let mut tags = Vec::new(rt.alloc());
-    match note_volumes(rt, folder, &mut tags, errors) {
-        Ok(()) => {}
-        Err(error) => {
-            let path = String::from_str(rt.alloc(), folder)?;
-            return Err(FolderFault::of_reading(path, error.kind()));
-        }
-    }
-    tags.sort_unstable();
-    Ok(tags)
+/// What was read of the files of a folder's volumes.
+#[derive(Drop)]
+pub(crate) struct FoundVolumes {
+    pub volumes: Vec<ReadVolume>,
+    /// The tags of those that are left out, since their files can't be served.
+    pub left_out: Vec<VolumeTag>,
+    /// Whether others than the owner of one of the files may read or write it.
+    pub is_open: bool,
+    seen: SeenFiles,
 }
 
-fn note_volumes<R: AllocGlobal + Files, E: Write>(
+impl FoundVolumes {
+    fn new(alloc: Global) -> FoundVolumes {
+        FoundVolumes {
+            volumes: Vec::new(alloc),
+            left_out: Vec::new(alloc),
+            is_open: false,
+            seen: SeenFiles::new(alloc),
+        }
+    }
+
+    /// Whether there are files of volumes, and none of them can be served.
+    pub fn is_nothing_served(&self) -> bool {
+        self.volumes.is_empty() && !self.left_out.is_empty()
+    }
+
+    /// The tags of the volumes.
+    pub fn tags(&self, alloc: Global) -> Result<Vec<VolumeTag>, AllocError> {
+        self.volumes
+            .iter()
+            .map(|read| read.volume.tag)
+            .collect(alloc)
+    }
+}
+
+/// Reads the files of a folder's volumes, each for `volume_size` bytes of blocks, or for those that it has where these are more, which take
+/// no more memory together than the limit says. A volume whose file can't be served is told and left out.
+pub(crate) fn read_volumes<R: AllocGlobal + Files<File = File>, E: Write>(
     rt: &R,
     folder: &str,
-    tags: &mut Vec<VolumeTag>,
+    volume_size: u64,
+    memory: &MemoryLimit,
     errors: &mut E,
-) -> io::Result<()> {
-    for entry in fs::read_dir(&rt, folder)? {
-        match entry {
-            Ok(entry) => note_volume(entry.file_name(), folder, tags, errors)?,
-            Err(error) if error.kind() == ErrorKind::InvalidFilename => {
-                tell(errors, &Notice::NoText { folder });
-            }
-            Err(error) => return Err(error),
-        }
+) -> Result<FoundVolumes, FolderFault>
+    requires some { 0 < volume_size }
+    requires within { volume_size ≤ capacity_limit }
+{
+    let tags = list_volumes(rt, folder, errors)?;
+    let mut found = FoundVolumes::new(rt.alloc());
+    find_volumes(rt, folder, &tags, volume_size, memory, &mut found, errors)?;
+    Ok(found)
+}
+
+/// Reads the files of volumes, behind others that were found.
+pub(crate) fn find_volumes<R: AllocGlobal + Files<File = File>, E: Write>(
+    rt: &R,
+    folder: &str,
+    tags: &[VolumeTag],
+    volume_size: u64,
+    memory: &MemoryLimit,
+    found: &mut FoundVolumes,
+    errors: &mut E,
+) -> Result<(), FolderFault>
+    requires some { 0 < volume_size }
+    requires within { volume_size ≤ capacity_limit }
+{
+    for tag in tags {
+        find_volume(rt, folder, *tag, volume_size, memory, found, errors)?;
     }
     Ok(())
 }
 
-fn note_volume<E: Write>(
-    name: &str,
+/// Reads the file of one volume, behind others that were found.
+fn find_volume<R: AllocGlobal + Files<File = File>, E: Write>(
+    rt: &R,
     folder: &str,
-    tags: &mut Vec<VolumeTag>,
+    tag: VolumeTag,
+    volume_size: u64,
+    memory: &MemoryLimit,
+    found: &mut FoundVolumes,
     errors: &mut E,
-) -> Result<(), AllocError> {
-    match kind_of(name) {
-        FileKind::Volume(tag) => tags.push(tag)?,
-        FileKind::NoTag => tell(errors, &Notice::NoTag { folder, name }),
-        FileKind::Other => {}
+) -> Result<(), FolderFault>
+    requires some { 0 < volume_size }
+    requires within { volume_size ≤ capacity_limit }
+{
+    let path = volume_path(rt.alloc(), folder, &tag)?;
+    let path = path.as_str();
+    let read = match found.seen.look(rt, path) {
+        Ok(mode) => {
+            found.is_open = found.is_open || is_open_to_others(mode);
+            read_volume(rt, path, tag, mode, volume_size, memory.share()?, errors)
+        }
+        Err(refusal) => Err(refusal),
+    };
+    match read {
+        Ok(read) => found.volumes.push(read).map_err(AllocError::from)?,
+        Err(ImageRefusal::NoMemory) => return Err(FolderFault::NoMemory),
+        Err(refusal) => {
+            tell(errors, &Notice::LeftOut { path, refusal });
+            found.left_out.push(tag).map_err(AllocError::from)?;
+        }
     }
     Ok(())
 }
@@ -81,138 +137,61 @@ fn note_volume<E: Write>(
 /// Makes the files of volumes that are blank.
 pub(crate) fn make_volumes<R: AllocGlobal + Files<File = File>>(
     rt: &R,
-    folder: &str,
+    folder: &LibraryFolder,
     tags: &[VolumeTag],
 ) -> Result<(), FolderFault> {
     for tag in tags {
-        let path = volume_path(rt.alloc(), folder, tag)?;
-        if File::create_new(rt, path.as_str()).is_err() {
+        let path = volume_path(rt.alloc(), folder.path(), tag)?;
+        if make_file(rt, path.as_str()).is_err() {
             return Err(FolderFault::CannotWrite(path));
         }
     }
     if tags.is_empty() {
         return Ok(());
     }
-    sync_folder(rt, folder)
+    sync_folder(rt.alloc(), folder)
 }
 
-/// Opens the files of volumes, each for `volume_size` bytes of blocks, or for those that it has where these are more, which take no more
-/// memory together than the limit says.
-pub(crate) fn open_volumes<R: AllocGlobal + Files<File = File>, E: Write>(
-    rt: &R,
-    folder: &str,
-    placed: &[PlacedVolume],
-    volume_size: u64,
-    memory: &MemoryLimit,
-    errors: &mut E,
-) -> Result<Vec<KeptVolume>, FolderFault>
-    requires some { 0 < volume_size }
-    requires within { volume_size ≤ capacity_limit }
-{
-    let mut volumes = Vec::with_capacity(rt.alloc(), placed.len())?;
-    for volume in placed {
-        let path = volume_path(rt.alloc(), folder, &volume.tag)?;
-        let kept = open_volume(rt, path, volume, volume_size, memory.share()?, errors)?;
-        volumes.push(kept).map_err(AllocError::from)?;
-    }
-    Ok(volumes)
+/// Makes an empty file, where there is none.
+fn make_file<R: Files<File = File>>(rt: &R, path: &str) -> io::Result<()> {
+    OpenOptions::new()
+        .write(true)
+        .create_new(true)
+        .mode(NEW_FILE)
+        .open(rt, path)?;
+    Ok(())
 }
 
-fn open_volume<R: AllocGlobal + Files<File = File>, E: Write>(
-    rt: &R,
-    path: String,
-    placed: &PlacedVolume,
-    volume_size: u64,
-    memory: MemoryLimit,
-    errors: &mut E,
-) -> Result<KeptVolume, FolderFault>
-    requires some { 0 < volume_size }
-    requires within { volume_size ≤ capacity_limit }
-{
-    let store = match open_file(rt, path.as_str()) {
-        Ok(store) => store,
-        Err(error) => return Err(FolderFault::of_reading(path, error.kind())),
-    };
-    let access = store.access();
-    let ReadTape { tape, index } = match read_file(rt.alloc(), store.file(), volume_size, memory) {
-        Ok(read) => read,
-        Err(fault) => return Err(FolderFault::of_image(path, fault)),
-    };
-    let OpenedImage { image, lost } = match open_image(rt.alloc(), store, &index) {
-        Ok(opened) => opened,
-        Err(fault) => return Err(FolderFault::of_opening(path, fault)),
-    };
-    tell_volume(path.as_str(), access, lost, errors);
-    Ok(KeptVolume {
-        element: placed.element,
-        volume: Volume {
-            tag: placed.tag,
-            protected: access == FileAccess::ReadOnly,
-            tape,
-        },
-        image,
-    })
-}
-
-fn tell_volume<E: Write>(path: &str, access: FileAccess, lost: u64, errors: &mut E) {
-    if access == FileAccess::ReadOnly {
-        tell(errors, &Notice::Protected { path });
-    }
-    if lost > 0 {
-        tell(errors, &Notice::CutTail { path, lost });
-    }
-}
-
-/// Opens a volume's file, to be read alone where it can't be written.
-fn open_file<R: Files<File = File>>(rt: &R, path: &str) -> io::Result<FileStore> {
-    match OpenOptions::new().read(true).write(true).open(rt, path) {
-        Ok(file) => Ok(FileStore::new(file, FileAccess::ReadWrite)),
-        Err(error) if is_closed(error.kind()) => {
-            Ok(FileStore::new(fs::open(rt, path)?, FileAccess::ReadOnly))
-        }
-        Err(error) => Err(error),
-    }
-}
-
-/// Whether a file can't be written, by what came of opening it.
-fn is_closed(kind: ErrorKind) -> bool {
-    matches!(
-        kind,
-        ErrorKind::PermissionDenied | ErrorKind::ReadOnlyFilesystem
-    )
-}
-
-/// Reads a file as a tape.
-fn read_file(
+/// The volumes that were read, each in the element in which it lies from now on.
+pub(crate) fn keep_volumes(
     alloc: Global,
-    file: &File,
-    volume_size: u64,
-    memory: MemoryLimit,
-) -> Result<ReadTape, ReadTapeFault>
-    requires some { 0 < volume_size }
-    requires within { volume_size ≤ capacity_limit }
-{
-    let held = held_in(alloc, file, volume_size)?;
-    let mut reader = from_front(alloc, file)?;
-    read_tape(alloc, &mut reader, capacity_for(volume_size, held), memory)
+    volumes: Vec<ReadVolume>,
+    placed: &[PlacedVolume],
+) -> Result<Vec<KeptVolume>, AllocError> {
+    let mut kept = Vec::with_capacity(alloc, volumes.len())?;
+    for read in volumes {
+        // Each volume that was read lies somewhere.
+        if let Some(element) = element_of(placed, read.volume.tag) {
+            kept.push(keep_volume(read, element))?;
+        }
+    }
+    Ok(kept)
 }
 
-/// How many bytes of blocks a file has, if it can have more than `volume_size`, and else as many as that at most.
-fn held_in(alloc: Global, file: &File, volume_size: u64) -> Result<u64, ReadTapeFault> {
-    let length = file.metadata()?.len();
-    if length <= volume_size {
-        return Ok(length);
-    }
-    let mut reader = from_front(alloc, file)?;
-    match index_image(alloc, &mut reader) {
-        Ok(index) => Ok(bytes_of_blocks(&index.objects)),
-        Err(IndexFault::NoMemory) => Err(ReadTapeFault::NoMemory),
-        Err(IndexFault::Read) => Err(ReadTapeFault::Read),
-        Err(IndexFault::PastLastOffset) => Err(ReadTapeFault::PastLastOffset),
+/// A volume that was read, and is kept in its file from now on.
+fn keep_volume(read: ReadVolume, element: Element) -> KeptVolume {
+    let ReadVolume { volume, image } = read;
+    KeptVolume {
+        element,
+        volume,
+        image,
     }
 }
 
-fn from_front<'a>(alloc: Global, mut file: &'a File) -> io::Result<BufReader<&'a File>> {
-    file.seek(SeekFrom::Start(0))?;
-    BufReader::with_capacity(alloc, AT_ONCE, file)
+/// The element in which the volume with a tag lies.
+fn element_of(placed: &[PlacedVolume], tag: VolumeTag) -> Option<Element> {
+    placed
+        .iter()
+        .find(|volume| volume.tag == tag)
+        .map(|volume| volume.element)
 }

@@ -18,6 +18,7 @@ fn key_text(key: InventoryKey) -> &'static str {
         InventoryKey::Slots => "slots",
         InventoryKey::Portals => "portals",
         InventoryKey::Volume => "volume",
+        InventoryKey::Missing => "missing",
     }
 }
 
@@ -108,6 +109,33 @@ fn add_volumes(inventory: &mut Inventory, volumes: &[Value]) -> Result<(), ReadF
     Ok(())
 }
 
+fn add_missing(inventory: &mut Inventory, volumes: &[Value]) -> Result<(), ReadFault> {
+    'volumes: for (nth, value) in volumes.iter().enumerate() {
+        let placed = match placed_of(value) {
+            Ok(placed) => placed,
+            Err(fault) => return Err(ReadFault::Missing { nth, fault }),
+        };
+        match inventory.add_missing(placed) {
+            Ok(()) => {}
+            Err(AddFault::NoMemory) => return Err(ReadFault::NoMemory),
+            Err(fault) => {
+                let fault = VolumeFault::Refused(fault);
+                return Err(ReadFault::Missing { nth, fault });
+            }
+        }
+    }
+    Ok(())
+}
+
+/// The volumes that stand under a key, none where it isn't there.
+fn volumes_at(table: &Table, key: InventoryKey) -> Result<&[Value], ReadFault> {
+    match table.get(key_text(key)) {
+        Some(Value::Array(volumes)) => Ok(volumes),
+        Some(_) => Err(ReadFault::BadKey(key)),
+        None => Ok(&[]),
+    }
+}
+
 /// The inventory that a text in TOML 1.0 holds, as `write_inventory` writes it; keys that it doesn't know are passed over. What is
 /// read is an inventory; that it is the one that was written is tested, and not proved.
 pub fn read_inventory(alloc: Global, text: &str) -> Result<Inventory, ReadFault> {
@@ -121,20 +149,22 @@ pub fn read_inventory(alloc: Global, text: &str) -> Result<Inventory, ReadFault>
         return Err(ReadFault::UnknownVersion(version));
     }
     let mut inventory = Inventory::new(alloc, size_of(&table)?);
-    match table.get("volume") {
-        Some(Value::Array(volumes)) => add_volumes(&mut inventory, volumes)?,
-        Some(_) => return Err(ReadFault::BadKey(InventoryKey::Volume)),
-        None => {}
-    }
+    add_volumes(&mut inventory, volumes_at(&table, InventoryKey::Volume)?)?;
+    add_missing(&mut inventory, volumes_at(&table, InventoryKey::Missing)?)?;
     Ok(inventory)
 }
 
-/// Adds one volume to a text.
-fn write_volume(text: &mut String, volume: &PlacedVolume) -> Result<(), WriteFault> {
+/// Adds one volume to a text, under a key.
+fn write_volume(
+    text: &mut String,
+    key: InventoryKey,
+    volume: &PlacedVolume,
+) -> Result<(), WriteFault> {
     let Some(name) = name_of_tag(&volume.tag) else {
         return Err(WriteFault::NoName);
     };
-    write!(text, "\n[[volume]]\ntag = \"{name}\"\n")?;
+    let key = key_text(key);
+    write!(text, "\n[[{key}]]\ntag = \"{name}\"\n")?;
     match volume.element {
         Element::DataTransfer(number) => writeln!(text, "data_transfer = {number}")?,
         Element::Storage(number) => writeln!(text, "storage = {number}")?,
@@ -143,8 +173,12 @@ fn write_volume(text: &mut String, volume: &PlacedVolume) -> Result<(), WriteFau
     Ok(())
 }
 
-/// The text of an inventory, in TOML 1.0.
-pub fn write_inventory(alloc: Global, inventory: &Inventory) -> Result<String, WriteFault> {
+/// The text of an inventory with the volumes that are missing, each with the element in which it lay, in TOML 1.0.
+pub fn write_inventory(
+    alloc: Global,
+    inventory: &Inventory,
+    missing: &[PlacedVolume],
+) -> Result<String, WriteFault> {
     let mut text = String::new(alloc);
     let LibrarySize {
         drives,
@@ -157,7 +191,10 @@ pub fn write_inventory(alloc: Global, inventory: &Inventory) -> Result<String, W
         "drives = {drives}\nslots = {slots}\nportals = {portals}\n"
     )?;
     'volumes: for volume in inventory.volumes() {
-        write_volume(&mut text, volume)?;
+        write_volume(&mut text, InventoryKey::Volume, volume)?;
+    }
+    'missing: for volume in missing {
+        write_volume(&mut text, InventoryKey::Missing, volume)?;
     }
     Ok(text)
 }

@@ -2,23 +2,34 @@
 //! says what the library is made of and where its volumes lie.
 #![tactic(auto)]
 
+mod check;
+mod check_fault;
 mod fault;
 mod folder;
+mod identity;
 mod images;
 mod inventory_file;
 mod inventory_text;
-mod lock;
+mod library_folder;
+mod listing;
 mod names;
 mod notice;
+mod reading;
+mod refusal;
+mod rights;
+mod seen;
 mod size;
 mod store;
+mod summary;
 mod text_fault;
 
+pub use check::check_folder;
+pub use check_fault::CheckFault;
 pub use fault::FolderFault;
 pub use folder::{OpenedFolder, open_folder};
 pub use images::KeptVolume;
 pub use inventory_file::write_inventory_file;
 pub use inventory_text::{read_inventory, write_inventory};
-pub use lock::FolderLock;
+pub use library_folder::LibraryFolder;
 pub use store::{FileAccess, FileStore};
 pub use text_fault::{InventoryKey, ReadFault, VolumeFault, WriteFault};

@@ -1,3 +1,4 @@
+use crate::refusal::ImageRefusal;
 use library_inventory::Element;
 use std::fmt;
 use std::io::Write;
@@ -6,15 +7,37 @@ use std::io::Write;
 #[derive(Clone, Copy)]
 pub(crate) enum Notice<'a> {
     /// The name of a file in the folder ends in `.tap`, and is that of no volume.
-    NoTag { folder: &'a str, name: &'a str },
+    NoTag {
+        folder: &'a str,
+        name: &'a str,
+    },
     /// A file in the folder has a name that is no text.
-    NoText { folder: &'a str },
+    NoText {
+        folder: &'a str,
+    },
+    /// A volume's file can't be served.
+    LeftOut {
+        path: &'a str,
+        refusal: ImageRefusal,
+    },
+    /// Others than the owner of the folder, or of a file in it, may read or write that.
+    OpenToOthers {
+        folder: &'a str,
+    },
     /// A volume's file ended within an object, of which so many bytes were there.
-    CutTail { path: &'a str, lost: u64 },
+    CutTail {
+        path: &'a str,
+        lost: u64,
+    },
     /// A volume's file can't be written.
-    Protected { path: &'a str },
+    Protected {
+        path: &'a str,
+    },
     /// A volume's file isn't there; by the inventory it lay in that element.
-    Missing { path: &'a str, element: Element },
+    Missing {
+        path: &'a str,
+        element: Element,
+    },
 }
 
 /// Tells a notice. Where its line can't be written there is nobody to tell.
@@ -33,6 +56,15 @@ impl<'a> fmt::Display for Notice<'a> {
             }
             Notice::NoText { folder } => {
                 write!(f, "vtl: {folder}: a file whose name is no text is left")
+            }
+            Notice::LeftOut { path, refusal } => {
+                write!(f, "vtl: {path}: {refusal}: the volume is left out")
+            }
+            Notice::OpenToOthers { folder } => {
+                write!(
+                    f,
+                    "vtl: {folder}: others than its owner may read or change it or files in it: say chmod -R go= {folder}"
+                )
             }
             Notice::CutTail { path, lost } => {
                 write!(

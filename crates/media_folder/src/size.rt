@@ -52,7 +52,7 @@ pub(crate) fn least_volumes(given: &GivenLibrary, kept: Option<LibrarySize>) -> 
 }
 
 /// How many bytes a block has; a filemark has none.
-fn size_of(object: &IndexedObject) -> u64
+pub(crate) fn size_of(object: &IndexedObject) -> u64
     ensures { result ≡ size_of_entry object.now }
 {
     match object {

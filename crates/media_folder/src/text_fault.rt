@@ -12,6 +12,7 @@ pub enum InventoryKey {
     Slots,
     Portals,
     Volume,
+    Missing,
 }
 
 /// What is wrong with a volume of an inventory's text.
@@ -44,6 +45,9 @@ pub enum ReadFault {
     /// Of the volumes one, counted from 0.
     #[error("bad volume")]
     Volume { nth: usize, fault: VolumeFault },
+    /// The same of the volumes that are missing.
+    #[error("bad missing volume")]
+    Missing { nth: usize, fault: VolumeFault },
 }
 
 /// Why an inventory has no text.

@@ -15,6 +15,7 @@ mod portal;
 mod serve_times;
 mod serve_until;
 mod sizes;
+mod without_library;
 
 pub use command_line_fault::CommandLineFault;
 pub use given_library::GivenLibrary;
@@ -29,3 +30,4 @@ pub use portal::portal_of;
 pub use serve_times::ServeTimes;
 pub use serve_until::ServeUntil;
 pub use sizes::{memory_size_of, volume_size_of};
+pub use without_library::WithoutLibrary;

@@ -9,7 +9,7 @@ use kept_media::{InventoryStore, MediaKeeper, VolumeImage};
 use library_device::Device;
 use library_inventory::{Inventory, LibrarySize, PlacedVolume};
 use media_folder::{
-    FileStore, FolderFault, FolderLock, KeptVolume, OpenedFolder, open_folder, write_inventory_file,
+    FileStore, KeptVolume, LibraryFolder, OpenedFolder, open_folder, write_inventory_file,
 };
 use placed_library::{LibraryFault, StartedVolume, library_of_volumes};
 use std::alloc::{AllocError, Global};
@@ -18,17 +18,17 @@ use tape_flush::{KeptImage, StoreFault};
 use tape_medium::MemoryLimit;
 use target_core::TargetCore;
 
-/// The inventory's file in a folder, which nobody else has as long as this lives.
+/// The inventory's file in a folder, which nobody else has as long as this lives, with the volumes that are missing, as at the start.
 #[derive(Drop)]
 pub(crate) struct FolderInventory<'a> {
     files: &'a HostRuntime,
-    folder: String,
-    _lock: FolderLock,
+    folder: LibraryFolder,
+    missing: Vec<PlacedVolume>,
 }
 
 impl<'a> InventoryStore for FolderInventory<'a> {
     fn write(&mut self, inventory: &Inventory) -> Result<(), StoreFault> {
-        match write_inventory_file(self.files, self.folder.as_str(), inventory) {
+        match write_inventory_file(self.files, &self.folder, inventory, &self.missing) {
             Ok(()) => Ok(()),
             Err(_) => Err(StoreFault::Failed),
         }
@@ -43,7 +43,7 @@ pub(crate) struct KeptLibrary<'a> {
 }
 
 /// Reads a library from its folder, whose volumes take no more memory together than the limit says, and writes where they lie from now
-/// on. What is lost or left there is told on `errors`.
+/// on. What is lost, left or missing there is told on `errors`.
 pub(crate) fn kept_library<'a, E: Write>(
     alloc: Global,
     files: &'a HostRuntime,
@@ -55,21 +55,25 @@ pub(crate) fn kept_library<'a, E: Write>(
     requires some { 0 < volume_size }
     requires within { volume_size ≤ capacity_limit }
 {
-    let MediaOptions { folder, given } = media;
+    let MediaOptions {
+        folder,
+        without,
+        given,
+    } = media;
     let OpenedFolder {
-        path,
+        folder,
         size,
         volumes,
-        lock,
-    } = open_folder(files, folder, given, volume_size, memory, errors)?;
+        missing,
+    } = open_folder(files, folder, without, given, volume_size, memory, errors)?;
     let inventory = inventory_of(alloc, size, &volumes)?;
-    write_inventory_file(files, path.as_str(), &inventory)?;
+    write_inventory_file(files, &folder, &inventory, &missing)?;
     let (started, images) = parted(alloc, volumes)?;
     let core = library_of_volumes(alloc, size, started).map_err(fault_of)?;
     let store = FolderInventory {
         files,
-        folder: path,
-        _lock: lock,
+        folder,
+        missing,
     };
     Ok(KeptLibrary {
         core,

@@ -1,15 +1,16 @@
 -- The exit status of each fault of the program, and what it writes on standard error (profile).
-use Rattle.std.specs.Prelude.{ℕ, List, [], ◌∷◌, ◌++◌, Option, Some, Result, Ok, Err, codes, string_bytes}
+use Rattle.std.specs.Prelude.{ℕ, List, [], ◌∷◌, ◌++◌, Option, Some, None, Result, Ok, Err, codes, string_bytes}
 use Rattle.std.specs.Option.{option_map}
 use Rattle.program_options.specs.CommandLineFaults.{command_line_status, command_line_text}
 use Rattle.client_session.specs.Faults as session
 use Rattle.server_socket.specs.Faults.{socket_status, socket_text}
+use Rattle.media_folder.specs.Faults.{check_status}
 use Rattle.script_input.specs.ReplayFaults as replay
 use Rattle.script_input.specs.InputFaults as input
 use Rattle.vtl.specs.declared.client_fault.ClientFault.{ClientFault}
 use Rattle.vtl.specs.declared.client_fault.ClientFault.TheVariants as client
 use Rattle.vtl.specs.declared.program_fault.ProgramFault.{ProgramFault}
-use Rattle.vtl.specs.declared.program_fault.ProgramFault.TheVariants.{CommandLine, Replay, Serve, Client, Cells}
+use Rattle.vtl.specs.declared.program_fault.ProgramFault.TheVariants.{CommandLine, Replay, Serve, Client, Cells, Check}
 
 abbrev pub client_status : ClientFault → ℕ
 client_status (client.Input fault) = input.exit_status fault
@@ -22,6 +23,7 @@ program_status (Replay fault) = replay.exit_status fault
 program_status (Serve fault) = socket_status fault
 program_status (Client fault) = client_status fault
 program_status Cells = 4
+program_status (Check fault) = check_status fault
 
 -- the second line names the path
 abbrev pub client_text : ClientFault → List ℕ
@@ -35,6 +37,7 @@ program_text (Replay fault) = Some (replay.fault_text fault)
 program_text (Serve fault) = socket_text fault
 program_text (Client fault) = Some (client_text fault)
 program_text Cells = Some (codes "vtl: device fault\nvtl: the permission table could not be written")
+program_text (Check fault) = None
 
 -- how the program ends: nothing is written where the task was done, and else the text and a line feed
 abbrev pub ending_status : Result (Unit {0}) ProgramFault → ℕ

@@ -6,6 +6,7 @@ ghost use Rattle.vtl.specs.Faults.{ending_line, ending_status};
 use crate::client::client;
 use crate::program_fault::ProgramFault;
 use command_line::{CommandLineFault, Task, task_of};
+use media_folder::check_folder;
 use output_lines::{Audit, Explanations};
 use permission_chart::write_cells;
 use program_options::{LibraryOptions, MAX_READS};
@@ -100,6 +101,7 @@ fn perform<
         Task::Cells(class) => {
             write_cells(&mut io::writer(rt), class).map_err(|_| ProgramFault::Cells)
         }
+        Task::CheckMedia(folder) => { Ok(check_folder(rt, folder, &mut io::writer(rt), errors)?) }
     }
 }
 

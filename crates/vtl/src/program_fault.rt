@@ -1,5 +1,6 @@
 use crate::client_fault::ClientFault;
 use command_line::CommandLineFault;
+use media_folder::CheckFault;
 use replay::ReplayFault;
 use server_socket::SocketFault;
 use std::alloc::AllocError;
@@ -15,13 +16,15 @@ pub enum ProgramFault {
     Client(#[from] ClientFault),
     /// The permission table couldn't be written, or not all of it.
     Cells,
+    /// A folder that was looked over isn't well.
+    Check(#[from] CheckFault),
 }
 
 impl ProgramFault {
     ghost use Rattle.std.specs.Prelude.{◌≡◌};
     ghost use Rattle.vtl.specs.Faults.{program_status};
 
-    /// The exit status: 2 where arguments or the script are refused, 3 for want of memory, 4 for a fault
+    /// The exit status: 2 where arguments, the script or a folder are refused, 3 for want of memory, 4 for a fault
     /// of input or output or of the other end of a session, and 0 after help and the version (profile).
     pub fn status(&self) -> u8
         ensures { result ≡ program_status self.now }
@@ -32,6 +35,7 @@ impl ProgramFault {
             ProgramFault::Serve(fault) => fault.status(),
             ProgramFault::Client(fault) => fault.status(),
             ProgramFault::Cells => 4,
+            ProgramFault::Check(fault) => fault.status(),
         }
     }
 }
@@ -50,6 +54,7 @@ impl fmt::Display for ProgramFault {
             ProgramFault::Cells => {
                 f.write_str("vtl: device fault\nvtl: the permission table could not be written")
             }
+            ProgramFault::Check(fault) => write!(f, "{fault}"),
         }
     }
 }

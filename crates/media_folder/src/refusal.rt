@@ -1,0 +1,89 @@
+use std::alloc::{AllocError, AllocFailed};
+use std::io::{self, ErrorKind};
+use tape_flush::{OpenFault, ReadTapeFault};
+use tape_image::{ImageFault, IndexFault};
+use thiserror::Error;
+
+/// Why a volume's file isn't served.
+#[derive(Clone, Copy, Debug, Error)]
+pub(crate) enum ImageRefusal {
+    #[error("want of memory")]
+    NoMemory,
+    #[error("it is no regular file")]
+    NotRegular,
+    /// Another volume, whose tag comes before, has the same file.
+    #[error("it is another volume's file too")]
+    Doubled,
+    #[error("it can't be read")]
+    CannotRead,
+    /// By a fault at the offset `whole`, in bytes, behind so many objects.
+    #[error("{fault}, at offset {whole}, behind {objects} objects")]
+    Faulty {
+        fault: ImageFault,
+        objects: u64,
+        whole: u64,
+    },
+    /// The object behind so many is more than a tape takes.
+    #[error("more than a volume holds, behind {objects} objects")]
+    TooLarge {
+        objects: u32,
+    },
+}
+
+impl From<AllocError> for ImageRefusal {
+    fn from(_error: AllocError) -> ImageRefusal {
+        ImageRefusal::NoMemory
+    }
+}
+
+impl<T: Drop> From<AllocFailed<T>> for ImageRefusal {
+    fn from(_error: AllocFailed<T>) -> ImageRefusal {
+        ImageRefusal::NoMemory
+    }
+}
+
+impl From<io::Error> for ImageRefusal {
+    fn from(error: io::Error) -> ImageRefusal {
+        match error.kind() {
+            ErrorKind::OutOfMemory => ImageRefusal::NoMemory,
+            _ => ImageRefusal::CannotRead,
+        }
+    }
+}
+
+impl From<ReadTapeFault> for ImageRefusal {
+    fn from(fault: ReadTapeFault) -> ImageRefusal {
+        match fault {
+            ReadTapeFault::NoMemory => ImageRefusal::NoMemory,
+            ReadTapeFault::Read | ReadTapeFault::PastLastOffset => ImageRefusal::CannotRead,
+            ReadTapeFault::TooLarge { objects } => ImageRefusal::TooLarge { objects },
+        }
+    }
+}
+
+impl From<IndexFault> for ImageRefusal {
+    fn from(fault: IndexFault) -> ImageRefusal {
+        match fault {
+            IndexFault::NoMemory => ImageRefusal::NoMemory,
+            IndexFault::Read | IndexFault::PastLastOffset => ImageRefusal::CannotRead,
+        }
+    }
+}
+
+impl From<OpenFault> for ImageRefusal {
+    fn from(fault: OpenFault) -> ImageRefusal {
+        match fault {
+            OpenFault::NoMemory => ImageRefusal::NoMemory,
+            OpenFault::Faulty {
+                fault,
+                objects,
+                whole,
+            } => ImageRefusal::Faulty {
+                fault,
+                objects,
+                whole,
+            },
+            OpenFault::PastLastOffset | OpenFault::Store(_) => ImageRefusal::CannotRead,
+        }
+    }
+}
