@@ -167,7 +167,7 @@ def without_a_right(tried: Tried) -> Tried:
 
 def protected(tried: Tried) -> None:
     folder = Folder(without_a_right(tried), VOL00001=HI)
-    os.chmod(folder.path_of(FIRST), 0o444)
+    os.chmod(folder.path_of(FIRST), 0o400)
     with folder.served() as server:
         same("what is told", told_by(server), [f"vtl: {folder.path_of(FIRST)}: it can't be written: the volume is protected"])
         host = Host(server)

@@ -1,7 +1,7 @@
 //! A folder that is looked over, while nothing in it is changed.
 use crate::check_fault::CheckFault;
 use crate::fault::FolderFault;
-use crate::inventory_file::kept_inventory;
+use crate::inventory_file::read_inventory_file;
 use crate::listing::list_volumes;
 use crate::names::volume_path;
 use crate::reading::AT_ONCE;
@@ -9,7 +9,6 @@ use crate::refusal::ImageRefusal;
 use crate::seen::SeenFiles;
 use crate::summary::ImageSummary;
 use library_inventory::{PlacedVolume, name_of_tag};
-use program_options::WithoutLibrary;
 use std::fs::{self, Files};
 use std::io::{BufReader, Write};
 use tape_image::index_image;
@@ -33,7 +32,7 @@ pub fn check_folder<R: AllocGlobal + Files, W: Write, E: Write>(
     errors: &mut E,
 ) -> Result<(), CheckFault> {
     let folder = path.as_str();
-    let Some(inventory) = kept_inventory(rt, folder, WithoutLibrary::Refuse)? else {
+    let Some(inventory) = read_inventory_file(rt, folder)? else {
         return Err(CheckFault::Folder(FolderFault::NoLibrary(path)));
     };
     let tags = list_volumes(rt, folder, errors)?;
