@@ -20,6 +20,10 @@ def locate(place: int) -> str:
     return f"2b0000{place:08x}000000"
 
 
+def move(source: int, destination: int) -> str:
+    return f"a5000000{source:04x}{destination:04x}00000000"
+
+
 def check(key: int, asc: int, ascq: int, front: int = 0x70, information: int = 0) -> Answer:
     """CHECK CONDITION with sense data of the fixed format; with INFORMATION the first byte is F0h."""
     return 0x02, struct.pack(">BBBIBIBB", front, 0, key, information, 0x0A, 0, asc, ascq) + bytes(4), b""
@@ -79,7 +83,7 @@ class Host:
         self.asks(lun, READY, POWER_ON)
 
     def moves(self, source: int, destination: int) -> None:
-        self.asks(CHANGER, f"a5000000{source:04x}{destination:04x}00000000")
+        self.asks(CHANGER, move(source, destination))
 
     def loads(self) -> None:
         """The volume in the first storage element is moved into the first drive."""

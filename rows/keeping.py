@@ -7,11 +7,12 @@ import platform
 import resource
 import struct
 import sys
+import time
 import typing
 
 from exchanges import CHANGER, DRIVE, B
-from folders import FIRST, HI, MARK, NEW, ODD, THREE, Folder, ended, told_by
-from hosts import ERASE, FILEMARK, NO_FILEMARK, REWIND, TO_THE_END, UNLOAD, WRITE_PROTECTED, Host, good, locate
+from folders import FIRST, HI, MARK, NEW, ODD, THREE, Folder, block, ended, told_by
+from hosts import ERASE, FILEMARK, NO_FILEMARK, REWIND, TO_THE_END, UNLOAD, WRITE_PROTECTED, Host, good, locate, move
 from serving import Row, Server, Tried, holds, same
 
 FAILED, AGAIN = "vtl: volume VOL00001 could not be written: ", "vtl: volume VOL00001 is written again\n"
@@ -99,8 +100,9 @@ def never_synced(tried: Tried) -> None:
         same("what is told", told_by(server), [])
         host.is_ended_by(DRIVE, FILEMARK)
         server.told.wait_for(f"{FAILED}disk error\n")
-        # It is tried again, and told once.
+        # It is tried again, behind too, and told once.
         is_ended(server, B)
+        time.sleep(1.2)
         server.end()
         server.ends("not all of the media could be written")
         same("how often it is told", server.told.text.count(FAILED), 1)
@@ -160,6 +162,28 @@ def full_and_kept_at_the_end(tried: Tried) -> None:
     folder.same_image("all is kept at the end", FIRST, HI + MARK)
 
 
+def moved_and_mended(tried: Tried) -> None:
+    """The file of a volume is full, and it is moved back to storage. That holds up no move of another, and it is written there without any
+    command once there is room. The limit leaves room for the inventory."""
+    large = b"hi" * 4096
+    folder = Folder(tried)
+    with limited(folder, "--volumes", "2") as (server, host):
+        server.limit_lines(4096)
+        host.writes(large)
+        host.is_ended_by(DRIVE, FILEMARK)
+        server.told.wait_for(f"{FAILED}disk full\n")
+        mover = Host(server, B)
+        mover.meets(CHANGER)
+        mover.is_ended_by(CHANGER, move(0x100, 0x400))
+        other = Host(server, B + 1)
+        other.meets(CHANGER)
+        other.moves(0x401, 0x100)
+        server.limit_lines()
+        folder.await_image("the volume in storage", FIRST, block(large) + MARK)
+        server.told.wait_for(AGAIN)
+        ends_well(server)
+
+
 def without_a_right(tried: Tried) -> Tried:
     """The program without the right to write files that are for reading alone, which root has (CAP_DAC_OVERRIDE)."""
     return bound(tried, "ctypes.CDLL(None).prctl(24, 1, 0, 0, 0)")
@@ -191,5 +215,6 @@ ROWS = [
         never_synced),
     Row("full-and-mended", "a flush that fails in its append is told once, tried again, and mended by the next", full_and_mended),
     Row("full-and-kept-at-the-end", "a full disk is told once and tried again", full_and_kept_at_the_end),
+    Row("moved-and-mended", "a volume in storage whose file is full holds up no move of another, and is tried again without a command", moved_and_mended),
     Row("protected", "WRITE and ERASE leave a protected volume", protected),
 ]

@@ -2,7 +2,7 @@
 //! copies takes off what it has copied.
 
 use std::sync::{Condvar, Mutex, Wait};
-use std::time::{Clock, Duration};
+use std::time::{Clock, Duration, Instant};
 
 /// Once so many bytes were written to a drive's volume, they are copied without waiting for the time.
 const MANY: u64 = 8 * 1024 * 1024;
@@ -10,7 +10,7 @@ const MANY: u64 = 8 * 1024 * 1024;
 /// A command by which so many wait to be copied waits until they are fewer.
 const MOST: u64 = 64 * 1024 * 1024;
 
-/// After so many milliseconds what was written is copied.
+/// After so many milliseconds what was written is copied, and what couldn't be is tried again.
 const TURN: u64 = 500;
 
 /// What was written to the volume in a drive and isn't copied yet.
@@ -38,6 +38,8 @@ struct Backlogs {
     two: Backlog,
     three: Backlog,
     four: Backlog,
+    /// When what couldn't be copied was tried again the last time.
+    retried: Option<Instant>,
     /// Whether the library ends.
     is_over: bool,
 }
@@ -150,6 +152,22 @@ impl Behind {
             |backlogs| backlogs.is_idle(),
         );
         !backlogs.is_over
+    }
+
+    /// Whether what couldn't be copied is to be tried again: half a second after the last time, or where no clock says how long that is.
+    pub fn is_retry_due<R: Clock + Wait>(&self, rt: &R) -> bool {
+        let Ok(now) = Instant::now(rt) else {
+            return true;
+        };
+        let mut backlogs = self.backlogs.lock(rt);
+        let is_due = match backlogs.retried {
+            Some(last) => now.duration_since(last) >= Duration::from_millis(TURN),
+            None => true,
+        };
+        if is_due {
+            backlogs.retried = Some(now);
+        }
+        is_due
     }
 
     /// The library ends: nobody waits any more.

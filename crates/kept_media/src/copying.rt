@@ -1,16 +1,27 @@
-//! The volumes of a unit, copied into their images part by part: the unit waits while a part is taken, and goes on while it is written.
+//! The volumes of a library, copied into their images part by part: the unit where one lies waits while a part is taken, and goes on while it is
+//! written.
 
 use crate::behind::Behind;
-use crate::keeper::{VolumeImage, change_of};
-use crate::looking::{PartLook, Places, VolumePlace};
+use crate::looking::{BayLook, PartLook, VolumeLook, VolumePlace};
+use crate::volume_image::VolumeImage;
+use crate::watch::Extent;
 use library_device::Device;
 use std::alloc::Global;
 use std::sync::Wait;
 use tape_flush::{FlushFault, ImageStore, KeptImage, PartRange, StoreFault, TapePart};
 use tape_keeper::{KeepChange, KeepEvent, KeepFault, KeepListener, KeptThing, TapeSource};
-use tape_medium::VolumeTag;
+use tape_medium::{FIRST_STORAGE, VolumeTag};
 
-/// How far copies go.
+/// What volumes are copied for.
+#[derive(Clone, Copy)]
+pub(crate) enum Purpose {
+    /// An answer that waits, or the end of the library: all of a volume is, and brought to the disk.
+    Answer,
+    /// What is to be copied behind: so many parts of a volume are at once, and brought to the disk only where that couldn't be written.
+    Behind,
+}
+
+/// How far a copy goes.
 #[derive(Clone, Copy)]
 pub(crate) enum Depth {
     /// Into the image.
@@ -19,19 +30,10 @@ pub(crate) enum Depth {
     Disk,
 }
 
-/// So many parts of a volume are copied before others have their turn.
+/// So many parts of a volume are copied behind before others have their turn.
 const MOST_PARTS: u8 = 16;
 
-/// What was copied of a unit.
-#[derive(Clone, Copy)]
-pub(crate) struct Copied {
-    /// Whether all of it was.
-    pub is_kept: bool,
-    /// Whether it has no volume.
-    pub is_empty: bool,
-}
-
-/// Copies volumes that aren't in their images yet. A volume's image is locked before its unit, and never behind it.
+/// Copies what volumes have that isn't in their images yet. A volume's image is locked before its unit, and never behind it.
 #[derive(Drop)]
 pub(crate) struct Copying<
     'a,
@@ -46,7 +48,7 @@ pub(crate) struct Copying<
     pub behind: &'a Behind,
     pub source: &'a T,
     pub listener: &'a H,
-    pub depth: Depth,
+    pub purpose: Purpose,
 }
 
 impl<'a, S: ImageStore + Drop, R: Wait, T: TapeSource<Device>, H: KeepListener> Copying<
@@ -56,64 +58,84 @@ impl<'a, S: ImageStore + Drop, R: Wait, T: TapeSource<Device>, H: KeepListener> 
     T,
     H,
 > {
-    /// Copies the volumes of a unit.
-    pub fn copy_unit(&self, lun: u8) -> Copied {
-        let before = self.behind.at(self.rt, lun);
-        let places = self.places(lun);
-        if places.is_empty {
-            self.behind.take(self.rt, lun, before);
-        }
-        let mut is_kept = places.is_whole;
-        for at in &places.found {
-            if !self.copy_volume(*at) {
-                is_kept = false;
+    /// Copies the volume in a drive, where so many bytes are behind. Where there is none, or a protected one, they were written to one that
+    /// was moved, and was kept then.
+    pub fn copy_drive(&self, lun: u8, behind: u64) {
+        let mut look = BayLook { found: None };
+        self.source.attend(self.rt, lun, &mut look);
+        match look
+            .found
+            .and_then(|tag| VolumeImage::find(self.images, tag))
+        {
+            Some(image) if !image.is_protected => {
+                // What can't be copied is told, and tried again.
+                let _ = self.copy_image(image, place_in_drive(lun, image.tag));
             }
-        }
-        if !is_kept {
-            self.behind.stick(self.rt, lun);
-        }
-        Copied {
-            is_kept,
-            is_empty: places.is_empty,
+            Some(_) | None => self.behind.take(self.rt, lun, behind),
         }
     }
 
-    /// Which volumes a unit has.
-    fn places(&self, lun: u8) -> Places {
-        let mut places = Places::new(self.alloc, lun);
-        self.source.attend(self.rt, lun, &mut places);
-        places
+    /// Copies the volume with a tag that is in a drive, if it isn't moved. Whether it is copied.
+    pub fn copy_from_drive(&self, lun: u8, tag: VolumeTag) -> bool {
+        self.copy_volume(place_in_drive(lun, tag))
     }
 
-    /// Copies the volume at a place, and tells where that fails for the first time, or no longer does. Whether it is copied.
+    /// Copies the volume with a tag, wherever it is. Whether it is copied.
+    pub fn copy_from_anywhere(&self, tag: VolumeTag) -> bool {
+        let somewhere = VolumePlace {
+            lun: 0,
+            place: FIRST_STORAGE,
+            tag,
+        };
+        self.copy_volume(self.find(somewhere))
+    }
+
+    /// Copies the volume that is supposed to be at a place. Whether it is copied; a protected one is as its image is.
     fn copy_volume(&self, at: VolumePlace) -> bool {
-        let Some(found) = VolumeImage::find(self.images, at.tag) else {
+        let Some(image) = VolumeImage::find(self.images, at.tag) else {
             self.tell(at.tag, KeepChange::Fails(KeepFault::NoImage));
             return false;
         };
-        let mut image = found.image.lock(self.rt);
-        let was_failing = image.is_failing;
-        let kept = self.keep(&mut image.kept, at);
-        image.is_failing = kept.is_err();
-        if let Some(change) = change_of(was_failing, kept) {
+        image.is_protected || self.copy_image(image, at)
+    }
+
+    /// Copies a volume into its image, and tells where that fails for the first time, or no longer does. Whether it is copied. What couldn't
+    /// be written is brought to the disk too, since else nobody knows whether the disk takes it.
+    fn copy_image(&self, image: &VolumeImage<S>, at: VolumePlace) -> bool {
+        let mut kept = image.kept.lock(self.rt);
+        let depth = match self.purpose {
+            Purpose::Behind if !image.watch.is_failing() => Depth::Image,
+            Purpose::Behind | Purpose::Answer => Depth::Disk,
+        };
+        let copied = self.keep(&mut kept, at, depth);
+        if let Some(change) = image.watch.note(copied) {
             self.tell(at.tag, change);
         }
-        kept.is_ok()
-    }
-
-    /// Copies the volume at a place into its image, and brings that to the disk if it is to be there.
-    fn keep(&self, kept: &mut KeptImage<S>, at: VolumePlace) -> Result<(), KeepFault> {
-        self.copy(kept, at).map_err(fault_of_flush)?;
-        match self.depth {
-            Depth::Image => Ok(()),
-            Depth::Disk => kept.sync().map_err(fault_of_store),
+        if copied.is_err() {
+            self.behind.stick(self.rt, at.lun);
         }
+        copied.is_ok()
     }
 
-    /// Copies what a volume has by now, wherever it is moved meanwhile; into its image alone only so many parts at once, so that the volumes
+    /// Copies the volume at a place into its image, and brings that to the disk if it is to be there. How much of the volume it has then.
+    fn keep(
+        &self,
+        kept: &mut KeptImage<S>,
+        at: VolumePlace,
+        depth: Depth,
+    ) -> Result<Extent, KeepFault> {
+        let extent = self.copy(kept, at).map_err(fault_of_flush)?;
+        match depth {
+            Depth::Image => {}
+            Depth::Disk => kept.sync().map_err(fault_of_store)?,
+        }
+        Ok(extent)
+    }
+
+    /// Copies what a volume has by now, wherever it is moved meanwhile; behind what hosts write only so many parts at once, so that the volumes
     /// of other drives have their turn. What is written on behind that isn't waited for, and what was cut off meanwhile isn't needed any
     /// more.
-    fn copy(&self, kept: &mut KeptImage<S>, at: VolumePlace) -> Result<(), FlushFault> {
+    fn copy(&self, kept: &mut KeptImage<S>, at: VolumePlace) -> Result<Extent, FlushFault> {
         let mut part = TapePart::new(self.alloc)?;
         let mut at = at;
         let mut wanted = u32::MAX;
@@ -121,7 +143,7 @@ impl<'a, S: ImageStore + Drop, R: Wait, T: TapeSource<Device>, H: KeepListener> 
         for _look in self.rt.forever() {
             let before = self.behind.at(self.rt, at.lun);
             let Some(taken) = self.take_part(kept, at, &mut part) else {
-                at = self.find(at)?;
+                at = self.find(at);
                 continue;
             };
             let range = taken?;
@@ -129,11 +151,22 @@ impl<'a, S: ImageStore + Drop, R: Wait, T: TapeSource<Device>, H: KeepListener> 
             self.note_copied(at.lun, range, &part, before);
             wanted = wanted.min(range.count);
             parts = parts.saturating_add(1);
-            if range.end >= wanted || self.depth == Depth::Image && parts >= MOST_PARTS {
-                return Ok(());
+            if range.end >= wanted {
+                return Ok(Extent::All);
+            }
+            if self.is_turn_over(parts) {
+                return Ok(Extent::Part);
             }
         }
-        Ok(())
+        Ok(Extent::All)
+    }
+
+    /// Whether others have their turn, once so many parts of a volume were copied.
+    fn is_turn_over(&self, parts: u8) -> bool {
+        match self.purpose {
+            Purpose::Answer => false,
+            Purpose::Behind => parts >= MOST_PARTS,
+        }
     }
 
     /// Notes what isn't behind any more: the part, or where the volume has no more, all that was behind before it was taken.
@@ -163,18 +196,17 @@ impl<'a, S: ImageStore + Drop, R: Wait, T: TapeSource<Device>, H: KeepListener> 
         look.taken
     }
 
-    /// Where a volume is that was moved: no volume leaves the library, but one that is moved again may be seen nowhere.
-    fn find(&self, gone: VolumePlace) -> Result<VolumePlace, FlushFault> {
+    /// Where a volume is, or where it was supposed to be: no volume leaves the library, but one that is moved meanwhile may be seen nowhere.
+    fn find(&self, supposed: VolumePlace) -> VolumePlace {
+        let tag = supposed.tag;
         for lun in 0..self.source.units() {
-            let places = self.places(lun);
-            if let Some(at) = places.of(gone.tag) {
-                return Ok(at);
-            }
-            if !places.is_whole {
-                return Err(FlushFault::NoMemory);
+            let mut look = VolumeLook::new(tag);
+            self.source.attend(self.rt, lun, &mut look);
+            if let Some(place) = look.found {
+                return VolumePlace { lun, place, tag };
             }
         }
-        Ok(gone)
+        supposed
     }
 
     fn tell(&self, tag: VolumeTag, change: KeepChange) {
@@ -183,6 +215,11 @@ impl<'a, S: ImageStore + Drop, R: Wait, T: TapeSource<Device>, H: KeepListener> 
             change,
         });
     }
+}
+
+/// Where the volume in a drive is.
+fn place_in_drive(lun: u8, tag: VolumeTag) -> VolumePlace {
+    VolumePlace { lun, place: 0, tag }
 }
 
 fn fault_of_flush(fault: FlushFault) -> KeepFault {

@@ -9,8 +9,11 @@ mod listing;
 mod looking;
 mod rows;
 mod store;
+mod volume_image;
+mod watch;
 mod wish;
 
-pub use keeper::{MediaKeeper, VolumeImage};
+pub use keeper::MediaKeeper;
 pub use rows::{asked_rows, look_rows};
 pub use store::InventoryStore;
+pub use volume_image::VolumeImage;

@@ -2,13 +2,13 @@
 
 ghost use Rattle.std.specs.Prelude.{◌≡◌};
 ghost use Rattle.device_server.specs.Settled.{SameButSettled};
+ghost use Rattle.device_server.specs.View.{held_in};
 ghost use Rattle.library_device.specs.Devices.{shown_as};
 ghost use Rattle.kept_media.specs.Looking.{WasTaken, settled_by};
 
 use device_server::{Attendant, DeviceServer};
 use library_device::Device;
 use scsi_cdb::Kind;
-use std::alloc::Global;
 use tape_flush::{FlushFault, ImageStore, KeptImage, PartRange, TapePart};
 use tape_medium::{FIRST_IMPORT_EXPORT, FIRST_STORAGE, VolumeTag};
 
@@ -25,68 +25,58 @@ pub(crate) struct VolumePlace {
     pub tag: VolumeTag,
 }
 
-/// Notes which volumes a device has, but for protected ones, which are as their images are.
+/// Notes the tag of the volume in a drive.
 #[derive(Drop)]
-pub(crate) struct Places {
-    lun: u8,
-    pub found: Vec<VolumePlace>,
-    /// Whether there was memory for all of them.
-    pub is_whole: bool,
-    /// Whether the device has no volume, protected ones neither.
-    pub is_empty: bool,
+pub(crate) struct BayLook {
+    pub found: Option<VolumeTag>,
 }
 
-impl Places {
-    /// None was noted yet.
-    pub fn new(alloc: Global, lun: u8) -> Places {
-        Places {
-            lun,
-            found: Vec::new(alloc),
-            is_whole: true,
-            is_empty: true,
-        }
+impl Attendant<Device> for BayLook {
+    ghost looks_after = { λ old before after new. (new.found ≡ held_in before 0) × (after ≡ before) };
+
+    fn attend(&mut self, device: &mut Device) {
+        self.found = device.held(0);
+    }
+}
+
+/// Looks for the volume with a tag in a device.
+#[derive(Drop)]
+pub(crate) struct VolumeLook {
+    tag: VolumeTag,
+    /// Where it is, if it is there.
+    pub found: Option<u16>,
+}
+
+impl VolumeLook {
+    /// It wasn't seen yet.
+    pub fn new(tag: VolumeTag) -> VolumeLook {
+        VolumeLook { tag, found: None }
     }
 
-    /// Where a volume lies, if it is among them.
-    pub fn of(&self, tag: VolumeTag) -> Option<VolumePlace> {
-        self.found.iter().find(|at| at.tag == tag).copied()
-    }
-
-    fn note(&mut self, device: &Device, place: u16) {
-        let Some(volume) = device.volume(place) else {
-            return;
-        };
-        self.is_empty = false;
-        if volume.protected {
-            return;
-        }
-        let at = VolumePlace {
-            lun: self.lun,
-            place,
-            tag: volume.tag,
-        };
-        if self.found.push(at).is_err() {
-            self.is_whole = false;
-        }
-    }
-
-    /// Notes the volumes at so many places from an address on.
-    fn note_from(&mut self, device: &Device, first: u16, count: u16) {
+    /// Looks at so many places from an address on.
+    fn look_from(&mut self, device: &Device, first: u16, count: u16) {
         for number in 0..count {
-            self.note(device, first.saturating_add(number));
+            let place = first.saturating_add(number);
+            if device
+                .volume(place)
+                .is_some_and(|volume| volume.tag == self.tag)
+            {
+                self.found = Some(place);
+                return;
+            }
         }
     }
 }
 
-impl Attendant<Device> for Places {
+impl Attendant<Device> for VolumeLook {
     ghost looks_after = { λ _ before after _. after ≡ before };
 
     fn attend(&mut self, device: &mut Device) {
         match device.kind() {
-            Kind::Drive => self.note(device, 0),
+            Kind::Drive => self.look_from(device, 0, 1),
             Kind::Changer => {
-                self.note_from(device, FIRST_IMPORT_EXPORT, MOST_PORTALS);
-                self.note_from(device, FIRST_STORAGE, MOST_SLOTS);
+                self.look_from(device, FIRST_IMPORT_EXPORT, MOST_PORTALS);
+                self.look_from(device, FIRST_STORAGE, MOST_SLOTS);
             }
         }
     }

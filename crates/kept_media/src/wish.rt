@@ -1,6 +1,8 @@
 ghost use Rattle.std.specs.Prelude.{◌≡◌};
 ghost use Rattle.kept_media.specs.Wishes.{wish_of};
 
+use permit_tables::Class;
+
 /// What is to be kept of a command that ended GOOD.
 #[derive(Clone, Copy)]
 pub(crate) enum Wish {
@@ -15,14 +17,39 @@ pub(crate) enum Wish {
 
 /// WRITE(6) is copied behind (SSC-4, "WRITE(6) command"). WRITE FILEMARKS(6), also of none, ERASE(6), LOAD UNLOAD and MOVE MEDIUM
 /// are kept before they are answered: a host takes what lies before them for written (SSC-4, "WRITE FILEMARKS(6) command", and
-/// profile).
-pub(crate) fn wish_of(cdb: &[u8]) -> Wish
-    ensures { result ≡ wish_of cdb.now }
+/// profile). No other changes a tape, or where a volume lies.
+pub(crate) fn wish_of(class: Class) -> Wish
+    ensures { result ≡ wish_of class }
 {
-    match cdb.first() {
-        Some(0x0a) => Wish::Behind,
-        Some(0x10) | Some(0x19) | Some(0x1b) => Wish::Volume,
-        Some(0xa5) => Wish::Move,
-        _ => Wish::Nothing,
+    match class {
+        Class::Write => Wish::Behind,
+        Class::WriteFilemarks | Class::Erase | Class::LoadUnload => Wish::Volume,
+        Class::MoveMedium => Wish::Move,
+        Class::TestUnitReady
+        | Class::RequestSense
+        | Class::Inquiry
+        | Class::ReportLuns
+        | Class::PersistentReserveIn
+        | Class::AllowRemoval
+        | Class::ReadBlockLimits
+        | Class::ReadPosition
+        | Class::ReadElementStatusCurdata
+        | Class::ModeSense
+        | Class::Read
+        | Class::Space
+        | Class::Locate
+        | Class::Rewind
+        | Class::ReadElementStatus
+        | Class::ModeSelect
+        | Class::PreventRemoval
+        | Class::InitializeElementStatus
+        | Class::Register
+        | Class::RegisterAndIgnoreExistingKey
+        | Class::Clear
+        | Class::Preempt
+        | Class::PreemptAndAbort
+        | Class::Release
+        | Class::Reserve
+        | Class::RegisterAndMove => Wish::Nothing,
     }
 }

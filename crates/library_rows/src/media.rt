@@ -1,9 +1,11 @@
 //! Lasting media, as far as no file of a folder can say it: images whose reads are interrupted or fail, a file of which one call fails,
-//! what a drive's volume is kept by, and the memory that tapes share.
+//! what a drive's volume is kept by, also where it is moved or can't be written, and the memory that tapes share.
 
 mod failing_store;
 mod image_bytes;
 mod images;
 mod keeping;
 mod memory;
+mod moved;
 mod readings;
+mod units;

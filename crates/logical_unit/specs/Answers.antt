@@ -2,6 +2,7 @@
 use Rattle.std.specs.Prelude.{◌≡◌, ◌≢◌, ℕ, List, [], ◌∷◌, count_by, map, filter, Option, None, ◌==◌, if◌then◌else◌}
 use Rattle.scsi_nexus.specs.declared.nexus.Nexus.{Nexus}
 use Rattle.judgement.specs.declared.reply.Reply.{Reply}
+use Rattle.tape_medium.specs.declared.volume.VolumeTag.{VolumeTag}
 use Rattle.logical_unit.specs.declared.act_kind.ActKind.{ActKind}
 use Rattle.logical_unit.specs.declared.entry.Entry.{Entry}
 
@@ -16,6 +17,8 @@ pub record DoneValue : Type 0 where
   pub lun : ℕ
   pub asked : EventValue
   pub act : Option ActKind
+  -- the one that a command was carried out on, which only `carry_out` and the moves tell
+  pub volume : Option VolumeTag
   pub reply : Reply
   -- of each record that the call left the unit's logical unit number, and the record's number
   pub numbers : List (ℕ × ℕ)

@@ -11,3 +11,4 @@ pub mod History
 pub mod ActKinds
 pub mod Answers
 pub mod EventValue
+pub mod VolumeAfter

@@ -15,6 +15,7 @@ use scsi_nexus::Nexus;
 use scsi_sense::Condition;
 use std::alloc::Global;
 use std::marker::Model;
+use tape_medium::VolumeTag;
 
 /// What was asked: a command is the very slices that were lent to the call.
 #[derive(Clone, Copy)]
@@ -34,6 +35,7 @@ pub struct Done<'a> {
     lun: u8,
     asked: EventKind<'a>,
     act: Option<ActKind>,
+    volume: Option<VolumeTag>,
     receipt: Receipt,
 }
 
@@ -44,7 +46,7 @@ impl<'a> Model for Done<'a> {
 
     ghost use Rattle.logical_unit.specs.EventValue.{event_value};
 
-    ghost view = { λ d. record { nexus = d.nexus; lun = d.lun; asked = event_value d.asked; act = d.act; reply = d.receipt.reply; numbers = d.receipt.numbers.items } };
+    ghost view = { λ d. record { nexus = d.nexus; lun = d.lun; asked = event_value d.asked; act = d.act; volume = d.volume; reply = d.receipt.reply; numbers = d.receipt.numbers.items } };
 }
 
 /// The answer to a call, with its receipt.
@@ -53,30 +55,34 @@ pub(crate) fn done_with<'a>(
     lun: u8,
     asked: EventKind<'a>,
     act: Option<ActKind>,
+    volume: Option<VolumeTag>,
     receipt: Receipt,
 ) -> Done<'a>
     ensures answer { IsAnswer result nexus lun (event_value asked.entry) }
     ensures reply { result.reply ≡ receipt.reply }
     ensures numbers { result.numbers ≡ receipt.numbers.items }
     ensures act { result.act ≡ act }
+    ensures volume { result.volume ≡ volume }
 {
     Done {
         nexus,
         lun,
         asked,
         act,
+        volume,
         receipt,
     }
 }
 
-/// An answer that leaves no record.
+/// An answer that leaves no record, and was carried out on no volume.
 fn plain<'a>(nexus: Option<Nexus>, lun: u8, asked: EventKind<'a>, reply: Reply) -> Done<'a>
     ensures answer { IsAnswer result nexus lun (event_value asked.entry) }
     ensures reply { result.reply ≡ reply }
     ensures none { LeavesNothing result }
+    ensures volume { result.volume ≡ None }
 {
     let numbers = ArrayVec::new();
-    done_with(nexus, lun, asked, None, Receipt { reply, numbers })
+    done_with(nexus, lun, asked, None, None, Receipt { reply, numbers })
 }
 
 impl<'a> Done<'a> {
@@ -85,6 +91,7 @@ impl<'a> Done<'a> {
         ensures answer { IsAnswer result (Some nexus) lun (event.Command cdb.now bytes.now) }
         ensures reply { AnswersAbsent cdb.now result.reply }
         ensures none { LeavesNothing result }
+        ensures volume { result.volume ≡ None }
     {
         let reply = absent(alloc, cdb);
         plain(Some(nexus), lun, EventKind::Command { cdb, bytes }, reply)
@@ -95,6 +102,7 @@ impl<'a> Done<'a> {
         ensures answer { IsAnswer result (Some nexus) lun event.Loss }
         ensures reply { result.reply ≡ check LogicalUnitNotSupported }
         ensures none { LeavesNothing result }
+        ensures volume { result.volume ≡ None }
     {
         let reply = Reply::check(alloc, Condition::LogicalUnitNotSupported);
         plain(Some(nexus), lun, EventKind::Loss, reply)
@@ -105,6 +113,7 @@ impl<'a> Done<'a> {
         ensures answer { IsAnswer result None lun event.Reset }
         ensures reply { result.reply ≡ check LogicalUnitNotSupported }
         ensures none { LeavesNothing result }
+        ensures volume { result.volume ≡ None }
     {
         let reply = Reply::check(alloc, Condition::LogicalUnitNotSupported);
         plain(None, lun, EventKind::Reset, reply)
@@ -115,6 +124,7 @@ impl<'a> Done<'a> {
         ensures answer { IsAnswer result nexus lun (event_value asked.entry) }
         ensures reply { result.reply ≡ busy }
         ensures none { LeavesNothing result }
+        ensures volume { result.volume ≡ None }
     {
         plain(nexus, lun, asked, Reply::busy(alloc))
     }
@@ -138,6 +148,21 @@ impl<'a> Done<'a> {
         ensures { event_value result ≡ self.now.asked }
     {
         self.asked
+    }
+
+    /// What was asked as a seat keeps it, where the call left a record: of a command the class.
+    pub fn act(&self) -> Option<ActKind>
+        ensures { result ≡ self.now.act }
+    {
+        self.act
+    }
+
+    /// The volume that a command was carried out on, as `volume_after` says, as long as nobody else was at its unit. None of a call
+    /// that is no command.
+    pub fn volume(&self) -> Option<VolumeTag>
+        ensures { result ≡ self.now.volume }
+    {
+        self.volume
     }
 
     /// The reply, and for each record that the call left the unit that has it, and its number there.

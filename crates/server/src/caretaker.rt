@@ -11,7 +11,7 @@ pub trait Caretaker {
         rt: &R,
         alloc: Global,
         listener: &H,
-        command: GoodCommand<'_>,
+        command: GoodCommand,
     ) -> bool;
 
     /// Copies what was written to the volumes in drives, whenever that is to be done, until the library ends.

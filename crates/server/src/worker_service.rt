@@ -7,7 +7,7 @@ use crate::record_drain::RecordDrain;
 use crate::reset_counts::ResetCounts;
 use crate::session_flags::SessionFlags;
 use crate::teller::Teller;
-use logical_unit::Done;
+use logical_unit::{ActKind, Done};
 use scsi_nexus::Nexus;
 use scsi_sense::Status;
 use session::{SeatService, Service, SessionFault};
@@ -112,8 +112,23 @@ impl<'a, S: SeatService, C: Caretaker, R: Wait, E: Write> WorkerService<'a, S, C
         self.teller.tell(self.rt, &event);
     }
 
-    /// Keeps what a command left that was GOOD. Where that fails the session's replies are sent no more.
-    fn keep(&self, alloc: Global, command: GoodCommand<'_>) {
+    /// Keeps what a command left that was GOOD, and with which so many bytes were sent. Where that fails the session's replies are sent
+    /// no more.
+    fn keep(&self, alloc: Global, done: &Done<'_>, length: usize) {
+        let class = match done.act() {
+            Some(ActKind::Command(class)) => class,
+            Some(ActKind::Invalid)
+            | Some(ActKind::Loss)
+            | Some(ActKind::Reset)
+            | Some(ActKind::Medium)
+            | None => return,
+        };
+        let command = GoodCommand {
+            lun: done.lun(),
+            class,
+            volume: done.volume(),
+            length,
+        };
         let listener = KeepTeller {
             rt: self.rt,
             teller: self.teller,
@@ -174,11 +189,8 @@ impl<'a, S: SeatService, C: Caretaker, R: Wait, E: Write> Service
         let reply = &done.receipt().reply;
         match reply.status {
             Status::Busy => self.tell_busy(nexus, lun),
-            Status::Good => {
-                let length = bytes.len();
-                self.keep(alloc, GoodCommand { lun, cdb, length });
-            }
-            _ => {}
+            Status::Good => self.keep(alloc, &done, bytes.len()),
+            Status::CheckCondition | Status::ReservationConflict => {}
         }
         self.tend(lun, reply.number);
         done

@@ -25,7 +25,7 @@ impl<'a, K: TapeKeeper<Device>, T: TapeSource<Device>> Caretaker for KeptTapes<'
         rt: &R,
         alloc: Global,
         listener: &H,
-        command: GoodCommand<'_>,
+        command: GoodCommand,
     ) -> bool {
         self.keeper.keep(rt, alloc, self.tapes, listener, command)
     }
@@ -39,6 +39,7 @@ impl<'a, K: TapeKeeper<Device>, T: TapeSource<Device>> Caretaker for KeptTapes<'
                 self.keeper
                     .write_behind(rt, alloc, self.tapes, listener, lun);
             }
+            self.keeper.retry(rt, alloc, self.tapes, listener);
         }
     }
 

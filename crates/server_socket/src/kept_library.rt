@@ -113,7 +113,7 @@ fn parted(
             volume,
             image,
         } = kept;
-        images.push(VolumeImage::new(volume.tag, KeptImage::new(image)))?;
+        images.push(VolumeImage::new(&volume, KeptImage::new(image)))?;
         started.push(StartedVolume { element, volume })?;
     }
     Ok((started, images))

@@ -1,25 +1,22 @@
 //! A drive's volume that is kept in an image, and that a host writes on while a part of it is copied. When an image is brought to the disk,
 //! files of a folder show.
 
-ghost use Rattle.device_server.specs.Attending.{WasAsked};
-ghost use Rattle.device_server.specs.Settled.{SameButSettled};
-
+use super::units::{BLOCK, BLOCK_AND_MARK, NoStore, Units, WRITE_HI, WRITE_MARK, image_in};
 use crate::comparing::{assert_list, assert_same};
-use device_server::{Attendant, DeviceServer};
-use kept_media::{InventoryStore, MediaKeeper, VolumeImage};
-use library_device::Device;
-use library_inventory::{Inventory, LibrarySize};
-use scsi_cdb::Request;
+use kept_media::MediaKeeper;
+use library_inventory::LibrarySize;
+use permit_tables::Class;
 use std::alloc::Global;
 use std::process::Abort;
 use std::sync::{Mutex, Wait};
-use tape_flush::{ImageStore, KeptImage, StoreFault, open_image};
-use tape_image::index_image;
-use tape_keeper::{GoodCommand, KeepEvent, KeepListener, TapeKeeper, TapeSource};
-use tape_medium::{Tape, Volume, VolumeTag};
-use tape_server::TapeDrive;
+use tape_flush::{ImageStore, StoreFault};
+use tape_keeper::{GoodCommand, KeepEvent, KeepListener, TapeKeeper};
+use tape_medium::VolumeTag;
 
 const TAG: VolumeTag = VolumeTag([b'A'; 32]);
+
+/// That of the volume in the other drive.
+const OTHER: VolumeTag = VolumeTag([b'B'; 32]);
 
 /// A library of one drive.
 const SIZE: LibrarySize = LibrarySize {
@@ -29,34 +26,19 @@ const SIZE: LibrarySize = LibrarySize {
 };
 
 /// A WRITE of "hi" that was GOOD.
-const WRITE: GoodCommand<'static> = GoodCommand {
+const WRITE: GoodCommand = GoodCommand {
     lun: 1,
-    cdb: &[0x0a, 0, 0, 0, 2, 0],
+    class: Class::Write,
+    volume: Some(TAG),
     length: 2,
 };
-
-/// The same as it comes to the drive, and a WRITE FILEMARKS of one.
-const WRITE_HI: Request = Request::Write {
-    fixed: false,
-    transfer_length: 2,
-};
-
-const WRITE_MARK: Request = Request::WriteFilemarks {
-    write_setmarks: false,
-    filemark_count: 1,
-};
-
-/// The image of "hi", and of "hi" and a filemark.
-const BLOCK: &[u8] = &[2, 0, 0, 0, b'h', b'i', 2, 0, 0, 0];
-
-const BLOCK_AND_MARK: &[u8] = &[2, 0, 0, 0, b'h', b'i', 2, 0, 0, 0, 0, 0, 0, 0];
 
 /// The file of the volume in a drive. Nothing of it is written over here, so that it is never cut back.
 #[derive(Drop)]
 struct SharedStore<'a, R: Wait> {
     rt: &'a R,
     alloc: Global,
-    bay: &'a Bay,
+    units: &'a Units,
     file: &'a Mutex<Vec<u8>>,
     /// Whether a host writes a filemark on the volume before the next part goes into the file: that would wait for ever if the drive
     /// were held meanwhile.
@@ -71,7 +53,9 @@ impl<'a, R: Wait> ImageStore for SharedStore<'a, R> {
     fn append(&mut self, bytes: &[u8]) -> Result<(), StoreFault> {
         if self.is_written_on {
             self.is_written_on = false;
-            let _is_done = self.bay.performs(self.rt, self.alloc, &WRITE_MARK, &[]);
+            let _is_done = self
+                .units
+                .performs(self.rt, self.alloc, 1, &WRITE_MARK, &[]);
         }
         match self.file.lock(self.rt).extend_from_slice(bytes) {
             Ok(()) => Ok(()),
@@ -84,66 +68,12 @@ impl<'a, R: Wait> ImageStore for SharedStore<'a, R> {
     }
 }
 
-/// Keeps no inventory.
-#[derive(Drop)]
-struct NoStore;
-
-impl InventoryStore for NoStore {
-    fn write(&mut self, _inventory: &Inventory) -> Result<(), StoreFault> {
-        Ok(())
-    }
-}
-
-/// A drive as logical unit 1.
-#[derive(Drop)]
-struct Bay {
-    device: Mutex<Device>,
-}
-
-impl Bay {
-    /// The drive performs a request, where it finds memory.
-    fn performs<R: Wait>(&self, rt: &R, alloc: Global, request: &Request, bytes: &[u8]) -> bool {
-        let mut device = self.device.lock(rt);
-        device.perform(alloc, request, bytes).is_ok()
-    }
-}
-
-impl TapeSource<Device> for Bay {
-    // of what lies under its lock nothing is known
-    ghost has_unit = { λ _ _ _. ⊥ };
-
-    fn units(&self) -> u8 {
-        2
-    }
-
-    fn attend<R: Wait, A: Attendant<Device>>(&self, rt: &R, lun: u8, attendant: &mut A) {
-        if lun == 1 {
-            let mut device = self.device.lock(rt);
-            attendant.attend(&mut *device);
-        }
-    }
-}
-
 /// Nobody is told.
 #[derive(Drop)]
 struct NoListener;
 
 impl KeepListener for NoListener {
     fn tell(&self, _event: &KeepEvent) {}
-}
-
-/// A drive with an empty volume.
-fn drive_with_volume(alloc: Global) -> Bay {
-    let mut drive = TapeDrive::new();
-    let volume = Volume {
-        tag: TAG,
-        protected: false,
-        tape: Tape::new(alloc, 1_000),
-    };
-    let _ = drive.put_volume(0, volume);
-    Bay {
-        device: Mutex::new(Device::Tape(drive)),
-    }
 }
 
 type Keeper<'a, R> = MediaKeeper<SharedStore<'a, R>, NoStore>;
@@ -154,10 +84,7 @@ fn keeper<'a, R: Abort + Wait>(
     alloc: Global,
     store: SharedStore<'a, R>,
 ) -> Keeper<'a, R> {
-    let mut nothing: &[u8] = &[];
-    let index = index_image(alloc, &mut nothing).expect(rt, "an index");
-    let opened = open_image(alloc, store, &index).expect(rt, "an image");
-    let image = VolumeImage::new(TAG, KeptImage::new(opened.image));
+    let image = image_in(rt, alloc, TAG, store);
     let images = Vec::from_array(alloc, [image]).expect(rt, "memory");
     MediaKeeper::new(SIZE, images, NoStore)
 }
@@ -197,12 +124,18 @@ const ROWS: [Row; 5] = [
 ];
 
 /// Does what is to be done, and says whether it was.
-fn is_done<R: Wait>(rt: &R, alloc: Global, bay: &Bay, keeper: &Keeper<'_, R>, act: Act) -> bool {
+fn is_done<R: Wait>(
+    rt: &R,
+    alloc: Global,
+    units: &Units,
+    keeper: &Keeper<'_, R>,
+    act: Act,
+) -> bool {
     match act {
-        Act::Write => bay.performs(rt, alloc, &WRITE_HI, b"hi"),
-        Act::Keep => keeper.keep(rt, alloc, bay, &NoListener, WRITE),
+        Act::Write => units.performs(rt, alloc, 1, &WRITE_HI, b"hi"),
+        Act::Keep => keeper.keep(rt, alloc, units, &NoListener, WRITE),
         Act::WriteBehind => {
-            keeper.write_behind(rt, alloc, bay, &NoListener, 1);
+            keeper.write_behind(rt, alloc, units, &NoListener, 1);
             true
         }
     }
@@ -219,16 +152,16 @@ fn assert_row<R: Abort + Wait>(rt: &R, file: &Mutex<Vec<u8>>, is_done: bool, row
 fn volumes_in_a_drive_are_kept_as_rows_say(rt: HostRuntime) {
     let alloc = rt.alloc();
     let file = Mutex::new(Vec::new(alloc));
-    let bay = drive_with_volume(alloc);
+    let units = Units::new(alloc, OTHER, TAG);
     let store = SharedStore {
         rt: &rt,
         alloc,
-        bay: &bay,
+        units: &units,
         file: &file,
         is_written_on: true,
     };
     let keeper = keeper(&rt, alloc, store);
     for row in &ROWS {
-        assert_row(&rt, &file, is_done(&rt, alloc, &bay, &keeper, row.1), row);
+        assert_row(&rt, &file, is_done(&rt, alloc, &units, &keeper, row.1), row);
     }
 }

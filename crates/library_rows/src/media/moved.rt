@@ -1,0 +1,171 @@
+//! Volumes that are moved before they are kept, and one whose file is full.
+
+use super::units::{BLOCK, BLOCK_AND_MARK, NoStore, Units, WRITE_HI, WRITE_MARK, image_in};
+use crate::comparing::{assert_list, assert_same};
+use kept_media::MediaKeeper;
+use library_inventory::LibrarySize;
+use permit_tables::Class;
+use std::alloc::Global;
+use std::process::Abort;
+use std::sync::atomic::{AtomicBool, Ordering};
+use std::sync::{Mutex, Wait};
+use tape_flush::{ImageStore, StoreFault};
+use tape_keeper::{GoodCommand, KeepChange, KeepEvent, KeepListener, TapeKeeper};
+use tape_medium::VolumeTag;
+
+const A: VolumeTag = VolumeTag([b'A'; 32]);
+
+const B: VolumeTag = VolumeTag([b'B'; 32]);
+
+const SIZE: LibrarySize = LibrarySize {
+    drives: 1,
+    slots: 1,
+    portals: 0,
+};
+
+/// A file in memory, which may be full.
+#[derive(Drop)]
+struct MemoryFile {
+    bytes: Mutex<Vec<u8>>,
+    is_full: AtomicBool,
+}
+
+impl MemoryFile {
+    fn new(alloc: Global) -> MemoryFile {
+        MemoryFile {
+            bytes: Mutex::new(Vec::new(alloc)),
+            is_full: AtomicBool::new(false),
+        }
+    }
+}
+
+/// Such a file as the store of an image.
+#[derive(Drop)]
+struct SharedFile<'a, R: Wait> {
+    rt: &'a R,
+    file: &'a MemoryFile,
+}
+
+impl<'a, R: Wait> ImageStore for SharedFile<'a, R> {
+    fn truncate(&mut self, length: u64) -> Result<(), StoreFault> {
+        self.file.bytes.lock(self.rt).truncate(length as usize);
+        Ok(())
+    }
+
+    fn append(&mut self, bytes: &[u8]) -> Result<(), StoreFault> {
+        if self.file.is_full.load(Ordering::SeqCst) {
+            return Err(StoreFault::Full);
+        }
+        match self.file.bytes.lock(self.rt).extend_from_slice(bytes) {
+            Ok(()) => Ok(()),
+            Err(_) => Err(StoreFault::Full),
+        }
+    }
+
+    fn sync(&mut self) -> Result<(), StoreFault> {
+        Ok(())
+    }
+}
+
+/// A letter for each change that was told.
+#[derive(Drop)]
+struct Told<'a, R: Wait> {
+    rt: &'a R,
+    letters: Mutex<Vec<u8>>,
+}
+
+impl<'a, R: Wait> KeepListener for Told<'a, R> {
+    fn tell(&self, event: &KeepEvent) {
+        let letter = match event.change {
+            KeepChange::Fails(_) => b'F',
+            KeepChange::GoesOn => b'G',
+            KeepChange::Lost => b'L',
+        };
+        let _ = self.letters.lock(self.rt).push(letter);
+    }
+}
+
+/// The keeper of A and B.
+fn keeper<'a, R: Abort + Wait>(
+    rt: &'a R,
+    alloc: Global,
+    a: &'a MemoryFile,
+    b: &'a MemoryFile,
+) -> MediaKeeper<SharedFile<'a, R>, NoStore> {
+    let images = [
+        image_in(rt, alloc, A, SharedFile { rt, file: a }),
+        image_in(rt, alloc, B, SharedFile { rt, file: b }),
+    ];
+    MediaKeeper::new(
+        SIZE,
+        Vec::from_array(alloc, images).expect(rt, "memory"),
+        NoStore,
+    )
+}
+
+/// A WRITE FILEMARKS on a volume that was in the drive then.
+fn marked(tag: VolumeTag) -> GoodCommand {
+    GoodCommand {
+        lun: 1,
+        class: Class::WriteFilemarks,
+        volume: Some(tag),
+        length: 0,
+    }
+}
+
+/// A MOVE MEDIUM of a volume.
+fn moved(tag: VolumeTag) -> GoodCommand {
+    GoodCommand {
+        lun: 0,
+        class: Class::MoveMedium,
+        volume: Some(tag),
+        length: 0,
+    }
+}
+
+/// Two moves put another volume into the drive between a filemark and its keeping.
+#[test]
+fn the_volume_of_the_command_is_kept(rt: HostRuntime) {
+    let alloc = rt.alloc();
+    let (a, b) = (MemoryFile::new(alloc), MemoryFile::new(alloc));
+    let keeper = keeper(&rt, alloc, &a, &b);
+    let units = Units::new(alloc, B, A);
+    let told = Told {
+        rt: &rt,
+        letters: Mutex::new(Vec::new(alloc)),
+    };
+    let is_written = units.performs(&rt, alloc, 0, &WRITE_HI, b"hi")
+        && units.performs(&rt, alloc, 1, &WRITE_HI, b"hi")
+        && units.performs(&rt, alloc, 1, &WRITE_MARK, &[]);
+    units.swap(&rt);
+    let is_kept = keeper.keep(&rt, alloc, &units, &told, marked(A));
+    assert_same(&rt, (is_written, is_kept), (true, true), "A is kept");
+    assert_list(&rt, &a.bytes.lock(&rt), BLOCK_AND_MARK, "A is in its file");
+    assert_list(&rt, &b.bytes.lock(&rt), &[], "B isn't");
+}
+
+#[test]
+fn a_volume_that_fails_holds_up_no_other_and_is_tried_again(rt: HostRuntime) {
+    let alloc = rt.alloc();
+    let (a, b) = (MemoryFile::new(alloc), MemoryFile::new(alloc));
+    let keeper = keeper(&rt, alloc, &a, &b);
+    let units = Units::new(alloc, A, B);
+    let told = Told {
+        rt: &rt,
+        letters: Mutex::new(Vec::new(alloc)),
+    };
+    let is_written = units.performs(&rt, alloc, 0, &WRITE_HI, b"hi");
+    a.is_full.store(true, Ordering::SeqCst);
+    let kept = (
+        keeper.keep(&rt, alloc, &units, &told, moved(A)),
+        keeper.keep(&rt, alloc, &units, &told, moved(B)),
+        keeper.keep(&rt, alloc, &units, &told, moved(A)),
+    );
+    assert_same(&rt, is_written, true, "a block is written on A");
+    assert_same(&rt, kept, (false, true, false), "moves of A, B and A");
+    assert_list(&rt, &told.letters.lock(&rt), b"F", "it is told once");
+    a.is_full.store(false, Ordering::SeqCst);
+    keeper.retry(&rt, alloc, &units, &told);
+    assert_list(&rt, &a.bytes.lock(&rt), BLOCK, "A is in its file");
+    assert_list(&rt, &told.letters.lock(&rt), b"FG", "and so it is told");
+}
