@@ -7,11 +7,14 @@ use Rattle.device_server.specs.Drive.{DriveView}
 use Rattle.device_server.specs.View.{DeviceView}
 use Rattle.tape_flush.specs.Images.{TapePartValue}
 use Rattle.tape_flush.specs.declared.part_range.PartRange.{PartRange}
+use Rattle.tape_flush.specs.Careful.{known_of}
 use Rattle.tape_flush.specs.Kept.{KeptImageValue}
+use Rattle.tape_flush.specs.Stores.{file_value}
+use Rattle.tape_flush.specs.declared.known.FileTail.TheVariants.{Empty}
 
 -- an image of no object, in a file without a byte
-abbrev pub no_image : KeptImageValue
-no_image = record { image = record { ends = []; contents = Some []; synced = Some [] }; is_whole = true; is_synced = true }
+abbrev pub no_image : KeptImageValue (Unit {0})
+no_image = record { ends = []; known = known_of 0 0 0 0 Empty; store = tt; file = Some (file_value [] 0 [] (0 ∷ [])) }
 
 -- so many objects of two, from the first on
 abbrev pub up_to : (end : ℕ) → PartRange

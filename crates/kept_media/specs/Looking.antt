@@ -15,7 +15,7 @@ abbrev pub LiesAt : DeviceView → (place : ℕ) → VolumeTag → Volume → Ty
 LiesAt device place tag volume = (volume_at device place ≡ Some volume) × (volume.tag ≡ tag)
 
 -- what was taken at a place of the volume with a tag: a part of its tape for its image, or a fault, or none where that volume isn't there
-abbrev pub WasTaken : KeptImageValue → DeviceView → (place : ℕ) → VolumeTag → Option (Result PartRange FlushFault) → TapePartValue → Type 0
+abbrev pub WasTaken : {S : Type 0} → KeptImageValue S → DeviceView → (place : ℕ) → VolumeTag → Option (Result PartRange FlushFault) → TapePartValue → Type 0
 WasTaken kept device place tag None part = (volume : Volume) → volume_at device place ≡ Some volume → volume.tag ≢ tag
 WasTaken kept device place tag (Some (Err fault)) part = (volume : Volume) × LiesAt device place tag volume
 WasTaken kept device place tag (Some (Ok range)) part = (volume : Volume) × (LiesAt device place tag volume × IsTaken kept volume.tape range part)

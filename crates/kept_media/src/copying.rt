@@ -226,7 +226,7 @@ fn fault_of_flush(fault: FlushFault) -> KeepFault {
     match fault {
         FlushFault::NoMemory => KeepFault::NoMemory,
         FlushFault::PastLastOffset => KeepFault::Full,
-        FlushFault::Store(fault) => fault_of_store(fault),
+        FlushFault::Store(fault) | FlushFault::Unsynced(fault) => fault_of_store(fault),
     }
 }
 

@@ -16,12 +16,12 @@ use tape_medium::VolumeTag;
 pub fn look_rows(a: VolumeTag, b: VolumeTag)
     ensures part { WasTaken no_image (Drive (loaded_drive b)) 0 b (Some (Ok (up_to 2))) part_of_two_marks }
     ensures longer_part { (part : TapePartValue) → ¬ WasTaken no_image (Drive (loaded_drive b)) 0 b (Some (Ok (up_to 3))) part }
-    ensures passed_over { (kept : KeptImageValue) → (part : TapePartValue) → ¬ WasTaken kept (Drive (loaded_drive b)) 0 b None part }
-    ensures another { (kept : KeptImageValue) → (part : TapePartValue) → a ≢ b → WasTaken kept (Drive (loaded_drive b)) 0 a None part }
-    ensures part_of_another { (kept : KeptImageValue) → (range : PartRange) → (part : TapePartValue) → a ≢ b → ¬ WasTaken kept (Drive (loaded_drive b)) 0 a (Some (Ok range)) part }
-    ensures none { (kept : KeptImageValue) → (part : TapePartValue) → WasTaken kept (Drive empty_drive) 0 b None part }
-    ensures part_of_none { (kept : KeptImageValue) → (range : PartRange) → (part : TapePartValue) → ¬ WasTaken kept (Drive empty_drive) 0 b (Some (Ok range)) part }
-    ensures fault_of_none { (kept : KeptImageValue) → (fault : FlushFault) → (part : TapePartValue) → ¬ WasTaken kept (Drive empty_drive) 0 b (Some (Err fault)) part }
+    ensures passed_over { (kept : KeptImageValue (Unit {0})) → (part : TapePartValue) → ¬ WasTaken kept (Drive (loaded_drive b)) 0 b None part }
+    ensures another { (kept : KeptImageValue (Unit {0})) → (part : TapePartValue) → a ≢ b → WasTaken kept (Drive (loaded_drive b)) 0 a None part }
+    ensures part_of_another { (kept : KeptImageValue (Unit {0})) → (range : PartRange) → (part : TapePartValue) → a ≢ b → ¬ WasTaken kept (Drive (loaded_drive b)) 0 a (Some (Ok range)) part }
+    ensures none { (kept : KeptImageValue (Unit {0})) → (part : TapePartValue) → WasTaken kept (Drive empty_drive) 0 b None part }
+    ensures part_of_none { (kept : KeptImageValue (Unit {0})) → (range : PartRange) → (part : TapePartValue) → ¬ WasTaken kept (Drive empty_drive) 0 b (Some (Ok range)) part }
+    ensures fault_of_none { (kept : KeptImageValue (Unit {0})) → (fault : FlushFault) → (part : TapePartValue) → ¬ WasTaken kept (Drive empty_drive) 0 b (Some (Err fault)) part }
     ensures settled { settled_by (Some (Ok (up_to 1))) 0 (Drive (loaded_drive b)) ≡ Drive (settled_drive b) }
     ensures unsettled { (fault : FlushFault) → (settled_by (Some (Err fault)) 0 (Drive (loaded_drive b)) ≡ Drive (loaded_drive b)) × (settled_by None 0 (Drive (loaded_drive b)) ≡ Drive (loaded_drive b)) }
 {}

@@ -22,18 +22,18 @@ use tape_medium::{MemoryLimit, VolumeTag};
 /// A folder that is opened: what its library is made of, its volumes, and those that are missing, with the elements in which they lay.
 /// Nobody else has it as long as `folder` lives.
 #[derive(Drop)]
-pub struct OpenedFolder {
+pub struct OpenedFolder<'a, R: Files<File = File>> {
     pub folder: LibraryFolder,
     pub size: LibrarySize,
-    pub volumes: Vec<KeptVolume>,
+    pub volumes: Vec<KeptVolume<'a, R>>,
     pub missing: Vec<PlacedVolume>,
 }
 
 /// What was read of a folder, in which nothing was changed yet.
 #[derive(Drop)]
-struct ReadLibrary {
+struct ReadLibrary<'a, R: Files<File = File>> {
     size: LibrarySize,
-    found: FoundVolumes,
+    found: FoundVolumes<'a, R>,
     start: Start,
 }
 
@@ -41,15 +41,15 @@ struct ReadLibrary {
 /// there is missing. Then blank volumes are made, until there are as many as were asked for. Each volume takes `volume_size` bytes of
 /// blocks, or as many as it has where these are more, and all take no more memory together than the limit says. What is lost, left or
 /// missing is told on `errors`. The inventory is read and not written.
-pub fn open_folder<R: AllocGlobal + Files<File = File>, E: Write>(
-    rt: &R,
+pub fn open_folder<'a, R: AllocGlobal + Files<File = File>, E: Write>(
+    rt: &'a R,
     path: String,
     without: WithoutLibrary,
     given: GivenLibrary,
     volume_size: u64,
     memory: &MemoryLimit,
     errors: &mut E,
-) -> Result<OpenedFolder, FolderFault>
+) -> Result<OpenedFolder<'a, R>, FolderFault>
     requires some { 0 < volume_size }
     requires within { volume_size ≤ capacity_limit }
     ensures { IfOk result (λ opened. IsUsable opened.size) }
@@ -77,7 +77,7 @@ pub fn open_folder<R: AllocGlobal + Files<File = File>, E: Write>(
         &mut found,
         errors,
     )?;
-    let volumes = keep_volumes(rt.alloc(), found.volumes, &placed)?;
+    let volumes = keep_volumes(rt, &folder, found, &placed, errors)?;
     Ok(OpenedFolder {
         folder,
         size,
@@ -87,15 +87,15 @@ pub fn open_folder<R: AllocGlobal + Files<File = File>, E: Write>(
 }
 
 /// Reads what is in a folder beside its inventory, and decides what its library is made of and where its volumes lie.
-fn read_library<R: AllocGlobal + Files<File = File>, E: Write>(
-    rt: &R,
+fn read_library<'a, R: AllocGlobal + Files<File = File>, E: Write>(
+    rt: &'a R,
     folder: &LibraryFolder,
     inventory: &Option<Inventory>,
     given: &GivenLibrary,
     volume_size: u64,
     memory: &MemoryLimit,
     errors: &mut E,
-) -> Result<ReadLibrary, FolderFault>
+) -> Result<ReadLibrary<'a, R>, FolderFault>
     requires some { 0 < volume_size }
     requires within { volume_size ≤ capacity_limit }
     ensures { IfOk result (λ read. IsUsable read.size) }
@@ -125,12 +125,12 @@ fn read_library<R: AllocGlobal + Files<File = File>, E: Write>(
 }
 
 /// Where the volumes of a library lie, by its inventory and the files that are there.
-fn start_of(
+fn start_of<'a, R: Files<File = File>>(
     alloc: Global,
     size: LibrarySize,
     least: u16,
     inventory: &Option<Inventory>,
-    found: &FoundVolumes,
+    found: &FoundVolumes<'a, R>,
 ) -> Result<Start, FolderFault> {
     let (named, missing): (&[PlacedVolume], &[PlacedVolume]) = match inventory {
         Some(inventory) => (inventory.volumes(), inventory.missing()),

@@ -15,4 +15,9 @@ impl FileIdentity {
             number: metadata.ino(),
         }
     }
+
+    /// Its number on the device.
+    pub fn number(&self) -> u64 {
+        self.number
+    }
 }

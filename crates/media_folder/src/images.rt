@@ -2,13 +2,15 @@
 ghost use Rattle.std.specs.Prelude.{◌<◌, ◌≤◌};
 ghost use Rattle.tape_medium.specs.Limits.{capacity_limit};
 
+use crate::beginning::begin_writing;
+use crate::boot::BootId;
 use crate::fault::FolderFault;
 use crate::inventory_file::sync_folder;
 use crate::library_folder::LibraryFolder;
 use crate::listing::list_volumes;
 use crate::names::volume_path;
 use crate::notice::{Notice, tell};
-use crate::reading::{ReadVolume, read_volume};
+use crate::reading::{ReadVolume, VolumeFile, read_volume};
 use crate::refusal::ImageRefusal;
 use crate::rights::{NEW_FILE, is_open_to_others};
 use crate::seen::SeenFiles;
@@ -18,35 +20,38 @@ use std::alloc::{AllocError, Global};
 use std::fs::{File, Files, OpenOptions};
 use std::io::{self, Write};
 use std::os::unix::fs::OpenOptionsExt;
-use tape_flush::ImageFile;
+use tape_flush::{KeptImage, open_image};
 use tape_medium::{MemoryLimit, Volume, VolumeTag};
 
 /// A volume that is kept in a file, and the element in which it lies. It is protected where its file can't be written.
 #[derive(Drop)]
-pub struct KeptVolume {
+pub struct KeptVolume<'a, R: Files<File = File>> {
     pub element: Element,
     pub volume: Volume,
-    pub image: ImageFile<FileStore>,
+    pub image: KeptImage<FileStore<'a, R>>,
 }
 
 /// What was read of the files of a folder's volumes.
 #[derive(Drop)]
-pub(crate) struct FoundVolumes {
-    pub volumes: Vec<ReadVolume>,
+pub(crate) struct FoundVolumes<'a, R: Files<File = File>> {
+    pub volumes: Vec<ReadVolume<'a, R>>,
     /// The tags of those that are left out, since their files can't be served.
     pub left_out: Vec<VolumeTag>,
     /// Whether others than the owner of one of the files may read or write it.
     pub is_open: bool,
     seen: SeenFiles,
+    /// The run of the machine in which they were read.
+    boot: BootId,
 }
 
-impl FoundVolumes {
-    fn new(alloc: Global) -> FoundVolumes {
+impl<'a, R: Files<File = File>> FoundVolumes<'a, R> {
+    fn new(alloc: Global, boot: BootId) -> FoundVolumes<'a, R> {
         FoundVolumes {
             volumes: Vec::new(alloc),
             left_out: Vec::new(alloc),
             is_open: false,
             seen: SeenFiles::new(alloc),
+            boot,
         }
     }
 
@@ -66,30 +71,30 @@ impl FoundVolumes {
 
 /// Reads the files of a folder's volumes, each for `volume_size` bytes of blocks, or for those that it has where these are more, which take
 /// no more memory together than the limit says. A volume whose file can't be served is told and left out.
-pub(crate) fn read_volumes<R: AllocGlobal + Files<File = File>, E: Write>(
-    rt: &R,
+pub(crate) fn read_volumes<'a, R: AllocGlobal + Files<File = File>, E: Write>(
+    rt: &'a R,
     folder: &str,
     volume_size: u64,
     memory: &MemoryLimit,
     errors: &mut E,
-) -> Result<FoundVolumes, FolderFault>
+) -> Result<FoundVolumes<'a, R>, FolderFault>
     requires some { 0 < volume_size }
     requires within { volume_size ≤ capacity_limit }
 {
     let tags = list_volumes(rt, folder, errors)?;
-    let mut found = FoundVolumes::new(rt.alloc());
+    let mut found = FoundVolumes::new(rt.alloc(), BootId::now(rt));
     find_volumes(rt, folder, &tags, volume_size, memory, &mut found, errors)?;
     Ok(found)
 }
 
 /// Reads the files of volumes, behind others that were found.
-pub(crate) fn find_volumes<R: AllocGlobal + Files<File = File>, E: Write>(
-    rt: &R,
+pub(crate) fn find_volumes<'a, R: AllocGlobal + Files<File = File>, E: Write>(
+    rt: &'a R,
     folder: &str,
     tags: &[VolumeTag],
     volume_size: u64,
     memory: &MemoryLimit,
-    found: &mut FoundVolumes,
+    found: &mut FoundVolumes<'a, R>,
     errors: &mut E,
 ) -> Result<(), FolderFault>
     requires some { 0 < volume_size }
@@ -102,13 +107,13 @@ pub(crate) fn find_volumes<R: AllocGlobal + Files<File = File>, E: Write>(
 }
 
 /// Reads the file of one volume, behind others that were found.
-fn find_volume<R: AllocGlobal + Files<File = File>, E: Write>(
-    rt: &R,
+fn find_volume<'a, R: AllocGlobal + Files<File = File>, E: Write>(
+    rt: &'a R,
     folder: &str,
     tag: VolumeTag,
     volume_size: u64,
     memory: &MemoryLimit,
-    found: &mut FoundVolumes,
+    found: &mut FoundVolumes<'a, R>,
     errors: &mut E,
 ) -> Result<(), FolderFault>
     requires some { 0 < volume_size }
@@ -119,7 +124,8 @@ fn find_volume<R: AllocGlobal + Files<File = File>, E: Write>(
     let read = match found.seen.look(rt, path) {
         Ok(mode) => {
             found.is_open = found.is_open || is_open_to_others(mode);
-            read_volume(rt, path, tag, mode, volume_size, memory.share()?, errors)
+            let file = VolumeFile { path, tag, mode };
+            read_volume(rt, file, found.boot, volume_size, memory.share()?, errors)
         }
         Err(refusal) => Err(refusal),
     };
@@ -162,30 +168,48 @@ fn make_file<R: Files<File = File>>(rt: &R, path: &str) -> io::Result<()> {
     Ok(())
 }
 
-/// The volumes that were read, each in the element in which it lies from now on.
-pub(crate) fn keep_volumes(
-    alloc: Global,
-    volumes: Vec<ReadVolume>,
+/// The volumes that were found, each in the element in which it lies from now on, and kept in its file. What a file has that may not be
+/// read is moved away.
+pub(crate) fn keep_volumes<'a, R: AllocGlobal + Files<File = File>, E: Write>(
+    rt: &R,
+    folder: &LibraryFolder,
+    found: FoundVolumes<'a, R>,
     placed: &[PlacedVolume],
-) -> Result<Vec<KeptVolume>, AllocError> {
-    let mut kept = Vec::with_capacity(alloc, volumes.len())?;
+    errors: &mut E,
+) -> Result<Vec<KeptVolume<'a, R>>, FolderFault> {
+    let FoundVolumes { volumes, boot, .. } = found;
+    let mut kept = Vec::with_capacity(rt.alloc(), volumes.len())?;
     for read in volumes {
         // Each volume that was read lies somewhere.
         if let Some(element) = element_of(placed, read.volume.tag) {
-            kept.push(keep_volume(read, element))?;
+            let volume = keep_volume(rt, folder, read, element, boot, errors)?;
+            kept.push(volume).map_err(AllocError::from)?;
         }
     }
     Ok(kept)
 }
 
 /// A volume that was read, and is kept in its file from now on.
-fn keep_volume(read: ReadVolume, element: Element) -> KeptVolume {
-    let ReadVolume { volume, image } = read;
-    KeptVolume {
+fn keep_volume<'a, R: AllocGlobal + Files<File = File>, E: Write>(
+    rt: &R,
+    folder: &LibraryFolder,
+    read: ReadVolume<'a, R>,
+    element: Element,
+    boot: BootId,
+    errors: &mut E,
+) -> Result<KeptVolume<'a, R>, FolderFault> {
+    let ReadVolume {
+        volume,
+        mut store,
+        ends,
+        trust,
+    } = read;
+    begin_writing(rt, folder, &mut store, trust, boot, errors)?;
+    Ok(KeptVolume {
         element,
         volume,
-        image,
-    }
+        image: open_image(store, ends, trust.synced),
+    })
 }
 
 /// The element in which the volume with a tag lies.

@@ -2,6 +2,8 @@
 //! says what the library is made of and where its volumes lie.
 #![tactic(auto)]
 
+mod beginning;
+mod boot;
 mod check;
 mod check_fault;
 mod fault;
@@ -15,6 +17,7 @@ mod listing;
 mod names;
 mod notice;
 mod reading;
+mod record;
 mod refusal;
 mod rights;
 mod seen;
@@ -22,6 +25,7 @@ mod size;
 mod store;
 mod summary;
 mod text_fault;
+mod trust;
 
 pub use check::check_folder;
 pub use check_fault::CheckFault;

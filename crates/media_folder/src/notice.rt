@@ -3,6 +3,17 @@ use library_inventory::Element;
 use std::fmt;
 use std::io::Write;
 
+/// Why a record isn't that of a volume's file.
+#[derive(Clone, Copy)]
+pub(crate) enum RecordFault {
+    /// It can't be read, or its text is none of a record.
+    NoRecord,
+    /// It is the record of another file, which had the same name.
+    AnotherFile,
+    /// It says that more bytes are on the disk than the file has.
+    Longer { recorded: u64, length: u64 },
+}
+
 /// What is told of a folder that is opened.
 #[derive(Clone, Copy)]
 pub(crate) enum Notice<'a> {
@@ -28,6 +39,17 @@ pub(crate) enum Notice<'a> {
     CutTail {
         path: &'a str,
         lost: u64,
+    },
+    /// A record isn't taken for that of its volume's file.
+    RecordIgnored {
+        path: &'a str,
+        fault: RecordFault,
+    },
+    /// So many bytes behind those of a volume's file that were on the disk were moved away.
+    TailMoved {
+        path: &'a str,
+        count: u64,
+        tail: &'a str,
     },
     /// A volume's file can't be written.
     Protected {
@@ -72,6 +94,15 @@ impl<'a> fmt::Display for Notice<'a> {
                     "vtl: {path}: a tail of {lost} bytes that was cut off is lost"
                 )
             }
+            Notice::RecordIgnored { path, fault } => {
+                write!(f, "vtl: {path}: {fault}: all of the volume's file is read")
+            }
+            Notice::TailMoved { path, count, tail } => {
+                write!(
+                    f,
+                    "vtl: {path}: {count} bytes that were not known to be on the disk when the machine stopped were moved to {tail}"
+                )
+            }
             Notice::Protected { path } => {
                 write!(
                     f,
@@ -85,6 +116,19 @@ impl<'a> fmt::Display for Notice<'a> {
                     "vtl: {path}: it is missing: the volume lay in {kind} {number}"
                 )
             }
+        }
+    }
+}
+
+impl fmt::Display for RecordFault {
+    fn fmt<W: fmt::Write>(&self, f: &mut fmt::Formatter<W>) -> fmt::Result {
+        match self {
+            RecordFault::NoRecord => f.write_str("it is no record of what is on the disk"),
+            RecordFault::AnotherFile => f.write_str("it is the record of another file"),
+            RecordFault::Longer { recorded, length } => write!(
+                f,
+                "it says that {recorded} bytes are on the disk, and the file has {length}"
+            ),
         }
     }
 }

@@ -2,53 +2,76 @@
 ghost use Rattle.std.specs.Prelude.{◌<◌, ◌≤◌};
 ghost use Rattle.tape_medium.specs.Limits.{capacity_limit};
 
+use crate::boot::BootId;
 use crate::notice::{Notice, tell};
 use crate::refusal::ImageRefusal;
 use crate::rights::is_write_protected;
 use crate::size::{bytes_of_blocks, capacity_for};
 use crate::store::{FileAccess, FileStore};
+use crate::trust::{Trust, trust_in};
 use std::alloc::Global;
 use std::fs::{self, File, Files, OpenFile, OpenOptions};
-use std::io::{self, BufReader, ErrorKind, Seek, SeekFrom, Write};
-use tape_flush::{ImageFile, OpenedImage, ReadTape, ReadTapeFault, open_image, read_tape};
+use std::io::{self, BufReader, ErrorKind, Read, Seek, SeekFrom, Take, Write};
+use tape_flush::{ImageEnds, ReadTape, ReadTapeFault, image_ends, read_tape};
 use tape_image::{IndexFault, index_image};
 use tape_medium::{MemoryLimit, Volume, VolumeTag};
 
 /// How many bytes of a file are read at once, 128 KiB: more than the longest block takes.
 pub(crate) const AT_ONCE: usize = 131_072;
 
-/// A volume as its file was read, and its image, by which that is written on.
+/// A volume as its file was read, with what is needed to write on that.
 #[derive(Drop)]
-pub(crate) struct ReadVolume {
+pub(crate) struct ReadVolume<'a, R: Files<File = File>> {
     pub volume: Volume,
-    pub image: ImageFile<FileStore>,
+    pub store: FileStore<'a, R>,
+    pub ends: ImageEnds,
+    pub trust: Trust,
 }
 
-/// Reads the file of a volume, which has a mode, for `volume_size` bytes of blocks, or for those that it has where these are more, which
+/// The file of the volume with a tag: where it is, and its mode.
+#[derive(Clone, Copy)]
+pub(crate) struct VolumeFile<'a> {
+    pub path: &'a str,
+    pub tag: VolumeTag,
+    pub mode: u32,
+}
+
+/// Reads the file of a volume, as far as its record lets it be read in this run of the machine, for `volume_size` bytes of blocks, or for those that it has where these are more, which
 /// take no more memory than the limit says.
-pub(crate) fn read_volume<R: AllocGlobal + Files<File = File>, E: Write>(
-    rt: &R,
-    path: &str,
-    tag: VolumeTag,
-    mode: u32,
+pub(crate) fn read_volume<'a, R: AllocGlobal + Files<File = File>, E: Write>(
+    rt: &'a R,
+    file: VolumeFile<'_>,
+    boot: BootId,
     volume_size: u64,
     memory: MemoryLimit,
     errors: &mut E,
-) -> Result<ReadVolume, ImageRefusal>
+) -> Result<ReadVolume<'a, R>, ImageRefusal>
     requires some { 0 < volume_size }
     requires within { volume_size ≤ capacity_limit }
 {
-    let store = open_file(rt, path, mode)?;
+    let store = open_file(rt, file.path, file.mode)?;
+    let trust = trust_in(rt, &store, boot, errors)?;
+    let ReadTape { tape, index } = read_file(
+        rt.alloc(),
+        store.file(),
+        trust.read,
+        volume_size,
+        memory,
+    )?;
+    let ends = image_ends(rt.alloc(), &index)?;
     let access = store.access();
-    let ReadTape { tape, index } = read_file(rt.alloc(), store.file(), volume_size, memory)?;
-    let OpenedImage { image, lost } = open_image(rt.alloc(), store, &index)?;
-    tell_volume(path, access, lost, errors);
+    tell_volume(file.path, access, ends.lost(), errors);
     let volume = Volume {
-        tag,
+        tag: file.tag,
         protected: access == FileAccess::ReadOnly,
         tape,
     };
-    Ok(ReadVolume { volume, image })
+    Ok(ReadVolume {
+        volume,
+        store,
+        ends,
+        trust,
+    })
 }
 
 fn tell_volume<E: Write>(path: &str, access: FileAccess, lost: u64, errors: &mut E) {
@@ -61,19 +84,35 @@ fn tell_volume<E: Write>(path: &str, access: FileAccess, lost: u64, errors: &mut
 }
 
 /// Opens a volume's file, to be read alone where it can't be written, or where by its mode nobody may, whoever the program runs as.
-fn open_file<R: Files<File = File>>(rt: &R, path: &str, mode: u32) -> io::Result<FileStore> {
+fn open_file<'a, R: AllocGlobal + Files<File = File>>(
+    rt: &'a R,
+    path: &str,
+    mode: u32,
+) -> io::Result<FileStore<'a, R>> {
     if is_write_protected(mode) {
         return open_to_read(rt, path);
     }
     match OpenOptions::new().read(true).write(true).open(rt, path) {
-        Ok(file) => Ok(FileStore::new(file, FileAccess::ReadWrite)),
+        Ok(file) => store_of(rt, path, file, FileAccess::ReadWrite),
         Err(error) if is_closed(error.kind()) => open_to_read(rt, path),
         Err(error) => Err(error),
     }
 }
 
-fn open_to_read<R: Files<File = File>>(rt: &R, path: &str) -> io::Result<FileStore> {
-    Ok(FileStore::new(fs::open(rt, path)?, FileAccess::ReadOnly))
+fn open_to_read<'a, R: AllocGlobal + Files<File = File>>(
+    rt: &'a R,
+    path: &str,
+) -> io::Result<FileStore<'a, R>> {
+    store_of(rt, path, fs::open(rt, path)?, FileAccess::ReadOnly)
+}
+
+fn store_of<'a, R: AllocGlobal + Files<File = File>>(
+    rt: &'a R,
+    path: &str,
+    file: File,
+    access: FileAccess,
+) -> io::Result<FileStore<'a, R>> {
+    FileStore::new(rt, String::from_str(rt.alloc(), path)?, file, access)
 }
 
 /// Whether a file can't be written, by what came of opening it.
@@ -84,28 +123,28 @@ fn is_closed(kind: ErrorKind) -> bool {
     )
 }
 
-/// Reads a file as a tape.
+/// Reads so many bytes of a file as a tape.
 fn read_file(
     alloc: Global,
     file: &File,
+    count: u64,
     volume_size: u64,
     memory: MemoryLimit,
 ) -> Result<ReadTape, ReadTapeFault>
     requires some { 0 < volume_size }
     requires within { volume_size ≤ capacity_limit }
 {
-    let held = held_in(alloc, file, volume_size)?;
-    let mut reader = from_front(alloc, file)?;
+    let held = held_in(alloc, file, count, volume_size)?;
+    let mut reader = from_front(alloc, file, count)?;
     read_tape(alloc, &mut reader, capacity_for(volume_size, held), memory)
 }
 
-/// How many bytes of blocks a file has, if it can have more than `volume_size`, and else as many as that at most.
-fn held_in(alloc: Global, file: &File, volume_size: u64) -> Result<u64, ReadTapeFault> {
-    let length = file.metadata()?.len();
-    if length <= volume_size {
-        return Ok(length);
+/// How many bytes of blocks so many bytes of a file have, if they can have more than `volume_size`, and else as many as that at most.
+fn held_in(alloc: Global, file: &File, count: u64, volume_size: u64) -> Result<u64, ReadTapeFault> {
+    if count <= volume_size {
+        return Ok(count);
     }
-    let mut reader = from_front(alloc, file)?;
+    let mut reader = from_front(alloc, file, count)?;
     match index_image(alloc, &mut reader) {
         Ok(index) => Ok(bytes_of_blocks(&index.objects)),
         Err(IndexFault::NoMemory) => Err(ReadTapeFault::NoMemory),
@@ -114,7 +153,12 @@ fn held_in(alloc: Global, file: &File, volume_size: u64) -> Result<u64, ReadTape
     }
 }
 
-fn from_front<'a>(alloc: Global, mut file: &'a File) -> io::Result<BufReader<&'a File>> {
+/// So many bytes of a file, from its first on.
+fn from_front<'a>(
+    alloc: Global,
+    mut file: &'a File,
+    count: u64,
+) -> io::Result<Take<BufReader<&'a File>>> {
     file.seek(SeekFrom::Start(0))?;
-    BufReader::with_capacity(alloc, AT_ONCE, file)
+    Ok(BufReader::with_capacity(alloc, AT_ONCE, file)?.take(count))
 }

@@ -83,7 +83,7 @@ impl From<OpenFault> for ImageRefusal {
                 objects,
                 whole,
             },
-            OpenFault::PastLastOffset | OpenFault::Store(_) => ImageRefusal::CannotRead,
+            OpenFault::PastLastOffset => ImageRefusal::CannotRead,
         }
     }
 }

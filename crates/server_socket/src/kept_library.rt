@@ -14,7 +14,7 @@ use media_folder::{
 use placed_library::{LibraryFault, StartedVolume, library_of_volumes};
 use std::alloc::{AllocError, Global};
 use std::io::Write;
-use tape_flush::{KeptImage, StoreFault};
+use tape_flush::StoreFault;
 use tape_medium::MemoryLimit;
 use target_core::TargetCore;
 
@@ -39,7 +39,7 @@ impl<'a> InventoryStore for FolderInventory<'a> {
 #[derive(Drop)]
 pub(crate) struct KeptLibrary<'a> {
     pub core: TargetCore<Device>,
-    pub keeper: MediaKeeper<FileStore, FolderInventory<'a>>,
+    pub keeper: MediaKeeper<FileStore<'a, HostRuntime>, FolderInventory<'a>>,
 }
 
 /// Reads a library from its folder, whose volumes take no more memory together than the limit says, and writes where they lie from now
@@ -82,10 +82,10 @@ pub(crate) fn kept_library<'a, E: Write>(
 }
 
 /// Where volumes lie.
-fn inventory_of(
+fn inventory_of<'a>(
     alloc: Global,
     size: LibrarySize,
-    volumes: &[KeptVolume],
+    volumes: &[KeptVolume<'a, HostRuntime>],
 ) -> Result<Inventory, SocketFault> {
     let mut inventory = Inventory::new(alloc, size);
     for kept in volumes {
@@ -101,10 +101,16 @@ fn inventory_of(
 }
 
 /// The volumes, and their images.
-fn parted(
+fn parted<'a>(
     alloc: Global,
-    volumes: Vec<KeptVolume>,
-) -> Result<(Vec<StartedVolume>, Vec<VolumeImage<FileStore>>), AllocError> {
+    volumes: Vec<KeptVolume<'a, HostRuntime>>,
+) -> Result<
+    (
+        Vec<StartedVolume>,
+        Vec<VolumeImage<FileStore<'a, HostRuntime>>>,
+    ),
+    AllocError,
+> {
     let mut started = Vec::new(alloc);
     let mut images = Vec::new(alloc);
     for kept in volumes {
@@ -113,7 +119,7 @@ fn parted(
             volume,
             image,
         } = kept;
-        images.push(VolumeImage::new(&volume, KeptImage::new(image)))?;
+        images.push(VolumeImage::new(&volume, image))?;
         started.push(StartedVolume { element, volume })?;
     }
     Ok((started, images))

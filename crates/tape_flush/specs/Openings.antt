@@ -1,5 +1,5 @@
 -- An image that is opened: where the objects of its index end.
-use Rattle.std.specs.Prelude.{ℕ, ◌+◌, Result, Ok, Err}
+use Rattle.std.specs.Prelude.{ℕ, ◌+◌, List, Result, Ok, Err}
 use Rattle.tape_image.specs.Images.{block_count}
 use Rattle.tape_image.specs.declared.index.IndexedObject.{IndexedObject}
 use Rattle.tape_image.specs.declared.index.IndexedObject.TheVariants as entry
@@ -7,6 +7,11 @@ use Rattle.tape_image.specs.declared.ending.ImageEnd.{ImageEnd}
 use Rattle.tape_image.specs.declared.ending.ImageEnd.TheVariants.{WholeEnd, CutTail, Faulty}
 use Rattle.tape_flush.specs.declared.fault.OpenFault.{OpenFault}
 use Rattle.tape_flush.specs.declared.fault.OpenFault.TheVariants as refusal
+
+-- where the objects of an image end, and how many bytes of a cut tail are lost
+pub record ImageEndsValue : Type 0 where
+  pub ends : List ℕ
+  pub lost : ℕ
 
 -- a block behind its second length, a filemark behind its four bytes
 abbrev pub end_of_entry : IndexedObject → ℕ

@@ -27,7 +27,7 @@ pub use laws::{
     whole_images_are_read,
 };
 pub use memory::MemoryStore;
-pub use opening::{OpenedImage, open_image};
+pub use opening::{ImageEnds, image_ends, open_image};
 pub use part::TapePart;
 pub use part_range::PartRange;
 pub use read_fault::ReadTapeFault;

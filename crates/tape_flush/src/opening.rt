@@ -12,13 +12,31 @@ use crate::fault::OpenFault;
 use crate::kept_image::KeptImage;
 use crate::store::ImageStore;
 use std::alloc::Global;
+use std::marker::Model;
 use tape_image::{ImageEnd, ImageIndex, IndexedObject, LENGTH_FIELD};
 
-/// An image that can be written on, and how many bytes of a cut tail were lost.
+/// Where the objects of an image end, and how many bytes of an object lie behind them whose rest isn't there.
 #[derive(Drop)]
-pub struct OpenedImage<S: ImageStore> {
-    pub image: KeptImage<S>,
-    pub lost: u64,
+pub struct ImageEnds {
+    ends: Vec<u64>,
+    lost: u64,
+}
+
+impl Model for ImageEnds {
+    ghost use Rattle.tape_flush.specs.Openings.{ImageEndsValue};
+
+    ghost Value = { ImageEndsValue };
+
+    ghost view = { λ image. record { ends = image.ends.items; lost = image.lost } };
+}
+
+impl ImageEnds {
+    /// How many bytes of a cut tail are lost.
+    pub fn lost(&self) -> u64
+        ensures { result ≡ self.now.lost }
+    {
+        self.lost
+    }
 }
 
 /// Where an object of an index ends, in bytes; an object that ends behind the last offset is in no file.
@@ -68,24 +86,26 @@ fn lost_of(end: ImageEnd) -> Result<u64, OpenFault>
     }
 }
 
-/// Opens an image, by its index, of which so many bytes are on the disk, as its record says: of its objects those count that lie within
-/// these. Nothing is changed: what lies behind is cut off before something is written. An image with a fault is refused.
-pub fn open_image<S: ImageStore + Drop>(
-    alloc: Global,
-    store: S,
-    index: &ImageIndex,
-    trusted: u64,
-) -> Result<OpenedImage<S>, OpenFault>
-    ensures store { IfOk result (λ opened. opened.image.store ≡ store) }
-    ensures known { IfOk result (λ opened. opened.image.known ≡ trusted_to trusted) }
-    ensures ends { IfOk result (λ opened. opened.image.ends ≡ ends_within trusted (map end_of_entry index.now.objects.items)) }
-    ensures lost { IfOk result (λ opened. lost_of index.now.end ≡ Ok opened.lost) }
-    ensures whole { (file : FileValue) (objects : List Placed) (stop : Stop) → S.file store ≡ Some file → IsKnown (trusted_to trusted) file → Reads 0 file.contents objects stop
-        → index.now.objects.items ≡ map indexed objects → IfOk result (λ opened. HasFirstOf (map object_in objects) opened.image) }
+/// Where the objects of an image end, by its index. An image with a fault is refused.
+pub fn image_ends(alloc: Global, index: &ImageIndex) -> Result<ImageEnds, OpenFault>
+    ensures ends { IfOk result (λ image. image.ends ≡ map end_of_entry index.now.objects.items) }
+    ensures lost { IfOk result (λ image. lost_of index.now.end ≡ Ok image.lost) }
 {
     let lost = lost_of(index.end)?;
-    let mut ends = ends_of(alloc, &index.objects)?;
+    let ends = ends_of(alloc, &index.objects)?;
+    Ok(ImageEnds { ends, lost })
+}
+
+/// Opens an image whose objects end there, and of which so many bytes are on the disk, as its record says: those objects count that lie
+/// within these. Nothing is changed: what lies behind is cut off before something is written.
+pub fn open_image<S: ImageStore + Drop>(store: S, image: ImageEnds, trusted: u64) -> KeptImage<S>
+    ensures store { result.store ≡ store }
+    ensures known { result.known ≡ trusted_to trusted }
+    ensures ends { result.ends ≡ ends_within trusted image.ends }
+    ensures whole { (file : FileValue) (objects : List Placed) (stop : Stop) → S.file store ≡ Some file → IsKnown (trusted_to trusted) file → Reads 0 file.contents objects stop
+        → image.ends ≡ map end_of_entry (map indexed objects) → HasFirstOf (map object_in objects) result }
+{
+    let ImageEnds { mut ends, .. } = image;
     keep_within(&mut ends, trusted);
-    let image = KeptImage::opened(store, trusted, ends);
-    Ok(OpenedImage { image, lost })
+    KeptImage::opened(store, trusted, ends)
 }

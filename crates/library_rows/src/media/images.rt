@@ -2,42 +2,67 @@ use crate::comparing::{assert_list, assert_same};
 use crate::media::failing_store::FailingStore;
 use std::alloc::Global;
 use std::process::Abort;
-use tape_flush::{ImageFile, StoreFault, open_image};
+use tape_flush::{ImageStore, KeptImage, StoreFault, TapePart, image_ends, open_image};
 use tape_image::index_image;
+use tape_medium::Tape;
 
-/// "hi", a filemark and "odd", as SIMH keeps them.
-const OLD: &[u8] = &[
-    2, 0, 0, 0, b'h', b'i', 2, 0, 0, 0, 0, 0, 0, 0, 3, 0, 0, 0, b'o', b'd', b'd', 0, 3, 0, 0, 0,
-];
+/// "hi" and a filemark, as SIMH keeps them.
+const IMAGE: &[u8] = &[2, 0, 0, 0, b'h', b'i', 2, 0, 0, 0, 0, 0, 0, 0];
 
-/// A file of "hi", a filemark and "odd", of which the first call that brings it to the disk fails.
-fn old_image(rt: &impl Abort, alloc: Global) -> ImageFile<FailingStore> {
+/// "hi" alone.
+const FIRST: &[u8] = &[2, 0, 0, 0, b'h', b'i', 2, 0, 0, 0];
+
+/// The image in a file that has these bytes, of which all are on the disk, and of which the next call that brings it there fails.
+fn image_of(rt: &impl Abort, alloc: Global, bytes: &[u8]) -> KeptImage<FailingStore> {
     let store = FailingStore {
-        bytes: Vec::from_slice(alloc, OLD).expect(rt, "memory"),
+        bytes: Vec::from_slice(alloc, bytes).expect(rt, "memory"),
+        synced: bytes.len(),
+        noted: bytes.len() as u64,
         fails: true,
     };
-    let mut bytes = OLD;
-    let index = index_image(alloc, &mut bytes).expect(rt, "an index");
-    open_image(alloc, store, &index)
-        .expect(rt, "an image")
-        .image
+    let mut reader = bytes;
+    let index = index_image(alloc, &mut reader).expect(rt, "an index");
+    let ends = image_ends(alloc, &index).expect(rt, "ends");
+    open_image(store, ends, bytes.len() as u64)
+}
+
+/// Writes what a tape has that its image hasn't.
+fn is_copied<S: ImageStore>(
+    alloc: Global,
+    image: &mut KeptImage<S>,
+    tape: &mut Tape,
+) -> bool {
+    let Ok(mut part) = TapePart::new(alloc) else {
+        return false;
+    };
+    let Ok(range) = image.take_part(tape, &mut part) else {
+        return false;
+    };
+    tape.settle(range.end);
+    image.write_part(range, &part).is_ok()
 }
 
 #[test]
-fn a_sync_that_fails_is_told_and_tried_again(rt: HostRuntime) {
-    let mut image = old_image(&rt, rt.alloc());
-    let found = (image.sync(), image.sync(), image.count());
-    let expected = (Err(StoreFault::Failed), Ok(()), 3);
-    assert_same(
-        &rt,
-        found,
-        expected,
-        "the first sync fails, the second doesn't, and the image is as it was",
-    );
+fn what_a_sync_that_fails_forgets_is_written_again(rt: HostRuntime) {
+    let alloc = rt.alloc();
+    let mut tape = Tape::new(alloc, 1_000);
+    let is_written = tape.write_block(b"hi").is_ok();
+    tape.settle(1);
+    let is_marked = tape.write_marks(1).is_ok();
+    assert_same(&rt, (is_written, is_marked), (true, true), "a tape");
+    let mut image = image_of(&rt, alloc, FIRST);
+    let is_there = is_copied(alloc, &mut image, &mut tape);
+    let found = (is_there, image.count(), image.sync(), image.count());
+    let expected = (true, 2, Err(StoreFault::Failed), 1);
+    assert_same(&rt, found, expected, "of the filemark nothing is known");
+    let again = (is_copied(alloc, &mut image, &mut tape), image.sync());
+    assert_same(&rt, again, (true, Ok(())), "it is written again");
     assert_list(
         &rt,
         image.store().bytes.as_slice(),
-        OLD,
-        "what the file holds",
+        IMAGE,
+        "what the file has",
     );
+    let told = (image.is_on_disk(), image.store().noted, image.store().synced);
+    assert_same(&rt, told, (true, 14, 14), "and the disk");
 }

@@ -46,11 +46,15 @@ struct SharedStore<'a, R: Wait> {
 }
 
 impl<'a, R: Wait> ImageStore for SharedStore<'a, R> {
-    fn truncate(&mut self, _length: u64) -> Result<(), StoreFault> {
+    ghost did = { λ before call after. Unit {0} };
+
+    ghost does = { λ before call after done. tt };
+
+    fn truncate(&mut self, _size: u64) -> Result<(), StoreFault> {
         Ok(())
     }
 
-    fn append(&mut self, bytes: &[u8]) -> Result<(), StoreFault> {
+    fn append(&mut self, _offset: u64, bytes: &[u8]) -> Result<(), StoreFault> {
         if self.is_written_on {
             self.is_written_on = false;
             let _is_done = self
@@ -64,6 +68,10 @@ impl<'a, R: Wait> ImageStore for SharedStore<'a, R> {
     }
 
     fn sync(&mut self) -> Result<(), StoreFault> {
+        Ok(())
+    }
+
+    fn note(&mut self, _size: u64) -> Result<(), StoreFault> {
         Ok(())
     }
 }

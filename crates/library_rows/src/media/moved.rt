@@ -47,12 +47,16 @@ struct SharedFile<'a, R: Wait> {
 }
 
 impl<'a, R: Wait> ImageStore for SharedFile<'a, R> {
-    fn truncate(&mut self, length: u64) -> Result<(), StoreFault> {
-        self.file.bytes.lock(self.rt).truncate(length as usize);
+    ghost did = { λ before call after. Unit {0} };
+
+    ghost does = { λ before call after done. tt };
+
+    fn truncate(&mut self, size: u64) -> Result<(), StoreFault> {
+        self.file.bytes.lock(self.rt).truncate(size as usize);
         Ok(())
     }
 
-    fn append(&mut self, bytes: &[u8]) -> Result<(), StoreFault> {
+    fn append(&mut self, _offset: u64, bytes: &[u8]) -> Result<(), StoreFault> {
         if self.file.is_full.load(Ordering::SeqCst) {
             return Err(StoreFault::Full);
         }
@@ -63,6 +67,10 @@ impl<'a, R: Wait> ImageStore for SharedFile<'a, R> {
     }
 
     fn sync(&mut self) -> Result<(), StoreFault> {
+        Ok(())
+    }
+
+    fn note(&mut self, _size: u64) -> Result<(), StoreFault> {
         Ok(())
     }
 }

@@ -11,7 +11,7 @@ use scsi_cdb::Request;
 use std::alloc::Global;
 use std::process::Abort;
 use std::sync::{Mutex, Wait};
-use tape_flush::{ImageStore, KeptImage, StoreFault, open_image};
+use tape_flush::{ImageStore, StoreFault, image_ends, open_image};
 use tape_image::index_image;
 use tape_keeper::TapeSource;
 use tape_medium::{Tape, Volume, VolumeTag};
@@ -124,8 +124,8 @@ pub(super) fn image_in<S: ImageStore + Drop>(
 ) -> VolumeImage<S> {
     let mut nothing: &[u8] = &[];
     let index = index_image(alloc, &mut nothing).expect(rt, "an index");
-    let opened = open_image(alloc, store, &index).expect(rt, "an image");
-    VolumeImage::new(&volume_of(alloc, tag), KeptImage::new(opened.image))
+    let ends = image_ends(alloc, &index).expect(rt, "ends");
+    VolumeImage::new(&volume_of(alloc, tag), open_image(store, ends, 0))
 }
 
 /// Keeps no inventory.

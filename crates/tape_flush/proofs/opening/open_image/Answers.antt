@@ -1,5 +1,6 @@
-use Rattle.std.proofs.Common.{◌≡◌, ℕ, List, Option, Some, [], ◌++◌, map, drop, length, take, sym, ap, subst, ◌∙◌}
-use Rattle.tape_flush.specs.Openings.{end_of_entry}
+use Rattle.std.proofs.Common.{◌≡◌, ℕ, List, Option, Some, [], ◌++◌, map, drop, length, take, refl, sym, ap, subst, ◌∙◌}
+use Rattle.tape_image.specs.Indexes.{indexed}
+use Rattle.tape_flush.specs.Openings.{ImageEndsValue, end_of_entry}
 use Rattle.tape_flush.specs.Images.{object_in}
 use Rattle.tape_flush.specs.Stores.{FileValue}
 use Rattle.tape_flush.specs.Careful.{trusted_to}
@@ -10,9 +11,8 @@ use Rattle.tape_flush.proofs.opening.open_image.Goals as goal
 pub returns-clause-whole : goal.returns-clause-whole
 returns-clause-whole g c file objects stop known is reads same =
     let ends = c.keep_within.new.ends.items in
-    let are : ends ≡ ends_within c.args.trusted (map end_of_entry c.args.index.now.objects.items) =
-        c.keep_within.ensures ∙ ap (ends_within c.args.trusted) (c.in_ok-ends.ensures ∙ ap (map end_of_entry) c.deref.ensures.value) in
+    let are : ends ≡ ends_within c.args.trusted (map end_of_entry (map indexed objects)) = c.keep_within.ensures ∙ ap (ends_within c.args.trusted) (ap (λ (v : ImageEndsValue). v.ends) c.image.view_is ∙ same) in
     let there : HoldsIn (g.S.ImageStore.file c.args.store) (trusted_to c.args.trusted) ends (take (length ends) (map object_in objects)) (drop (length ends) (map object_in objects) ++ []) =
         subst (λ (f : Option FileValue). HoldsIn f (trusted_to c.args.trusted) ends (take (length ends) (map object_in objects)) (drop (length ends) (map object_in objects) ++ [])) (sym known)
-        (opened_holds file c.args.trusted ends c.args.index.now.objects.items objects stop is reads same are) in
-    subst (λ (v : KeptImageValue g.row.S.Denot). HasFirstOf (map object_in objects) v) (sym c.opened-image.ensures) (drop (length ends) (map object_in objects) ++ [], there)
+        (opened_holds file c.args.trusted ends (map indexed objects) objects stop is reads refl are) in
+    subst (λ (v : KeptImageValue g.row.S.Denot). HasFirstOf (map object_in objects) v) (sym c.opened.ensures) (drop (length ends) (map object_in objects) ++ [], there)

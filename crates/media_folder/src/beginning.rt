@@ -1,0 +1,145 @@
+//! A volume's file, once it is written on: what may have come back behind what was on the disk is moved away, and its record begins.
+use crate::boot::BootId;
+use crate::fault::FolderFault;
+use crate::inventory_file::sync_folder;
+use crate::library_folder::LibraryFolder;
+use crate::notice::{Notice, tell};
+use crate::record::{RecordFile, SyncedRecord};
+use crate::rights::NEW_FILE;
+use crate::store::{FileAccess, FileStore};
+use crate::trust::{Trust, record_path};
+use std::fs::{File, Files, OpenFile, OpenOptions};
+use std::io::{self, BufReader, ErrorKind, Read, Seek, SeekFrom, Write};
+use std::os::unix::fs::OpenOptionsExt;
+
+/// So many tails of one volume are kept at most.
+const MOST_TAILS: u32 = 1_000_000;
+
+/// How many bytes of a tail are copied at once.
+const AT_ONCE: usize = 131_072;
+
+/// Begins to write a volume's file: bytes that it has behind those that may be read are moved away, and its record says which are on the
+/// disk. A protected file stays as it is.
+pub(crate) fn begin_writing<'a, R: AllocGlobal + Files<File = File>, E: Write>(
+    rt: &R,
+    folder: &LibraryFolder,
+    store: &mut FileStore<'a, R>,
+    trust: Trust,
+    boot: BootId,
+    errors: &mut E,
+) -> Result<(), FolderFault> {
+    match store.access() {
+        FileAccess::ReadOnly => return Ok(()),
+        FileAccess::ReadWrite => {}
+    }
+    move_tail(rt, folder, store, trust.read, errors)?;
+    if begin_record(rt, store, trust, boot).is_err() || folder.sync().is_err() {
+        let path = record_path(rt, store.path())?;
+        return Err(FolderFault::CannotWrite(path));
+    }
+    Ok(())
+}
+
+/// Moves what a file has behind so many bytes into a file of its own.
+fn move_tail<'a, R: AllocGlobal + Files<File = File>, E: Write>(
+    rt: &R,
+    folder: &LibraryFolder,
+    store: &FileStore<'a, R>,
+    size: u64,
+    errors: &mut E,
+) -> Result<(), FolderFault> {
+    let length = match store.file().metadata() {
+        Ok(metadata) => metadata.len(),
+        Err(_) => return Err(FolderFault::CannotRead(String::from_str(rt.alloc(), store.path())?)),
+    };
+    if length <= size {
+        return Ok(());
+    }
+    let tail = copy_tail(rt, store, size)?;
+    sync_folder(rt.alloc(), folder)?;
+    if cut(store.file(), size).is_err() {
+        return Err(FolderFault::CannotWrite(String::from_str(rt.alloc(), store.path())?));
+    }
+    let notice = Notice::TailMoved {
+        path: store.path(),
+        count: length - size,
+        tail: tail.as_str(),
+    };
+    tell(errors, &notice);
+    Ok(())
+}
+
+/// Cuts a file back, and brings that to the disk.
+fn cut(file: &File, size: u64) -> io::Result<()> {
+    file.set_len(size)?;
+    file.sync_data()
+}
+
+/// Copies what a file has behind so many bytes into the first file of a tail that isn't there yet, and brings it to the disk. Its path.
+fn copy_tail<'a, R: AllocGlobal + Files<File = File>>(
+    rt: &R,
+    store: &FileStore<'a, R>,
+    size: u64,
+) -> Result<String, FolderFault> {
+    let stem = store.path().strip_suffix(".tap").unwrap_or(store.path());
+    for number in 1..MOST_TAILS {
+        let path = format!(in rt.alloc(); "{stem}.tail.{number}")?;
+        match make_tail(rt, path.as_str()) {
+            Ok(file) => {
+                return match copy_from(rt, store.file(), size, file) {
+                    Ok(()) => Ok(path),
+                    Err(_) => Err(FolderFault::CannotWrite(path)),
+                };
+            }
+            Err(error) if error.kind() == ErrorKind::AlreadyExists => {}
+            Err(_) => return Err(FolderFault::CannotWrite(path)),
+        }
+    }
+    Err(FolderFault::CannotWrite(String::from_str(rt.alloc(), store.path())?))
+}
+
+fn make_tail<R: Files<File = File>>(rt: &R, path: &str) -> io::Result<File> {
+    OpenOptions::new()
+        .write(true)
+        .create_new(true)
+        .mode(NEW_FILE)
+        .open(rt, path)
+}
+
+/// Copies a file from an offset on into another one, and brings that to the disk.
+fn copy_from<R: AllocGlobal>(rt: &R, from: &File, offset: u64, mut to: File) -> io::Result<()> {
+    let mut file = from;
+    file.seek(SeekFrom::Start(offset))?;
+    let mut reader = BufReader::with_capacity(rt.alloc(), AT_ONCE, from)?;
+    io::copy(&mut reader, &mut to)?;
+    to.sync_all()
+}
+
+/// Begins a file's record. It is written unless it says just this already: what the whole file has was brought to the disk before.
+fn begin_record<'a, R: AllocGlobal + Files<File = File>>(
+    rt: &R,
+    store: &mut FileStore<'a, R>,
+    trust: Trust,
+    boot: BootId,
+) -> io::Result<()> {
+    let inode = store.identity().number();
+    let path = record_path(rt, store.path())?;
+    let file = OpenOptions::new()
+        .read(true)
+        .write(true)
+        .create(true)
+        .mode(NEW_FILE)
+        .open(rt, path.as_str())?;
+    let record = RecordFile::new(rt.alloc(), file, inode, boot);
+    let wanted = SyncedRecord {
+        length: trust.synced,
+        inode,
+        boot,
+    };
+    if trust.record != Some(wanted) {
+        store.file().sync_data()?;
+        record.renew(trust.synced)?;
+    }
+    store.begin_record(record);
+    Ok(())
+}

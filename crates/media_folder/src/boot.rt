@@ -1,0 +1,62 @@
+//! Which run of the machine it is: what a program wrote is in its memory, if not on the disk, as long as it isn't booted.
+use std::fmt;
+use std::fs::{self, Files};
+
+/// Where Linux says it (random(4)).
+const PATH: &str = "/proc/sys/kernel/random/boot_id";
+
+/// How many characters it has.
+const SIZE: usize = 36;
+
+/// A run of the machine, from one boot to the next.
+#[derive(Clone, Copy, PartialEq, Eq)]
+pub(crate) enum BootId {
+    Known([u8; SIZE]),
+    /// The system doesn't say. Then nobody knows whether it was booted since.
+    Unknown,
+}
+
+impl BootId {
+    /// This run.
+    pub fn now<R: AllocGlobal + Files>(rt: &R) -> BootId {
+        match fs::read_to_string(rt, PATH) {
+            Ok(text) => BootId::of(text.as_str().trim_end()),
+            Err(_) => BootId::Unknown,
+        }
+    }
+
+    /// The run with a name.
+    pub fn of(name: &str) -> BootId {
+        let mut id = [0; SIZE];
+        let bytes = name.as_bytes();
+        if bytes.len() != SIZE || bytes.iter().any(|byte| !is_of_name(*byte)) {
+            return BootId::Unknown;
+        }
+        id.copy_from_slice(bytes);
+        BootId::Known(id)
+    }
+
+    /// Whether it is known that this is the same run.
+    pub fn is_same(&self, other: &BootId) -> bool {
+        match (self, other) {
+            (BootId::Known(one), BootId::Known(two)) => one == two,
+            (BootId::Unknown, _) | (_, BootId::Unknown) => false,
+        }
+    }
+}
+
+fn is_of_name(byte: u8) -> bool {
+    byte.is_ascii_hexdigit() || byte == b'-'
+}
+
+impl fmt::Display for BootId {
+    fn fmt<W: fmt::Write>(&self, f: &mut fmt::Formatter<W>) -> fmt::Result {
+        match self {
+            BootId::Known(id) => match std::str::from_utf8(id) {
+                Ok(name) => f.write_str(name),
+                Err(_) => f.write_str("unknown"),
+            },
+            BootId::Unknown => f.write_str("unknown"),
+        }
+    }
+}
