@@ -6,8 +6,10 @@ use Rattle.program_options.specs.declared.option_fault.OptionFault.TheVariants.{
 use Rattle.script_input.specs.declared.replay_fault.ReplayFault.TheVariants as replay
 use Rattle.script_input.specs.declared.line_fault.LineFault.TheVariants.{TooLong}
 use Rattle.script_input.specs.declared.input_fault.InputFault.TheVariants as input
+use Rattle.media_folder.specs.declared.check_fault.CheckFault.TheVariants as check
+use Rattle.media_folder.specs.declared.fault.FolderFault.TheVariants as folder
 use Rattle.vtl.specs.declared.client_fault.ClientFault.TheVariants as client
-use Rattle.vtl.specs.declared.program_fault.ProgramFault.TheVariants.{CommandLine, Replay, Client, Cells}
+use Rattle.vtl.specs.declared.program_fault.ProgramFault.TheVariants.{CommandLine, Replay, Client, Cells, Check}
 use Rattle.vtl.specs.Faults.{ending_status, ending_line}
 
 pub record StatusesOfTheProgram : Type 0 where
@@ -24,6 +26,8 @@ pub record StatusesOfTheProgram : Type 0 where
   pub no_memory_of_a_client : ending_status (Err (Client (client.Input input.NoMemory))) ≡ 3
   pub bad_reply : ending_status (Err (Client (client.Session session.BadReply))) ≡ 4
   pub table : ending_status (Err Cells) ≡ 4
+  pub unwritten_lines : ending_status (Err (Check check.Write)) ≡ 4
+  pub no_memory_of_a_check : ending_status (Err (Check (check.Folder folder.NoMemory))) ≡ 3
 
 pub record LinesOfTheProgram : Type 0 where
   pub done : ending_line (Ok tt) ≡ Some []
