@@ -215,6 +215,7 @@ ROWS = [
         never_synced),
     Row("full-and-mended", "a flush that fails in its append is told once, tried again, and mended by the next", full_and_mended),
     Row("full-and-kept-at-the-end", "a full disk is told once and tried again", full_and_kept_at_the_end),
-    Row("moved-and-mended", "a volume in storage whose file is full holds up no move of another, and is tried again without a command", moved_and_mended),
+    Row("moved-and-mended", "a volume in storage whose file is full holds up no move of another, and is tried again without a command",
+        moved_and_mended),
     Row("protected", "WRITE and ERASE leave a protected volume", protected),
 ]

@@ -83,6 +83,8 @@ pub trait TapeKeeper<D: DeviceServer> {
 pub struct NoKeeper;
 
 impl<D: DeviceServer> TapeKeeper<D> for NoKeeper {
+    ghost use Rattle.std.specs.Prelude.{false};
+
     ghost says_kept = { λ _. false };
 
     fn keep<R: Wait, T: TapeSource<D>, H: KeepListener>(
