@@ -11,7 +11,7 @@ pub(crate) enum Extent {
     All,
 }
 
-/// Whether something that is kept couldn't be written, since all of it was the last time.
+/// Whether something that is kept couldn't be written, and not all of it was since.
 #[derive(Drop)]
 pub(crate) struct Watch {
     is_failing: AtomicBool,
