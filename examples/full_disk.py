@@ -37,7 +37,8 @@ class Server:
 
     def __init__(self, program, work):
         self.folder, self.path, self.told = (os.path.join(work, name) for name in ("media", "socket", "told"))
-        words = [program, "serve", "--socket", self.path, "--media", self.folder, "--new-library", "--drives", "2", "--volumes", "2", "--drain"]
+        words = [program, "serve", "--socket", self.path, "--media", self.folder, "--new-library"]
+        words += ["--drives", "2", "--volumes", "2", "--drain"]
         with open(self.told, "wb") as told:
             self.process = subprocess.Popen(  # pylint: disable=consider-using-with,subprocess-popen-preexec-fn
                 words, stdin=subprocess.PIPE, stdout=subprocess.DEVNULL, stderr=told, preexec_fn=limit_files

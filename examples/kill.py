@@ -213,18 +213,19 @@ class Library:
         self.path, self.told = os.path.join(work, "socket"), os.path.join(work, "told")
         self.size = size
 
-    def start(self):
-        words = [self.program, "serve", "--socket", self.path, "--media", self.folder, "--new-library", "--drives", str(DRIVES)]
-        words += ["--slots", str(SLOTS), "--volumes", "3", "--volume-size", self.size, "--drain"]
+    def start(self, *more, front=()):
+        """Starts it with more words, or by the words of another program in front."""
+        words = [*front, self.program, "serve", "--socket", self.path, "--media", self.folder]
+        words += ["--drives", str(DRIVES), "--slots", str(SLOTS), "--volumes", "3", "--volume-size", self.size, "--drain", *more]
         with open(self.told, "wb") as told:
             self.process = subprocess.Popen(words, stdin=subprocess.PIPE, stdout=subprocess.DEVNULL, stderr=told)  # pylint: disable=consider-using-with
-        for _turn in range(3000):
+        for _turn in range(15_000):
             with open(self.told, encoding="utf-8") as told:
                 if "vtl: serving at " in told.read():
                     return
             if self.process.poll() is not None:
                 break
-            time.sleep(0.01)
+            time.sleep(0.002)
         raise AssertionError("the server didn't start: " + open(self.told, encoding="utf-8").read())
 
     def kill(self):
@@ -256,8 +257,8 @@ TAGS = ["VOL00001", "VOL00002", "VOL00003"]
 
 
 def load(library):
-    """Moves the first two volumes into the drives."""
-    library.start()
+    """Makes the library, and moves the first two volumes into the drives."""
+    library.start("--new-library")
     host = Host(library.path, 1)
     for number in range(DRIVES):
         status = host.command(0, b"\xa5\0\0\0" + struct.pack(">HH", 0x400 + number, 0x100 + number) + bytes(4))
