@@ -179,7 +179,7 @@ class Writer(Player):
     """Writes to the volume in a drive."""
 
     # How often each is done.
-    WEIGHTS = {"write": 40, "mark": 20, "go_back": 9, "go_on": 9, "erase": 4, "rewind": 1, "unload": 3, "move_out": 3, "wait": 3}
+    WEIGHTS = {"write": 40, "mark": 20, "go_back": 9, "go_on": 9, "erase": 4, "rewind": 1, "unload": 3, "move_out": 3, "linger": 3}
 
     def __init__(self, host, number, steps, count, seed):
         super().__init__(host, steps, count, seed)
@@ -255,9 +255,11 @@ class Writer(Player):
         self.at = 0
         self.go_on()
 
-    def wait(self):
-        """What was written is copied behind after half a second."""
-        time.sleep(self.numbers.choice([0.05, 0.3, 0.6]))
+    def linger(self):
+        """Nothing is promised for a while; what was written is copied behind after half a second."""
+        for _command in range(self.numbers.randrange(3, 9)):
+            self.numbers.choice([self.write, self.write, self.go_back, self.go_on, lambda: time.sleep(0.3)])()
+        time.sleep(self.numbers.choice([0.05, 0.6]))
 
 
 class Mover(Player):
@@ -343,7 +345,8 @@ class Life:
     def __init__(self, given, work):
         os.mkdir(work)
         self.library, self.count = Library(given, work), given.commands
-        self.parts, self.record, self.moments, self.starting = [], None, [], []
+        # The moments at which it may be cut: any, those at which something has just changed, and those of its start.
+        self.parts, self.record, self.moments, self.changing, self.starting = [], None, [], [], []
 
     def play_new(self, is_old, numbers):
         """A new library's: its third volume has something, and the others lie in drives; from then on it is cut."""
@@ -354,6 +357,7 @@ class Life:
         self.play_on(library.steps(), self.count, numbers)
         began = self.parts[0].connections[0].accepted
         self.moments = self.starting = [moment for moment in self.record.moments if moment > began]
+        self.changing = [moment for moment in self.record.changes if moment > began]
 
     def play_after(self, cut, is_killed, numbers):
         """That of what a power cut left, from its start on; one that is killed starts twice. Whether it is clear what became of it."""
@@ -373,7 +377,7 @@ class Life:
             steps = [player.go_on_from(library.volume(tag), rows[tag]) for player, tag in zip(players, TAGS)]
         self.play_on(steps, self.count // 5, numbers)
         last = self.parts[-1]
-        self.moments = self.record.moments
+        self.moments, self.changing = self.record.moments, self.record.changes
         self.starting = [moment for moment in self.moments if last.first <= moment < last.connections[0].accepted]
         return True
 
@@ -420,7 +424,7 @@ class Cut:
         self.life, self.name, self.number = life, f"{name}-{number}", number
         self.seed = f"{given.seed} {self.name}"
         numbers = random.Random(self.seed)
-        self.moment = numbers.choice(life.starting if numbers.random() < 0.3 else life.moments)
+        self.moment = numbers.choice(numbers.choices([life.starting, life.changing, life.moments], [2, 4, 4])[0])
         self.work = os.path.join(given.work, self.name)
         self.library = Library(given, self.work)
         self.faults, self.told = [], []

@@ -213,8 +213,8 @@ class Record:
         self.path, self.folder, self.files = path, Folder(files), list(files.values())
         # What is open by its number, and the line at which that was given.
         self.opened, self.since = {}, {}
-        # The hosts' connections, the lines at which something happened that is of interest, and how many lines there were.
-        self.connections, self.moments, self.lines = [], [], 0
+        # The hosts' connections, the lines at which something happened, those at which a file or a name changed, and how many there were.
+        self.connections, self.moments, self.changes, self.lines = [], [], [], 0
 
     def read(self, path):
         """Goes on with the record of a program."""
@@ -266,6 +266,7 @@ class Record:
     def note(self, thing, call, what):
         thing.change(call, what)
         self.moments.append(call.end)
+        self.changes.append(call.end)
 
     def open(self, call, opened):
         """A number is given to something that is open now, and taken from what had it before."""
