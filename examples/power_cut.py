@@ -42,7 +42,11 @@ from kill import DRIVES, MARK, SLOTS, TAGS, inventory_of, objects_of, program_pa
 from recorded_files import STRACE, Connection, File, Record, contents_of, lay_out
 
 # What may be told at a start, beside the line that it serves.
-KNOWN = [r"vtl: \S+\.tap: a tail of \d+ bytes .*", r"vtl: took \S+ away: nobody listened there"]
+KNOWN = [
+    r"vtl: \S+\.tap: a tail of \d+ bytes that was cut off is lost",
+    r"vtl: \S+\.tap: \d+ bytes that were not known to be on the disk when the machine stopped were moved to \S+\.tail\.\d+",
+    r"vtl: took \S+ away: nobody listened there",
+]
 # How many failures keep their folders.
 KEPT = 20
 
@@ -575,6 +579,8 @@ def main():
     words.add_argument("--processes", type=int, default=4)
     words.add_argument("--old", action="store_true", help="a program that has no --new-library")
     words.add_argument("--program", help="in place of the proved one")
+    # What is laid out is as the program makes it: for its owner alone.
+    os.umask(0o077)
     given = words.parse_args()
     given.program = program_path(given.program)
     given.work = tempfile.mkdtemp(prefix="power_cut.", dir="/dev/shm" if os.access("/dev/shm", os.W_OK) else None)

@@ -14,7 +14,7 @@ use Rattle.tape_flush.specs.declared.known.FileTail.TheVariants.{Empty}
 
 -- an image of no object, in a file without a byte
 abbrev pub no_image : KeptImageValue (Unit {0})
-no_image = record { ends = []; known = known_of 0 0 0 0 Empty; store = tt; file = Some (file_value [] 0 [] (0 ∷ [])) }
+no_image = record { ends = []; known = known_of 0 0 0 0 Empty; store = tt; file = Some (file_value [] 0 [] (0 ∷ [])); untouched = true }
 
 -- so many objects of two, from the first on
 abbrev pub up_to : (end : ℕ) → PartRange

@@ -147,7 +147,9 @@ impl<'a, S: ImageStore + Drop, R: Wait, T: TapeSource<Device>, H: KeepListener> 
                 continue;
             };
             let range = taken?;
-            kept.write_part(range, &part)?;
+            if !kept.is_unchanged(range) {
+                kept.write_part(range, &part)?;
+            }
             self.note_copied(at.lun, range, &part, before);
             wanted = wanted.min(range.count);
             parts = parts.saturating_add(1);

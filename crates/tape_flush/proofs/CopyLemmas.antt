@@ -56,7 +56,7 @@ shrunk_bytes bytes ends ends' known others size stay h within are =
     let count : length ends ≡ length known = same_count 0 h.0 known ends h.3 in
     let below : n ≤ stay = omega (arith, ap length first, length-take n (take stay ends), length-take stay ends) in
     let end : end_at ends n ≤ size =
-        (let P : ℕ → Type 0 = λ e. e ≤ size in subst P (end_in_first 0 n stay ends below) (within_ends 0 size (take stay ends) (omega arith))) in
+    (let P : ℕ → Type 0 = λ e. e ≤ size in subst P (end_in_first 0 n stay ends below) (within_ends 0 size (take stay ends) (omega arith))) in
     let ends_are : ends' ≡ take n ends = are ∙ first ∙ take-take n stay ends below in
     let count' : length ends' ≡ n = ap length are in
     let there : Bytes (take n ends) (take size bytes) (take n known) (drop n known ++ others) = cut_bytes n size ends bytes known others (omega (arith, count)) end h in
@@ -106,10 +106,10 @@ replaced_in (Some f) (Some f') k k' ends ends' part known others new stay h know
     let count : length ends ≡ length known = same_count 0 h.front known ends h.objects_are in
     let here : length f'.contents ≡ k'.sound = ends_empty k'.tail (length f'.contents) k'.sound r.empty.0 was.end in
     let bytes : f.contents ≡ h.front ++ (h.behind ++ drop k.sound f.contents) =
-        sym (take-append-drop k.sound f.contents) ∙ ap (λ (z : List ℕ). z ++ drop k.sound f.contents) h.bytes ∙ append_assoc h.front h.behind (drop k.sound f.contents) in
+    sym (take-append-drop k.sound f.contents) ∙ ap (λ (z : List ℕ). z ++ drop k.sound f.contents) h.bytes ∙ append_assoc h.front h.behind (drop k.sound f.contents) in
     let written : f'.contents ≡ take (end_at ends stay) f.contents ++ image_bytes new = r.contents ∙ ap (λ (z : List ℕ). take (end_at ends stay) f.contents ++ z) is.bytes in
     let all : HoldsAll 0 f'.contents (take stay known ++ new) (take stay ends ++ ends_from (end_at ends stay) new) =
-        whole_bytes stay ends f.contents f'.contents h.front (h.behind ++ drop k.sound f.contents) known new (omega (arith, count)) is.keepable bytes h.objects_are written in
+    whole_bytes stay ends f.contents f'.contents h.front (h.behind ++ drop k.sound f.contents) known new (omega (arith, count)) is.keepable bytes h.objects_are written in
     let ends_are : ends' ≡ take stay ends ++ ends_from (end_at ends stay) new = r.ends_are ∙ ap (λ (es : List ℕ). take stay ends ++ es) is.ends in
     ready_by f' k' ends' (take stay known ++ new) was (subst (λ (es : List ℕ). HoldsAll 0 f'.contents (take stay known ++ new) es) (sym ends_are) all) here (r.empty.0, refl)
 
@@ -148,11 +148,11 @@ wrote (Ok done) kept new tape range part known others stay has follows taken her
     let count : length kept.ends ≡ length known = count_in kept.file kept.known kept.ends known others has in
     let objects = between range.stay range.end tape.objects in
     let r' : IsReplaced range.stay part kept.ends new.ends new.known (contents_of kept.file) (contents_of new.file) =
-        subst (λ (n : ℕ). IsReplaced n part kept.ends new.ends new.known (contents_of kept.file) (contents_of new.file)) here r in
+    subst (λ (n : ℕ). IsReplaced n part kept.ends new.ends new.known (contents_of kept.file) (contents_of new.file)) here r in
     let ready : ReadyIn new.file new.known new.ends (take range.stay known ++ objects) =
-        replaced_in kept.file new.file kept.known new.known kept.ends new.ends part known others objects range.stay has known' (omega (arith, taken.stay)) taken.taken r' in
+    replaced_in kept.file new.file kept.known new.known kept.ends new.ends part known others objects range.stay has known' (omega (arith, taken.stay)) taken.taken r' in
     let all : take range.stay known ++ objects ≡ take range.end tape.objects =
-        ap (λ (zs : List Object). zs ++ objects) (same_stay (length kept.ends) tape known range.stay count follows taken.stay) ∙ joined range.stay range.end tape.objects taken.rising in
+    ap (λ (zs : List Object). zs ++ objects) (same_stay (length kept.ends) tape known range.stay count follows taken.stay) ∙ joined range.stay range.end tape.objects taken.rising in
     ready_told new (take range.end tape.objects) (subst (λ (zs : List Object). ReadyIn new.file new.known new.ends zs) all ready)
 
 split_told : {S : Type 0} (r : Result (Unit {0}) FlushFault) (new : KeptImageValue S) (objects : List Object) → OnOk r (Written new objects)
@@ -252,13 +252,13 @@ leaves stay k' f f' ends ends' part known others new within is h are enough left
           let there : Bytes (take stay ends) (take cut.0 f.contents) (take stay known) (drop stay known ++ others) = cut_bytes stay cut.0 ends f.contents known others within cut.1 h in
           inl (subst (λ (es : List ℕ). Bytes es f'.contents (take stay known) (drop stay known ++ others)) (sym same)
           (subst (λ (z : List ℕ). Bytes (take stay ends) z (take stay known) (drop stay known ++ others)) (sym cut.2) there))
-        )
+          )
       | inr more ↦ (
           let written : f'.contents ≡ take (end_at ends stay) f.contents ++ take more.0 (image_bytes new) =
-              more.1 ∙ ap (λ (z : List ℕ). take (end_at ends stay) f.contents ++ take more.0 z) is.bytes in
+          more.1 ∙ ap (λ (z : List ℕ). take (end_at ends stay) f.contents ++ take more.0 z) is.bytes in
           let there : Bytes (take stay ends) f'.contents (take stay known) new = some_bytes stay more.0 ends f.contents f'.contents known others new within is.keepable h written in
           inr (subst (λ (es : List ℕ). Bytes es f'.contents (take stay known) new) (sym same) there)
-        )
+          )
     ]
 
 left_of : (stay : ℕ) (fault : FlushFault) (k' : Known) (f f' : FileValue) (ends ends' : List ℕ) (part : TapePartValue) (known others new : List Object) → stay ≤ length known
@@ -303,7 +303,7 @@ begun (Err fault) kept new tape range part known others stay has held follows ta
     let count : length kept.ends ≡ length known = count_in kept.file kept.known kept.ends known others has in
     let same : take range.stay known ≡ take range.stay tape.objects = same_stay (length kept.ends) tape known range.stay count follows taken.stay in
     let stopped' : IsStopped (end_at kept.ends range.stay) part.bytes kept.known kept.file new.known new.file fault =
-        subst (λ (n : ℕ). IsStopped (end_at kept.ends n) part.bytes kept.known kept.file new.known new.file fault) here stopped in
+    subst (λ (n : ℕ). IsStopped (end_at kept.ends n) part.bytes kept.known kept.file new.known new.file fault) here stopped in
     let are' : new.ends ≡ ends_within new.known.sound (take range.stay kept.ends) = are ∙ ap (λ (n : ℕ). ends_within new.known.sound (take n kept.ends)) here in
     begins_by fault range tape known others (image_of new) same
     (begun_in kept.file new.file kept.known new.known kept.ends new.ends part known others (between range.stay range.end tape.objects) range.stay fault has held

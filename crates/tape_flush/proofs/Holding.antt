@@ -101,11 +101,11 @@ within_is_first size (e ∷ es) = elim (leb_tells e size) [
   | inl is ↦ (
       let here : ends_within size (e ∷ es) ≡ e ∷ ends_within size es = within_step size e es true is.0 in
       here ∙ ap (λ (ds : List ℕ). e ∷ ds) (within_is_first size es) ∙ ap (λ (n : ℕ). take n (e ∷ es)) (sym (ap length here))
-    )
+      )
   | inr is ↦ (
       let here : ends_within size (e ∷ es) ≡ [] = within_step size e es false is.0 in
       here ∙ ap (λ (n : ℕ). take n (e ∷ es)) (sym (ap length here))
-    )
+      )
 ]
 
 -- the last of them is
@@ -116,12 +116,12 @@ within_ends o size (e ∷ es) le = elim (leb_tells e size) [
       let here : length (ends_within size (e ∷ es)) ≡ suc (length (ends_within size es)) = ap length (within_step size e es true is.0) in
       let P : ℕ → Type 0 = λ n. end_from o (e ∷ es) n ≤ size in
       subst P (sym here) (within_ends e size es is.1)
-    )
+      )
   | inr is ↦ (
       let here : length (ends_within size (e ∷ es)) ≡ 0 = ap length (within_step size e es false is.0) in
       let P : ℕ → Type 0 = λ n. end_from o (e ∷ es) n ≤ size in
       subst P (sym here) le
-    )
+      )
 ]
 
 -- all of them, where the objects take no more

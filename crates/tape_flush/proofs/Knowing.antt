@@ -41,7 +41,7 @@ within_noted least most size sizes h = All-weaker (λ s. (least ≤ s) × (s ≤
 cut_known : (k : Known) (size left : ℕ) (tail : FileTail) (file : FileValue) → IsKnown k file → k.most ≤ size → size ≤ k.sound → size ≤ left
     → EndsAt tail (length (take left file.contents)) size
     → IsKnown (record { least = k.least; most = k.most; synced = min k.synced size; sound = size; tail = tail })
-        (file_value (take left file.contents) (min file.sound size) (take size file.synced) file.noted)
+    (file_value (take left file.contents) (min file.sound size) (take size file.synced) file.noted)
 cut_known k size left tail file is most sound le end = record {
   noted_most = omega (arith, is.noted_most);
   in_order = omega arith;

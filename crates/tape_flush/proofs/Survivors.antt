@@ -37,7 +37,7 @@ found_bytes f k ends xs ys found noted h s =
 first : (f : FileValue) (k : Known) (ends : List ℕ) (xs ys : List Object) (found : List ℕ) (noted : ℕ) → Holds f k ends xs ys → Survives f found noted → HoldsFirst 0 (take noted found) (xs ++ ys)
 first f k ends xs ys found noted h s =
     let all : HoldsFirst 0 (h.front ++ h.behind) (xs ++ ys) =
-        first_behind 0 h.front h.behind xs ys ends h.objects_are (subst (λ (n : ℕ). HoldsFirst n h.behind ys) (zero_plus (length h.front)) h.others_begin) in
+    first_behind 0 h.front h.behind xs ys ends h.objects_are (subst (λ (n : ℕ). HoldsFirst n h.behind ys) (zero_plus (length h.front)) h.others_begin) in
     subst (λ (z : List ℕ). HoldsFirst 0 z (xs ++ ys)) (sym (found_bytes f k ends xs ys found noted h s)) (first_cut 0 noted (h.front ++ h.behind) (xs ++ ys) all)
 
 pub survivors_cut : (f : FileValue) (k : Known) (ends : List ℕ) (xs ys : List Object) (found : List ℕ) (noted count : ℕ) → Holds f k ends xs ys → Survives f found noted
@@ -60,14 +60,14 @@ at_least f k ends xs ys found noted placed stop h s r count within below =
     let range = noted_within f k ends xs ys found noted h s in
     let end : length part.front ≤ noted = omega (arith, part.end, below, range.0) in
     let all : h.front ++ h.behind ≡ part.front ++ (part.back ++ h.behind) =
-        ap (λ (z : List ℕ). z ++ h.behind) part.bytes ∙ append_assoc part.front part.back h.behind in
+    ap (λ (z : List ℕ). z ++ h.behind) part.bytes ∙ append_assoc part.front part.back h.behind in
     let noted_is : noted ≡ length part.front + (noted - length part.front) = omega arith in
     let bytes : take noted found ≡ part.front ++ take (noted - length part.front) (part.back ++ h.behind) =
-        found_bytes f k ends xs ys found noted h s ∙ ap (take noted) all
-        ∙ ap (λ (n : ℕ). take n (part.front ++ (part.back ++ h.behind))) noted_is
-        ∙ take-append-add part.front (part.back ++ h.behind) (noted - length part.front) in
+    found_bytes f k ends xs ys found noted h s ∙ ap (take noted) all
+    ∙ ap (λ (n : ℕ). take n (part.front ++ (part.back ++ h.behind))) noted_is
+    ∙ take-append-add part.front (part.back ++ h.behind) (noted - length part.front) in
     let those : length (take count xs) ≤ length placed =
-        count_first (take noted found) part.front (take (noted - length part.front) (part.back ++ h.behind)) (take count xs) (take count ends) placed stop bytes part.first r in
+    count_first (take noted found) part.front (take (noted - length part.front) (part.back ++ h.behind)) (take count xs) (take count ends) placed stop bytes part.first r in
     omega (arith, those, length-take-le count xs (omega (arith, size)))
 
 pub survivors : (f : FileValue) (k : Known) (ends : List ℕ) (xs ys : List Object) (found : List ℕ) (noted : ℕ) → Holds f k ends xs ys → Survives f found noted

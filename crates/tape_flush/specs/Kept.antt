@@ -1,5 +1,5 @@
 -- The image of a tape, with what is known of its file, and how it is brought on.
-use Rattle.std.specs.Prelude.{◌≡◌, ◌⊎◌, ℕ, ◌≤◌, ◌<◌, min, nat_le, List, ◌++◌, length, take, drop, take_while, Option, Some, None}
+use Rattle.std.specs.Prelude.{◌≡◌, ◌⊎◌, ℕ, ◌≤◌, ◌<◌, min, nat_le, Bool, true, List, ◌++◌, length, take, drop, take_while, Option, Some, None}
 use Rattle.tape_medium.specs.Object.{Object}
 use Rattle.tape_medium.specs.TapeView.{TapeView}
 use Rattle.tape_medium.specs.Tape.{settled}
@@ -21,6 +21,8 @@ pub record KeptImageValue (S : Type 0) : Type 0 where
   -- the file, and its bytes, where they are known
   pub store : S
   pub file : Option FileValue
+  -- whether the file has no other objects, as it was found, and nothing was written to it
+  pub untouched : Bool
 
 abbrev pub image_of : {S : Type 0} → KeptImageValue S → ImageValue
 image_of kept = image_value kept.ends (contents_of kept.file)
@@ -37,12 +39,13 @@ ends_within size ends = take_while (λ end. nat_le end size) ends
 abbrev pub IsWholeImage : {S : Type 0} → KeptImageValue S → Type 0
 IsWholeImage kept = IsEmptyAt (last_end kept.ends) kept.known
 
--- all of that is on the disk, and so says its record
-pub record IsOnDisk {S : Type 0} (kept : KeptImageValue S) : Type 0 where
-  pub whole : IsWholeImage kept
-  pub synced : kept.known.synced ≡ last_end kept.ends
-  pub least : kept.known.least ≡ last_end kept.ends
-  pub most : kept.known.most ≡ last_end kept.ends
+-- each of its objects is on the disk, and so says its record
+abbrev pub IsOnDisk : {S : Type 0} → KeptImageValue S → Type 0
+IsOnDisk kept = last_end kept.ends ≤ kept.known.least
+
+-- it is as it was found, and has just the objects of a tape of which a part was to be taken
+abbrev pub IsUnchanged : {S : Type 0} → KeptImageValue S → PartRange → Type 0
+IsUnchanged kept range = (kept.untouched ≡ true) × (range.stay ≡ length kept.ends) × (range.count ≡ range.stay)
 
 -- WHAT A FILE HOLDS: what is known of it is so; of the bytes that are as they were written the first hold these objects, and those behind
 -- them a beginning of some others. Of what lies behind these nothing is said

@@ -1,9 +1,9 @@
-ghost use Rattle.std.specs.Prelude.{◌≡◌, ◌↔◌, List, [], length, take, IsTrue, IfOk, OnOk, OnErr, IfErr};
+ghost use Rattle.std.specs.Prelude.{◌≡◌, ◌==◌, ◌↔◌, true, List, [], length, take, IsTrue, IfOk, OnOk, OnErr, IfErr};
 ghost use Rattle.tape_medium.specs.Object.{Object};
 ghost use Rattle.tape_medium.specs.TapeView.{TapeView};
 ghost use Rattle.tape_flush.specs.Careful.{GoesOn, trusted_to};
 ghost use Rattle.tape_flush.specs.Images.{IsHeld, IsWhole};
-ghost use Rattle.tape_flush.specs.Kept.{Has, HasFirstOf, Follows, IsTaken, IsOnDisk, IsWholeImage, BeginsUnless, image_of};
+ghost use Rattle.tape_flush.specs.Kept.{Has, HasFirstOf, Follows, IsTaken, IsOnDisk, IsUnchanged, IsWholeImage, BeginsUnless, ends_within, image_of};
 
 use crate::ends::{end_at, keep_within, last_end};
 use crate::fault::FlushFault;
@@ -32,6 +32,8 @@ use tape_medium::Tape;
 pub struct KeptImage<S: ImageStore> {
     file: WatchedFile<S>,
     ends: Vec<u64>,
+    /// Whether the file has no other objects, as it was found, and nothing was written to it.
+    is_untouched: bool,
 }
 
 impl<S: ImageStore> Model for KeptImage<S> {
@@ -40,18 +42,24 @@ impl<S: ImageStore> Model for KeptImage<S> {
 
     ghost Value = { KeptImageValue S };
 
-    ghost view = { λ kept. record { ends = kept.ends.items; known = kept.file.known; store = kept.file.store; file = S.file kept.file.store } };
+    ghost view = { λ kept. record { ends = kept.ends.items; known = kept.file.known; store = kept.file.store; file = S.file kept.file.store; untouched = kept.is_untouched } };
 
     ghost invariant = { λ kept. IsInOrder kept.file.known };
 }
 
 impl<S: ImageStore> KeptImage<S> {
-    /// Of a file of which so many bytes are on the disk, as its record says, and whose objects end there.
+    /// Of a file of which so many bytes are on the disk, as its record says, and whose objects end there, as far as they lie within these.
     pub(crate) fn opened(store: S, trusted: u64, ends: Vec<u64>) -> KeptImage<S>
-        ensures { result ≡ record { ends = ends.items; known = trusted_to trusted; store = store; file = S.file store } }
+        ensures { result ≡ record { ends = ends_within trusted ends.items; known = trusted_to trusted; store = store; file = S.file store; untouched = length ends.items == length (ends_within trusted ends.items) } }
     {
-        let file = WatchedFile::new(store, Known::opened(trusted));
-        KeptImage { file, ends }
+        let mut ends = ends;
+        let count = ends.len();
+        keep_within(&mut ends, trusted);
+        KeptImage {
+            file: WatchedFile::new(store, Known::opened(trusted)),
+            is_untouched: count == ends.len(),
+            ends,
+        }
     }
 
     /// How many objects are in the file for sure.
@@ -74,13 +82,19 @@ impl<S: ImageStore> KeptImage<S> {
         self.file.ends_at(last_end(&self.ends))
     }
 
-    /// Whether all that it has is on the disk, as its record there says.
+    /// Whether each of its objects is on the disk, as its record there says.
     pub fn is_on_disk(&self) -> bool
         ensures { IsTrue result ↔ IsOnDisk self.now }
     {
-        let end = last_end(&self.ends);
-        let known = self.file.known();
-        self.file.ends_at(end) && known.synced == end && known.least == end && known.most == end
+        last_end(&self.ends) <= self.file.known().least
+    }
+
+    /// Whether it is as it was found, and has just the objects of a tape of which a part was to be taken: then nothing is to be written, and
+    /// what else the file has, as an end mark, stays there.
+    pub fn is_unchanged(&self, range: PartRange) -> bool
+        ensures { IsTrue result ↔ IsUnchanged self.now range }
+    {
+        self.is_untouched && range.stay as usize == self.ends.len() && range.count == range.stay
     }
 
     /// Takes a part of a tape whose first objects the image has, as many as count as unchanged: of those that it doesn't have the first,
@@ -99,6 +113,7 @@ impl<S: ImageStore> KeptImage<S> {
     /// failed, the file has all of these, and behind them perhaps the first of those that it had, or of the part.
     pub fn write_part(&mut self, range: PartRange, part: &TapePart) -> Result<(), FlushFault>
         ensures goes { GoesOn S.did self.old.store self.old.known self.new.store self.new.known }
+        ensures touched { self.new.untouched ≡ true → self.new ≡ self.old }
         ensures whole { (known others : List Object) (tape : TapeView) → Has self.old known others → Follows known tape → IsTaken self.old tape range part.now → OnOk result (IsWhole (image_of self.new) (take range.end tape.objects)) }
         ensures ready { (known others : List Object) (tape : TapeView) → Has self.old known others → Follows known tape → IsTaken self.old tape range part.now → OnOk result (Has self.new (take range.end tape.objects) [] × IsWholeImage self.new) }
         ensures held { (known others : List Object) (tape : TapeView) → Has self.old known others → Follows known tape → IsTaken self.old tape range part.now → OnErr result (HasFirstOf tape.objects self.new) }
@@ -112,6 +127,7 @@ impl<S: ImageStore> KeptImage<S> {
         if end_at(&self.ends, stay) > self.file.known().sound {
             return Err(FlushFault::Store(StoreFault::Failed));
         }
+        self.is_untouched = false;
         replace(&mut self.file, &mut self.ends, stay, part)
     }
 
@@ -124,13 +140,14 @@ impl<S: ImageStore> KeptImage<S> {
         ensures same { (objects others : List Object) → Has self.old objects others → OnOk result (Has self.new objects others) }
         ensures err { (objects others : List Object) → Has self.old objects others → OnErr result (HasFirstOf objects self.new) }
     {
-        if !self.is_whole() {
-            return Err(StoreFault::Failed);
-        }
         if self.is_on_disk() {
             return Ok(());
         }
+        if !self.is_whole() {
+            return Err(StoreFault::Failed);
+        }
         if let Err(fault) = self.file.sync() {
+            self.is_untouched = false;
             keep_within(&mut self.ends, self.file.known().sound);
             return Err(fault);
         }

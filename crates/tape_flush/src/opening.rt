@@ -7,7 +7,6 @@ ghost use Rattle.tape_flush.specs.Kept.{HasFirstOf, ends_within};
 ghost use Rattle.tape_flush.specs.Openings.{end_of_entry, lost_of};
 ghost use Rattle.tape_flush.specs.Stores.{FileValue};
 
-use crate::ends::keep_within;
 use crate::fault::OpenFault;
 use crate::kept_image::KeptImage;
 use crate::store::ImageStore;
@@ -105,7 +104,6 @@ pub fn open_image<S: ImageStore + Drop>(store: S, image: ImageEnds, trusted: u64
     ensures whole { (file : FileValue) (objects : List Placed) (stop : Stop) → S.file store ≡ Some file → IsKnown (trusted_to trusted) file → Reads 0 file.contents objects stop
         → image.ends ≡ map end_of_entry (map indexed objects) → HasFirstOf (map object_in objects) result }
 {
-    let ImageEnds { mut ends, .. } = image;
-    keep_within(&mut ends, trusted);
+    let ImageEnds { ends, .. } = image;
     KeptImage::opened(store, trusted, ends)
 }

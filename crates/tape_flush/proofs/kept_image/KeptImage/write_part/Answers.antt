@@ -1,4 +1,4 @@
-use Rattle.std.proofs.Common.{◌≡◌, ◌≤◌, ℕ, List, length, refl, sym, ap, subst, ◌∙◌, arith}
+use Rattle.std.proofs.Common.{false, ◌≡◌, ◌≤◌, ℕ, List, length, refl, sym, ap, subst, ◌∙◌, arith}
 use Rattle.tape_flush.specs.declared.known.Known.{Known}
 use Rattle.tape_flush.specs.Images.{end_at, IsHeld}
 use Rattle.tape_flush.specs.Careful.{stays, GoesOn}
@@ -56,9 +56,9 @@ returns-clause-goes g c =
 pub returns-clause-whole : goal.returns-clause-whole
 returns-clause-whole g c known others tape has follows taken =
     let inside : KeptImageValue g.row.S.Denot =
-        record { ends = c.self.inside.ends.items; known = c.self.inside.file.known; store = c.self.inside.file.store; file = g.S.ImageStore.file c.self.inside.file.store } in
+    record { ends = c.self.inside.ends.items; known = c.self.inside.file.known; store = c.self.inside.file.store; file = g.S.ImageStore.file c.self.inside.file.store; untouched = c.self.inside.is_untouched } in
     let new : KeptImageValue g.row.S.Denot =
-        record { ends = c.replace.new.ends.items; known = c.replace.new.file.known; store = c.replace.new.file.store; file = g.S.ImageStore.file c.replace.new.file.store } in
+    record { ends = c.replace.new.ends.items; known = c.replace.new.file.known; store = c.replace.new.file.store; file = g.S.ImageStore.file c.replace.new.file.store; untouched = false } in
     let has' : Has inside known others = subst (λ (v : KeptImageValue g.row.S.Denot). Has v known others) (sym c.self.view_is) has in
     let taken' : IsTaken inside tape c.args.range c.args.part.now = subst (λ (v : KeptImageValue g.row.S.Denot). IsTaken v tape c.args.range c.args.part.now) (sym c.self.view_is) taken in
     let here : c.min-stay.result ≡ c.args.range.stay = omega (arith, taken'.stay, c.min-stay.ensures, c.len.ensures) in
@@ -68,9 +68,9 @@ returns-clause-whole g c known others tape has follows taken =
 pub returns-clause-ready : goal.returns-clause-ready
 returns-clause-ready g c known others tape has follows taken =
     let inside : KeptImageValue g.row.S.Denot =
-        record { ends = c.self.inside.ends.items; known = c.self.inside.file.known; store = c.self.inside.file.store; file = g.S.ImageStore.file c.self.inside.file.store } in
+    record { ends = c.self.inside.ends.items; known = c.self.inside.file.known; store = c.self.inside.file.store; file = g.S.ImageStore.file c.self.inside.file.store; untouched = c.self.inside.is_untouched } in
     let new : KeptImageValue g.row.S.Denot =
-        record { ends = c.replace.new.ends.items; known = c.replace.new.file.known; store = c.replace.new.file.store; file = g.S.ImageStore.file c.replace.new.file.store } in
+    record { ends = c.replace.new.ends.items; known = c.replace.new.file.known; store = c.replace.new.file.store; file = g.S.ImageStore.file c.replace.new.file.store; untouched = false } in
     let has' : Has inside known others = subst (λ (v : KeptImageValue g.row.S.Denot). Has v known others) (sym c.self.view_is) has in
     let taken' : IsTaken inside tape c.args.range c.args.part.now = subst (λ (v : KeptImageValue g.row.S.Denot). IsTaken v tape c.args.range c.args.part.now) (sym c.self.view_is) taken in
     let here : c.min-stay.result ≡ c.args.range.stay = omega (arith, taken'.stay, c.min-stay.ensures, c.len.ensures) in
@@ -80,9 +80,9 @@ returns-clause-ready g c known others tape has follows taken =
 pub returns-clause-held : goal.returns-clause-held
 returns-clause-held g c known others tape has follows taken =
     let inside : KeptImageValue g.row.S.Denot =
-        record { ends = c.self.inside.ends.items; known = c.self.inside.file.known; store = c.self.inside.file.store; file = g.S.ImageStore.file c.self.inside.file.store } in
+    record { ends = c.self.inside.ends.items; known = c.self.inside.file.known; store = c.self.inside.file.store; file = g.S.ImageStore.file c.self.inside.file.store; untouched = c.self.inside.is_untouched } in
     let new : KeptImageValue g.row.S.Denot =
-        record { ends = c.replace.new.ends.items; known = c.replace.new.file.known; store = c.replace.new.file.store; file = g.S.ImageStore.file c.replace.new.file.store } in
+    record { ends = c.replace.new.ends.items; known = c.replace.new.file.known; store = c.replace.new.file.store; file = g.S.ImageStore.file c.replace.new.file.store; untouched = false } in
     let has' : Has inside known others = subst (λ (v : KeptImageValue g.row.S.Denot). Has v known others) (sym c.self.view_is) has in
     let taken' : IsTaken inside tape c.args.range c.args.part.now = subst (λ (v : KeptImageValue g.row.S.Denot). IsTaken v tape c.args.range c.args.part.now) (sym c.self.view_is) taken in
     let here : c.min-stay.result ≡ c.args.range.stay = omega (arith, taken'.stay, c.min-stay.ensures, c.len.ensures) in
@@ -92,9 +92,9 @@ returns-clause-held g c known others tape has follows taken =
 pub returns-clause-begins : goal.returns-clause-begins
 returns-clause-begins g c known others tape has held follows taken =
     let inside : KeptImageValue g.row.S.Denot =
-        record { ends = c.self.inside.ends.items; known = c.self.inside.file.known; store = c.self.inside.file.store; file = g.S.ImageStore.file c.self.inside.file.store } in
+    record { ends = c.self.inside.ends.items; known = c.self.inside.file.known; store = c.self.inside.file.store; file = g.S.ImageStore.file c.self.inside.file.store; untouched = c.self.inside.is_untouched } in
     let new : KeptImageValue g.row.S.Denot =
-        record { ends = c.replace.new.ends.items; known = c.replace.new.file.known; store = c.replace.new.file.store; file = g.S.ImageStore.file c.replace.new.file.store } in
+    record { ends = c.replace.new.ends.items; known = c.replace.new.file.known; store = c.replace.new.file.store; file = g.S.ImageStore.file c.replace.new.file.store; untouched = false } in
     let has' : Has inside known others = subst (λ (v : KeptImageValue g.row.S.Denot). Has v known others) (sym c.self.view_is) has in
     let taken' : IsTaken inside tape c.args.range c.args.part.now = subst (λ (v : KeptImageValue g.row.S.Denot). IsTaken v tape c.args.range c.args.part.now) (sym c.self.view_is) taken in
     let here : c.min-stay.result ≡ c.args.range.stay = omega (arith, taken'.stay, c.min-stay.ensures, c.len.ensures) in

@@ -17,9 +17,10 @@ returns-in-Ok-clause-goes g c =
 
 pub returns-in-Ok-clause-ok : goal.returns-in-Ok-clause-ok
 returns-in-Ok-clause-ok g c =
-    let is = c.grown-self-inside.ensures c.self.inside.known.sound c.args.bytes.now refl in
-    (ap (λ (k : Known). k.tail) is ∙ ap (λ (w : WatchedValue g.row.S.Denot). w.known.tail) c.self.view_is ∙ c.requires,
-     ap (λ (k : Known). k.sound) is ∙ ap (λ (w : WatchedValue g.row.S.Denot). w.known.sound + length c.args.bytes.now) c.self.view_is)
+    let is = c.grown-self-inside.ensures c.self.inside.known.sound c.args.bytes.now refl in (
+      ap (λ (k : Known). k.tail) is ∙ ap (λ (w : WatchedValue g.row.S.Denot). w.known.tail) c.self.view_is ∙ c.requires,
+      ap (λ (k : Known). k.sound) is ∙ ap (λ (w : WatchedValue g.row.S.Denot). w.known.sound + length c.args.bytes.now) c.self.view_is,
+    )
 
 pub returns-in-Err-clause-goes : goal.returns-in-Err-clause-goes
 returns-in-Err-clause-goes g c =
