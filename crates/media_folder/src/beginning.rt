@@ -8,7 +8,7 @@ use crate::record::{RecordFile, SyncedRecord};
 use crate::rights::NEW_FILE;
 use crate::store::{FileAccess, FileStore};
 use crate::trust::{Trust, record_path};
-use std::fs::{File, Files, OpenFile, OpenOptions};
+use std::fs::{self, File, Files, OpenFile, OpenOptions};
 use std::io::{self, BufReader, ErrorKind, Read, Seek, SeekFrom, Write};
 use std::os::unix::fs::OpenOptionsExt;
 
@@ -115,7 +115,8 @@ fn copy_from<R: AllocGlobal>(rt: &R, from: &File, offset: u64, mut to: File) -> 
     to.sync_all()
 }
 
-/// Begins a file's record. It is written unless it says just this already: what the whole file has was brought to the disk before.
+/// Begins a file's record. Unless it says just this already, what the whole file has is brought to the disk, and then another record takes
+/// the place of the one before.
 fn begin_record<'a, R: AllocGlobal + Files<File = File>>(
     rt: &R,
     store: &mut FileStore<'a, R>,
@@ -124,22 +125,36 @@ fn begin_record<'a, R: AllocGlobal + Files<File = File>>(
 ) -> io::Result<()> {
     let inode = store.identity().number();
     let path = record_path(rt, store.path())?;
-    let file = OpenOptions::new()
-        .read(true)
-        .write(true)
-        .create(true)
-        .mode(NEW_FILE)
-        .open(rt, path.as_str())?;
-    let record = RecordFile::new(rt.alloc(), file, inode, boot);
     let wanted = SyncedRecord {
         length: trust.synced,
         inode,
         boot,
     };
-    if trust.record != Some(wanted) {
+    let file = if trust.record == Some(wanted) {
+        OpenOptions::new().write(true).open(rt, path.as_str())?
+    } else {
         store.file().sync_data()?;
-        record.renew(trust.synced)?;
-    }
-    store.begin_record(record);
+        renewed(rt, path.as_str(), wanted)?
+    };
+    store.begin_record(RecordFile::new(rt.alloc(), file, inode, boot));
     Ok(())
+}
+
+/// The file of a record that takes the place of the one at a path.
+fn renewed<R: AllocGlobal + Files<File = File>>(
+    rt: &R,
+    path: &str,
+    record: SyncedRecord,
+) -> io::Result<File> {
+    let new_path = format!(in rt.alloc(); "{path}.new")?;
+    let file = OpenOptions::new()
+        .write(true)
+        .create(true)
+        .truncate(true)
+        .mode(NEW_FILE)
+        .open(rt, new_path.as_str())?;
+    RecordFile::put(rt.alloc(), &file, record)?;
+    file.sync_all()?;
+    fs::rename(rt, new_path.as_str(), path)?;
+    Ok(file)
 }

@@ -97,11 +97,10 @@ impl RecordFile {
         }
     }
 
-    /// Begins it anew, whatever it had.
-    pub fn renew(&self, length: u64) -> io::Result<()> {
-        self.file.set_len(0)?;
-        self.write(length)?;
-        self.file.sync_all()
+    /// Writes a record into a file.
+    pub fn put(alloc: Global, file: &File, record: SyncedRecord) -> io::Result<()> {
+        let text = record.text(alloc)?;
+        file.write_all_at(text.as_bytes(), 0)
     }
 
     /// Notes on the disk that so many bytes are there. The text is shorter than a sector, which a disk writes whole or not at all.
@@ -111,8 +110,7 @@ impl RecordFile {
             inode: self.inode,
             boot: self.boot,
         };
-        let text = record.text(self.alloc)?;
-        self.file.write_all_at(text.as_bytes(), 0)?;
+        RecordFile::put(self.alloc, &self.file, record)?;
         self.file.sync_data()
     }
 }

@@ -27,11 +27,7 @@ fn image_of(rt: &impl Abort, alloc: Global, bytes: &[u8]) -> KeptImage<FailingSt
 }
 
 /// Writes what a tape has that its image hasn't.
-fn is_copied<S: ImageStore>(
-    alloc: Global,
-    image: &mut KeptImage<S>,
-    tape: &mut Tape,
-) -> bool {
+fn is_copied<S: ImageStore>(alloc: Global, image: &mut KeptImage<S>, tape: &mut Tape) -> bool {
     let Ok(mut part) = TapePart::new(alloc) else {
         return false;
     };
@@ -63,6 +59,10 @@ fn what_a_sync_that_fails_forgets_is_written_again(rt: HostRuntime) {
         IMAGE,
         "what the file has",
     );
-    let told = (image.is_on_disk(), image.store().noted, image.store().synced);
+    let told = (
+        image.is_on_disk(),
+        image.store().noted,
+        image.store().synced,
+    );
     assert_same(&rt, told, (true, 14, 14), "and the disk");
 }
