@@ -85,6 +85,11 @@ class Folder:
         return run([self.tried.program, "media", "check", str(self.path)])
 
 
+def with_records(*images: str) -> list[str]:
+    """The names of images and of their records, in order."""
+    return sorted([*images, *(f"{name.removesuffix('.tap')}.synced" for name in images)])
+
+
 def told_by(server: Server) -> list[str]:
     """What was told up to the line that it serves, but for that line."""
     lines = server.told.text.splitlines()

@@ -207,7 +207,7 @@ def modes(tried: Tried) -> None:
             server.end()
             server.ends()
     made = {path.name: path.stat().st_mode & 0o777 for path in [folder.parent, folder, *folder.iterdir()]}
-    same("the modes", made, {"above": 0o700, "media": 0o700, FIRST: 0o600, "library.toml": 0o600})
+    same("the modes", made, {"above": 0o700, "media": 0o700, FIRST: 0o600, "VOL00001.synced": 0o600, "library.toml": 0o600})
     for path, mode in [(folder, 0o750), (folder / FIRST, 0o602), (folder / "library.toml", 0o644)]:
         was = path.stat().st_mode
         path.chmod(mode)

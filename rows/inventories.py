@@ -5,7 +5,7 @@ import struct
 import typing
 
 from exchanges import CHANGER, DRIVE
-from folders import HI, MARK, ODD, THREE, Folder, ended, told_by
+from folders import HI, MARK, ODD, THREE, Folder, ended, told_by, with_records
 from hosts import Host
 from serving import Row, Tried, holds, refused, same
 
@@ -74,7 +74,7 @@ def written_and_read(tried: Tried) -> None:
         host.moves(STORAGE_0 + 1, PORTAL_0)
         same("the inventory that is written behind a move", folder.inventory(), MOVED)
         ended(server)
-    same("what is in the folder", folder.names(), ["A-1_b.tap", "VOL00002.tap", NAME])
+    same("what is in the folder", folder.names(), [*with_records("A-1_b.tap", "VOL00002.tap"), NAME])
 
 
 ONE = '[[volume]]\ntag = "A"\nstorage = 3\n'
@@ -171,7 +171,8 @@ def placed(tried: Tried) -> None:
         host.meets(CHANGER)
         same_places(host, "where volumes lie", PLACES)
         ended(server)
-    same("what is in the folder", folder.names(), ["A.tap", "B.tap", "VOL00002.tap", "VOL00003.tap", "Z.tap", NAME])
+    same("what is in the folder", folder.names(), [
+        *with_records("A.tap", "B.tap", "VOL00002.tap", "VOL00003.tap", "Z.tap"), NAME])
 
 
 def too_many(tried: Tried) -> None:
@@ -242,7 +243,7 @@ def left_out(tried: Tried) -> None:
     for _ in range(2):
         lies_so(folder, told, {DRIVE_0: "A"}, "--volumes", "3")
         same("the inventory", folder.inventory(), GONE)
-        same("what is in the folder", folder.names(), ["A.tap", "B.tap", "C.tap", NAME])
+        same("what is in the folder", folder.names(), [*with_records("A.tap"), "B.tap", "C.tap", NAME])
     folder.put("B.tap", ODD)
     folder.put("C.tap", MARK)
     lies_so(folder, [], {DRIVE_0: "A", STORAGE_0: "C", STORAGE_0 + 2: "B"})
@@ -272,7 +273,7 @@ def in_use(tried: Tried) -> None:
     with folder.served() as server:
         told = f"vtl: {folder.path}: another program has this folder\n"
         other = ["--socket", tried.path("other"), "--media", str(folder.path)]
-        same("what is in the folder", folder.names(), ["VOL00001.tap", NAME])
+        same("what is in the folder", folder.names(), [*with_records("VOL00001.tap"), NAME])
         for words in [[], ["--new-library"]]:
             same("the status and what is told", refused(tried, *other, *words), (2, told))
         ended(server)

@@ -11,9 +11,12 @@ import time
 import typing
 
 from exchanges import CHANGER, DRIVE, B
-from folders import FIRST, HI, MARK, NEW, ODD, THREE, Folder, block, ended, told_by
+from folders import FIRST, HI, MARK, NEW, ODD, Folder, block, ended, told_by
 from hosts import ERASE, FILEMARK, NO_FILEMARK, REWIND, TO_THE_END, UNLOAD, WRITE_PROTECTED, Host, good, locate, move
 from serving import Row, Server, Tried, holds, same
+
+# A block that is longer than a record.
+LONG = block(b"hi" * 100)
 
 FAILED, AGAIN = "vtl: volume VOL00001 could not be written: ", "vtl: volume VOL00001 is written again\n"
 
@@ -88,9 +91,12 @@ if libc.prctl(38, 1, 0, 0, 0) or libc.prctl(22, 2, ctypes.byref(Program({len(NO_
 
 def never_synced(tried: Tried) -> None:
     """A disk that can't take what a file has shows by which commands that is tried. The volume lies in the drive from the start on, since a
-    move would try it too."""
-    folder = Folder(without_syncs(tried), VOL00001=b"")
+    move would try it too; and it was served before, since else its record is brought to the disk at the start."""
+    folder = Folder(tried, VOL00001=b"")
     folder.put("library.toml", b'version = 1\ndrives = 1\nslots = 1\nportals = 0\n[[volume]]\ntag = "VOL00001"\ndata_transfer = 0\n')
+    with folder.served() as server:
+        ended(server)
+    folder.tried = without_syncs(tried)
     with folder.served() as server:
         host = Host(server)
         host.meets(DRIVE)
@@ -127,25 +133,25 @@ def ends_well(server: Server) -> None:
 
 def full_and_mended(tried: Tried) -> None:
     """A tape is written over from its second object on; of what replaces the others half finds room in the file. It is awaited, since the
-    server tries again by itself, and cuts the file back each time."""
-    folder = Folder(tried, VOL00001=THREE)
+    server tries again by itself, and cuts the file back each time. The first object is longer than a record, which has room."""
+    folder = Folder(tried, VOL00001=LONG + MARK + ODD)
     with limited(folder) as (server, host):
-        server.limit_lines(18)
+        server.limit_lines(len(LONG) + 8)
         host.asks(DRIVE, locate(1))
         host.writes(b"new")
         host.is_ended_by(DRIVE, FILEMARK)
         server.told.wait_for(f"{FAILED}disk full\n")
-        folder.await_image("what stays, and a cut tail", FIRST, HI + NEW[:8])
+        folder.await_image("what stays, and a cut tail", FIRST, LONG + NEW[:8])
         is_ended(server, B)
-        folder.await_image("the same behind another try", FIRST, HI + NEW[:8])
+        folder.await_image("the same behind another try", FIRST, LONG + NEW[:8])
         server.limit_lines()
         other = Host(server, B + 1)
         other.meets(DRIVE)
         other.asks(DRIVE, NO_FILEMARK)
-        folder.same_image("what the next filemark mends", FIRST, HI + NEW + MARK)
+        folder.same_image("what the next filemark mends", FIRST, LONG + NEW + MARK)
         server.told.wait_for(AGAIN)
         ends_well(server)
-    folder.same_image("the image at the end", FIRST, HI + NEW + MARK)
+    folder.same_image("the image at the end", FIRST, LONG + NEW + MARK)
 
 
 def full_and_kept_at_the_end(tried: Tried) -> None:

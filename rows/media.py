@@ -13,9 +13,10 @@ import sys
 import images
 import inventories
 import keeping
+import records
 from playing import play
 
-ROWS = [*images.ROWS, *inventories.ROWS, *keeping.ROWS]
+ROWS = [*images.ROWS, *inventories.ROWS, *keeping.ROWS, *records.ROWS]
 
 
 if __name__ == "__main__":
