@@ -3,7 +3,7 @@
 
 use crate::behind::Behind;
 use crate::looking::{BayLook, PartLook, VolumeLook, VolumePlace};
-use crate::volume_image::VolumeImage;
+use crate::volume_image::{ImageInUse, VolumeImage, Way};
 use crate::watch::Extent;
 use library_device::Device;
 use std::alloc::Global;
@@ -15,8 +15,10 @@ use tape_medium::{FIRST_STORAGE, VolumeTag};
 /// What volumes are copied for.
 #[derive(Clone, Copy)]
 pub(crate) enum Purpose {
-    /// An answer that waits, or the end of the library: all of a volume is, and brought to the disk.
+    /// An answer that waits: all of a volume is, and brought to the disk.
     Answer,
+    /// The end of the library: the same, and for the last time.
+    End,
     /// What is to be copied behind: so many parts of a volume are at once, and brought to the disk only where that couldn't be written.
     Behind,
 }
@@ -102,12 +104,13 @@ impl<'a, S: ImageStore + Drop, R: Wait, T: TapeSource<Device>, H: KeepListener> 
     /// Copies a volume into its image, and tells where that fails for the first time, or no longer does. Whether it is copied. What couldn't
     /// be written is brought to the disk too, since else nobody knows whether the disk takes it.
     fn copy_image(&self, image: &VolumeImage<S>, at: VolumePlace) -> bool {
-        let mut kept = image.kept.lock(self.rt);
+        let mut in_use = image.in_use.lock(self.rt);
         let depth = match self.purpose {
             Purpose::Behind if !image.watch.is_failing() => Depth::Image,
-            Purpose::Behind | Purpose::Answer => Depth::Disk,
+            Purpose::Behind | Purpose::Answer | Purpose::End => Depth::Disk,
         };
-        let copied = self.keep(&mut kept, at, depth);
+        let copied = self.bring_on(&mut in_use, at, depth);
+        in_use.note(copied);
         if let Some(change) = image.watch.note(copied) {
             self.tell(at.tag, change);
         }
@@ -117,6 +120,37 @@ impl<'a, S: ImageStore + Drop, R: Wait, T: TapeSource<Device>, H: KeepListener> 
         copied.is_ok()
     }
 
+    /// Copies a volume into its image, in a new file where the disk has failed again.
+    fn bring_on(
+        &self,
+        in_use: &mut ImageInUse<S>,
+        at: VolumePlace,
+        depth: Depth,
+    ) -> Result<Extent, KeepFault> {
+        match in_use.way(matches!(self.purpose, Purpose::End)) {
+            Way::InPlace => self.keep(&mut in_use.kept, at, depth),
+            Way::Anew => self.keep_anew(in_use, at),
+            Way::Later => Err(KeepFault::Failed),
+        }
+    }
+
+    /// Copies all of the volume at a place into a new file, brings that to the disk, and has it take the place of the one that couldn't be
+    /// written.
+    fn keep_anew(
+        &self,
+        in_use: &mut ImageInUse<S>,
+        at: VolumePlace,
+    ) -> Result<Extent, KeepFault> {
+        let mut kept = in_use.kept.renewed(self.alloc).map_err(fault_of_store)?;
+        in_use.give_up();
+        let extent = self
+            .copy(&mut kept, at, None)
+            .map_err(fault_of_flush)?;
+        kept.sync_anew().map_err(fault_of_store)?;
+        in_use.replace(kept);
+        Ok(extent)
+    }
+
     /// Copies the volume at a place into its image, and brings that to the disk if it is to be there. How much of the volume it has then.
     fn keep(
         &self,
@@ -124,7 +158,13 @@ impl<'a, S: ImageStore + Drop, R: Wait, T: TapeSource<Device>, H: KeepListener> 
         at: VolumePlace,
         depth: Depth,
     ) -> Result<Extent, KeepFault> {
-        let extent = self.copy(kept, at).map_err(fault_of_flush)?;
+        let most_parts = match self.purpose {
+            Purpose::Answer | Purpose::End => None,
+            Purpose::Behind => Some(MOST_PARTS),
+        };
+        let extent = self
+            .copy(kept, at, most_parts)
+            .map_err(fault_of_flush)?;
         match depth {
             Depth::Image => {}
             Depth::Disk => kept.sync().map_err(fault_of_store)?,
@@ -135,7 +175,12 @@ impl<'a, S: ImageStore + Drop, R: Wait, T: TapeSource<Device>, H: KeepListener> 
     /// Copies what a volume has by now, wherever it is moved meanwhile; behind what hosts write only so many parts at once, so that the volumes
     /// of other drives have their turn. What is written on behind that isn't waited for, and what was cut off meanwhile isn't needed any
     /// more.
-    fn copy(&self, kept: &mut KeptImage<S>, at: VolumePlace) -> Result<Extent, FlushFault> {
+    fn copy(
+        &self,
+        kept: &mut KeptImage<S>,
+        at: VolumePlace,
+        most_parts: Option<u8>,
+    ) -> Result<Extent, FlushFault> {
         let mut part = TapePart::new(self.alloc)?;
         let mut at = at;
         let mut wanted = u32::MAX;
@@ -156,19 +201,11 @@ impl<'a, S: ImageStore + Drop, R: Wait, T: TapeSource<Device>, H: KeepListener> 
             if range.end >= wanted {
                 return Ok(Extent::All);
             }
-            if self.is_turn_over(parts) {
+            if most_parts.is_some_and(|most| parts >= most) {
                 return Ok(Extent::Part);
             }
         }
         Ok(Extent::All)
-    }
-
-    /// Whether others have their turn, once so many parts of a volume were copied.
-    fn is_turn_over(&self, parts: u8) -> bool {
-        match self.purpose {
-            Purpose::Answer => false,
-            Purpose::Behind => parts >= MOST_PARTS,
-        }
     }
 
     /// Notes what isn't behind any more: the part, or where the volume has no more, all that was behind before it was taken.

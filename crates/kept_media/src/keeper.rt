@@ -210,7 +210,7 @@ impl<S: ImageStore + Drop, N: InventoryStore + Drop> TapeKeeper<Device> for Medi
         source: &T,
         listener: &H,
     ) -> bool {
-        let copying = self.copying(rt, alloc, source, listener, Purpose::Answer);
+        let copying = self.copying(rt, alloc, source, listener, Purpose::End);
         for image in &self.images {
             // What isn't kept is told below.
             let _ = copying.copy_from_anywhere(image.tag);

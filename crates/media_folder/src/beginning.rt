@@ -4,10 +4,10 @@ use crate::fault::FolderFault;
 use crate::inventory_file::sync_folder;
 use crate::library_folder::LibraryFolder;
 use crate::notice::{Notice, tell};
-use crate::record::{RecordFile, SyncedRecord};
+use crate::record::{RecordFile, RecordOf, SyncedRecord, record_path};
 use crate::rights::NEW_FILE;
-use crate::store::{FileAccess, FileStore};
-use crate::trust::{Trust, record_path};
+use crate::store::{FileAccess, FileStore, Surroundings, new_path};
+use crate::trust::Trust;
 use std::fs::{self, File, Files, OpenFile, OpenOptions};
 use std::io::{self, BufReader, ErrorKind, Read, Seek, SeekFrom, Write};
 use std::os::unix::fs::OpenOptionsExt;
@@ -32,9 +32,18 @@ pub(crate) fn begin_writing<'a, R: AllocGlobal + Files<File = File>, E: Write>(
         FileAccess::ReadOnly => return Ok(()),
         FileAccess::ReadWrite => {}
     }
+    if remove_unfinished(rt, store.path()).is_err() {
+        let path = new_path(rt.alloc(), store.path())?;
+        return Err(FolderFault::CannotWrite(path));
+    }
     move_tail(rt, folder, store, trust.read, errors)?;
-    if begin_record(rt, store, trust, boot).is_err() || folder.sync().is_err() {
-        let path = record_path(rt, store.path())?;
+    let around = Surroundings {
+        alloc: rt.alloc(),
+        boot,
+        folder: folder.identity(),
+    };
+    if begin_record(rt, store, trust, around).is_err() || folder.sync().is_err() {
+        let path = record_path(rt.alloc(), store.path())?;
         return Err(FolderFault::CannotWrite(path));
     }
     Ok(())
@@ -121,40 +130,33 @@ fn begin_record<'a, R: AllocGlobal + Files<File = File>>(
     rt: &R,
     store: &mut FileStore<'a, R>,
     trust: Trust,
-    boot: BootId,
+    around: Surroundings,
 ) -> io::Result<()> {
+    let Surroundings { alloc, boot, .. } = around;
     let inode = store.identity().number();
-    let path = record_path(rt, store.path())?;
+    let path = record_path(alloc, store.path())?;
+    let of = RecordOf { alloc, inode, boot };
     let wanted = SyncedRecord {
         length: trust.synced,
         inode,
         boot,
     };
-    let file = if trust.record == Some(wanted) {
-        OpenOptions::new().write(true).open(rt, path.as_str())?
+    let record = if trust.record == Some(wanted) {
+        RecordFile::open(rt, path.as_str(), of)?
     } else {
         store.file().sync_data()?;
-        renewed(rt, path.as_str(), wanted)?
+        RecordFile::begin(rt, path.as_str(), of, trust.synced)?
     };
-    store.begin_record(RecordFile::new(rt.alloc(), file, inode, boot));
+    store.begin_record(record, around);
     Ok(())
 }
 
-/// The file of a record that takes the place of the one at a path.
-fn renewed<R: AllocGlobal + Files<File = File>>(
-    rt: &R,
-    path: &str,
-    record: SyncedRecord,
-) -> io::Result<File> {
-    let new_path = format!(in rt.alloc(); "{path}.new")?;
-    let file = OpenOptions::new()
-        .write(true)
-        .create(true)
-        .truncate(true)
-        .mode(NEW_FILE)
-        .open(rt, new_path.as_str())?;
-    RecordFile::put(rt.alloc(), &file, record)?;
-    file.sync_all()?;
-    fs::rename(rt, new_path.as_str(), path)?;
-    Ok(file)
+/// Removes the file that was to take the place of a volume's file, where a program ended before it did.
+fn remove_unfinished<R: AllocGlobal + Files>(rt: &R, path: &str) -> io::Result<()> {
+    let new_path = new_path(rt.alloc(), path)?;
+    match fs::remove_file(rt, new_path.as_str()) {
+        Ok(()) => Ok(()),
+        Err(error) if error.kind() == ErrorKind::NotFound => Ok(()),
+        Err(error) => Err(error),
+    }
 }

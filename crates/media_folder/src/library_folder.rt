@@ -22,6 +22,11 @@ impl LibraryFolder {
         self.path.as_str()
     }
 
+    /// Which folder it is.
+    pub(crate) fn identity(&self) -> FileIdentity {
+        self.identity
+    }
+
     /// Whether its path still leads to it, and not to another folder that took its place, or from which it was unmounted.
     pub(crate) fn is_at_its_path<R: Files>(&self, rt: &R) -> bool {
         match fs::metadata(rt, self.path.as_str()) {

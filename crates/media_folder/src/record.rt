@@ -1,10 +1,11 @@
 //! The record next to a volume's file, `TAG.synced`: how many bytes of the file are known to be on the disk. It is a text in TOML 1.0.
 use crate::boot::BootId;
+use crate::rights::NEW_FILE;
 use std::alloc::{AllocError, Global};
 use std::fmt::Write;
-use std::fs::{File, OpenFile};
+use std::fs::{self, File, Files, OpenFile, OpenOptions};
 use std::io;
-use std::os::unix::fs::FileExt;
+use std::os::unix::fs::{FileExt, OpenOptionsExt};
 use toml::{Table, Value};
 
 /// The version of the text that is written, and the one that is read.
@@ -77,40 +78,74 @@ fn number_of(value: i64) -> Option<u64> {
     }
 }
 
-/// The file of a record, that is written in its place.
-#[derive(Drop)]
-pub(crate) struct RecordFile {
-    alloc: Global,
-    file: File,
-    inode: u64,
-    boot: BootId,
+/// The path of the record of a volume's file.
+pub(crate) fn record_path(alloc: Global, image: &str) -> Result<String, AllocError> {
+    let stem = image.strip_suffix(".tap").unwrap_or(image);
+    format!(in alloc; "{stem}.synced")
 }
 
-impl RecordFile {
-    /// Of a file with that number, in this run of the machine.
-    pub fn new(alloc: Global, file: File, inode: u64, boot: BootId) -> RecordFile {
-        RecordFile {
-            alloc,
-            file,
-            inode,
-            boot,
+/// Which file a record tells of, and in which run of the machine.
+#[derive(Clone, Copy)]
+pub(crate) struct RecordOf {
+    pub alloc: Global,
+    pub inode: u64,
+    pub boot: BootId,
+}
+
+impl RecordOf {
+    /// The record that so many of its bytes are on the disk.
+    fn record(&self, length: u64) -> SyncedRecord {
+        SyncedRecord {
+            length,
+            inode: self.inode,
+            boot: self.boot,
         }
     }
 
     /// Writes a record into a file.
-    pub fn put(alloc: Global, file: &File, record: SyncedRecord) -> io::Result<()> {
-        let text = record.text(alloc)?;
+    fn put(&self, file: &File, length: u64) -> io::Result<()> {
+        let text = self.record(length).text(self.alloc)?;
         file.write_all_at(text.as_bytes(), 0)
+    }
+}
+
+/// The file of a record, that is written in its place.
+#[derive(Drop)]
+pub(crate) struct RecordFile {
+    of: RecordOf,
+    file: File,
+}
+
+impl RecordFile {
+    /// The one at a path, which says so already.
+    pub fn open<R: Files<File = File>>(rt: &R, path: &str, of: RecordOf) -> io::Result<RecordFile> {
+        let file = OpenOptions::new().write(true).open(rt, path)?;
+        Ok(RecordFile { of, file })
+    }
+
+    /// Another one, which takes the place of the one at a path. The folder isn't brought to the disk.
+    pub fn begin<R: Files<File = File>>(
+        rt: &R,
+        path: &str,
+        of: RecordOf,
+        length: u64,
+    ) -> io::Result<RecordFile> {
+        let new_path = format!(in of.alloc; "{path}.new")?;
+        let file = OpenOptions::new()
+            .write(true)
+            .create(true)
+            .truncate(true)
+            .mode(NEW_FILE)
+            .open(rt, new_path.as_str())?;
+        of.put(&file, length)?;
+        file.sync_all()?;
+        fs::rename(rt, new_path.as_str(), path)?;
+        Ok(RecordFile { of, file })
     }
 
     /// Notes on the disk that so many bytes are there. The text is shorter than a sector, which a disk writes whole or not at all.
     pub fn write(&self, length: u64) -> io::Result<()> {
-        let record = SyncedRecord {
-            length,
-            inode: self.inode,
-            boot: self.boot,
-        };
-        RecordFile::put(self.alloc, &self.file, record)?;
+        self.of.put(&self.file, length)?;
         self.file.sync_data()
     }
 }

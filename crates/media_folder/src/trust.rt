@@ -1,7 +1,7 @@
 //! How much of a volume's file may be read, by its record.
 use crate::boot::BootId;
 use crate::notice::{Notice, RecordFault, tell};
-use crate::record::SyncedRecord;
+use crate::record::{SyncedRecord, record_path};
 use crate::refusal::ImageRefusal;
 use crate::store::FileStore;
 use std::alloc::AllocError;
@@ -44,12 +44,6 @@ impl Trust {
     }
 }
 
-/// The path of the record of a volume's file.
-pub(crate) fn record_path<R: AllocGlobal>(rt: &R, image: &str) -> Result<String, AllocError> {
-    let stem = image.strip_suffix(".tap").unwrap_or(image);
-    format!(in rt.alloc(); "{stem}.synced")
-}
-
 /// How much of a volume's file may be read. A record that isn't one of this file is told, and passed over.
 pub(crate) fn trust_in<'a, R: AllocGlobal + Files<File = File>, E: Write>(
     rt: &R,
@@ -58,7 +52,7 @@ pub(crate) fn trust_in<'a, R: AllocGlobal + Files<File = File>, E: Write>(
     errors: &mut E,
 ) -> Result<Trust, ImageRefusal> {
     let length = store.file().metadata()?.len();
-    let path = record_path(rt, store.path())?;
+    let path = record_path(rt.alloc(), store.path())?;
     let inode = store.identity().number();
     match record_at(rt, path.as_str(), inode, length)? {
         Ok(Some(record)) => Ok(Trust::by(record, length, boot)),

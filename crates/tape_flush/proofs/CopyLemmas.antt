@@ -1,5 +1,5 @@
 -- What a part that is written makes of the image of a tape, what is left where that fails, and how an image follows a tape.
-use Rattle.std.proofs.Common.{◌≡◌, inl, inr, ℕ, ◌+◌, ◌-◌, ◌≤◌, min, Bool, true, false, List, [], ◌++◌, length, take, drop, map, Option, Some, None, Result, Ok, Err, OnOk, OnErr, refl, sym, ap, subst, ◌∙◌, append_assoc, length-append, arith}
+use Rattle.std.proofs.Common.{◌≡◌, inl, inr, ℕ, ◌+◌, ◌-◌, ◌≤◌, min, Bool, true, false, List, [], ◌++◌, length, take, drop, Option, Some, None, Result, Ok, Err, OnOk, OnErr, refl, sym, ap, subst, ◌∙◌, append_assoc, length-append, arith}
 use Rattle.std.proofs.Math.Seq.{take-append_seam}
 use Rattle.std.specs.Prelude.{IfErr, IsSomeAnd}
 use Rattle.std.proofs.lemmas.List.{take-take, take_all, drop-take, take-append-drop, append-nil, length-take, length-take-le, length-drop}
@@ -11,14 +11,14 @@ use Rattle.tape_flush.specs.declared.fault.FlushFault.{FlushFault}
 use Rattle.tape_flush.specs.declared.fault.FlushFault.TheVariants.{NoMemory, PastLastOffset, Store, Unsynced}
 use Rattle.tape_flush.specs.declared.known.Known.{Known}
 use Rattle.tape_flush.specs.declared.part_range.PartRange.{PartRange}
-use Rattle.tape_flush.specs.Stores.{Sync, Note, FileValue, DoesTo, contents_of, Replaces}
+use Rattle.tape_flush.specs.Stores.{Sync, Note, FileValue, DoesTo, contents_of}
 use Rattle.tape_flush.specs.declared.store.StoreFault.{StoreFault}
 use Rattle.tape_flush.specs.Careful.{after, IsKnown}
 use Rattle.tape_flush.specs.Watched.{IsEmptyAt, Same, Stopped, IsStopped, Left, LeftUnless}
 use Rattle.tape_flush.specs.Replacing.{IsReplaced}
-use Rattle.tape_flush.specs.Images.{ImageValue, image_value, TapePartValue, ends_from, end_at, between, IsPart, HoldsAll, HoldsFirst, IsWhole, IsHeld, Leaves}
+use Rattle.tape_flush.specs.Images.{ImageValue, image_value, TapePartValue, ends_from, end_at, between, IsPart, HoldsAll, IsWhole, IsHeld, Leaves}
 use Rattle.tape_flush.specs.Kept.{KeptImageValue, image_of, last_end, ends_within, IsWholeImage, Holds, HoldsIn, Has, HasFirstOf, FollowsUpTo, Follows, IsTaken, Begins, BeginsUnless, ImagesFollowTapes}
-use Rattle.tape_flush.proofs.Holding.{end_from, Split, split, same_count, holds_length, within_is_first, within_ends, all_within, end_in_first, first_of_none}
+use Rattle.tape_flush.proofs.Holding.{Split, split, same_count, holds_length, within_is_first, within_ends, all_within, end_in_first, first_of_none}
 use Rattle.tape_flush.proofs.Knowing.{take_less, KnownIn, ends_empty}
 use Rattle.tape_flush.proofs.Pieces.{length-ends}
 use Rattle.tape_flush.proofs.Flushes.{Bytes, whole_bytes, cut_bytes, some_bytes}

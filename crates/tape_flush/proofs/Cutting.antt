@@ -1,12 +1,12 @@
 -- A file that wasn't cut back.
-use Rattle.std.proofs.Common.{◌≡◌, inl, inr, ℕ, ◌≤◌, min, true, false, List, length, take, Option, Some, None, refl, sym, ap, subst, ◌∙◌, arith}
-use Rattle.std.proofs.lemmas.List.{take-take, take_all, length-take}
+use Rattle.std.proofs.Common.{◌≡◌, inl, ℕ, ◌≤◌, true, false, List, length, take, Option, Some, None, sym, ap, ◌∙◌, arith}
+use Rattle.std.proofs.lemmas.List.{take-take, take_all}
 use Rattle.tape_flush.specs.declared.fault.FlushFault.TheVariants.{Store, Unsynced}
 use Rattle.tape_flush.specs.declared.known.Known.{Known}
 use Rattle.tape_flush.specs.declared.store.StoreFault.{StoreFault}
-use Rattle.tape_flush.specs.Stores.{StoreCall, Truncate, Sync, FileValue, file_value, DoesTo, contents_of}
+use Rattle.tape_flush.specs.Stores.{Truncate, Sync, FileValue, DoesTo, contents_of}
 use Rattle.tape_flush.specs.Careful.{IsKnown}
-use Rattle.tape_flush.specs.Watched.{Same, IsStopped, Stopped}
+use Rattle.tape_flush.specs.Watched.{Same, IsStopped}
 use Rattle.tape_flush.proofs.Knowing.{take_less, KnownIn}
 
 -- its record wasn't written

@@ -1,15 +1,13 @@
 -- What a part that is written leaves of an image, and how that is read.
-use Rattle.std.proofs.Common.{◌≡◌, inl, inr, ℕ, ◌+◌, ◌-◌, ◌≤◌, List, [], ◌++◌, length, take, drop, map, Option, Some, None, Result, Ok, Err, OnOk, OnErr, sym, ap, subst, ◌∙◌, append_assoc, length-append, arith}
+use Rattle.std.proofs.Common.{◌≡◌, ℕ, ◌+◌, ◌-◌, ◌≤◌, List, [], ◌++◌, length, take, drop, map, Option, Some, None, sym, ap, subst, ◌∙◌, append_assoc, length-append, arith}
 use Rattle.std.proofs.lemmas.List.{append-nil, take_at}
 use Rattle.std.proofs.Math.Seq.{take-append-add}
 use Rattle.std.specs.Option.{IsSomeAnd}
 use Rattle.tape_medium.specs.Object.{Object}
 use Rattle.tape_image.specs.Images.{image_bytes, AreKeepable}
 use Rattle.tape_image.specs.Reading.{Placed, Waiting, Reads}
-use Rattle.tape_flush.specs.declared.fault.FlushFault.{FlushFault}
-use Rattle.tape_flush.specs.Stores.{TruncatesInPart, Replaces}
-use Rattle.tape_flush.specs.Images.{ImageValue, end_at, ends_from, IsFlushed, Fails, uncut, unfinished, object_in, HoldsAll, HoldsFirst, IsWhole, IsHeld, Leaves}
-use Rattle.tape_flush.proofs.Holding.{Split, split, join, written, same_count, ReadsOn, reads_on, holds_nothing, first_cut, first_behind, first_written}
+use Rattle.tape_flush.specs.Images.{ImageValue, end_at, ends_from, object_in, HoldsAll, HoldsFirst, IsWhole, IsHeld}
+use Rattle.tape_flush.proofs.Holding.{Split, split, join, written, ReadsOn, reads_on, holds_nothing, first_cut, first_behind, first_written}
 
 -- bytes that hold objects for sure, and then the first of others
 abbrev pub Bytes : List ℕ → List ℕ → (known others : List Object) → Type 0

@@ -1,5 +1,5 @@
 -- Allowed calls, one after another.
-use Rattle.std.proofs.Common.{◌≡◌, ◌⊎◌, ℕ, ◌+◌, ◌≤◌, min, max, Bool, true, false, List, [], ◌∷◌, ◌++◌, length, take, Option, Some, None, refl, sym, ap, subst, ◌∙◌, arith}
+use Rattle.std.proofs.Common.{◌≡◌, true, false, sym, ap, subst, ◌∙◌, arith}
 use Rattle.tape_flush.specs.declared.known.Known.{Known}
 use Rattle.tape_flush.specs.Stores.{StoreCall, Truncate, Append, Sync, Note}
 use Rattle.tape_flush.specs.Careful.{after, Allowed, GoesOn, stays, calls, IsInOrder}

@@ -9,3 +9,4 @@ pub mod Opened
 pub mod Readings
 pub mod CopyLemmas
 pub mod Survivors
+pub mod NewFile

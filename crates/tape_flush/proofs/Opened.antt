@@ -1,5 +1,5 @@
 -- Each object of an image that was read ends where its index says.
-use Rattle.std.proofs.Common.{◌≡◌, ℕ, ◌+◌, ◌≤◌, Bool, true, false, cond, inl, inr, List, [], ◌∷◌, ◌++◌, length, take, drop, map, Option, Some, None, refl, sym, ap, subst, ◌∙◌, append_assoc, length-drop, length-append, arith}
+use Rattle.std.proofs.Common.{◌≡◌, ℕ, ◌+◌, ◌≤◌, Bool, true, false, cond, inl, inr, List, [], ◌∷◌, ◌++◌, length, take, drop, map, refl, sym, ap, subst, ◌∙◌, append_assoc, length-drop, length-append, arith}
 use Rattle.std.proofs.lemmas.Bool.{cases_lt}
 use Rattle.std.proofs.lemmas.List.{take-append-drop, length-take-le, drop-take, take-take, drop_at, drop_all, drop-drop, take_all}
 use Rattle.tape_medium.specs.Object.{Object, Block, Mark}
@@ -11,14 +11,13 @@ use Rattle.tape_image.specs.Reading.{Placed, Stop, Waiting, Ended, Broken, Reads
 use Rattle.tape_image.proofs.Parts.{part_is, short_is, there, not_there, chosen}
 use Rattle.tape_image.proofs.Images.{known_some, stays}
 use Rattle.tape_image.proofs.Fits.{told}
-use Rattle.std.specs.Option.{IsSomeAnd}
 use Rattle.tape_image.specs.declared.index.IndexedObject.{IndexedObject}
 use Rattle.tape_flush.specs.Stores.{FileValue}
 use Rattle.tape_flush.specs.Careful.{trusted_to, IsKnown}
 use Rattle.tape_flush.specs.Kept.{ends_within, Holds}
 use Rattle.tape_flush.proofs.Flushes.{Bytes}
 use Rattle.tape_flush.proofs.CopyLemmas.{holds_by, shrunk_bytes}
-use Rattle.tape_flush.specs.Images.{object_in, end_at, HoldsOne, HoldsAll}
+use Rattle.tape_flush.specs.Images.{object_in, HoldsOne, HoldsAll}
 use Rattle.tape_flush.specs.Openings.{end_of_entry}
 use Rattle.tape_flush.proofs.Holding.{end_from, holds_nothing}
 

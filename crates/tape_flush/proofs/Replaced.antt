@@ -1,7 +1,7 @@
 -- A file that is cut back and written on.
-use Rattle.std.proofs.Common.{◌≡◌, ◌⊎◌, inl, inr, ℕ, ◌+◌, ◌≤◌, List, ◌++◌, length, take, Option, Some, None, Result, Ok, Err, OnOk, OnErr, refl, sym, ap, subst, ◌∙◌, arith}
+use Rattle.std.proofs.Common.{◌≡◌, ◌⊎◌, inl, inr, ℕ, ◌+◌, ◌≤◌, List, ◌++◌, length, take, Option, Some, None, Result, Ok, Err, OnOk, OnErr, sym, ap, subst, ◌∙◌, arith}
 use Rattle.std.specs.Prelude.{IfErr}
-use Rattle.std.proofs.lemmas.List.{take-take, take_all, take-append-le, length-take-le}
+use Rattle.std.proofs.lemmas.List.{take-take, take_all, take-append-le}
 use Rattle.tape_flush.specs.declared.fault.FlushFault.{FlushFault}
 use Rattle.tape_flush.specs.declared.fault.FlushFault.TheVariants.{NoMemory, PastLastOffset, Store, Unsynced}
 use Rattle.tape_flush.specs.declared.known.Known.{Known}

@@ -1,5 +1,5 @@
 -- Calls that lose nothing, in whatever order they fail: what is known of a file by them, and which call is allowed then.
-use Rattle.std.specs.Prelude.{◌≡◌, ℕ, ◌+◌, ◌≤◌, min, max, Bool, true, false, List, All, length, take}
+use Rattle.std.specs.Prelude.{◌≡◌, ℕ, ◌+◌, ◌≤◌, min, max, true, false, All, length, take}
 use Rattle.tape_flush.specs.declared.known.Known.{Known}
 use Rattle.tape_flush.specs.declared.known.FileTail.{FileTail}
 use Rattle.tape_flush.specs.declared.known.FileTail.TheVariants.{Unknown, Cut, Empty}

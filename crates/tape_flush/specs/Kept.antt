@@ -8,8 +8,8 @@ use Rattle.tape_flush.specs.declared.fault.FlushFault.{FlushFault}
 use Rattle.tape_flush.specs.declared.fault.FlushFault.TheVariants.{NoMemory, PastLastOffset, Store, Unsynced}
 use Rattle.tape_flush.specs.declared.known.Known.{Known}
 use Rattle.tape_flush.specs.declared.part_range.PartRange.{PartRange}
-use Rattle.tape_flush.specs.Stores.{StoreCall, FileValue, contents_of}
-use Rattle.tape_flush.specs.Careful.{GoesOn, IsKnown}
+use Rattle.tape_flush.specs.Stores.{FileValue, contents_of}
+use Rattle.tape_flush.specs.Careful.{IsKnown}
 use Rattle.tape_flush.specs.Watched.{IsEmptyAt}
 use Rattle.tape_flush.specs.Images.{ImageValue, image_value, TapePartValue, end_at, between, IsPart, IsHeld, HoldsAll, HoldsFirst}
 

@@ -57,6 +57,11 @@ DoesTo call None (Some new) = ⊥
 DoesTo call (Some old) None = ⊥
 DoesTo call (Some old) (Some new) = Does call old new
 
+-- A NEW FILE, without a byte: a power cut finds none of it, and its record says no more
+abbrev pub IsNewFile : Option FileValue → Type 0
+IsNewFile None = Unit {0}
+IsNewFile (Some file) = file ≡ file_value [] 0 [] (0 ∷ [])
+
 -- A POWER CUT: the bytes that may be found then, and what the record may say
 abbrev pub Survives : FileValue → (found : List ℕ) → (noted : ℕ) → Type 0
 Survives file found noted = (take (length file.synced) found ≡ file.synced) × Contains file.noted noted

@@ -1,9 +1,10 @@
-ghost use Rattle.std.specs.Prelude.{◌≡◌, ◌==◌, ◌↔◌, true, List, [], length, take, IsTrue, IfOk, OnOk, OnErr, IfErr};
+ghost use Rattle.std.specs.Prelude.{◌≡◌, ◌==◌, ◌↔◌, true, false, List, [], length, take, IsTrue, IfOk, IfSome, OnOk, OnErr, IfErr};
 ghost use Rattle.tape_medium.specs.Object.{Object};
 ghost use Rattle.tape_medium.specs.TapeView.{TapeView};
 ghost use Rattle.tape_flush.specs.Careful.{GoesOn, trusted_to};
+ghost use Rattle.tape_flush.specs.Stores.{IsNewFile};
 ghost use Rattle.tape_flush.specs.Images.{IsHeld, IsWhole};
-ghost use Rattle.tape_flush.specs.Kept.{Has, HasFirstOf, Follows, IsTaken, IsOnDisk, IsUnchanged, IsWholeImage, BeginsUnless, ends_within, image_of};
+ghost use Rattle.tape_flush.specs.Kept.{Has, HasFirstOf, Holds, Follows, IsTaken, IsOnDisk, IsUnchanged, IsWholeImage, BeginsUnless, ends_within, image_of};
 
 use crate::ends::{end_at, keep_within, last_end};
 use crate::fault::FlushFault;
@@ -13,6 +14,7 @@ use crate::part_range::PartRange;
 use crate::replacing::replace;
 use crate::store::{ImageStore, StoreFault};
 use crate::watched_file::WatchedFile;
+use std::alloc::Global;
 use std::marker::Model;
 use tape_medium::Tape;
 
@@ -143,6 +145,17 @@ impl<S: ImageStore> KeptImage<S> {
         if self.is_on_disk() {
             return Ok(());
         }
+        self.sync_anew()
+    }
+
+    /// The same, also where all of it is on the disk as its record says: then that is written once more, and a new file takes its place.
+    pub fn sync_anew(&mut self) -> Result<(), StoreFault>
+        ensures goes { GoesOn S.did self.old.store self.old.known self.new.store self.new.known }
+        ensures ends { OnOk result (self.new.ends ≡ self.old.ends) }
+        ensures ok { OnOk result (IsOnDisk self.new) }
+        ensures same { (objects others : List Object) → Has self.old objects others → OnOk result (Has self.new objects others) }
+        ensures err { (objects others : List Object) → Has self.old objects others → OnErr result (HasFirstOf objects self.new) }
+    {
         if !self.is_whole() {
             return Err(StoreFault::Failed);
         }
@@ -152,5 +165,18 @@ impl<S: ImageStore> KeptImage<S> {
             return Err(fault);
         }
         self.file.note(last_end(&self.ends))
+    }
+
+    /// The image of the same tape in a new file, which has none of its objects yet. It takes the place of this one when it is brought to the disk.
+    pub fn renewed(&self, alloc: Global) -> Result<KeptImage<S>, StoreFault>
+        ensures new { IfOk result (λ image. (image.ends ≡ []) × (image.known ≡ trusted_to 0) × (image.untouched ≡ false) × IsNewFile image.file) }
+        ensures has { IfOk result (λ image. IfSome image.file (λ file. Holds file image.known image.ends [] [])) }
+    {
+        let store = self.file.store().renewed()?;
+        Ok(KeptImage {
+            file: WatchedFile::new(store, Known::opened(0)),
+            ends: Vec::new(alloc),
+            is_untouched: false,
+        })
     }
 }

@@ -50,4 +50,12 @@ impl ImageStore for MemoryStore {
         self.noted = size;
         Ok(())
     }
+
+    fn renewed(&self) -> Result<MemoryStore, StoreFault> {
+        Ok(MemoryStore {
+            bytes: Vec::new(*self.bytes.allocator()),
+            synced: 0,
+            noted: 0,
+        })
+    }
 }

@@ -16,8 +16,8 @@ pub enum StoreFault {
 /// `did` says that a call led from one state of a store to another. A store need say nothing by it; but code that is generic over stores gets
 /// it from these calls alone, so a clause with it says which calls were made, in which order and with which result, of every store.
 pub trait ImageStore {
-    ghost use Rattle.std.specs.Prelude.{Option, None, is_ok};
-    ghost use Rattle.tape_flush.specs.Stores.{StoreCall, FileValue, DoesTo, Truncate, Append, Sync, Note};
+    ghost use Rattle.std.specs.Prelude.{Option, None, is_ok, IfOk};
+    ghost use Rattle.tape_flush.specs.Stores.{StoreCall, FileValue, DoesTo, IsNewFile, Truncate, Append, Sync, Note};
 
     // The file, where its bytes are known.
     ghost file: { Self → Option FileValue } = { λ _. None };
@@ -42,6 +42,11 @@ pub trait ImageStore {
     /// Notes on the disk that the first `size` bytes of the file are there. Where it fails the record may say either.
     fn note(&mut self, size: u64) -> Result<(), StoreFault>
         ensures { did self.old (Note size (is_ok result)) self.new };
+
+    /// A new file for the same image, without a byte. It takes the place of this file on the disk when its record is noted for the first time;
+    /// until then a power cut finds this one. Nothing is done with this one any more after the new one was written on.
+    fn renewed(&self) -> Result<Self, StoreFault>
+        ensures { IfOk result (λ store. IsNewFile (file store)) };
 
     // What a call does to a file whose bytes are known.
     ghost does: { (before : Self) (call : StoreCall) (after : Self) → did before call after → DoesTo call (file before) (file after) };

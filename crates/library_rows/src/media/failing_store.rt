@@ -55,4 +55,13 @@ impl ImageStore for FailingStore {
         self.noted = size;
         Ok(())
     }
+
+    fn renewed(&self) -> Result<FailingStore, StoreFault> {
+        Ok(FailingStore {
+            bytes: Vec::new(*self.bytes.allocator()),
+            synced: 0,
+            noted: 0,
+            fails: false,
+        })
+    }
 }

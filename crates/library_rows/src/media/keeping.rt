@@ -74,6 +74,11 @@ impl<'a, R: Wait> ImageStore for SharedStore<'a, R> {
     fn note(&mut self, _size: u64) -> Result<(), StoreFault> {
         Ok(())
     }
+
+    /// Nothing fails here.
+    fn renewed(&self) -> Result<SharedStore<'a, R>, StoreFault> {
+        Err(StoreFault::Failed)
+    }
 }
 
 /// Nobody is told.

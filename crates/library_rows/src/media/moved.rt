@@ -1,4 +1,4 @@
-//! Volumes that are moved before they are kept, and one whose file is full.
+//! Volumes that are moved before they are kept, one whose file is full, and one whose file fails for good.
 
 use super::units::{BLOCK, BLOCK_AND_MARK, NoStore, Units, WRITE_HI, WRITE_MARK, image_in};
 use crate::comparing::{assert_list, assert_same};
@@ -23,11 +23,14 @@ const SIZE: LibrarySize = LibrarySize {
     portals: 0,
 };
 
-/// A file in memory, which may be full.
+/// A file in memory, which may be full, or fail for good, and the one that is made then.
 #[derive(Drop)]
 struct MemoryFile {
     bytes: Mutex<Vec<u8>>,
     is_full: AtomicBool,
+    fails: AtomicBool,
+    new_bytes: Mutex<Vec<u8>>,
+    new_fails: AtomicBool,
 }
 
 impl MemoryFile {
@@ -35,8 +38,18 @@ impl MemoryFile {
         MemoryFile {
             bytes: Mutex::new(Vec::new(alloc)),
             is_full: AtomicBool::new(false),
+            fails: AtomicBool::new(false),
+            new_bytes: Mutex::new(Vec::new(alloc)),
+            new_fails: AtomicBool::new(false),
         }
     }
+}
+
+/// Which of the two.
+#[derive(Clone, Copy, PartialEq, Eq)]
+enum Age {
+    Old,
+    New,
 }
 
 /// Such a file as the store of an image.
@@ -44,6 +57,23 @@ impl MemoryFile {
 struct SharedFile<'a, R: Wait> {
     rt: &'a R,
     file: &'a MemoryFile,
+    age: Age,
+}
+
+impl<'a, R: Wait> SharedFile<'a, R> {
+    fn bytes(&self) -> &'a Mutex<Vec<u8>> {
+        match self.age {
+            Age::Old => &self.file.bytes,
+            Age::New => &self.file.new_bytes,
+        }
+    }
+
+    fn fails(&self) -> bool {
+        match self.age {
+            Age::Old => self.file.fails.load(Ordering::SeqCst),
+            Age::New => self.file.new_fails.load(Ordering::SeqCst),
+        }
+    }
 }
 
 impl<'a, R: Wait> ImageStore for SharedFile<'a, R> {
@@ -52,7 +82,7 @@ impl<'a, R: Wait> ImageStore for SharedFile<'a, R> {
     ghost does = { λ before call after done. tt };
 
     fn truncate(&mut self, size: u64) -> Result<(), StoreFault> {
-        self.file.bytes.lock(self.rt).truncate(size as usize);
+        self.bytes().lock(self.rt).truncate(size as usize);
         Ok(())
     }
 
@@ -60,18 +90,31 @@ impl<'a, R: Wait> ImageStore for SharedFile<'a, R> {
         if self.file.is_full.load(Ordering::SeqCst) {
             return Err(StoreFault::Full);
         }
-        match self.file.bytes.lock(self.rt).extend_from_slice(bytes) {
+        match self.bytes().lock(self.rt).extend_from_slice(bytes) {
             Ok(()) => Ok(()),
             Err(_) => Err(StoreFault::Full),
         }
     }
 
     fn sync(&mut self) -> Result<(), StoreFault> {
-        Ok(())
+        if self.fails() {
+            Err(StoreFault::Failed)
+        } else {
+            Ok(())
+        }
     }
 
     fn note(&mut self, _size: u64) -> Result<(), StoreFault> {
         Ok(())
+    }
+
+    fn renewed(&self) -> Result<SharedFile<'a, R>, StoreFault> {
+        self.file.new_bytes.lock(self.rt).clear();
+        Ok(SharedFile {
+            rt: self.rt,
+            file: self.file,
+            age: Age::New,
+        })
     }
 }
 
@@ -93,6 +136,14 @@ impl<'a, R: Wait> KeepListener for Told<'a, R> {
     }
 }
 
+fn old_file<'a, R: Wait>(rt: &'a R, file: &'a MemoryFile) -> SharedFile<'a, R> {
+    SharedFile {
+        rt,
+        file,
+        age: Age::Old,
+    }
+}
+
 /// The keeper of A and B.
 fn keeper<'a, R: Abort + Wait>(
     rt: &'a R,
@@ -101,8 +152,8 @@ fn keeper<'a, R: Abort + Wait>(
     b: &'a MemoryFile,
 ) -> MediaKeeper<SharedFile<'a, R>, NoStore> {
     let images = [
-        image_in(rt, alloc, A, SharedFile { rt, file: a }),
-        image_in(rt, alloc, B, SharedFile { rt, file: b }),
+        image_in(rt, alloc, A, old_file(rt, a)),
+        image_in(rt, alloc, B, old_file(rt, b)),
     ];
     MediaKeeper::new(
         SIZE,
@@ -175,5 +226,37 @@ fn a_volume_that_fails_holds_up_no_other_and_is_tried_again(rt: HostRuntime) {
     a.is_full.store(false, Ordering::SeqCst);
     keeper.retry(&rt, alloc, &units, &told);
     assert_list(&rt, &a.bytes.lock(&rt), BLOCK, "A is in its file");
+    assert_list(&rt, &told.letters.lock(&rt), b"FG", "and so it is told");
+}
+
+/// Twice it is written again in its file, then all of it in a new one, also what was in the old one for sure.
+#[test]
+fn a_volume_whose_file_fails_for_good_is_written_to_a_new_one(rt: HostRuntime) {
+    let alloc = rt.alloc();
+    let (a, b) = (MemoryFile::new(alloc), MemoryFile::new(alloc));
+    let keeper = keeper(&rt, alloc, &a, &b);
+    let units = Units::new(alloc, A, B);
+    let told = Told {
+        rt: &rt,
+        letters: Mutex::new(Vec::new(alloc)),
+    };
+    let is_written = units.performs(&rt, alloc, 0, &WRITE_HI, b"hi");
+    let is_kept = keeper.keep(&rt, alloc, &units, &told, moved(A));
+    a.fails.store(true, Ordering::SeqCst);
+    a.new_fails.store(true, Ordering::SeqCst);
+    let is_marked = units.performs(&rt, alloc, 0, &WRITE_MARK, &[]);
+    let kept = (
+        keeper.keep(&rt, alloc, &units, &told, moved(A)),
+        keeper.keep(&rt, alloc, &units, &told, moved(A)),
+        keeper.keep(&rt, alloc, &units, &told, moved(A)),
+    );
+    assert_same(&rt, (is_written, is_kept, is_marked), (true, true, true), "A is written on");
+    assert_same(&rt, kept, (false, false, false), "the disk fails");
+    assert_list(&rt, &told.letters.lock(&rt), b"F", "it is told once");
+    assert_list(&rt, &a.new_bytes.lock(&rt), BLOCK_AND_MARK, "all of A is tried in a new file");
+    a.new_fails.store(false, Ordering::SeqCst);
+    let is_whole = keeper.keep_all(&rt, alloc, &units, &told);
+    assert_same(&rt, is_whole, true, "the new file takes the place of the old one");
+    assert_list(&rt, &a.new_bytes.lock(&rt), BLOCK_AND_MARK, "A is in the new file");
     assert_list(&rt, &told.letters.lock(&rt), b"FG", "and so it is told");
 }

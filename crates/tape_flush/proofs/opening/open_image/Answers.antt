@@ -1,4 +1,4 @@
-use Rattle.std.proofs.Common.{◌≡◌, ℕ, List, Option, Some, [], ◌++◌, map, drop, length, take, refl, sym, ap, subst, ◌∙◌}
+use Rattle.std.proofs.Common.{◌≡◌, ℕ, List, Option, [], ◌++◌, map, drop, length, take, refl, sym, ap, subst, ◌∙◌}
 use Rattle.tape_image.specs.Indexes.{indexed}
 use Rattle.tape_flush.specs.Openings.{ImageEndsValue, end_of_entry}
 use Rattle.tape_flush.specs.Images.{object_in}

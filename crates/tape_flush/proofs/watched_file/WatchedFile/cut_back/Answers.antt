@@ -1,4 +1,4 @@
-use Rattle.std.proofs.Common.{◌≡◌, ◌≤◌, ℕ, true, false, ap, subst, ◌∙◌, arith}
+use Rattle.std.proofs.Common.{true, false, ap, arith}
 use Rattle.tape_flush.specs.declared.known.Known.{Known}
 use Rattle.tape_flush.specs.Stores.{Truncate, Sync}
 use Rattle.tape_flush.specs.Careful.{GoesOn}

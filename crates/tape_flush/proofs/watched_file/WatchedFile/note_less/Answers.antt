@@ -1,4 +1,4 @@
-use Rattle.std.proofs.Common.{◌≡◌, ◌≤◌, ℕ, is_ok, Bool, true, false, ap, subst, arith}
+use Rattle.std.proofs.Common.{◌≤◌, is_ok, ap, arith}
 use Rattle.tape_flush.specs.Stores.{Note}
 use Rattle.tape_flush.specs.Careful.{stays}
 use Rattle.tape_flush.specs.Watched.{WatchedValue}
