@@ -136,16 +136,10 @@ impl<'a, S: ImageStore + Drop, R: Wait, T: TapeSource<Device>, H: KeepListener> 
 
     /// Copies all of the volume at a place into a new file, brings that to the disk, and has it take the place of the one that couldn't be
     /// written.
-    fn keep_anew(
-        &self,
-        in_use: &mut ImageInUse<S>,
-        at: VolumePlace,
-    ) -> Result<Extent, KeepFault> {
+    fn keep_anew(&self, in_use: &mut ImageInUse<S>, at: VolumePlace) -> Result<Extent, KeepFault> {
         let mut kept = in_use.kept.renewed(self.alloc).map_err(fault_of_store)?;
         in_use.give_up();
-        let extent = self
-            .copy(&mut kept, at, None)
-            .map_err(fault_of_flush)?;
+        let extent = self.copy(&mut kept, at, None).map_err(fault_of_flush)?;
         kept.sync_anew().map_err(fault_of_store)?;
         in_use.replace(kept);
         Ok(extent)
@@ -162,9 +156,7 @@ impl<'a, S: ImageStore + Drop, R: Wait, T: TapeSource<Device>, H: KeepListener> 
             Purpose::Answer | Purpose::End => None,
             Purpose::Behind => Some(MOST_PARTS),
         };
-        let extent = self
-            .copy(kept, at, most_parts)
-            .map_err(fault_of_flush)?;
+        let extent = self.copy(kept, at, most_parts).map_err(fault_of_flush)?;
         match depth {
             Depth::Image => {}
             Depth::Disk => kept.sync().map_err(fault_of_store)?,

@@ -35,10 +35,7 @@ impl<S: ImageStore + Drop> ImageInUse<S> {
     pub fn way(&self, is_last: bool) -> Way {
         if self.failures < MOST_IN_PLACE && !self.is_given_up {
             Way::InPlace
-        } else if is_last
-            || self.failures.is_power_of_two()
-            || self.failures % AT_THE_LATEST == 0
-        {
+        } else if is_last || self.failures.is_power_of_two() || self.failures % AT_THE_LATEST == 0 {
             Way::Anew
         } else {
             Way::Later

@@ -147,11 +147,13 @@ impl<'a, R: Files<File = File>> FileStore<'a, R> {
         if let Some(record) = &self.record {
             return record.write(size);
         }
-        let Some(Surroundings {
-            alloc,
-            boot,
-            folder,
-        }) = self.around
+        let Some(
+            Surroundings {
+                alloc,
+                boot,
+                folder,
+            },
+        ) = self.around
         else {
             return Err(changed());
         };

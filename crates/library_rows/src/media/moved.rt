@@ -250,13 +250,33 @@ fn a_volume_whose_file_fails_for_good_is_written_to_a_new_one(rt: HostRuntime) {
         keeper.keep(&rt, alloc, &units, &told, moved(A)),
         keeper.keep(&rt, alloc, &units, &told, moved(A)),
     );
-    assert_same(&rt, (is_written, is_kept, is_marked), (true, true, true), "A is written on");
+    assert_same(
+        &rt,
+        (is_written, is_kept, is_marked),
+        (true, true, true),
+        "A is written on",
+    );
     assert_same(&rt, kept, (false, false, false), "the disk fails");
     assert_list(&rt, &told.letters.lock(&rt), b"F", "it is told once");
-    assert_list(&rt, &a.new_bytes.lock(&rt), BLOCK_AND_MARK, "all of A is tried in a new file");
+    assert_list(
+        &rt,
+        &a.new_bytes.lock(&rt),
+        BLOCK_AND_MARK,
+        "all of A is tried in a new file",
+    );
     a.new_fails.store(false, Ordering::SeqCst);
     let is_whole = keeper.keep_all(&rt, alloc, &units, &told);
-    assert_same(&rt, is_whole, true, "the new file takes the place of the old one");
-    assert_list(&rt, &a.new_bytes.lock(&rt), BLOCK_AND_MARK, "A is in the new file");
+    assert_same(
+        &rt,
+        is_whole,
+        true,
+        "the new file takes the place of the old one",
+    );
+    assert_list(
+        &rt,
+        &a.new_bytes.lock(&rt),
+        BLOCK_AND_MARK,
+        "A is in the new file",
+    );
     assert_list(&rt, &told.letters.lock(&rt), b"FG", "and so it is told");
 }
