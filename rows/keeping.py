@@ -214,6 +214,46 @@ def protected(tried: Tried) -> None:
     folder.same_image("what is left", FIRST, HI)
 
 
+@contextlib.contextmanager
+def spoilt(tried: Tried, spoil: typing.Callable[[pathlib.Path], None]) -> typing.Iterator[tuple[Server, Host]]:
+    """A server and a host at its drive, to whose volume's file something else did something after a filemark. The volume is written on, then it
+    is to be whole in a file of its name, also at the next start."""
+    folder = Folder(tried)
+    with folder.served("--volumes", "1") as server:
+        host = Host(server)
+        host.loads()
+        host.writes(b"hi")
+        host.asks(DRIVE, FILEMARK)
+        spoil(folder.path / FIRST)
+        host.writes(b"new")
+        yield server, host
+        server.told.wait_for(AGAIN)
+        other = Host(server, B)
+        other.meets(DRIVE)
+        other.asks(DRIVE, FILEMARK)
+        folder.same_image("all of the tape", FIRST, HI + MARK + NEW + 2 * MARK)
+        ends_well(server)
+    with folder.served() as server:
+        same("what is told at the next start", told_by(server), [])
+        ended(server)
+    folder.same_image("the tape behind it", FIRST, HI + MARK + NEW + 2 * MARK)
+
+
+def shortened(tried: Tried) -> None:
+    """It is found where the next block doesn't go on the end. The file is cut back once more in vain, then a new one is written."""
+    with spoilt(tried, lambda path: os.truncate(path, 3)) as (server, host):
+        server.told.wait_for(f"{FAILED}disk error\n")
+        server.told.wait_for(AGAIN)
+        host.asks(DRIVE, FILEMARK)
+
+
+def removed(tried: Tried) -> None:
+    """It is found where the file is brought to the disk."""
+    with spoilt(tried, pathlib.Path.unlink) as (server, host):
+        host.is_ended_by(DRIVE, FILEMARK)
+        server.told.wait_for(f"{FAILED}disk error\n")
+
+
 ROWS = [
     Row("copied-behind", "a write is copied behind it, and a filemark is in the image before it is answered", copied_behind),
     Row("each-drive", "whoever keeps volumes is let at the unit that was written at, and at no other", each_drive),
@@ -223,5 +263,7 @@ ROWS = [
     Row("full-and-kept-at-the-end", "a full disk is told once and tried again", full_and_kept_at_the_end),
     Row("moved-and-mended", "a volume in storage whose file is full holds up no move of another, and is tried again without a command",
         moved_and_mended),
+    Row("shortened", "a volume's file that something else has shortened is written anew from memory", shortened),
+    Row("removed", "a volume's file that something else has removed is written anew from memory", removed),
     Row("protected", "WRITE and ERASE leave a protected volume", protected),
 ]
