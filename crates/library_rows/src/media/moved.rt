@@ -258,12 +258,7 @@ fn a_volume_whose_file_fails_for_good_is_written_to_a_new_one(rt: HostRuntime) {
     );
     assert_same(&rt, kept, (false, false, false), "the disk fails");
     assert_list(&rt, &told.letters.lock(&rt), b"F", "it is told once");
-    assert_list(
-        &rt,
-        &a.new_bytes.lock(&rt),
-        BLOCK_AND_MARK,
-        "all of A is tried in a new file",
-    );
+    assert_list(&rt, &a.new_bytes.lock(&rt), &[], "a new file fails too");
     a.new_fails.store(false, Ordering::SeqCst);
     let is_whole = keeper.keep_all(&rt, alloc, &units, &told);
     assert_same(
