@@ -3,7 +3,6 @@ use Rattle.std.specs.Prelude.{◌≡◌, ◌⊎◌, ℕ, ◌+◌, ◌-◌, List,
 use Rattle.tape_medium.specs.Object.{Object}
 use Rattle.tape_image.specs.Images.{object_bytes, image_bytes, AreKeepable}
 use Rattle.tape_image.specs.Reading.{Placed, Stop, Waiting, Reads}
-use Rattle.tape_flush.specs.Stores.{TruncatesInPart, Replaces}
 
 -- where each object ends in the file, and the bytes of the file
 pub record ImageValue : Type 0 where
@@ -36,18 +35,6 @@ pub record IsPart (offset : ℕ) (objects : List Object) (part : TapePartValue) 
 -- the objects of a tape behind the first `from`, up to one
 abbrev pub between : (from to : ℕ) → List Object → List Object
 between from to objects = take (to - from) (drop from objects)
-
--- A part is written, byte by byte: the first objects stay, and what lies behind them is replaced
-pub record IsFlushed (stay : ℕ) (objects : List Object) (old new : ImageValue) : Type 0 where
-  pub ends : new.ends ≡ take stay old.ends ++ ends_from (end_at old.ends stay) objects
-  pub contents : Replaces (end_at old.ends stay) old.contents new.contents (image_bytes objects)
-
--- It fails: the file isn't cut back, or not as far; or some bytes of the part come behind the objects that stay. These are known to be
--- there in either case, and none behind them
-pub data Fails (stay : ℕ) (objects : List Object) (old new : ImageValue) : Type 0 where
-  uncut : new.ends ≡ take stay old.ends → TruncatesInPart (end_at old.ends stay) old.contents new.contents → Fails stay objects old new
-  unfinished : (count : ℕ) → new.ends ≡ take stay old.ends → Replaces (end_at old.ends stay) old.contents new.contents (take count (image_bytes objects))
-      → Fails stay objects old new
 
 -- WHAT THE FILE HOLDS, as images are read; nothing is said of a file whose bytes aren't known
 

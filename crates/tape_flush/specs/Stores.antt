@@ -82,6 +82,3 @@ abbrev pub Truncates : (count : ℕ) → (old new : Option (List ℕ)) → Type 
 Truncates count None new = Unit {0}
 Truncates count (Some bytes) None = ⊥
 Truncates count (Some bytes) (Some bytes') = bytes' ≡ take count bytes
-
-abbrev pub TruncatesInPart : (count : ℕ) → (old new : Option (List ℕ)) → Type 0
-TruncatesInPart count old new = (left : ℕ) × (count ≤ left) × Truncates left old new
