@@ -1,7 +1,11 @@
 """A host at the socket who goes by answers without the numbers of their records: status, sense data and data."""
+import contextlib
+import os
 import struct
+import typing
 
 from exchanges import A, ACCEPTED, CHANGER, DRIVE, command, login
+from folders import FIRST, HI, Folder, ended, told_by
 from serving import Server, same
 
 from frames import framed, received  # of examples/
@@ -113,3 +117,24 @@ class Host:
         """A command has no answer, and its session ends."""
         self.connection.sendall(framed(command(lun, cdb, data)))
         same(f"what comes instead of an answer to {cdb}", self.connection.recv(64).hex(), "")
+
+
+@contextlib.contextmanager
+def loaded(folder: Folder, *words: str, **how: typing.Any) -> typing.Iterator[tuple[Server, Host]]:
+    """A server over a folder, and a host that has its first volume in the drive."""
+    with folder.served(*words, **how) as server:
+        host = Host(server)
+        host.loads()
+        yield server, host
+
+
+@contextlib.contextmanager
+def write_protected(folder: Folder) -> typing.Iterator[Host]:
+    """A host at a volume of "hi" whose file nobody may write by its mode: that is told, a WRITE is refused, and the file stays."""
+    os.chmod(folder.path_of(FIRST), 0o400)
+    with loaded(folder) as (server, host):
+        same("what is told", told_by(server), [f"vtl: {folder.path_of(FIRST)}: it can't be written: the volume is protected"])
+        host.asks(DRIVE, "0a0000000100", WRITE_PROTECTED, b"\1")
+        yield host
+        ended(server)
+    folder.same_image("what is left", FIRST, HI)

@@ -5,7 +5,7 @@ import typing
 
 from exchanges import CHANGER, DRIVE
 from folders import END_OF_MEDIUM, FIRST, GAP, HI, MARK, NEW, ODD, THREE, Folder, block, ended, told_by
-from hosts import FILEMARK, LONGEST_BLOCK, NO_FILEMARK, POSITION, REWIND, WRITE_PROTECTED, Host, locate, overflow, standing_at
+from hosts import FILEMARK, LONGEST_BLOCK, NO_FILEMARK, POSITION, REWIND, Host, locate, overflow, standing_at, write_protected
 from serving import Row, Server, Tried, same
 
 
@@ -156,15 +156,8 @@ def image(of: Image) -> typing.Callable[[Tried], None]:
 
 def no_write_bit(tried: Tried) -> None:
     """Root may write every file, and leaves one that nobody may write by its mode."""
-    folder = Folder(tried, VOL00001=HI)
-    os.chmod(folder.path_of(FIRST), 0o400)
-    with folder.served() as server:
-        same("what is told", told_by(server), [f"vtl: {folder.path_of(FIRST)}: it can't be written: the volume is protected"])
-        host = Host(server)
-        host.loads()
-        host.asks(DRIVE, "0a0000000100", WRITE_PROTECTED, b"\1")
-        ended(server)
-    folder.same_image("what is left", FIRST, HI)
+    with write_protected(Folder(tried, VOL00001=HI)):
+        pass
 
 
 def others(tried: Tried) -> None:

@@ -12,7 +12,7 @@ import typing
 
 from exchanges import CHANGER, DRIVE, B
 from folders import FIRST, HI, MARK, NEW, ODD, Folder, block, ended, told_by
-from hosts import ERASE, FILEMARK, NO_FILEMARK, REWIND, TO_THE_END, UNLOAD, WRITE_PROTECTED, Host, good, locate, move
+from hosts import ERASE, FILEMARK, NO_FILEMARK, REWIND, TO_THE_END, UNLOAD, WRITE_PROTECTED, Host, good, loaded, locate, move, write_protected
 from serving import Row, Server, Tried, holds, same
 
 # A block that is longer than a record.
@@ -30,9 +30,7 @@ def is_ended(server: Server, sas: int) -> None:
 
 def copied_behind(tried: Tried) -> None:
     folder = Folder(tried)
-    with folder.served("--volumes", "1") as server:
-        host = Host(server)
-        host.loads()
+    with loaded(folder, "--volumes", "1") as (server, host):
         host.writes(b"hi")
         folder.await_image("what is copied behind a write", FIRST, HI)
         host.asks(DRIVE, FILEMARK)
@@ -115,13 +113,9 @@ def never_synced(tried: Tried) -> None:
         holds("what is told at the end", server.told.text, "vtl: volume VOL00001 is not whole on the disk\n")
 
 
-@contextlib.contextmanager
-def limited(folder: Folder, *words: str) -> typing.Iterator[tuple[Server, Host]]:
+def limited(folder: Folder, *words: str) -> typing.ContextManager[tuple[Server, Host]]:
     """A server whose files may grow up to a limit, and a host at its drive with a volume."""
-    with folder.served(*words, room=resource.RLIM_INFINITY) as server:
-        host = Host(server)
-        host.loads()
-        yield server, host
+    return loaded(folder, *words, room=resource.RLIM_INFINITY)
 
 
 def ends_well(server: Server) -> None:
@@ -196,13 +190,7 @@ def without_a_right(tried: Tried) -> Tried:
 
 
 def protected(tried: Tried) -> None:
-    folder = Folder(without_a_right(tried), VOL00001=HI)
-    os.chmod(folder.path_of(FIRST), 0o400)
-    with folder.served() as server:
-        same("what is told", told_by(server), [f"vtl: {folder.path_of(FIRST)}: it can't be written: the volume is protected"])
-        host = Host(server)
-        host.loads()
-        host.asks(DRIVE, "0a0000000100", WRITE_PROTECTED, b"\1")
+    with write_protected(Folder(without_a_right(tried), VOL00001=HI)) as host:
         host.asks(DRIVE, FILEMARK, WRITE_PROTECTED)
         host.asks(DRIVE, NO_FILEMARK)
         host.asks(DRIVE, ERASE, WRITE_PROTECTED)
@@ -210,8 +198,6 @@ def protected(tried: Tried) -> None:
         host.asks(DRIVE, UNLOAD)
         # MODE SENSE of all pages: WP is set, buffered mode off, and the block descriptor says blocks of any length.
         host.asks(DRIVE, "1a003f00ff00", good(bytes.fromhex("0b008008" "00000000" "00000000")))
-        ended(server)
-    folder.same_image("what is left", FIRST, HI)
 
 
 @contextlib.contextmanager
@@ -219,9 +205,7 @@ def spoilt(tried: Tried, spoil: typing.Callable[[pathlib.Path], None]) -> typing
     """A server and a host at its drive, to whose volume's file something else did something after a filemark. The volume is written on, then it
     is to be whole in a file of its name, also at the next start."""
     folder = Folder(tried)
-    with folder.served("--volumes", "1") as server:
-        host = Host(server)
-        host.loads()
+    with loaded(folder, "--volumes", "1") as (server, host):
         host.writes(b"hi")
         host.asks(DRIVE, FILEMARK)
         spoil(folder.path / FIRST)

@@ -7,7 +7,7 @@ import typing
 
 from exchanges import DRIVE
 from folders import FIRST, HI, MARK, NEW, THREE, Folder, ended, told_by
-from hosts import FILEMARK, NO_FILEMARK, POSITION, Host, locate, standing_at
+from hosts import FILEMARK, NO_FILEMARK, POSITION, Host, loaded, locate, standing_at
 from serving import Row, Tried, same
 
 RECORD = "VOL00001.synced"
@@ -15,7 +15,6 @@ TAIL = "VOL00001.tail.1"
 # The run of the machine in which rows are played, and another one.
 BOOT = pathlib.Path("/proc/sys/kernel/random/boot_id").read_text(encoding="ascii").strip()
 ANOTHER = "0" * 8 + BOOT[8:]
-FAILED, AGAIN = "vtl: volume VOL00001 could not be written: disk error\n", "vtl: volume VOL00001 is written again\n"
 
 
 def record_of(folder: Folder) -> dict[str, typing.Any]:
@@ -118,9 +117,7 @@ def garbage(tried: Tried) -> None:
 def goes_along(tried: Tried) -> None:
     """The record says what was on the disk when a filemark was answered, and no more than what is left once a tape is written over."""
     folder = Folder(tried)
-    with folder.served("--volumes", "1") as server:
-        host = Host(server)
-        host.loads()
+    with loaded(folder, "--volumes", "1") as (server, host):
         same_record("of a blank volume", folder, 0)
         host.writes(b"hi")
         host.asks(DRIVE, FILEMARK)
@@ -137,26 +134,9 @@ def goes_along(tried: Tried) -> None:
         ended(server)
 
 
-def shortened(tried: Tried) -> None:
-    """Something else cuts an image back while it is served: it isn't written on at its new end, and is mended from memory, or not told as kept."""
-    folder = Folder(tried)
-    with folder.served("--volumes", "1") as server:
-        host = Host(server)
-        host.loads()
-        host.writes(b"hi")
-        host.asks(DRIVE, FILEMARK)
-        os.truncate(folder.path_of(FIRST), 5)
-        host.writes(b"odd")
-        host.is_ended_by(DRIVE, FILEMARK)
-        server.told.wait_for(FAILED)
-        server.end()
-        same("the status", server.status() in (0, 4), True)
-
-
 ROWS = [
     *(Row(f"record-{name}", of.shows, found(of)) for name, of in FOUND.items()),
     Row("record-another-file", "a record of another file is passed over, and no tail takes the place of an older one", another_file),
     Row("record-garbage", "a record that is none is passed over", garbage),
     Row("record-goes-along", "a record says what is on the disk, at each time", goes_along),
-    Row("image-shortened", "an image that something else has cut back isn't written on at its new end", shortened),
 ]
