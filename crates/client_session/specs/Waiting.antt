@@ -4,7 +4,7 @@ use Rattle.std.specs.Io.KnownBytes.{Consumes, Appends, Keeps, IsAtEnd}
 use Rattle.scsi_nexus.specs.declared.nexus.Nexus.{Nexus}
 use Rattle.frames.specs.declared.reply_frame.LoginAnswer.TheVariants.{AlreadyConnected}
 use Rattle.frames.specs.Frames.{FrameValue, Login, Command, Reset, Logout}
-use Rattle.frames.specs.Reading.{Added}
+use Rattle.read_buffer.specs.Reading.{Added}
 use Rattle.frames.specs.Replies.{ReplyFrameValue, LoginReply, CommandReply, ResetReply, LogoutReply}
 use Rattle.frames.specs.ParsedReplies.{ParsedReplyValue, Partial, Complete, Invalid, parsed_reply}
 use Rattle.frames.specs.Sending.{frame_bytes}

@@ -1,17 +1,17 @@
 ghost use Rattle.std.specs.Prelude.{◌≡◌, OnOk, IfErr};
-ghost use Rattle.frames.specs.Reading.{Added};
+ghost use Rattle.read_buffer.specs.Reading.{Added};
 ghost use Rattle.frames.specs.ParsedReplies.{Partial, parsed_reply};
 ghost use Rattle.client_session.specs.Waiting.{EndsBeforeReply};
 
 use crate::client_session_fault::ClientSessionFault;
-use frames::{ReadBuffer, ReplyWait, await_reply};
+use frames::{FrameBuffer, ReplyWait, await_reply};
 use std::io::Read;
 
 /// Waits for a reply, and takes each read off `turns`.
 ///
 /// `BadReply`: the reader is at its end before that. `Read`: a read failed, or one more was needed than `turns`.
 pub(crate) fn expect_reply<R: Read>(
-    read_buffer: &mut ReadBuffer,
+    read_buffer: &mut FrameBuffer,
     reader: &mut R,
     turns: &mut u64,
 ) -> Result<(), ClientSessionFault>

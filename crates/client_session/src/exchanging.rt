@@ -8,7 +8,7 @@ ghost use Rattle.client_session.specs.Waiting.{Answers, Exchanges, IsOfSending, 
 use crate::awaiting::expect_reply;
 use crate::client_session_fault::ClientSessionFault;
 use frames::{
-    FrameRef, LoginAnswer, ParsedReply, ReadBuffer, ReplyFrame, parse_reply, write_frame,
+    FrameBuffer, FrameRef, LoginAnswer, ParsedReply, ReplyFrame, parse_reply, write_frame,
 };
 use output_lines::{Explanations, write_explained, write_out};
 use std::io::{Read, Write};
@@ -77,7 +77,7 @@ fn take_reply(
 pub(crate) fn exchange<R: Read, W: Write, O: Write>(
     words: Explanations,
     frame: &FrameRef<'_>,
-    read_buffer: &mut ReadBuffer,
+    read_buffer: &mut FrameBuffer,
     buffer: &mut Vec<u8>,
     turns: &mut u64,
     reader: &mut R,

@@ -10,7 +10,7 @@ ghost use Rattle.client_session.specs.Waiting.{Breaks, BreaksWithin, IsOfSession
 
 use crate::client_session_fault::ClientSessionFault;
 use crate::exchanging::exchange;
-use frames::{FrameRef, ReadBuffer};
+use frames::{FrameBuffer, FrameRef};
 use output_lines::Explanations;
 use script_lines::{ClientRequest, requests_of};
 use scsi_nexus::Nexus;
@@ -38,7 +38,7 @@ fn talk<R: Read, W: Write, O: Write>(
     words: Explanations,
     nexus: Nexus,
     requests: &[ClientRequest],
-    read_buffer: &mut ReadBuffer,
+    read_buffer: &mut FrameBuffer,
     buffer: &mut Vec<u8>,
     turns: &mut u64,
     reader: &mut R,
@@ -129,7 +129,7 @@ pub fn converse<R: Read, W: Write, O: Write>(
         (W.contents writer.old) (W.contents writer.new) (O.contents out.old) (O.contents out.new)) }
 {
     let requests = requests_of(alloc, script)?;
-    let mut read_buffer = ReadBuffer::new(alloc)?;
+    let mut read_buffer = FrameBuffer::new(alloc)?;
     let mut buffer = Vec::new(alloc);
     let mut left = turns;
     talk(

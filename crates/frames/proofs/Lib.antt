@@ -1,5 +1,4 @@
 pub mod Streams
-pub mod Buffers
 pub mod Taking
 pub mod WrittenFrames
 pub mod WrittenReplies

@@ -4,5 +4,4 @@ pub mod Sending
 pub mod ParsedReplies
 pub mod Views
 pub mod Stream
-pub mod Reading
 pub mod Rows

@@ -1,9 +1,9 @@
 ghost use Rattle.std.specs.Prelude.{◌≡◌};
 ghost use Rattle.std.specs.Io.KnownBytes.{Keeps, IsAtEnd};
-ghost use Rattle.frames.specs.Reading.{Added};
+ghost use Rattle.read_buffer.specs.Reading.{Added};
 ghost use Rattle.frames.specs.ParsedReplies.{Partial, parsed_reply};
 
-use crate::read_buffer::ReadBuffer;
+use crate::layout::FrameBuffer;
 use crate::reply_frame::ParsedReply;
 use crate::reply_parse::parse_reply;
 use std::io::Read;
@@ -22,7 +22,7 @@ pub enum ReplyWait {
 /// Reads until what is pending begins with more than a part of a reply, and takes each read off `turns`. Where it does already,
 /// nothing is read. What was read is pending in any case, and a client may wait again.
 pub fn await_reply<R: Read>(
-    read_buffer: &mut ReadBuffer,
+    read_buffer: &mut FrameBuffer,
     reader: &mut R,
     turns: &mut u64,
 ) -> ReplyWait

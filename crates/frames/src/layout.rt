@@ -1,5 +1,6 @@
 //! The bytes of a frame (profile).
 
+use read_buffer::ReadBuffer;
 use scsi_sense::SENSE_LENGTH;
 
 /// How many bytes tell the length of the body that follows.
@@ -57,3 +58,9 @@ pub(crate) const NUMBER_FIELD: usize = 8;
 /// The most bytes of a reply's body: kind, status, the length of the sense data, 18 bytes of sense data, the
 /// record's number, and 65,536 bytes of data.
 pub const MAX_REPLY: usize = 65_565;
+
+/// Room for what was read of a stream: some twice the longest frame, so that a read can bring many frames at once.
+pub const FRAME_BUFFER: usize = 262_144;
+
+/// The bytes of a stream of which no frame was made yet.
+pub type FrameBuffer = ReadBuffer<FRAME_BUFFER>;

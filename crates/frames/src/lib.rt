@@ -8,7 +8,6 @@ mod frame;
 mod laws;
 mod layout;
 mod parse;
-mod read_buffer;
 mod reply_fault;
 mod reply_frame;
 mod reply_laws;
@@ -23,9 +22,8 @@ pub use laws::{
     broken_rows, fault_rows, frame_rows, one_reading, partial_rows, pieces_join, reply_rows,
     stream_rows, taken_is_read,
 };
-pub use layout::{LENGTH_FIELD, MAX_BODY, MAX_REPLY};
+pub use layout::{FRAME_BUFFER, FrameBuffer, LENGTH_FIELD, MAX_BODY, MAX_REPLY};
 pub use parse::parse_frame;
-pub use read_buffer::ReadBuffer;
 pub use reply_fault::ReplyFault;
 pub use reply_frame::{LoginAnswer, ParsedReply, ReplyFrame, write_reply};
 pub use reply_laws::{

@@ -9,7 +9,7 @@ use Rattle.iscsi_tasks.specs.Next.{next_of}
 use Rattle.iscsi_tasks.specs.declared.next_task.NextTask.TheVariants.{Idle}
 use Rattle.iscsi_tasks.specs.Values.{TasksValue}
 use Rattle.iscsi_session.specs.Executing.{GoesOn}
-use Rattle.iscsi_session.specs.Reading.{Added}
+use Rattle.read_buffer.specs.Reading.{Added}
 use Rattle.iscsi_session.specs.Saying.{Says}
 use Rattle.iscsi_session.specs.Talking.{Answers, BeginsWith, Converses, IsAskedToLeave, IsPinged, MayAsk, Writes, asked_to_leave, pinged, without_units}
 use Rattle.iscsi_session.proofs.Acted.{said_more}

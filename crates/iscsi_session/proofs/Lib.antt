@@ -1,5 +1,4 @@
 pub mod Acted
-pub mod Buffers
 pub mod Conversed
 pub mod Handed
 pub mod Held

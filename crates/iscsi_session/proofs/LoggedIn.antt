@@ -14,7 +14,7 @@ use Rattle.iscsi_login.specs.declared.target.LoginTarget.{LoginTarget}
 use Rattle.iscsi_login.proofs.Exchanged.{begun_where_told}
 use Rattle.session.proofs.Read.{consumes_more, consumes_none}
 use Rattle.iscsi_session.specs.LoggingIn.{Exchanges, HasReached, LogsIn, Requests, UnlessRefused, WhereBegins}
-use Rattle.iscsi_session.specs.Reading.{Filled}
+use Rattle.read_buffer.specs.Reading.{Filled}
 use Rattle.iscsi_session.specs.Talking.{BeginsWith}
 use Rattle.iscsi_session.proofs.Talked.{begins_before}
 

@@ -16,7 +16,7 @@ use Rattle.iscsi_tasks.specs.declared.next_task.NextTask.TheVariants.{Idle}
 use Rattle.iscsi_tasks.specs.Values.{TasksValue}
 use Rattle.session.proofs.Read.{consumes_more, consumes_none}
 use Rattle.iscsi_session.specs.Executing.{GoesOn}
-use Rattle.iscsi_session.specs.Reading.{Added}
+use Rattle.read_buffer.specs.Reading.{Added}
 use Rattle.iscsi_session.specs.Saying.{Says}
 use Rattle.iscsi_session.specs.Talking.{Answers, BeginsWith, Came, Converses, Ending, Event, IsSo, Silence, Told, Takes, Talks, Writes, asked_to_leave, leave_requests, pdus_of, pinged, without_units}
 

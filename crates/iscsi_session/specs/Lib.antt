@@ -1,4 +1,3 @@
-pub mod Reading
 pub mod Faults
 pub mod Executing
 pub mod Managing

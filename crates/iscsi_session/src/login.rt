@@ -9,7 +9,7 @@ ghost use Rattle.iscsi_session.specs.LoggingIn.{Exchanges, HasReached, LogsIn, U
 
 use crate::connection::flush;
 use crate::fault::{IscsiEnd, IscsiFault};
-use crate::read_buffer::ReadBuffer;
+use crate::pdu_buffer::PduBuffer;
 use iscsi_keys::TARGET_MAX_RECV_DATA_SEGMENT_LENGTH;
 use iscsi_login::{FullFeature, LoginExchange, LoginProgress, LoginTarget};
 use iscsi_pdu::{
@@ -52,7 +52,7 @@ fn take_pdu(
 fn take_pdus(
     target: &LoginTarget,
     exchange: &mut LoginExchange,
-    read_buffer: &mut ReadBuffer,
+    read_buffer: &mut PduBuffer,
     out: &mut Vec<u8>,
 ) -> Result<LoginProgress, IscsiFault>
     ensures taken { IfOk result (λ progress. UnlessRefused progress (Exchanges target.now exchange.old exchange.new read_buffer.old read_buffer.new)) }
@@ -81,7 +81,7 @@ fn take_pdus(
 pub(crate) fn await_login<R: Read, W: Write>(
     target: &LoginTarget,
     exchange: &mut LoginExchange,
-    read_buffer: &mut ReadBuffer,
+    read_buffer: &mut PduBuffer,
     out: &mut Vec<u8>,
     reader: &mut R,
     writer: &mut W,

@@ -14,8 +14,8 @@ use crate::connection::{Connection, flush};
 use crate::discovery::{NO_NEXUS, NoUnits};
 use crate::fault::{IscsiEnd, IscsiFault};
 use crate::login::{LoginWait, await_login};
+use crate::pdu_buffer::PduBuffer;
 use crate::portal::Portal;
-use crate::read_buffer::ReadBuffer;
 use crate::talking::{ROOM, converse};
 use iscsi_login::{Challenge, FullFeature, LoginExchange};
 use iscsi_pdu::LoginStatus;
@@ -62,7 +62,7 @@ pub fn serve<S: Service, G: SessionRegister, R: Read, W: Write>(
     ensures refused { IfErr result (λ fault. IsLater fault ⊎ (service.new ≡ service.old)) }
     ensures session { Serves S.notes S.count (G.resets register.now) (G.ends register.now) portal.now.target.now challenge portal.now.group service.old (R.remaining reader.old) (R.remaining reader.new) (W.contents writer.old) (W.contents writer.new) result service.new }
 {
-    let mut read_buffer = ReadBuffer::new(alloc)?;
+    let mut read_buffer = PduBuffer::new(alloc)?;
     let mut out = Vec::with_capacity(alloc, ROOM)?;
     let mut exchange = LoginExchange::new(alloc, portal.group, challenge);
     let wait = await_login(
@@ -134,7 +134,7 @@ fn discover<G: SessionRegister, R: Read, W: Write>(
     exchange: &mut LoginExchange,
     tsih: u16,
     begun: &FullFeature,
-    read_buffer: &mut ReadBuffer,
+    read_buffer: &mut PduBuffer,
     out: &mut Vec<u8>,
     reader: &mut R,
     writer: &mut W,
@@ -194,7 +194,7 @@ fn hold<S: Service, G: SessionRegister, R: Read, W: Write>(
     exchange: &mut LoginExchange,
     tsih: u16,
     begun: &FullFeature,
-    read_buffer: &mut ReadBuffer,
+    read_buffer: &mut PduBuffer,
     out: &mut Vec<u8>,
     reader: &mut R,
     writer: &mut W,
@@ -267,7 +267,7 @@ fn greet_and_converse<S: Service, G: SessionRegister, R: Read, W: Write>(
     exchange: &mut LoginExchange,
     tsih: u16,
     begun: &FullFeature,
-    read_buffer: &mut ReadBuffer,
+    read_buffer: &mut PduBuffer,
     out: &mut Vec<u8>,
     reader: &mut R,
     writer: &mut W,

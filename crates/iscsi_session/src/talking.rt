@@ -7,7 +7,7 @@ ghost use Rattle.iscsi_tasks.specs.Next.{next_of};
 ghost use Rattle.iscsi_tasks.specs.declared.next_task.NextTask.TheVariants.{Idle};
 ghost use Rattle.iscsi_session.specs.Faults.{IsLater};
 ghost use Rattle.iscsi_session.specs.Talking.{Answers, Converses, IsPinged, MayAsk, Writes};
-ghost use Rattle.iscsi_session.specs.Reading.{Added};
+ghost use Rattle.read_buffer.specs.Reading.{Added};
 
 use crate::answering::answer;
 use crate::claiming::SessionRegister;
@@ -15,8 +15,8 @@ use crate::connection::{Connection, flush};
 use crate::executing::go_on;
 use crate::fault::{IscsiEnd, IscsiFault};
 use crate::login::{end_of, read_fault};
+use crate::pdu_buffer::PduBuffer;
 use crate::portal::Portal;
-use crate::read_buffer::ReadBuffer;
 use crate::resets::drop_reset;
 use iscsi_answers::{seconds_to_leave, write_leave_request, write_ping};
 use iscsi_keys::TARGET_MAX_RECV_DATA_SEGMENT_LENGTH;
@@ -56,7 +56,7 @@ fn answer_some<S: Service, G: SessionRegister>(
     portal: &Portal<'_>,
     session_type: SessionType,
     connection: &mut Connection,
-    read_buffer: &mut ReadBuffer,
+    read_buffer: &mut PduBuffer,
     out: &mut Vec<u8>,
 ) -> Result<Pause, IscsiFault>
     requires { next_of connection.old.tasks ≡ Idle }
@@ -89,7 +89,7 @@ fn answer_pending<S: Service, G: SessionRegister>(
     portal: &Portal<'_>,
     session_type: SessionType,
     connection: &mut Connection,
-    read_buffer: &mut ReadBuffer,
+    read_buffer: &mut PduBuffer,
     out: &mut Vec<u8>,
 ) -> Result<Pause, IscsiFault>
     requires { next_of connection.old.tasks ≡ Idle }
@@ -137,7 +137,7 @@ fn answer_all<S: Service, G: SessionRegister, W: Write>(
     portal: &Portal<'_>,
     session_type: SessionType,
     connection: &mut Connection,
-    read_buffer: &mut ReadBuffer,
+    read_buffer: &mut PduBuffer,
     out: &mut Vec<u8>,
     writer: &mut W,
 ) -> Result<bool, IscsiFault>
@@ -172,7 +172,7 @@ fn answer_all<S: Service, G: SessionRegister, W: Write>(
 /// another the connection ends. A read that was interrupted shows nothing.
 fn read_on<R: Read>(
     connection: &Connection,
-    read_buffer: &mut ReadBuffer,
+    read_buffer: &mut PduBuffer,
     out: &mut Vec<u8>,
     reader: &mut R,
     is_pinged: &mut bool,
@@ -239,7 +239,7 @@ pub(crate) fn converse<S: Service, G: SessionRegister, R: Read, W: Write>(
     portal: &Portal<'_>,
     session_type: SessionType,
     connection: &mut Connection,
-    read_buffer: &mut ReadBuffer,
+    read_buffer: &mut PduBuffer,
     out: &mut Vec<u8>,
     reader: &mut R,
     writer: &mut W,

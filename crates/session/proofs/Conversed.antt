@@ -5,7 +5,7 @@ use Rattle.std.specs.Io.KnownBytes.{Consumes, Appends, IsAtEnd}
 use Rattle.scsi_nexus.specs.declared.nexus.Nexus.{Nexus}
 use Rattle.logical_unit.specs.Answers.{DoneValue}
 use Rattle.frames.specs.Frames.{FrameValue, Login, Partial, Complete, parsed_frame}
-use Rattle.frames.specs.Reading.{Filled}
+use Rattle.read_buffer.specs.Reading.{Filled}
 use Rattle.frames.specs.declared.reply_frame.LoginAnswer.TheVariants.{Accepted}
 use Rattle.frames.specs.Replies.{LoginReply, reply_bytes}
 use Rattle.frames.specs.Stream.{Takes}

@@ -4,7 +4,7 @@ use Rattle.std.specs.Prelude.{Result, Ok, Err, OnOk}
 use Rattle.std.specs.Result.{is_err}
 use Rattle.std.specs.Io.KnownBytes.{Consumes, Keeps}
 use Rattle.frames.specs.Frames.{Invalid, parsed_frame}
-use Rattle.frames.specs.Reading.{Filled}
+use Rattle.read_buffer.specs.Reading.{Filled}
 use Rattle.frames.specs.declared.fault.FrameFault.{FrameFault}
 use Rattle.frames.specs.declared.fault.FrameFault.TheVariants.{BadFrame, TooLong}
 use Rattle.session.specs.Faults.{of_frame}

@@ -7,7 +7,7 @@ ghost use Rattle.session.specs.Faults.{IsOfStream};
 use crate::answering::{AfterFrame, answer};
 use crate::fault::SessionFault;
 use crate::service::Service;
-use frames::{LENGTH_FIELD, MAX_REPLY, ParsedFrame, ReadBuffer, parse_frame};
+use frames::{FrameBuffer, LENGTH_FIELD, MAX_REPLY, ParsedFrame, parse_frame};
 use scsi_nexus::Nexus;
 use std::alloc::Global;
 use std::io::Write;
@@ -49,7 +49,7 @@ fn answer_some<S: Service>(
     alloc: Global,
     service: &mut S,
     nexus: Nexus,
-    read_buffer: &mut ReadBuffer,
+    read_buffer: &mut FrameBuffer,
     out: &mut Vec<u8>,
 ) -> Result<Pause, SessionFault>
     requires { HasRoom (vec_len out.old) (vec_capacity out.old) }
@@ -88,7 +88,7 @@ pub(crate) fn answer_all<S: Service, W: Write>(
     alloc: Global,
     service: &mut S,
     nexus: Nexus,
-    read_buffer: &mut ReadBuffer,
+    read_buffer: &mut FrameBuffer,
     out: &mut Vec<u8>,
     writer: &mut W,
 ) -> Result<bool, SessionFault>

@@ -3,7 +3,7 @@ ghost use Rattle.session.specs.Faults.{IsOfStream};
 ghost use Rattle.session.specs.Login.{Awaits, IsKeptOutBy, LeavesReads, ReadsAtMost, end_of};
 
 use crate::fault::{End, SessionFault};
-use frames::{FrameRef, ParsedFrame, ReadBuffer, parse_frame};
+use frames::{FrameBuffer, FrameRef, ParsedFrame, parse_frame};
 use scsi_nexus::Nexus;
 use std::io::Read;
 
@@ -18,7 +18,7 @@ pub(crate) enum LoginWait {
 
 /// Reads until a LOGIN has come whole, and takes it off what is pending.
 pub(crate) fn await_login<R: Read>(
-    read_buffer: &mut ReadBuffer,
+    read_buffer: &mut FrameBuffer,
     reader: &mut R,
     turns: u64,
 ) -> Result<LoginWait, SessionFault>

@@ -12,7 +12,7 @@ use crate::batching::{ROOM, answer_all, flush};
 use crate::fault::{End, SessionFault};
 use crate::login::{LoginWait, await_login, end_of};
 use crate::service::Service;
-use frames::{LoginAnswer, ReadBuffer, ReplyFrame, write_reply};
+use frames::{FrameBuffer, LoginAnswer, ReplyFrame, write_reply};
 use scsi_nexus::Nexus;
 use scsi_sense::Status;
 use std::alloc::Global;
@@ -24,7 +24,7 @@ fn answer_and_write<S: Service, W: Write>(
     alloc: Global,
     service: &mut S,
     nexus: Nexus,
-    read_buffer: &mut ReadBuffer,
+    read_buffer: &mut FrameBuffer,
     out: &mut Vec<u8>,
     writer: &mut W,
 ) -> Result<bool, SessionFault>
@@ -46,7 +46,7 @@ fn converse<S: Service, R: Read, W: Write>(
     alloc: Global,
     service: &mut S,
     nexus: Nexus,
-    read_buffer: &mut ReadBuffer,
+    read_buffer: &mut FrameBuffer,
     out: &mut Vec<u8>,
     reader: &mut R,
     writer: &mut W,
@@ -149,7 +149,7 @@ pub fn serve<S: Service, R: Read, W: Write>(
     ensures reads { ReadsAtMost (turns * 262144) (R.remaining reader.old) (R.remaining reader.new) }
     ensures service { Leaves S.notes S.count service.old service.new }
 {
-    let mut read_buffer = ReadBuffer::new(alloc)?;
+    let mut read_buffer = FrameBuffer::new(alloc)?;
     let mut out = Vec::with_capacity(alloc, ROOM)?;
     let (nexus, left) = match await_login(&mut read_buffer, reader, turns)? {
         LoginWait::Login { nexus, turns } => (nexus, turns),
@@ -190,7 +190,7 @@ fn greet_and_converse<S: Service, R: Read, W: Write>(
     alloc: Global,
     service: &mut S,
     nexus: Nexus,
-    read_buffer: &mut ReadBuffer,
+    read_buffer: &mut FrameBuffer,
     out: &mut Vec<u8>,
     reader: &mut R,
     writer: &mut W,

@@ -1,6 +1,6 @@
 use Rattle.std.proofs.Common.{◌≡◌}
 use Rattle.std.specs.Io.KnownBytes.{Keeps}
-use Rattle.frames.specs.Reading.{Added}
+use Rattle.read_buffer.specs.Reading.{Added}
 use Rattle.frames.specs.ParsedReplies.{Partial, parsed_reply}
 use Rattle.frames.proofs.awaiting.await_reply.Given as goal
 

@@ -1,37 +1,36 @@
+//! The bytes of a stream between the reads that bring them and a parser that takes them off where they lie.
+#![tactic(auto)]
+
 ghost use Rattle.std.specs.Prelude.{◌≡◌, ◌+◌, ◌-◌, ◌≤◌, ◌<◌, [], length, drop, take, IfOk, OnErr, vec_len};
 ghost use Rattle.std.specs.Io.KnownBytes.{Keeps, IsAtEnd};
-ghost use Rattle.iscsi_session.specs.Reading.{ReadBehind, Refilled, Filled};
+ghost use Rattle.read_buffer.specs.Reading.{ReadBehind, Refilled, Filled};
 
 use std::alloc::{AllocError, Global};
 use std::io::{self, Read};
 use std::marker::Model;
 
-/// Room for the longest PDU, of some 262,500 bytes, and for others behind it.
-const CAPACITY: usize = 327_680;
-
-/// The bytes of a stream of which no PDU was made yet, at most 327,680. They lie in one buffer that
-/// is made once: a read fills what is free behind them, and what was taken off the front is moved away
-/// only before a read.
+/// The bytes of a stream that were read and not taken yet, at most `CAPACITY` of them. They lie in one buffer that is made once: a read fills
+/// what is free behind them, and what was taken off the front is moved away only before a read.
 #[derive(Drop)]
-pub(crate) struct ReadBuffer {
+pub struct ReadBuffer<const CAPACITY: usize> {
     bytes: Vec<u8>,
     start: usize,
     end: usize,
 }
 
-impl Model for ReadBuffer {
+impl<const CAPACITY: usize> Model for ReadBuffer<CAPACITY> {
     ghost use Rattle.std.specs.Prelude.{◌≡◌, ◌≤◌, ◌-◌, ℕ, List, take, drop, vec_len};
 
     ghost Value = { List ℕ };
 
     ghost view = { λ i. take (i.end - i.start) (drop i.start i.bytes.items) };
 
-    ghost invariant = { λ i. (i.start ≤ i.end) × (i.end ≤ 327680) × (vec_len i.bytes ≡ 327680) };
+    ghost invariant = { λ i. (i.start ≤ i.end) × (i.end ≤ CAPACITY) × (vec_len i.bytes ≡ CAPACITY) };
 }
 
-impl ReadBuffer {
+impl<const CAPACITY: usize> ReadBuffer<CAPACITY> {
     /// With nothing in it.
-    pub(crate) fn new(alloc: Global) -> Result<ReadBuffer, AllocError>
+    pub fn new(alloc: Global) -> Result<ReadBuffer<CAPACITY>, AllocError>
         ensures { IfOk result (λ read_buffer. read_buffer ≡ []) }
     {
         Ok(ReadBuffer {
@@ -41,28 +40,27 @@ impl ReadBuffer {
         })
     }
 
-    /// What no PDU was made of yet.
-    pub(crate) fn pending(&self) -> &[u8]
+    /// What was read and not taken yet.
+    pub fn pending(&self) -> &[u8]
         ensures { result.now ≡ self.now }
     {
         &self.bytes.as_slice()[self.start..self.end]
     }
 
     /// Takes bytes off the front.
-    pub(crate) fn consume(&mut self, count: usize)
+    pub fn consume(&mut self, count: usize)
         requires { count ≤ length self.old }
         ensures { self.new ≡ drop count self.old }
     {
         self.start += count;
     }
 
-    /// Adds what one read gives, and answers how much that is: 0 where the reader is at its end, or where
-    /// 327,680 bytes are pending, which no stream without a fault leaves. An error of the reader, also an interrupted
-    /// read, leaves what is pending as it was.
-    pub(crate) fn fill<R: Read>(&mut self, reader: &mut R) -> io::Result<usize>
+    /// Adds what one read gives, and answers how many bytes that is: 0 where the reader is at its end, or where the buffer is full. An error
+    /// of the reader, also an interrupted read, leaves what is pending as it was.
+    pub fn fill<R: Read>(&mut self, reader: &mut R) -> io::Result<usize>
         ensures ok { IfOk result (λ count. Filled count self.old self.new (R.remaining reader.old) (R.remaining reader.new)) }
-        ensures most { IfOk result (λ count. count ≤ 327680) }
-        ensures end { IfOk result (λ count. count ≡ 0 → length self.old < 327680 → IsAtEnd (R.remaining reader.new)) }
+        ensures most { IfOk result (λ count. count ≤ CAPACITY) }
+        ensures end { IfOk result (λ count. count ≡ 0 → length self.old < CAPACITY → IsAtEnd (R.remaining reader.new)) }
         ensures err { OnErr result ((self.new ≡ self.old) × Keeps (R.remaining reader.old) (R.remaining reader.new)) }
     {
         let (start, end) = (self.start, self.end);

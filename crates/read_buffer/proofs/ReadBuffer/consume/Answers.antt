@@ -1,9 +1,9 @@
 use Rattle.std.proofs.Common.{◌≤◌, ◌-◌, ◌∙◌, ap, sym, take, drop, List, ℕ, length, subst, arith}
-use Rattle.iscsi_session.proofs.Buffers.{passed}
-use Rattle.iscsi_session.proofs.read_buffer.ReadBuffer.consume.Goals as goal
+use Rattle.read_buffer.proofs.Buffers.{passed}
+use Rattle.read_buffer.proofs.ReadBuffer.consume.Goals as goal
 
 pub returns : goal.returns
-returns c =
+returns g c =
     let i = c.self.invariant in
     let b = c.self.inside.bytes.items in
     let e = c.self.inside.end in

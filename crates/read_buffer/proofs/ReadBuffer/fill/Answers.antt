@@ -1,7 +1,7 @@
 use Rattle.std.proofs.Common.{◌≡◌, ◌-◌, ◌+◌, ◌++◌, ◌∙◌, ap, take, drop, List, ℕ}
 use Rattle.std.proofs.lemmas.List.{with_items_is}
-use Rattle.frames.proofs.Buffers.{at_front}
-use Rattle.frames.proofs.read_buffer.ReadBuffer.fill.Goals as goal
+use Rattle.read_buffer.proofs.Buffers.{at_front}
+use Rattle.read_buffer.proofs.ReadBuffer.fill.Goals as goal
 
 pub returns-in-Ok-clause-ok : goal.returns-in-Ok-clause-ok
 returns-in-Ok-clause-ok g c =

@@ -1,6 +1,6 @@
 use Rattle.std.proofs.Common.{sym, take}
-use Rattle.frames.proofs.Buffers.{behind, before}
-use Rattle.frames.proofs.read_buffer.read_behind.Goals as goal
+use Rattle.read_buffer.proofs.Buffers.{behind, before}
+use Rattle.read_buffer.proofs.read_behind.Goals as goal
 
 pub returns-in-Ok-clause-ok : goal.returns-in-Ok-clause-ok
 returns-in-Ok-clause-ok g c =
