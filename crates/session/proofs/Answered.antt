@@ -1,49 +1,62 @@
 -- Frames answered one after another.
-use Rattle.std.proofs.Common.{◌≡◌, ℕ, true, List, [], ◌∷◌, ◌++◌, drop, refl, sym, ap, subst, ◌∙◌, append_assoc, append-nil, Option, Some, None}
+use Rattle.std.proofs.Common.{◌≡◌, ℕ, true, List, [], ◌∷◌, ◌++◌, drop, refl, sym, ap, subst, ◌∙◌, append_assoc, append-nil}
+use Rattle.std.proofs.Common.{Option, Some, None}
 use Rattle.std.specs.Io.KnownBytes.{Appends}
 use Rattle.scsi_nexus.specs.declared.nexus.Nexus.{Nexus}
 use Rattle.logical_unit.specs.Answers.{DoneValue}
 use Rattle.frames.specs.Frames.{FrameValue, Login, Command, Reset, Logout, Complete, parsed_frame}
 use Rattle.frames.specs.Stream.{Takes}
 use Rattle.frames.specs.Replies.{ResetReply, LogoutReply, reply_bytes}
-use Rattle.frames.proofs.Taking.{takes_one, takes_more, takes_before}
-use Rattle.session.specs.Answering.{command_reply, Says, Talks, Answers, AnswersAll}
+use Rattle.frames.proofs.Taking.{takes_one, takes_more}
+use Rattle.session.specs.Answering.{State, command_reply, Says, Talks, Answers, AnswersAll}
 
 -- one frame more
-talks_on : {S : Type 0} (notes : S → DoneValue → S → Type 0) (n : Nexus) (s : S) (fs : List FrameValue) (f : FrameValue) (out mid out' : List ℕ) (t u : S)
+talks_on : {S : Type 0} (notes : S → DoneValue → S → Type 0) (n : Nexus) (s : S) (fs : List FrameValue) (f : FrameValue)
+    (out mid out' : List ℕ) (t u : S)
     → Talks notes n s fs out mid t → Says notes n t f mid out' u → Talks notes n s (fs ++ f ∷ []) out out' u
 talks_on {S} notes n s [] f out mid out' t u so one =
     (u, out', subst (λ (x : List ℕ). Says notes n s f x out' u) so.0 (subst (λ (x : S). Says notes n x f mid out' u) so.1 one), (refl, refl))
-talks_on {S} notes n s (g ∷ fs) f out mid out' t u so one = (so.0, so.1, so.2, talks_on notes n so.0 fs f so.1 mid out' t u so.3 one)
+talks_on {S} notes n s (g ∷ fs) f out mid out' t u so one =
+    (so.0, so.1, so.2, talks_on notes n so.0 fs f so.1 mid out' t u so.3 one)
 
-pub none_yet : {S : Type 0} (notes : S → DoneValue → S → Type 0) (n : Nexus) (s : S) (pending out : List ℕ) → Answers notes n s pending out out pending s
-none_yet notes n s pending out = ([], (refl, refl), refl)
+pub none_yet : {S : Type 0} (notes : S → DoneValue → S → Type 0) (s : S) (before : State) → Answers notes s before before s
+none_yet notes s before = record { nexus = refl; frames = []; talked = (refl, refl); taken = refl }
 
-pub one_more : {S : Type 0} (notes : S → DoneValue → S → Type 0) (n : Nexus) (s t u : S) (pending out mid out' rest rest' : List ℕ) (f : FrameValue) (k : ℕ)
-    → Answers notes n s pending out mid rest t → parsed_frame true rest ≡ Complete f k → rest' ≡ drop k rest → Says notes n t f mid out' u → Answers notes n s pending out out' rest' u
-one_more notes n s t u pending out mid out' rest rest' f k so is cut one = (
-  so.0 ++ f ∷ [],
-  talks_on notes n s so.0 f out mid out' t u so.1 one,
-  subst (λ (x : List ℕ). Takes true pending (so.0 ++ f ∷ []) x) (sym cut) (takes_one true pending so.0 rest f k refl so.2 is),
-)
+pub one_more : {S : Type 0} (notes : S → DoneValue → S → Type 0) (s t u : S) (before mid after : State) (f : FrameValue) (k : ℕ)
+    → Answers notes s before mid t → parsed_frame true mid.pending ≡ Complete f k → after.pending ≡ drop k mid.pending
+    → after.nexus ≡ mid.nexus → Says notes mid.nexus t f mid.out after.out u → Answers notes s before after u
+one_more notes s t u before mid after f k so is cut same one = record {
+  nexus = same ∙ so.nexus;
+  frames = so.frames ++ f ∷ [];
+  talked =
+      talks_on notes before.nexus s so.frames f before.out mid.out after.out t u so.talked
+      (subst (λ (n : Nexus). Says notes n t f mid.out after.out u) so.nexus one);
+  taken =
+      subst (λ (x : List ℕ). Takes true before.pending (so.frames ++ f ∷ []) x) (sym cut)
+      (takes_one true before.pending so.frames mid.pending f k refl so.taken is);
+}
 
-pub then_logout : {S : Type 0} (notes : S → DoneValue → S → Type 0) (n : Nexus) (s t u : S) (pending out mid out' rest rest' : List ℕ) (f : FrameValue) (k : ℕ)
-    → Answers notes n s pending out mid rest t → parsed_frame true rest ≡ Complete f k → rest' ≡ drop k rest
-    → (f ≡ Logout) × (out' ≡ mid ++ reply_bytes LogoutReply) × (u ≡ t) → AnswersAll notes n s pending out out' rest' u
-then_logout {S} notes n s t u pending out mid out' rest rest' f k so is cut last = (
-  so.0,
-  mid,
-  subst (λ (x : S). Talks notes n s so.0 out mid x) (sym last.2) so.1,
-  last.1,
-  subst (λ (x : List ℕ). Takes true pending (so.0 ++ Logout ∷ []) x) (sym cut)
-      (subst (λ (g : FrameValue). Takes true pending (so.0 ++ g ∷ []) (drop k rest)) last.0 (takes_one true pending so.0 rest f k refl so.2 is)),
-)
+pub then_logout : {S : Type 0} (notes : S → DoneValue → S → Type 0) (s t u : S) (before mid after : State) (f : FrameValue) (k : ℕ)
+    → Answers notes s before mid t → parsed_frame true mid.pending ≡ Complete f k → after.pending ≡ drop k mid.pending
+    → (f ≡ Logout) × (after.out ≡ mid.out ++ reply_bytes LogoutReply) × (u ≡ t) → AnswersAll notes s before after u
+then_logout {S} notes s t u before mid after f k so is cut last = record {
+  frames = so.frames;
+  said = mid.out;
+  talked = subst (λ (x : S). Talks notes before.nexus s so.frames before.out mid.out x) (sym last.2) so.talked;
+  last = last.1;
+  taken =
+      subst (λ (x : List ℕ). Takes true before.pending (so.frames ++ Logout ∷ []) x) (sym cut)
+      (subst (λ (g : FrameValue). Takes true before.pending (so.frames ++ g ∷ []) (drop k mid.pending)) last.0
+      (takes_one true before.pending so.frames mid.pending f k refl so.taken is));
+}
 
-talks_append : {S : Type 0} (notes : S → DoneValue → S → Type 0) (n : Nexus) (s : S) (fs gs : List FrameValue) (out mid out' : List ℕ) (t u : S)
+talks_append : {S : Type 0} (notes : S → DoneValue → S → Type 0) (n : Nexus) (s : S) (fs gs : List FrameValue)
+    (out mid out' : List ℕ) (t u : S)
     → Talks notes n s fs out mid t → Talks notes n t gs mid out' u → Talks notes n s (fs ++ gs) out out' u
 talks_append {S} notes n s [] gs out mid out' t u one two =
     subst (λ (x : List ℕ). Talks notes n s gs x out' u) one.0 (subst (λ (x : S). Talks notes n x gs mid out' u) one.1 two)
-talks_append {S} notes n s (f ∷ fs) gs out mid out' t u one two = (one.0, one.1, one.2, talks_append notes n one.0 fs gs one.1 mid out' t u one.3 two)
+talks_append {S} notes n s (f ∷ fs) gs out mid out' t u one two =
+    (one.0, one.1, one.2, talks_append notes n one.0 fs gs one.1 mid out' t u one.3 two)
 
 says_shift : {S : Type 0} (notes : S → DoneValue → S → Type 0) (n : Nexus) (s : S) (f : FrameValue) (pre out out' : List ℕ) (t : S)
     → Says notes n s f out out' t → Says notes n s f (pre ++ out) (pre ++ out') t
@@ -57,32 +70,38 @@ says_shift notes n s Logout pre out out' t one = one
 talks_shift : {S : Type 0} (notes : S → DoneValue → S → Type 0) (n : Nexus) (s : S) (fs : List FrameValue) (pre out out' : List ℕ) (t : S)
     → Talks notes n s fs out out' t → Talks notes n s fs (pre ++ out) (pre ++ out') t
 talks_shift notes n s [] pre out out' t so = (ap (λ (x : List ℕ). pre ++ x) so.0, so.1)
-talks_shift notes n s (f ∷ fs) pre out out' t so = (so.0, pre ++ so.1, says_shift notes n s f pre out so.1 so.0 so.2, talks_shift notes n so.0 fs pre so.1 out' t so.3)
+talks_shift notes n s (f ∷ fs) pre out out' t so =
+    (so.0, pre ++ so.1, says_shift notes n s f pre out so.1 so.0 so.2, talks_shift notes n so.0 fs pre so.1 out' t so.3)
 
 -- a batch behind those whose replies were written
-pub batch : {S : Type 0} (notes : S → DoneValue → S → Type 0) (n : Nexus) (s t u : S) (p q r out gone o1 o2 : List ℕ)
-    → Answers notes n s p out (gone ++ o1) q t → Answers notes n t q o1 o2 r u → Answers notes n s p out (gone ++ o2) r u
-batch notes n s t u p q r out gone o1 o2 one two = (
-  one.0 ++ two.0,
-  talks_append notes n s one.0 two.0 out (gone ++ o1) (gone ++ o2) t u one.1 (talks_shift notes n t two.0 gone o1 o2 u two.1),
-  takes_more true p one.0 q two.0 r refl one.2 two.2,
-)
+pub batch : {S : Type 0} (notes : S → DoneValue → S → Type 0) (s t u : S) (p q r : State) (gone : List ℕ)
+    → Answers notes s p (record q { out = gone ++ q.out }) t → Answers notes t q r u
+    → Answers notes s p (record r { out = gone ++ r.out }) u
+batch notes s t u p q r gone one two = record {
+  nexus = two.nexus ∙ one.nexus;
+  frames = one.frames ++ two.frames;
+  talked =
+      talks_append notes p.nexus s one.frames two.frames p.out (gone ++ q.out) (gone ++ r.out) t u one.talked
+      (talks_shift notes p.nexus t two.frames gone q.out r.out u
+      (subst (λ (n : Nexus). Talks notes n t two.frames q.out r.out u) one.nexus two.talked));
+  taken = takes_more true p.pending one.frames q.pending two.frames r.pending refl one.taken two.taken;
+}
 
-pub last_batch : {S : Type 0} (notes : S → DoneValue → S → Type 0) (n : Nexus) (s t u : S) (p q r out gone o1 o2 : List ℕ)
-    → Answers notes n s p out (gone ++ o1) q t → AnswersAll notes n t q o1 o2 r u → AnswersAll notes n s p out (gone ++ o2) r u
-last_batch notes n s t u p q r out gone o1 o2 one two = (
-  one.0 ++ two.0,
-  gone ++ two.1,
-  talks_append notes n s one.0 two.0 out (gone ++ o1) (gone ++ two.1) t u one.1 (talks_shift notes n t two.0 gone o1 two.1 u two.2),
-  ap (λ (x : List ℕ). gone ++ x) two.3 ∙ sym (append_assoc gone two.1 (reply_bytes LogoutReply)),
-  subst (λ (fs : List FrameValue). Takes true p fs r) (sym (append_assoc one.0 two.0 (Logout ∷ [])))
-      (takes_more true p one.0 q (two.0 ++ Logout ∷ []) r refl one.2 two.4),
-)
-
--- more comes behind what is pending
-pub more_comes : {S : Type 0} (notes : S → DoneValue → S → Type 0) (n : Nexus) (s t : S) (pending piece out out' rest : List ℕ)
-    → Answers notes n s pending out out' rest t → Answers notes n s (pending ++ piece) out out' (rest ++ piece) t
-more_comes notes n s t pending piece out out' rest so = (so.0, so.1, takes_before true pending so.0 rest piece so.2)
+pub last_batch : {S : Type 0} (notes : S → DoneValue → S → Type 0) (s t u : S) (p q r : State) (gone : List ℕ)
+    → Answers notes s p (record q { out = gone ++ q.out }) t → AnswersAll notes t q r u
+    → AnswersAll notes s p (record r { out = gone ++ r.out }) u
+last_batch notes s t u p q r gone one two = record {
+  frames = one.frames ++ two.frames;
+  said = gone ++ two.said;
+  talked =
+      talks_append notes p.nexus s one.frames two.frames p.out (gone ++ q.out) (gone ++ two.said) t u one.talked
+      (talks_shift notes p.nexus t two.frames gone q.out two.said u
+      (subst (λ (n : Nexus). Talks notes n t two.frames q.out two.said u) one.nexus two.talked));
+  last = ap (λ (x : List ℕ). gone ++ x) two.last ∙ sym (append_assoc gone two.said (reply_bytes LogoutReply));
+  taken =
+      subst (λ (fs : List FrameValue). Takes true p.pending fs r.pending) (sym (append_assoc one.frames two.frames (Logout ∷ [])))
+      (takes_more true p.pending one.frames q.pending (two.frames ++ Logout ∷ []) r.pending refl one.taken two.taken);
+}
 
 pub appends_none : (w : Option (List ℕ)) → Appends w w []
 appends_none None = tt

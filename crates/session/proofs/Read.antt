@@ -1,7 +1,7 @@
 -- What several reads take, one after another.
-use Rattle.std.proofs.Common.{Bool, false, ◌⊎◌, inl, inr, ◌≡◌, ◌≤◌, ◌<◌, ◌+◌, ◌-◌, ◌*◌, ℕ, Option, Some, None, List, [], ◌∷◌, ◌++◌, length, length-append, refl, sym, ap, subst, ◌∙◌, append_assoc, append-nil, arith}
-use Rattle.std.specs.Prelude.{Result, Ok, Err, OnOk}
-use Rattle.std.specs.Result.{is_err}
+use Rattle.std.proofs.Common.{false, ◌⊎◌, inl, inr, ◌≡◌, ◌≤◌, ◌<◌, ◌+◌, ◌-◌, ◌*◌, ℕ, Option, Some, None, List, [], ◌∷◌, ◌++◌, length, length-append}
+use Rattle.std.proofs.Common.{refl, sym, ap, subst, ◌∙◌, append_assoc, append-nil, arith}
+use Rattle.std.specs.Prelude.{Result, Ok, Err, IfOk, IfErr}
 use Rattle.std.specs.Io.KnownBytes.{Consumes, Keeps}
 use Rattle.frames.specs.Frames.{Invalid, parsed_frame}
 use Rattle.read_buffer.specs.Reading.{Filled}
@@ -38,8 +38,8 @@ pub reads_none : (most : ℕ) (left : Option (List ℕ)) → ReadsAtMost most le
 reads_none most left = ([], consumes_none left, omega arith)
 
 -- one read more
-pub reads_more : (turn count : ℕ) (pending pending' : List ℕ) (a b c : Option (List ℕ)) → ReadsAtMost (turn * 262144) a b → Filled count pending pending' b c → count ≤ 262144
-    → ReadsAtMost ((turn + 1) * 262144) a c
+pub reads_more : (turn count : ℕ) (pending pending' : List ℕ) (a b c : Option (List ℕ)) → ReadsAtMost (turn * 262144) a b
+    → Filled count pending pending' b c → count ≤ 262144 → ReadsAtMost ((turn + 1) * 262144) a c
 reads_more turn count pending pending' a b c so got most =
     (so.0 ++ got.0, consumes_more a b c so.0 got.0 so.1 got.3, omega (arith, so.2, got.2, length-append so.0 got.0))
 
@@ -55,18 +55,20 @@ pub reads_within : (few most : ℕ) (a b : Option (List ℕ)) → few ≤ most �
 reads_within few most a b le so = (so.0, so.1, omega (arith, so.2))
 
 -- the reads up to a LOGIN, and those behind it
-pub reads_then : (turns others : ℕ) (a b c : Option (List ℕ)) → others ≤ turns → ReadsAtMost ((turns - others) * 262144) a b → ReadsAtMost (others * 262144) b c → ReadsAtMost (turns * 262144) a c
+pub reads_then : (turns others : ℕ) (a b c : Option (List ℕ)) → others ≤ turns → ReadsAtMost ((turns - others) * 262144) a b
+    → ReadsAtMost (others * 262144) b c → ReadsAtMost (turns * 262144) a c
 reads_then turns others a b c le first rest =
     (first.0 ++ rest.0, consumes_more a b c first.0 rest.0 first.1 rest.1, omega (arith, first.2, rest.2, length-append first.0 rest.0))
 
 -- one read more, of those that there may be
-pub reads_on : (turn turns count : ℕ) (pending pending' : List ℕ) (a b c : Option (List ℕ)) → turn < turns → ReadsAtMost (turn * 262144) a b → Filled count pending pending' b c → count ≤ 262144
-    → ReadsAtMost (turns * 262144) a c
+pub reads_on : (turn turns count : ℕ) (pending pending' : List ℕ) (a b c : Option (List ℕ)) → turn < turns → ReadsAtMost (turn * 262144) a b
+    → Filled count pending pending' b c → count ≤ 262144 → ReadsAtMost (turns * 262144) a c
 reads_on turn turns count pending pending' a b c lt so got most =
     reads_within (turn + 1) turns a c (omega arith) (reads_more turn count pending pending' a b c so got most)
 
 -- one read more of all that is pending
-pub consumes_filled : (count : ℕ) (pending pending' : List ℕ) (a b c : Option (List ℕ)) → Consumes a b pending → Filled count pending pending' b c → Consumes a c pending'
+pub consumes_filled : (count : ℕ) (pending pending' : List ℕ) (a b c : Option (List ℕ)) → Consumes a b pending
+    → Filled count pending pending' b c → Consumes a c pending'
 consumes_filled count pending pending' a b c so got = subst (λ (xs : List ℕ). Consumes a c xs) (sym got.1) (consumes_more a b c pending got.0 so got.3)
 
 -- what is no frame keeps out
@@ -75,8 +77,8 @@ keeps_out BadFrame read e = ap fault_before_login e
 keeps_out TooLong read e = ap fault_before_login e
 
 -- a LOGIN whose nexus isn't taken
-pub kept_out : (fault : SessionFault) (turns others : ℕ) (nexus : Nexus) (left left' : Option (List ℕ)) (pending : List ℕ) → (fault ≡ session.AlreadyConnected) ⊎ (fault ≡ session.NoMemory)
-    → Awaits turns left left' pending (Login nexus others) → IsKeptOutBy fault left left'
+pub kept_out : (fault : SessionFault) (turns others : ℕ) (nexus : Nexus) (left left' : Option (List ℕ)) (pending : List ℕ)
+    → (fault ≡ session.AlreadyConnected) ⊎ (fault ≡ session.NoMemory) → Awaits turns left left' pending (Login nexus others) → IsKeptOutBy fault left left'
 kept_out fault turns others nexus left left' pending (inl e) came = rw e (record { read = came.0; consumed = came.2; shown = (nexus, came.1, came.3) })
 kept_out fault turns others nexus left left' pending (inr e) came = rw e (record { read = came.0; consumed = came.2; shown = tt })
 
@@ -85,7 +87,11 @@ pub kept_untold : (fault : SessionFault) (turns others : ℕ) (nexus : Nexus) (l
     → Awaits turns left left' pending (Login nexus others) → IsKeptOutBy fault left left'
 kept_untold fault turns others nexus left left' pending e came = rw e (record { read = came.0; consumed = came.2; shown = (nexus, came.1, came.3) })
 
--- what holds where there is no error
-pub at_ok : {T E P : Type 0} (r : Result T E) (b : Bool) → b ≡ is_err r → b ≡ false → OnOk r P → P
-at_ok (Ok u) b is none so = so
-at_ok (Err e) b is none so = let never = sym is ∙ none in absurd cc
+-- what follows from a value, and from an error
+pub if_ok : {T E : Type 0} (r : Result T E) (P Q : T → Type 0) → ((x : T) → P x → Q x) → IfOk r P → IfOk r Q
+if_ok (Ok x) P Q f h = f x h
+if_ok (Err e) P Q f h = tt
+
+pub if_err : {T E : Type 0} (r : Result T E) (P Q : E → Type 0) → ((e : E) → P e → Q e) → IfErr r P → IfErr r Q
+if_err (Ok x) P Q f h = tt
+if_err (Err e) P Q f h = f e h

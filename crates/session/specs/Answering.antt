@@ -7,6 +7,16 @@ use Rattle.logical_unit.specs.Answers.{DoneValue, IsAnswer}
 use Rattle.frames.specs.Frames.{FrameValue, Login, Command, Reset, Logout}
 use Rattle.frames.specs.Stream.{Takes}
 use Rattle.frames.specs.Replies.{CommandReply, ResetReply, LogoutReply, reply_bytes}
+use Rattle.session.specs.declared.logged_in.Session.{Session}
+
+-- a session at one moment: whose it is, what has come and isn't answered yet, and the replies that wait to be written
+pub record State : Type 0 where
+  pub nexus : Nexus
+  pub pending : List ℕ
+  pub out : List ℕ
+
+abbrev pub state_of : Session → State
+state_of session = record { nexus = session.nexus; pending = session.read_buffer; out = session.out.items }
 
 -- the reply frame of an answered command
 abbrev pub command_reply : DoneValue → List ℕ
@@ -46,22 +56,34 @@ abbrev pub ComesByCalls : {S : Type 0} → (S → DoneValue → S → Type 0) �
 ComesByCalls notes n s t = (ds : List DoneValue) × Calls notes n s ds t
 
 -- some frames that were pending were answered, in order, and others are pending
-abbrev pub Answers : {S : Type 0} → (S → DoneValue → S → Type 0) → Nexus → S → (pending out out' pending' : List ℕ) → S → Type 0
-Answers notes n s pending out out' pending' t = (fs : List FrameValue) × Talks notes n s fs out out' t × Takes true pending fs pending'
+pub record Answers {S : Type 0} (notes : S → DoneValue → S → Type 0) (s : S) (before after : State) (t : S) : Type 0 where
+  pub nexus : after.nexus ≡ before.nexus
+  pub frames : List FrameValue
+  pub talked : Talks notes before.nexus s frames before.out after.out t
+  pub taken : Takes true before.pending frames after.pending
 
 -- and then LOGOUT
-abbrev pub AnswersAll : {S : Type 0} → (S → DoneValue → S → Type 0) → Nexus → S → (pending out out' pending' : List ℕ) → S → Type 0
-AnswersAll notes n s pending out out' pending' t =
-    (fs : List FrameValue) × (mid : List ℕ) × Talks notes n s fs out mid t × (out' ≡ mid ++ reply_bytes LogoutReply) × Takes true pending (fs ++ Logout ∷ []) pending'
+pub record AnswersAll {S : Type 0} (notes : S → DoneValue → S → Type 0) (s : S) (before after : State) (t : S) : Type 0 where
+  pub frames : List FrameValue
+  pub said : List ℕ
+  pub talked : Talks notes before.nexus s frames before.out said t
+  pub last : after.out ≡ said ++ reply_bytes LogoutReply
+  pub taken : Takes true before.pending (frames ++ Logout ∷ []) after.pending
 
 -- part of the replies was written, and the others wait behind it
-abbrev pub AnswersOut : {S : Type 0} → (S → DoneValue → S → Type 0) → Nexus → S → (pending out : List ℕ) → (written written' : Option (List ℕ)) → (out' pending' : List ℕ) → S → Type 0
-AnswersOut notes n s pending out written written' out' pending' t =
-    (gone : List ℕ) × Appends written written' gone × Answers notes n s pending out (gone ++ out') pending' t
+pub record AnswersOut
+    {S : Type 0} (notes : S → DoneValue → S → Type 0) (s : S) (before : State) (written written' : Option (List ℕ)) (after : State) (t : S)
+    : Type 0 where
+  pub gone : List ℕ
+  pub appended : Appends written written' gone
+  pub answered : Answers notes s before (record after { out = gone ++ after.out }) t
 
-abbrev pub AnswersAllOut : {S : Type 0} → (S → DoneValue → S → Type 0) → Nexus → S → (pending out : List ℕ) → (written written' : Option (List ℕ)) → (out' pending' : List ℕ) → S → Type 0
-AnswersAllOut notes n s pending out written written' out' pending' t =
-    (gone : List ℕ) × Appends written written' gone × AnswersAll notes n s pending out (gone ++ out') pending' t
+pub record AnswersAllOut
+    {S : Type 0} (notes : S → DoneValue → S → Type 0) (s : S) (before : State) (written written' : Option (List ℕ)) (after : State) (t : S)
+    : Type 0 where
+  pub gone : List ℕ
+  pub appended : Appends written written' gone
+  pub answered : AnswersAll notes s before (record after { out = gone ++ after.out }) t
 
 -- what waits to be written is no more than one reply of the largest, and there is room for another behind it
 abbrev pub HasRoom : (waiting capacity : ℕ) → Type 0

@@ -28,7 +28,8 @@ LeavesReads turns left left' (wait.Ended end) = Unit {0}
 -- what was read begins with a LOGIN, behind which the rest is pending; or the reader is at its end before one has come whole
 abbrev pub Awaits : (turns : ℕ) → (left left' : Option (List ℕ)) → (pending : List ℕ) → LoginWait → Type 0
 Awaits turns left left' pending (wait.Login nexus others) =
-    (read : List ℕ) × (count : ℕ) × Consumes left left' read × (parsed_frame false read ≡ Complete (Login nexus) count) × (pending ≡ drop count read) × (others ≤ turns)
+    (read : List ℕ) × (count : ℕ) × Consumes left left' read × (parsed_frame false read ≡ Complete (Login nexus) count)
+    × (pending ≡ drop count read) × (others ≤ turns)
 Awaits turns left left' pending (wait.Ended end) =
     Consumes left left' pending × IsAtEnd left' × (parsed_frame false pending ≡ Partial) × (end ≡ end_of pending)
 

@@ -14,22 +14,26 @@ use Rattle.session.specs.declared.fault.End.{End}
 use Rattle.session.specs.declared.fault.End.TheVariants as end
 use Rattle.session.specs.declared.fault.SessionFault.{SessionFault}
 use Rattle.session.specs.declared.fault.SessionFault.TheVariants as session
-use Rattle.session.specs.Answering.{Talks, Answers, AnswersAll, ComesByCalls}
+use Rattle.session.specs.Answering.{State, Talks, Answers, AnswersAll, ComesByCalls}
 use Rattle.session.specs.Faults.{IsOfStream}
 use Rattle.session.specs.Login.{IsKeptOutBy, end_of}
 
 -- what was pending is answered as far as it is whole, and all replies are written; and so with a LOGOUT at its end
-pub record Writes {S : Type 0} (notes : S → DoneValue → S → Type 0) (n : Nexus) (s : S) (pending out : List ℕ) (written written' : Option (List ℕ)) (rest : List ℕ) (t : S) : Type 0 where
+pub record Writes
+    {S : Type 0} (notes : S → DoneValue → S → Type 0) (s : S) (before : State) (written written' : Option (List ℕ)) (after : State) (t : S)
+    : Type 0 where
   pub said : List ℕ
   pub appended : Appends written written' said
-  pub answered : Answers notes n s pending out said rest t
-  pub partial : parsed_frame true rest ≡ Partial
-  pub short : length rest < 131076
+  pub answered : Answers notes s before (record after { out = said }) t
+  pub partial : parsed_frame true after.pending ≡ Partial
+  pub short : length after.pending < 131076
 
-pub record WritesAll {S : Type 0} (notes : S → DoneValue → S → Type 0) (n : Nexus) (s : S) (pending out : List ℕ) (written written' : Option (List ℕ)) (rest : List ℕ) (t : S) : Type 0 where
+pub record WritesAll
+    {S : Type 0} (notes : S → DoneValue → S → Type 0) (s : S) (before : State) (written written' : Option (List ℕ)) (after : State) (t : S)
+    : Type 0 where
   pub said : List ℕ
   pub appended : Appends written written' said
-  pub answered : AnswersAll notes n s pending out said rest t
+  pub answered : AnswersAll notes s before (record after { out = said }) t
 
 -- the last frame of a session that a LOGOUT ends, and its reply
 abbrev pub last_frames : End → List FrameValue
@@ -47,14 +51,20 @@ abbrev pub EndsAt : End → (left : Option (List ℕ)) → (rest : List ℕ) →
 EndsAt end.Logout left rest = Unit {0}
 EndsAt end left rest = IsAtEnd left × (parsed_frame true rest ≡ Partial) × (end ≡ end_of rest)
 
+-- with the reply to its LOGIN as the one that waits to be written
+abbrev pub greeted : State → State
+greeted state = record state { out = reply_bytes (LoginReply Accepted) }
+
 -- from a LOGIN on: the frames that were pending and that were read, in order, and what was answered to them
-pub record Converses {S : Type 0} (notes : S → DoneValue → S → Type 0) (n : Nexus) (s : S) (pending out : List ℕ) (left left' written written' : Option (List ℕ)) (end : End) (rest : List ℕ) (t : S) : Type 0 where
+pub record Converses
+    {S : Type 0} (notes : S → DoneValue → S → Type 0) (s : S) (before : State) (left left' written written' : Option (List ℕ)) (end : End)
+    (rest : List ℕ) (t : S) : Type 0 where
   pub read : List ℕ
   pub frames : List FrameValue
   pub said : List ℕ
   pub consumed : Consumes left left' read
-  pub taken : Takes true (pending ++ read) (frames ++ last_frames end) rest
-  pub talked : Talks notes n s frames out said t
+  pub taken : Takes true (before.pending ++ read) (frames ++ last_frames end) rest
+  pub talked : Talks notes before.nexus s frames before.out said t
   pub appended : Appends written written' (said ++ last_reply end)
   pub ended : EndsAt end left' rest
 
@@ -88,7 +98,9 @@ pub record IsKeptOut {S : Type 0} (s : S) (left left' written written' : Option 
 
 -- a session that ended early later on: what was read first is its LOGIN, what it did at the service are calls of its own, and the last that it
 -- did there was to lose the nexus of that LOGIN at every unit. It ended for want of memory only where such a loss was BUSY
-pub record BreaksOff {S : Type 0} (notes : S → DoneValue → S → Type 0) (count : S → ℕ) (s : S) (left : Option (List ℕ)) (fault : SessionFault) (t : S) : Type 0 where
+pub record BreaksOff
+    {S : Type 0} (notes : S → DoneValue → S → Type 0) (count : S → ℕ) (s : S) (left : Option (List ℕ)) (fault : SessionFault) (t : S)
+    : Type 0 where
   pub nexus : Nexus
   pub read : List ℕ
   pub middle : Option (List ℕ)
@@ -113,7 +125,9 @@ pub record NeverLogsIn {S : Type 0} (s : S) (left left' written written' : Optio
 
 -- a session: what was read begins with a LOGIN and these frames, and LOGOUT where that ended it; what was written is the reply to LOGIN and
 -- just one reply for each frame, in order, of the answer to that very frame's call; and then the nexus was lost at every unit
-pub record IsHeld {S : Type 0} (notes : S → DoneValue → S → Type 0) (count : S → ℕ) (s : S) (left left' written written' : Option (List ℕ)) (end : End) (t : S) : Type 0 where
+pub record IsHeld
+    {S : Type 0} (notes : S → DoneValue → S → Type 0) (count : S → ℕ) (s : S) (left left' written written' : Option (List ℕ)) (end : End) (t : S)
+    : Type 0 where
   pub nexus : Nexus
   pub read : List ℕ
   pub frames : List FrameValue

@@ -11,7 +11,7 @@ use scsi_nexus::Nexus;
 use std::alloc::{AllocError, Global};
 
 /// Submits a command, and adds the reply frame of its answer.
-fn command<S: Service>(
+fn answer_command<S: Service>(
     alloc: Global,
     service: &mut S,
     nexus: Nexus,
@@ -38,7 +38,7 @@ fn command<S: Service>(
 }
 
 /// Resets a unit, and adds the reply frame.
-fn reset<S: Service>(
+fn answer_reset<S: Service>(
     alloc: Global,
     service: &mut S,
     lun: u8,
@@ -66,7 +66,7 @@ pub(crate) enum AfterFrame {
 }
 
 /// Answers one frame of a session that is logged in.
-pub(crate) fn answer<S: Service>(
+pub(crate) fn answer_frame<S: Service>(
     alloc: Global,
     service: &mut S,
     nexus: Nexus,
@@ -74,8 +74,10 @@ pub(crate) fn answer<S: Service>(
     out: &mut Vec<u8>,
 ) -> Result<AfterFrame, AllocError>
     ensures calls { ComesByCalls S.notes nexus service.old service.new }
-    ensures goes_on { result ≡ Ok AfterFrame.Frames → Says S.notes nexus service.old (frame_value frame.entry) out.old.items out.new.items service.new }
-    ensures logout { result ≡ Ok AfterFrame.Nothing → (frame_value frame.entry ≡ frames.Logout) × (out.new.items ≡ out.old.items ++ reply_bytes LogoutReply) × (service.new ≡ service.old) }
+    ensures goes_on { result ≡ Ok AfterFrame.Frames
+        → Says S.notes nexus service.old (frame_value frame.entry) out.old.items out.new.items service.new }
+    ensures logout { result ≡ Ok AfterFrame.Nothing → (frame_value frame.entry ≡ frames.Logout)
+        × (out.new.items ≡ out.old.items ++ reply_bytes LogoutReply) × (service.new ≡ service.old) }
     ensures most { OnOk result (vec_len out.new ≤ vec_len out.old + 65569) }
     ensures capacity { vec_capacity out.old ≤ vec_capacity out.new }
     ensures full { OnErr result (vec_capacity out.old < vec_len out.old + 65569) }
@@ -83,11 +85,11 @@ pub(crate) fn answer<S: Service>(
     match frame {
         FrameRef::Login { .. } => Ok(AfterFrame::Again),
         FrameRef::Command { lun, cdb, bytes } => {
-            command(alloc, service, nexus, lun, cdb, bytes, out)?;
+            answer_command(alloc, service, nexus, lun, cdb, bytes, out)?;
             Ok(AfterFrame::Frames)
         }
         FrameRef::Reset { lun } => {
-            reset(alloc, service, lun, out)?;
+            answer_reset(alloc, service, lun, out)?;
             Ok(AfterFrame::Frames)
         }
         FrameRef::Logout => {

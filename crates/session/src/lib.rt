@@ -3,9 +3,9 @@
 #![tactic(auto)]
 
 mod answering;
-mod batching;
 mod directory;
 mod fault;
+mod logged_in;
 mod login;
 mod service;
 mod serving;

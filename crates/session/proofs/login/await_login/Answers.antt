@@ -24,7 +24,8 @@ returns-in-Ok-eq0-clause-wait g c =
     let so = c.reads.invariant in
     let got = c.in-Ok-eq0.ensures.ok in
     let same : c.fill.new.self ≡ c.reads.read_buffer = nothing_more _ _ c.in-Ok-eq0.field-0 _ _ got c.in-Ok-eq0.field-0-test in (
-      subst (λ (xs : List ℕ). Consumes (g.R.Read.remaining c.args.reader.now) (g.R.Read.remaining c.fill.new.reader) xs) (sym got.1) (consumes_more _ _ _ _ _ so.0 got.3),
+      subst (λ (xs : List ℕ). Consumes (g.R.Read.remaining c.args.reader.now) (g.R.Read.remaining c.fill.new.reader) xs) (sym got.1)
+          (consumes_more _ _ _ _ _ so.0 got.3),
       c.in-Ok-eq0.ensures.end c.in-Ok-eq0.field-0-test (omega (arith, so.2)),
       ap (parsed_frame false) same ∙ so.1,
       c.end_of.ensures ∙ ap end_of c.pending.ensures,
@@ -44,19 +45,37 @@ pub returns-in-Complete-Command-default-clause-kept_out : goal.returns-in-Comple
 returns-in-Complete-Command-default-clause-kept_out g c =
     let read = c.fill.new.self in
     let shown : parsed_frame false read ≡ _ = sym (c.in-Complete-Command-default.ensures.parsed ∙ ap (parsed_frame false) c.pending-in-reads.ensures) in
-    record { read = read; consumed = consumes_filled _ _ _ _ _ _ c.reads.invariant.0 c.in-Ok.ensures.ok; shown = ap fault_before_login (shown ∙ ap (λ f. Complete (frame_value f) c.in-Complete-Command-default.field-1) c.in-Complete-Command-default.field-0-is) }
+    record {
+      read = read;
+      consumed = consumes_filled _ _ _ _ _ _ c.reads.invariant.0 c.in-Ok.ensures.ok;
+      shown =
+          ap fault_before_login
+          (shown ∙ ap (λ f. Complete (frame_value f) c.in-Complete-Command-default.field-1) c.in-Complete-Command-default.field-0-is);
+    }
 
 pub returns-in-Complete-Reset-default-clause-kept_out : goal.returns-in-Complete-Reset-default-clause-kept_out
 returns-in-Complete-Reset-default-clause-kept_out g c =
     let read = c.fill.new.self in
     let shown : parsed_frame false read ≡ _ = sym (c.in-Complete-Reset-default.ensures.parsed ∙ ap (parsed_frame false) c.pending-in-reads.ensures) in
-    record { read = read; consumed = consumes_filled _ _ _ _ _ _ c.reads.invariant.0 c.in-Ok.ensures.ok; shown = ap fault_before_login (shown ∙ ap (λ f. Complete (frame_value f) c.in-Complete-Reset-default.field-1) c.in-Complete-Reset-default.field-0-is) }
+    record {
+      read = read;
+      consumed = consumes_filled _ _ _ _ _ _ c.reads.invariant.0 c.in-Ok.ensures.ok;
+      shown =
+          ap fault_before_login
+          (shown ∙ ap (λ f. Complete (frame_value f) c.in-Complete-Reset-default.field-1) c.in-Complete-Reset-default.field-0-is);
+    }
 
 pub returns-in-Complete-Logout-default-clause-kept_out : goal.returns-in-Complete-Logout-default-clause-kept_out
 returns-in-Complete-Logout-default-clause-kept_out g c =
     let read = c.fill.new.self in
     let shown : parsed_frame false read ≡ _ = sym (c.in-Complete-Logout-default.ensures.parsed ∙ ap (parsed_frame false) c.pending-in-reads.ensures) in
-    record { read = read; consumed = consumes_filled _ _ _ _ _ _ c.reads.invariant.0 c.in-Ok.ensures.ok; shown = ap fault_before_login (shown ∙ ap (λ f. Complete (frame_value f) c.in-Complete-Logout-default.field-1) c.in-Complete-Logout-default.field-0-is) }
+    record {
+      read = read;
+      consumed = consumes_filled _ _ _ _ _ _ c.reads.invariant.0 c.in-Ok.ensures.ok;
+      shown =
+          ap fault_before_login
+          (shown ∙ ap (λ f. Complete (frame_value f) c.in-Complete-Logout-default.field-1) c.in-Complete-Logout-default.field-0-is);
+    }
 
 pub returns-in-Ok-eq0-clause-reads : goal.returns-in-Ok-eq0-clause-reads
 returns-in-Ok-eq0-clause-reads g c = grind (arith, common_steps)

@@ -7,5 +7,7 @@ use Rattle.session.proofs.login.await_login.Given as goal
 -- all that was read is pending, and is no frame yet
 abbrev pub invariant-reads : goal.invariant-reads
 invariant-reads g l =
-    Consumes (g.R.Read.remaining l.fn.reader) (g.R.Read.remaining l.reader) l.read_buffer × (parsed_frame false l.read_buffer ≡ Partial) × (length l.read_buffer < 131076)
+    Consumes (g.R.Read.remaining l.fn.reader) (g.R.Read.remaining l.reader) l.read_buffer
+    × (parsed_frame false l.read_buffer ≡ Partial)
+    × (length l.read_buffer < 131076)
     × ReadsAtMost (l.turn * 262144) (g.R.Read.remaining l.fn.reader) (g.R.Read.remaining l.reader)

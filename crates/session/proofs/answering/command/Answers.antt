@@ -1,9 +1,0 @@
-use Rattle.std.proofs.Common.{inl, rules}
-use Rattle.session.proofs.Called.{one_called}
-use Rattle.session.proofs.answering.command.Goals as goal
-
-pub returns-clause-calls : goal.returns-clause-calls
-returns-clause-calls g c = one_called g.S.Service.notes c.args.nexus c.args.service.now c.submit-done.new.self _ (inl c.submit-done.ensures.answer.0) c.submit-done.ensures.notes
-
-pub returns-clause-said : goal.returns-clause-said
-returns-clause-said g c = search rules fits 100
