@@ -42,7 +42,8 @@ faults_told = record {
 }
 
 pub replies_told : RepliesTold
-unfolding answer_line explanation request_of command_of generation_text listed registration_text cut encode_with digits padded_integral char_count count_text number_text
+unfolding answer_line explanation request_of command_of generation_text listed registration_text cut encode_with digits padded_integral
+    char_count count_text number_text
 replies_told = record {
   sense = refl;
   payload = refl;

@@ -1,5 +1,6 @@
 -- The frames of a session, and where it stops.
-use Rattle.std.proofs.Common.{◌≡◌, ℕ, zero, suc, ◌+◌, ◌<◌, List, [], ◌∷◌, ◌++◌, map, length, take, drop, get_or, refl, sym, ap, subst, ◌∙◌, Option, Result, Ok, Err, ◌≤◌, arith}
+use Rattle.std.proofs.Common.{◌≡◌, ℕ, zero, suc, ◌+◌, ◌<◌, ◌≤◌, List, [], ◌∷◌, ◌++◌, map, length, take, drop, get_or, refl, sym, ap, subst, ◌∙◌}
+use Rattle.std.proofs.Common.{Result, Ok, Err, arith}
 use Rattle.std.specs.Prelude.{All, OnOk, IfErr}
 use Rattle.std.proofs.lemmas.List.{take_more, take_all, get_or-map, length-map}
 use Rattle.scsi_nexus.specs.declared.nexus.Nexus.{Nexus}
@@ -9,7 +10,7 @@ use Rattle.script_lines.specs.Requests.{request_value, IsWithinLimits}
 use Rattle.script_lines.specs.Script.{request_values}
 use Rattle.output_lines.specs.declared.explained.Explanations.{Explanations}
 use Rattle.client_session.specs.declared.client_session_fault.ClientSessionFault.{ClientSessionFault}
-use Rattle.client_session.specs.Talking.{frame_of, frames_of, Talks}
+use Rattle.client_session.specs.Talking.{frame_of, frames_of, Streams, Talks}
 use Rattle.client_session.specs.Waiting.{Exchanges, Stops, Breaks}
 use Rattle.client_session.proofs.Talked.{talks_none, talks_on}
 
@@ -25,95 +26,96 @@ asks_on (r ∷ requests) request = ap (λ (fs : List FrameValue). frame_of (requ
 asks_next : (requests : List ClientRequest) (i : ℕ) (request : ClientRequest) → i < length requests → request ≡ get_or requests i request
     → asks (take i requests) ++ frame_of (request_value request) ∷ [] ≡ asks (take (i + 1) requests)
 asks_next requests i request lt is =
-    asks_on (take i requests) request ∙ ap (λ (r : ClientRequest). asks (take i requests ++ r ∷ [])) is ∙ ap asks (sym (take_more requests i request lt))
+    asks_on (take i requests) request
+    ∙ ap (λ (r : ClientRequest). asks (take i requests ++ r ∷ [])) is
+    ∙ ap asks (sym (take_more requests i request lt))
 
 -- the frames before one, that one, and those behind it
 asks_split : (requests : List ClientRequest) (i : ℕ) (request : ClientRequest) → i < length requests → request ≡ get_or requests i request
     → asks requests ++ Logout ∷ [] ≡ asks (take i requests) ++ frame_of (request_value request) ∷ (asks (drop (suc i) requests) ++ Logout ∷ [])
 asks_split [] i request lt is = absurd (omega arith)
 asks_split (r ∷ requests) zero request lt is = ap (λ (x : ClientRequest). frame_of (request_value x) ∷ (asks requests ++ Logout ∷ [])) (sym is)
-asks_split (r ∷ requests) (suc i) request lt is = ap (λ (fs : List FrameValue). frame_of (request_value r) ∷ fs) (asks_split requests i request (omega arith) is)
+asks_split (r ∷ requests) (suc i) request lt is =
+    ap (λ (fs : List FrameValue). frame_of (request_value r) ∷ fs) (asks_split requests i request (omega arith) is)
 
 -- LOGIN is answered
-pub talks_first : (x : Explanations) (nexus : Nexus) (pending rest : List ℕ) (left left1 written written1 shown shown1 : Option (List ℕ)) → pending ≡ []
-    → Exchanges x (Login nexus) pending rest left left1 written written1 shown shown1
-    → Talks x (Login nexus ∷ []) left left1 written written1 shown shown1 rest
-talks_first x nexus pending rest left left1 written written1 shown shown1 none one =
-    talks_on x [] (Login nexus) left left left1 written written written1 shown shown shown1 [] rest (talks_none x left written shown)
-    (subst (λ (p : List ℕ). Exchanges x (Login nexus) p rest left left1 written written1 shown shown1) none one)
+pub talks_first : (x : Explanations) (nexus : Nexus) (pending rest : List ℕ) (before after : Streams) → pending ≡ []
+    → Exchanges x (Login nexus) pending rest before after → Talks x (Login nexus ∷ []) before after rest
+talks_first x nexus pending rest before after none one =
+    talks_on x [] (Login nexus) before before after [] rest (talks_none x before)
+    (subst (λ (p : List ℕ). Exchanges x (Login nexus) p rest before after) none one)
 
 -- one request more
-pub talks_next : (x : Explanations) (nexus : Nexus) (requests : List ClientRequest) (i : ℕ) (request : ClientRequest) (f : FrameValue) (left left1 left2 written written1 written2 shown shown1 shown2 : Option (List ℕ)) (rest rest' : List ℕ)
-    → i < length requests → request ≡ get_or requests i request → f ≡ frame_of (request_value request) → Talks x (Login nexus ∷ asks (take i requests)) left left1 written written1 shown shown1 rest
-    → Exchanges x f rest rest' left1 left2 written1 written2 shown1 shown2
-    → Talks x (Login nexus ∷ asks (take (i + 1) requests)) left left2 written written2 shown shown2 rest'
-talks_next x nexus requests i request f left left1 left2 written written1 written2 shown shown1 shown2 rest rest' lt is framed so one =
-    subst (λ (fs : List FrameValue). Talks x (Login nexus ∷ fs) left left2 written written2 shown shown2 rest') (asks_next requests i request lt is)
-    (talks_on x (Login nexus ∷ asks (take i requests)) (frame_of (request_value request)) left left1 left2 written written1 written2 shown shown1 shown2 rest rest' so
-    (subst (λ (g : FrameValue). Exchanges x g rest rest' left1 left2 written1 written2 shown1 shown2) framed one))
+pub talks_next : (x : Explanations) (nexus : Nexus) (requests : List ClientRequest) (i : ℕ) (request : ClientRequest) (f : FrameValue)
+    (before middle after : Streams) (rest rest' : List ℕ)
+    → i < length requests → request ≡ get_or requests i request → f ≡ frame_of (request_value request)
+    → Talks x (Login nexus ∷ asks (take i requests)) before middle rest → Exchanges x f rest rest' middle after
+    → Talks x (Login nexus ∷ asks (take (i + 1) requests)) before after rest'
+talks_next x nexus requests i request f before middle after rest rest' lt is framed so one =
+    subst (λ (fs : List FrameValue). Talks x (Login nexus ∷ fs) before after rest') (asks_next requests i request lt is)
+    (talks_on x (Login nexus ∷ asks (take i requests)) (frame_of (request_value request)) before middle after rest rest' so
+    (subst (λ (g : FrameValue). Exchanges x g rest rest' middle after) framed one))
 
 -- LOGIN isn't answered
-pub breaks_first : (x : Explanations) (nexus : Nexus) (requests : List ClientRequest) (fault : ClientSessionFault) (pending : List ℕ) (left left' written written' shown shown' : Option (List ℕ)) → pending ≡ []
-    → Stops fault (Login nexus) pending left left' written written' shown shown' → Breaks x nexus (request_values requests) fault left left' written written' shown shown'
-breaks_first x nexus requests fault pending left left' written written' shown shown' none stop = record {
+pub breaks_first : (x : Explanations) (nexus : Nexus) (requests : List ClientRequest) (fault : ClientSessionFault) (pending : List ℕ)
+    (before after : Streams) → pending ≡ []
+    → Stops fault (Login nexus) pending before after → Breaks x nexus (request_values requests) fault before after
+breaks_first x nexus requests fault pending before after none stop = record {
   done = [];
   next = Login nexus;
   others = asks requests ++ Logout ∷ [];
   rest = [];
-  left1 = left;
-  written1 = written;
-  shown1 = shown;
+  middle = before;
   frames = refl;
-  talked = talks_none x left written shown;
-  stopped = subst (λ (p : List ℕ). Stops fault (Login nexus) p left left' written written' shown shown') none stop;
+  talked = talks_none x before;
+  stopped = subst (λ (p : List ℕ). Stops fault (Login nexus) p before after) none stop;
 }
 
 -- a request isn't
-pub breaks_next : (x : Explanations) (nexus : Nexus) (requests : List ClientRequest) (i : ℕ) (request : ClientRequest) (f : FrameValue) (fault : ClientSessionFault) (left left1 left' written written1 written' shown shown1 shown' : Option (List ℕ)) (rest : List ℕ)
-    → i < length requests → request ≡ get_or requests i request → f ≡ frame_of (request_value request) → Talks x (Login nexus ∷ asks (take i requests)) left left1 written written1 shown shown1 rest
-    → Stops fault f rest left1 left' written1 written' shown1 shown' → Breaks x nexus (request_values requests) fault left left' written written' shown shown'
-breaks_next x nexus requests i request f fault left left1 left' written written1 written' shown shown1 shown' rest lt is framed so stop = record {
+pub breaks_next : (x : Explanations) (nexus : Nexus) (requests : List ClientRequest) (i : ℕ) (request : ClientRequest) (f : FrameValue)
+    (fault : ClientSessionFault) (before middle after : Streams) (rest : List ℕ)
+    → i < length requests → request ≡ get_or requests i request → f ≡ frame_of (request_value request)
+    → Talks x (Login nexus ∷ asks (take i requests)) before middle rest → Stops fault f rest middle after
+    → Breaks x nexus (request_values requests) fault before after
+breaks_next x nexus requests i request f fault before middle after rest lt is framed so stop = record {
   done = Login nexus ∷ asks (take i requests);
   next = frame_of (request_value request);
   others = asks (drop (suc i) requests) ++ Logout ∷ [];
   rest = rest;
-  left1 = left1;
-  written1 = written1;
-  shown1 = shown1;
+  middle = middle;
   frames = ap (λ (fs : List FrameValue). Login nexus ∷ fs) (asks_split requests i request lt is);
   talked = so;
-  stopped = subst (λ (g : FrameValue). Stops fault g rest left1 left' written1 written' shown1 shown') framed stop;
+  stopped = subst (λ (g : FrameValue). Stops fault g rest middle after) framed stop;
 }
 
 -- LOGOUT isn't
-pub breaks_last : (x : Explanations) (nexus : Nexus) (requests : List ClientRequest) (fault : ClientSessionFault) (left left1 left' written written1 written' shown shown1 shown' : Option (List ℕ)) (rest : List ℕ)
-    → Talks x (Login nexus ∷ asks requests) left left1 written written1 shown shown1 rest
-    → Stops fault Logout rest left1 left' written1 written' shown1 shown' → Breaks x nexus (request_values requests) fault left left' written written' shown shown'
-breaks_last x nexus requests fault left left1 left' written written1 written' shown shown1 shown' rest so stop = record {
+pub breaks_last : (x : Explanations) (nexus : Nexus) (requests : List ClientRequest) (fault : ClientSessionFault)
+    (before middle after : Streams) (rest : List ℕ) → Talks x (Login nexus ∷ asks requests) before middle rest
+    → Stops fault Logout rest middle after → Breaks x nexus (request_values requests) fault before after
+breaks_last x nexus requests fault before middle after rest so stop = record {
   done = Login nexus ∷ asks requests;
   next = Logout;
   others = [];
   rest = rest;
-  left1 = left1;
-  written1 = written1;
-  shown1 = shown1;
+  middle = middle;
   frames = refl;
   talked = so;
   stopped = stop;
 }
 
 -- LOGOUT is answered
-pub talks_last : (x : Explanations) (nexus : Nexus) (requests : List ClientRequest) (left left1 left2 written written1 written2 shown shown1 shown2 : Option (List ℕ)) (rest rest' : List ℕ)
-    → Talks x (Login nexus ∷ asks requests) left left1 written written1 shown shown1 rest → Exchanges x Logout rest rest' left1 left2 written1 written2 shown1 shown2
-    → Talks x (frames_of nexus (request_values requests)) left left2 written written2 shown shown2 rest'
-talks_last x nexus requests left left1 left2 written written1 written2 shown shown1 shown2 rest rest' so one =
-    talks_on x (Login nexus ∷ asks requests) Logout left left1 left2 written written1 written2 shown shown1 shown2 rest rest' so one
+pub talks_last : (x : Explanations) (nexus : Nexus) (requests : List ClientRequest) (before middle after : Streams) (rest rest' : List ℕ)
+    → Talks x (Login nexus ∷ asks requests) before middle rest → Exchanges x Logout rest rest' middle after
+    → Talks x (frames_of nexus (request_values requests)) before after rest'
+talks_last x nexus requests before middle after rest rest' so one =
+    talks_on x (Login nexus ∷ asks requests) Logout before middle after rest rest' so one
 
 -- all requests were sent
-pub talks_all : (x : Explanations) (nexus : Nexus) (requests : List ClientRequest) (i : ℕ) (left left1 written written1 shown shown1 : Option (List ℕ)) (rest : List ℕ) → length requests ≤ i
-    → Talks x (Login nexus ∷ asks (take i requests)) left left1 written written1 shown shown1 rest → Talks x (Login nexus ∷ asks requests) left left1 written written1 shown shown1 rest
-talks_all x nexus requests i left left1 written written1 shown shown1 rest end so =
-    subst (λ (rs : List ClientRequest). Talks x (Login nexus ∷ asks rs) left left1 written written1 shown shown1 rest) (take_all i requests end) so
+pub talks_all : (x : Explanations) (nexus : Nexus) (requests : List ClientRequest) (i : ℕ) (before after : Streams) (rest : List ℕ)
+    → length requests ≤ i → Talks x (Login nexus ∷ asks (take i requests)) before after rest
+    → Talks x (Login nexus ∷ asks requests) before after rest
+talks_all x nexus requests i before after rest end so =
+    subst (λ (rs : List ClientRequest). Talks x (Login nexus ∷ asks rs) before after rest) (take_all i requests end) so
 
 pub on_ok : {X E : Type 0} (r : Result X E) (P Q : Type 0) → (P → Q) → OnOk r P → OnOk r Q
 on_ok (Ok x) P Q f h = f h
@@ -124,6 +126,8 @@ if_err (Ok x) P Q f h = tt
 if_err (Err e) P Q f h = f e h
 
 -- the requests of a script, each within the limits
-pub each_within : (requests : List ClientRequest) → All IsWithinLimits (request_values requests) → All (λ (r : ClientRequest). IsWithinLimits (request_value r)) requests
+pub each_within : (requests : List ClientRequest) → All IsWithinLimits (request_values requests)
+    → All (λ (r : ClientRequest). IsWithinLimits (request_value r)) requests
 each_within requests h k d lt =
-    subst IsWithinLimits (get_or-map request_value requests k d (request_value d) lt) (h k (request_value d) (omega (arith, lt, length-map requests request_value)))
+    subst IsWithinLimits (get_or-map request_value requests k d (request_value d) lt)
+    (h k (request_value d) (omega (arith, lt, length-map requests request_value)))

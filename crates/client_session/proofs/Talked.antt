@@ -1,5 +1,6 @@
 -- A host's session so far, frame by frame.
-use Rattle.std.proofs.Common.{◌≡◌, ℕ, List, [], ◌∷◌, ◌++◌, length, take, drop, take-append-drop, length-take-le, ◌≤◌, refl, sym, ap, subst, ◌∙◌, append_assoc, append-nil, Option}
+use Rattle.std.proofs.Common.{◌≡◌, ℕ, List, [], ◌∷◌, ◌++◌, length, take, drop, take-append-drop, length-take-le, ◌≤◌, refl, sym, ap, subst}
+use Rattle.std.proofs.Common.{◌∙◌, append_assoc, append-nil}
 use Rattle.std.specs.Io.KnownBytes.{Consumes, Appends}
 use Rattle.std.proofs.KnownBytes.{Consumes-nil, Consumes-trans, Appends-nil, Appends-trans}
 use Rattle.std.proofs.lemmas.List.Concat.{flat_map-append}
@@ -9,27 +10,28 @@ use Rattle.frames.specs.ParsedReplies.{Partial, Complete, parsed_reply}
 use Rattle.frames.specs.Sending.{frame_bytes}
 use Rattle.frames.proofs.ReplyPieces.{reply_stays}
 use Rattle.output_lines.specs.declared.explained.Explanations.{Explanations}
-use Rattle.client_session.specs.Talking.{IsReplyTo, AreRepliesTo, Tells, told_text, session_text, stream_of, Talks}
+use Rattle.client_session.specs.Talking.{IsReplyTo, AreRepliesTo, Tells, told_text, session_text, stream_of, Streams, Talks}
 use Rattle.client_session.specs.Waiting.{Answers, Exchanges}
 
 -- nothing yet
-pub talks_none : (x : Explanations) (left written shown : Option (List ℕ)) → Talks x [] left left written written shown shown []
-talks_none x left written shown = record {
+pub talks_none : (x : Explanations) (before : Streams) → Talks x [] before before []
+talks_none x before = record {
   read = [];
   replies = [];
-  consumed = Consumes-nil left;
+  consumed = Consumes-nil before.left;
   told = refl;
   answered = tt;
-  sent = Appends-nil written;
-  lines = Appends-nil shown;
+  sent = Appends-nil before.written;
+  lines = Appends-nil before.shown;
 }
 
 whole_is_more : (r : ReplyFrameValue) (count : ℕ) → Complete r count ≡ Partial → ⊥
 whole_is_more r count e = absurd cc
 
 -- one more reply, some of whose bytes were read before
-tells_on : (bytes : List ℕ) (replies : List ReplyFrameValue) (rest more piece rest' : List ℕ) (r : ReplyFrameValue) → Tells bytes replies rest → rest ++ more ≡ piece ++ rest'
-    → parsed_reply (rest ++ more) ≡ Complete r (length piece) → Tells (bytes ++ more) (replies ++ r ∷ []) rest'
+tells_on : (bytes : List ℕ) (replies : List ReplyFrameValue) (rest more piece rest' : List ℕ) (r : ReplyFrameValue)
+    → Tells bytes replies rest → rest ++ more ≡ piece ++ rest' → parsed_reply (rest ++ more) ≡ Complete r (length piece)
+    → Tells (bytes ++ more) (replies ++ r ∷ []) rest'
 tells_on bytes [] rest more piece rest' r so split parsed = (
   piece,
   rest',
@@ -45,42 +47,49 @@ tells_on bytes (q ∷ replies) rest more piece rest' r so split parsed = (
   tells_on so.1 replies rest more piece rest' r so.4 split parsed,
 )
 
-replies_on : (frames : List FrameValue) (replies : List ReplyFrameValue) (f : FrameValue) (r : ReplyFrameValue) → AreRepliesTo frames replies → IsReplyTo f r → AreRepliesTo (frames ++ f ∷ []) (replies ++ r ∷ [])
+replies_on : (frames : List FrameValue) (replies : List ReplyFrameValue) (f : FrameValue) (r : ReplyFrameValue)
+    → AreRepliesTo frames replies → IsReplyTo f r → AreRepliesTo (frames ++ f ∷ []) (replies ++ r ∷ [])
 replies_on [] [] f r so one = (one, tt)
 replies_on [] (q ∷ replies) f r so one = absurd so
 replies_on (g ∷ frames) [] f r so one = absurd so
 replies_on (g ∷ frames) (q ∷ replies) f r so one = (so.0, replies_on frames replies f r so.1 one)
 
 stream_on : (frames : List FrameValue) (f : FrameValue) → stream_of frames ++ frame_bytes f ≡ stream_of (frames ++ f ∷ [])
-stream_on frames f = sym (flat_map-append frame_bytes frames (f ∷ []) ∙ ap (λ (t : List ℕ). stream_of frames ++ t) (append-nil (frame_bytes f)))
+stream_on frames f =
+    sym (flat_map-append frame_bytes frames (f ∷ []) ∙ ap (λ (t : List ℕ). stream_of frames ++ t) (append-nil (frame_bytes f)))
 
-text_on : (x : Explanations) (frames : List FrameValue) (replies : List ReplyFrameValue) (f : FrameValue) (r : ReplyFrameValue) → AreRepliesTo frames replies
+text_on : (x : Explanations) (frames : List FrameValue) (replies : List ReplyFrameValue) (f : FrameValue) (r : ReplyFrameValue)
+    → AreRepliesTo frames replies
     → session_text x frames replies ++ told_text x f r ≡ session_text x (frames ++ f ∷ []) (replies ++ r ∷ [])
 text_on x [] [] f r so = sym (append-nil (told_text x f r))
 text_on x [] (q ∷ replies) f r so = absurd so
 text_on x (g ∷ frames) [] f r so = absurd so
 text_on x (g ∷ frames) (q ∷ replies) f r so =
-    append_assoc (told_text x g q) (session_text x frames replies) (told_text x f r) ∙ ap (λ (t : List ℕ). told_text x g q ++ t) (text_on x frames replies f r so.1)
+    append_assoc (told_text x g q) (session_text x frames replies) (told_text x f r)
+    ∙ ap (λ (t : List ℕ). told_text x g q ++ t) (text_on x frames replies f r so.1)
 
 -- one frame more
-pub talks_on : (x : Explanations) (frames : List FrameValue) (f : FrameValue) (left left1 left2 written written1 written2 shown shown1 shown2 : Option (List ℕ)) (rest rest' : List ℕ)
-    → Talks x frames left left1 written written1 shown shown1 rest → Exchanges x f rest rest' left1 left2 written1 written2 shown1 shown2
-    → Talks x (frames ++ f ∷ []) left left2 written written2 shown shown2 rest'
-talks_on x frames f left left1 left2 written written1 written2 shown shown1 shown2 rest rest' so one = record {
+pub talks_on : (x : Explanations) (frames : List FrameValue) (f : FrameValue) (before middle after : Streams) (rest rest' : List ℕ)
+    → Talks x frames before middle rest → Exchanges x f rest rest' middle after → Talks x (frames ++ f ∷ []) before after rest'
+talks_on x frames f before middle after rest rest' so one = record {
   read = so.read ++ one.read;
   replies = so.replies ++ one.reply ∷ [];
   consumed = Consumes-trans _ _ _ _ _ so.consumed one.consumed;
   told = tells_on so.read so.replies rest one.read one.piece rest' one.reply so.told one.split one.parsed;
   answered = replies_on frames so.replies f one.reply so.answered one.answered;
-  sent = subst (λ (b : List ℕ). Appends written written2 b) (stream_on frames f) (Appends-trans _ _ _ _ _ so.sent one.sent);
-  lines = subst (λ (b : List ℕ). Appends shown shown2 b) (text_on x frames so.replies f one.reply so.answered) (Appends-trans _ _ _ _ _ so.lines one.line);
+  sent =
+      subst (λ (b : List ℕ). Appends before.written after.written b) (stream_on frames f) (Appends-trans _ _ _ _ _ so.sent one.sent);
+  lines =
+      subst (λ (b : List ℕ). Appends before.shown after.shown b) (text_on x frames so.replies f one.reply so.answered)
+      (Appends-trans _ _ _ _ _ so.lines one.line);
 }
 
 -- one frame and its reply, from what was read, taken and written for it
-pub exchanged : (x : Explanations) (frame : FrameValue) (pending read read_buffer rest line0 line : List ℕ) (count : ℕ) (left left' written written' shown shown' : Option (List ℕ)) → read_buffer ≡ pending ++ read
-    → Consumes left left' read → Answers x frame (parsed_reply read_buffer) count line0 line → count ≤ length read_buffer → rest ≡ drop count read_buffer → line0 ≡ []
-    → Appends written written' (frame_bytes frame) → Appends shown shown' line → Exchanges x frame pending rest left left' written written' shown shown'
-exchanged x frame pending read read_buffer rest line0 line count left left' written written' shown shown' came took answer within cut none wrote put = record {
+pub exchanged : (x : Explanations) (frame : FrameValue) (pending read read_buffer rest line0 line : List ℕ) (count : ℕ) (before after : Streams)
+    → read_buffer ≡ pending ++ read → Consumes before.left after.left read → Answers x frame (parsed_reply read_buffer) count line0 line
+    → count ≤ length read_buffer → rest ≡ drop count read_buffer → line0 ≡ [] → Appends before.written after.written (frame_bytes frame)
+    → Appends before.shown after.shown line → Exchanges x frame pending rest before after
+exchanged x frame pending read read_buffer rest line0 line count before after came took answer within cut none wrote put = record {
   read = read;
   reply = answer.0;
   piece = take count read_buffer;
@@ -89,5 +98,6 @@ exchanged x frame pending read read_buffer rest line0 line count left left' writ
   parsed = ap parsed_reply (sym came) ∙ answer.1 ∙ ap (λ (n : ℕ). Complete answer.0 n) (sym (length-take-le count read_buffer within));
   answered = answer.2;
   sent = wrote;
-  line = subst (λ (l : List ℕ). Appends shown shown' l) (answer.3 ∙ ap (λ (l : List ℕ). l ++ told_text x frame answer.0) none) put;
+  line =
+      subst (λ (l : List ℕ). Appends before.shown after.shown l) (answer.3 ∙ ap (λ (l : List ℕ). l ++ told_text x frame answer.0) none) put;
 }

@@ -12,7 +12,7 @@ use Rattle.script_input.specs.declared.line_fault.LineFault.TheVariants.{BadUnit
 use Rattle.script_lines.specs.Requests as host
 use Rattle.client_session.specs.declared.client_session_fault.ClientSessionFault.TheVariants.{Line, Refused, BadReply, Read, Write, NoMemory}
 use Rattle.client_session.specs.Faults.{exit_status, fault_text}
-use Rattle.client_session.specs.Talking.{AreRepliesTo, Converses, IsReplyTo, frames_of, session_text, stream_of, told_text}
+use Rattle.client_session.specs.Talking.{AreRepliesTo, Converses, IsReplyTo, frames_of, session_text, stream_of, streams, told_text}
 use Rattle.client_session.specs.Waiting.{IsOfSession}
 
 pub record FaultsTold : Type 0 where
@@ -46,7 +46,8 @@ abbrev pub read_keys : List ℕ
 read_keys = 0x5E ∷ replicate 6 0 ++ 0 ∷ 0xFF ∷ 0 ∷ []
 
 pub record RepliesTold : Type 0 where
-  pub sense : told_text words.Off test (CommandReply CheckCondition (Some (sense_for PowerOnOrResetOccurred)) 1 []) ≡ line (codes "02 700006000000000a00000000290000000000 -")
+  pub sense : told_text words.Off test (CommandReply CheckCondition (Some (sense_for PowerOnOrResetOccurred)) 1 [])
+      ≡ line (codes "02 700006000000000a00000000290000000000 -")
   pub payload : told_text words.Off test (CommandReply Good None 258 (0x61 ∷ 0x62 ∷ [])) ≡ line (codes "00 - 6162")
   pub conflict : told_text words.Off test (CommandReply ReservationConflict None 3 []) ≡ line (codes "18 - -")
   -- a status alone
@@ -80,5 +81,6 @@ replies = (0 ∷ 0 ∷ 0 ∷ 2 ∷ 0x81 ∷ 0 ∷ []) ++ first_contact ++ 0 ∷ 
 pub record SessionTold : Type 0 where
   pub sent : stream_of (frames_of a (host.Command 0 (replicate 6 0) [] ∷ [])) ≡ login_by 1 ++ test_unit_ready ++ logout
   -- the server's next bytes stay unread, and what was there before stays
-  pub whole : Converses words.Off a script (Some (replies ++ 7 ∷ [])) (Some (7 ∷ [])) (Some (1 ∷ [])) (Some (1 ∷ login_by 1 ++ test_unit_ready ++ logout))
-      (Some (codes "before ")) (Some (codes "before " ++ line (codes "02 700006000000000a00000000290000000000 -")))
+  pub whole : Converses words.Off a script (streams (Some (replies ++ 7 ∷ [])) (Some (1 ∷ [])) (Some (codes "before ")))
+      (streams (Some (7 ∷ [])) (Some (1 ∷ login_by 1 ++ test_unit_ready ++ logout))
+      (Some (codes "before " ++ line (codes "02 700006000000000a00000000290000000000 -"))))

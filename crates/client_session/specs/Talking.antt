@@ -49,29 +49,40 @@ Tells bytes (reply ∷ replies) rest =
 
 -- what is written of the reply to a frame, as a replay writes it; of those to LOGIN and LOGOUT nothing is
 abbrev pub told_text : Explanations → FrameValue → ReplyFrameValue → List ℕ
-told_text explanations (Command lun cdb bytes) (CommandReply status sense number payload) = answer_text explanations cdb status sense payload
+told_text explanations (Command lun cdb bytes) (CommandReply status sense number payload) =
+    answer_text explanations cdb status sense payload
 told_text explanations (Reset lun) (ResetReply status) = answer_text explanations [] status None []
 told_text explanations _ _ = []
 
 -- and of the replies to frames, in their order
 abbrev pub session_text : Explanations → List FrameValue → List ReplyFrameValue → List ℕ
-session_text explanations (frame ∷ frames) (reply ∷ replies) = told_text explanations frame reply ++ session_text explanations frames replies
+session_text explanations (frame ∷ frames) (reply ∷ replies) =
+    told_text explanations frame reply ++ session_text explanations frames replies
 session_text explanations _ _ = []
+
+-- what is left to read from the server, what was written to it, and what was shown of its replies
+pub record Streams : Type 0 where
+  pub left : Option (List ℕ)
+  pub written : Option (List ℕ)
+  pub shown : Option (List ℕ)
+
+abbrev pub streams : (left written shown : Option (List ℕ)) → Streams
+streams left written shown = record { left = left; written = written; shown = shown }
 
 -- these frames were sent, a reply to each of them was read, in their order, and the lines of the replies were written, with their
 -- words where they are wanted; the rest is what was read behind them
-pub record Talks (explanations : Explanations) (frames : List FrameValue) (left left' written written' shown shown' : Option (List ℕ)) (rest : List ℕ) : Type 0 where
+pub record Talks (explanations : Explanations) (frames : List FrameValue) (before after : Streams) (rest : List ℕ) : Type 0 where
   pub read : List ℕ
   pub replies : List ReplyFrameValue
-  pub consumed : Consumes left left' read
+  pub consumed : Consumes before.left after.left read
   pub told : Tells read replies rest
   pub answered : AreRepliesTo frames replies
-  pub sent : Appends written written' (stream_of frames)
-  pub lines : Appends shown shown' (session_text explanations frames replies)
+  pub sent : Appends before.written after.written (stream_of frames)
+  pub lines : Appends before.shown after.shown (session_text explanations frames replies)
 
 -- a session whole
-pub record Converses (explanations : Explanations) (nexus : Nexus) (text : List ℕ) (left left' written written' shown shown' : Option (List ℕ)) : Type 0 where
+pub record Converses (explanations : Explanations) (nexus : Nexus) (text : List ℕ) (before after : Streams) : Type 0 where
   pub requests : List ClientRequestValue
   pub rest : List ℕ
   pub script : requests_in text ≡ Ok requests
-  pub talked : Talks explanations (frames_of nexus requests) left left' written written' shown shown' rest
+  pub talked : Talks explanations (frames_of nexus requests) before after rest

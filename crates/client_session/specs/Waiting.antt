@@ -13,19 +13,19 @@ use Rattle.script_lines.specs.Requests.{ClientRequestValue}
 use Rattle.script_lines.specs.Script.{requests_in}
 use Rattle.client_session.specs.declared.client_session_fault.ClientSessionFault.{ClientSessionFault}
 use Rattle.client_session.specs.declared.client_session_fault.ClientSessionFault.TheVariants.{Line, Refused, BadReply, Read, Write, NoMemory}
-use Rattle.client_session.specs.Talking.{IsReplyTo, told_text, frames_of, Talks}
+use Rattle.client_session.specs.Talking.{IsReplyTo, told_text, frames_of, Streams, Talks}
 
 -- a frame was sent, its reply was read, and what is written of the reply was
-pub record Exchanges (explanations : Explanations) (frame : FrameValue) (pending pending' : List ℕ) (left left' written written' shown shown' : Option (List ℕ)) : Type 0 where
+pub record Exchanges (explanations : Explanations) (frame : FrameValue) (pending pending' : List ℕ) (before after : Streams) : Type 0 where
   pub read : List ℕ
   pub reply : ReplyFrameValue
   pub piece : List ℕ
-  pub consumed : Consumes left left' read
+  pub consumed : Consumes before.left after.left read
   pub split : pending ++ read ≡ piece ++ pending'
   pub parsed : parsed_reply (pending ++ read) ≡ Complete reply (length piece)
   pub answered : IsReplyTo frame reply
-  pub sent : Appends written written' (frame_bytes frame)
-  pub line : Appends shown shown' (told_text explanations frame reply)
+  pub sent : Appends before.written after.written (frame_bytes frame)
+  pub line : Appends before.shown after.shown (told_text explanations frame reply)
 
 -- less than a reply came: the reader is at its end, or a read failed, or was one too many
 abbrev pub EndsBeforeReply : ClientSessionFault → (pending : List ℕ) → (left : Option (List ℕ)) → Type 0
@@ -70,43 +70,44 @@ IsOfSending NoMemory = Unit {0}
 IsOfSending _ = ⊥
 
 -- a frame was sent, and no reply to it came; no line was written
-pub record Waits (frame : FrameValue) (pending pending' : List ℕ) (left left' written written' shown shown' : Option (List ℕ)) : Type 0 where
-  pub sent : Appends written written' (frame_bytes frame)
-  pub read : Added pending pending' left left'
-  pub lines : Keeps shown shown'
+pub record Waits (frame : FrameValue) (pending pending' : List ℕ) (before after : Streams) : Type 0 where
+  pub sent : Appends before.written after.written (frame_bytes frame)
+  pub read : Added pending pending' before.left after.left
+  pub lines : Keeps before.shown after.shown
 
 -- a frame whose reply was refused, or no reply, or not read to its end; of how much was written where a write failed or
 -- memory was refused nothing is said
-abbrev pub Stops : ClientSessionFault → (frame : FrameValue) → (pending : List ℕ) → (left left' written written' shown shown' : Option (List ℕ)) → Type 0
-Stops (Line number what) frame pending left left' written written' shown shown' = ⊥
-Stops (Refused nexus) frame pending left left' written written' shown shown' =
-    (pending' : List ℕ) × Waits frame pending pending' left left' written written' shown shown' × IsRefusal nexus frame (parsed_reply pending')
-Stops BadReply frame pending left left' written written' shown shown' =
-    (pending' : List ℕ) × Waits frame pending pending' left left' written written' shown shown'
-    × (IsNoReplyTo frame (parsed_reply pending') ⊎ ((parsed_reply pending' ≡ Partial) × IsAtEnd left'))
-Stops Read frame pending left left' written written' shown shown' =
-    (pending' : List ℕ) × Waits frame pending pending' left left' written written' shown shown' × (parsed_reply pending' ≡ Partial)
-Stops Write frame pending left left' written written' shown shown' = Unit {0}
-Stops NoMemory frame pending left left' written written' shown shown' = Unit {0}
+abbrev pub Stops : ClientSessionFault → (frame : FrameValue) → (pending : List ℕ) → (before after : Streams) → Type 0
+Stops (Line number what) frame pending before after = ⊥
+Stops (Refused nexus) frame pending before after =
+    (pending' : List ℕ) × Waits frame pending pending' before after × IsRefusal nexus frame (parsed_reply pending')
+Stops BadReply frame pending before after =
+    (pending' : List ℕ) × Waits frame pending pending' before after
+    × (IsNoReplyTo frame (parsed_reply pending') ⊎ ((parsed_reply pending' ≡ Partial) × IsAtEnd after.left))
+Stops Read frame pending before after =
+    (pending' : List ℕ) × Waits frame pending pending' before after × (parsed_reply pending' ≡ Partial)
+Stops Write frame pending before after = Unit {0}
+Stops NoMemory frame pending before after = Unit {0}
 
 -- the frames before one were answered, and that one was not
-pub record Breaks (explanations : Explanations) (nexus : Nexus) (requests : List ClientRequestValue) (fault : ClientSessionFault) (left left' written written' shown shown' : Option (List ℕ)) : Type 0 where
+pub record Breaks
+    (explanations : Explanations) (nexus : Nexus) (requests : List ClientRequestValue) (fault : ClientSessionFault) (before after : Streams)
+    : Type 0 where
   pub done : List FrameValue
   pub next : FrameValue
   pub others : List FrameValue
   pub rest : List ℕ
-  pub left1 : Option (List ℕ)
-  pub written1 : Option (List ℕ)
-  pub shown1 : Option (List ℕ)
+  pub middle : Streams
   pub frames : frames_of nexus requests ≡ done ++ next ∷ others
-  pub talked : Talks explanations done left left1 written written1 shown shown1 rest
-  pub stopped : Stops fault next rest left1 left' written1 written' shown1 shown'
+  pub talked : Talks explanations done before middle rest
+  pub stopped : Stops fault next rest middle after
 
 -- a session of a script without a fault
-pub record BreaksWithin (explanations : Explanations) (nexus : Nexus) (text : List ℕ) (fault : ClientSessionFault) (left left' written written' shown shown' : Option (List ℕ)) : Type 0 where
+pub record BreaksWithin
+    (explanations : Explanations) (nexus : Nexus) (text : List ℕ) (fault : ClientSessionFault) (before after : Streams) : Type 0 where
   pub requests : List ClientRequestValue
   pub script : requests_in text ≡ Ok requests
-  pub broke : Breaks explanations nexus requests fault left left' written written' shown shown'
+  pub broke : Breaks explanations nexus requests fault before after
 
 -- the faults of a session that was begun
 abbrev pub IsOfSession : ClientSessionFault → Type 0

@@ -3,18 +3,15 @@ ghost use Rattle.std.specs.Io.KnownBytes.{Appends};
 ghost use Rattle.frames.specs.Sending.{IsSendable, frame_bytes};
 ghost use Rattle.frames.specs.ParsedReplies.{Partial, parsed_reply};
 ghost use Rattle.frames.specs.Views.{frame_value};
-ghost use Rattle.client_session.specs.Waiting.{Answers, Exchanges, IsOfSending, IsWhy, Stops};
+ghost use Rattle.client_session.specs.Waiting.{Answers, IsOfSending, IsWhy};
 
-use crate::awaiting::expect_reply;
 use crate::client_session_fault::ClientSessionFault;
-use frames::{
-    FrameBuffer, FrameRef, LoginAnswer, ParsedReply, ReplyFrame, parse_reply, write_frame,
-};
+use frames::{FrameRef, LoginAnswer, ParsedReply, ReplyFrame, parse_reply, write_frame};
 use output_lines::{Explanations, write_explained, write_out};
-use std::io::{Read, Write};
+use std::io::Write;
 
 /// Sends a frame.
-fn send<W: Write>(
+pub(crate) fn send<W: Write>(
     frame: &FrameRef<'_>,
     buffer: &mut Vec<u8>,
     writer: &mut W,
@@ -32,7 +29,7 @@ fn send<W: Write>(
 }
 
 /// Takes the reply to a frame that is pending, adds what is written of it, and answers how many bytes the reply has.
-fn take_reply(
+pub(crate) fn take_reply(
     words: Explanations,
     frame: &FrameRef<'_>,
     pending: &[u8],
@@ -71,32 +68,4 @@ fn take_reply(
         _ => return Err(ClientSessionFault::BadReply),
     }
     Ok(count)
-}
-
-/// Sends a frame, waits for its reply and writes what is written of it.
-pub(crate) fn exchange<R: Read, W: Write, O: Write>(
-    words: Explanations,
-    frame: &FrameRef<'_>,
-    read_buffer: &mut FrameBuffer,
-    buffer: &mut Vec<u8>,
-    turns: &mut u64,
-    reader: &mut R,
-    writer: &mut W,
-    out: &mut O,
-) -> Result<(), ClientSessionFault>
-    requires { IsSendable (frame_value frame.now) }
-    ensures ok { OnOk result (Exchanges words (frame_value frame.now) read_buffer.old read_buffer.new (R.remaining reader.old) (R.remaining reader.new)
-        (W.contents writer.old) (W.contents writer.new) (O.contents out.old) (O.contents out.new)) }
-    ensures err { IfErr result (λ fault. Stops fault (frame_value frame.now) read_buffer.old (R.remaining reader.old) (R.remaining reader.new)
-        (W.contents writer.old) (W.contents writer.new) (O.contents out.old) (O.contents out.new)) }
-{
-    send(frame, buffer, writer)?;
-    expect_reply(read_buffer, reader, turns)?;
-    buffer.clear();
-    let count = take_reply(words, frame, read_buffer.pending(), buffer)?;
-    read_buffer.consume(count);
-    match write_out(out, buffer.as_slice()) {
-        Ok(()) => Ok(()),
-        Err(_) => Err(ClientSessionFault::Write),
-    }
 }

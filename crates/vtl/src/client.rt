@@ -2,7 +2,7 @@
 ghost use Rattle.command_line.specs.Tasks.{IsClientOptions};
 
 use crate::client_fault::ClientFault;
-use client_session::converse;
+use client_session::{HostSettings, converse};
 use command_line::ClientOptions;
 use output_lines::Explanations;
 use program_options::MAX_READS;
@@ -29,15 +29,18 @@ pub fn client<R: AllocGlobal + Input + Net + Print>(
     let mut reader = &stream;
     let mut writer = &stream;
     let mut out = io::writer(rt);
+    let settings = HostSettings {
+        nexus,
+        explanations,
+        turns: MAX_READS,
+    };
     converse(
         rt.alloc(),
+        settings,
+        &script,
         &mut reader,
         &mut writer,
-        nexus,
-        &script,
         &mut out,
-        explanations,
-        MAX_READS,
     )?;
     Ok(())
 }

@@ -3,7 +3,7 @@
 use super::assert_same;
 use super::streams::Sink;
 use crate::trickle::Trickle;
-use client_session::{ClientSessionFault, converse};
+use client_session::{ClientSessionFault, HostSettings, converse};
 use output_lines::Explanations;
 use scsi_nexus::Nexus;
 use std::alloc::Global;
@@ -39,18 +39,12 @@ fn conversed(
         is_interrupted: false,
     };
     let mut writer = Sink { fails };
-    let words = Explanations::Off;
-    converse(
-        alloc,
-        &mut reader,
-        &mut writer,
-        A,
-        script,
-        out,
-        words,
+    let settings = HostSettings {
+        nexus: A,
+        explanations: Explanations::Off,
         turns,
-    )
-    .err()
+    };
+    converse(alloc, settings, script, &mut reader, &mut writer, out).err()
 }
 
 #[test]
