@@ -1,5 +1,6 @@
 -- What comes of what happens to the tasks.
-use Rattle.std.proofs.Common.{◌≡◌, ◌≢◌, ℕ, ◌+◌, ◌*◌, ◌<◌, ◌≤◌, suc, Bool, true, false, MatchBool, cond, inl, ◌⊎◌, IsErr, List, [], ◌∷◌, ◌++◌, length, drop, Option, Some, None, Result, Ok, Err, refl, sym, ap, subst, ◌∙◌, append_assoc, append-nil, arith}
+use Rattle.std.proofs.Common.{◌≡◌, ◌≢◌, ℕ, ◌+◌, ◌*◌, ◌<◌, ◌≤◌, suc, Bool, true, false, MatchBool, cond, inl, ◌⊎◌, IsErr, List, [], ◌∷◌, ◌++◌, length}
+use Rattle.std.proofs.Common.{drop, Option, Some, None, Result, Ok, Err, refl, sym, ap, subst, ◌∙◌, append_assoc, append-nil, arith}
 use Rattle.std.specs.Prelude.{slice_get}
 use Rattle.std.proofs.lemmas.Grind.{flat_map-append}
 use Rattle.scsi_nexus.specs.declared.nexus.Nexus.{Nexus}
@@ -26,7 +27,8 @@ use Rattle.iscsi_tasks.specs.DataOuts.{data_answer, after_data}
 use Rattle.iscsi_tasks.specs.Next.{asked, is_whole, next_of, after_next, next_for, left_for, next_at, left_at, handed, request, without_first, with_first_asked}
 use Rattle.iscsi_tasks.specs.Runs.{Act, Commanded, DataCame, AskedNext, stepped}
 use Rattle.iscsi_session.specs.Saying.{AddsPlain, IsOfNoCommand}
-use Rattle.iscsi_session.specs.Executing.{Acts, Adds, Does, GoesOn, OrElse, Outcome, Nothing, Execute, Fail, Ask, Reject, Tells, refusal, command_outcome, data_outcome, is_idle, next_outcome, outcome}
+use Rattle.iscsi_session.specs.Executing.{Acts, Adds, Does, GoesOn, OrElse, Outcome, Nothing, Execute, Fail, Ask, Reject, Tells, refusal}
+use Rattle.iscsi_session.specs.Executing.{command_outcome, data_outcome, is_idle, next_outcome, outcome}
 
 -- ---- bytes
 
@@ -36,7 +38,8 @@ said_none out out' e = e ∙ sym (append-nil out)
 pub said_one : (out out' : List ℕ) (p : TargetPduValue) → out' ≡ out ++ bytes_of p → out' ≡ out ++ bytes_of_all (p ∷ [])
 said_one out out' p e = e ∙ ap (λ (xs : List ℕ). out ++ xs) (sym (append-nil (bytes_of p)))
 
-pub said_more : (a b : List TargetPduValue) (out mid out' : List ℕ) → mid ≡ out ++ bytes_of_all a → out' ≡ mid ++ bytes_of_all b → out' ≡ out ++ bytes_of_all (a ++ b)
+pub said_more : (a b : List TargetPduValue) (out mid out' : List ℕ) → mid ≡ out ++ bytes_of_all a → out' ≡ mid ++ bytes_of_all b
+    → out' ≡ out ++ bytes_of_all (a ++ b)
 said_more a b out mid out' one two =
     two ∙ ap (λ (xs : List ℕ). xs ++ bytes_of_all b) one ∙ append_assoc out (bytes_of_all a) (bytes_of_all b)
     ∙ ap (λ (xs : List ℕ). out ++ xs) (sym (flat_map-append bytes_of a b))
@@ -58,10 +61,6 @@ when P Q false e p = absurd cc
 pub unless : (P Q : Type 0) (b : Bool) → b ≡ false → Q → MatchBool b P Q
 unless P Q true e q = absurd cc
 unless P Q false e q = q
-
-pub adds_more : {A F : Type 0} (r : Result A F) (a b : List TargetPduValue) (out mid out' : List ℕ) → mid ≡ out ++ bytes_of_all a → Adds r mid out' b → Adds r out out' (a ++ b)
-adds_more (Ok value) a b out mid out' one two = said_more a b out mid out' one two
-adds_more (Err fault) a b out mid out' one two = tt
 
 pub adds_nothing : {A F : Type 0} (r : Result A F) (out out' : List ℕ) (said : List TargetPduValue) → IsErr r → Adds r out out' said
 adds_nothing (Ok value) out out' said e = absurd cc
@@ -86,11 +85,13 @@ next_acts {S} notes n k k1 k' s t next said is left same does = (
       (subst (λ (x : NextTask). Does notes n s k1 (next_outcome x) said t) is does),
 )
 
-command_is : (r : Result TakenCommand TasksFault) (v : TakenCommand) (asked : Result TakenCommand TasksFault) → r ≡ Ok v → (r ≢ Err NoMemory → r ≡ asked) → asked ≡ Ok v
+command_is : (r : Result TakenCommand TasksFault) (v : TakenCommand) (asked : Result TakenCommand TasksFault) → r ≡ Ok v
+    → (r ≢ Err NoMemory → r ≡ asked) → asked ≡ Ok v
 command_is r v asked is told = sym (told (λ e. absurd cc)) ∙ is
 
 -- a command that was taken so
-pub command_acts : {S : Type 0} (notes : S → DoneValue → S → Type 0) (n : Nexus) (k k1 k' : TasksValue) (s t : S) (c : ScsiCommand) (payload : List ℕ) (r : Result TakenCommand TasksFault) (v : TakenCommand)
+pub command_acts : {S : Type 0} (notes : S → DoneValue → S → Type 0) (n : Nexus) (k k1 k' : TasksValue) (s t : S) (c : ScsiCommand) (payload : List ℕ)
+    (r : Result TakenCommand TasksFault) (v : TakenCommand)
     (said : List TargetPduValue) → r ≡ Ok v → (r ≢ Err NoMemory → r ≡ command_answer k c payload) → k1 ≡ after_command k c payload r → k' ≡ k1
     → Does notes n s k1 (command_outcome c payload (Ok v)) said t → Acts notes n k s (Commanded c payload) said k' t
 command_acts {S} notes n k k1 k' s t c payload r v said is told after same does =
@@ -101,42 +102,51 @@ command_acts {S} notes n k k1 k' s t c payload r v said is told after same does 
     )
 
 -- and was rejected
-pub command_rejected : {S : Type 0} (notes : S → DoneValue → S → Type 0) (n : Nexus) (k k1 k' : TasksValue) (s : S) (c : ScsiCommand) (payload : List ℕ) (r : Result TakenCommand TasksFault) (v : TakenCommand)
-    (reason : RejectReason) (stat_sn : SerialNumber) (rejected : List ℕ) → r ≡ Ok v → v ≡ taken.Rejected reason → (r ≢ Err NoMemory → r ≡ command_answer k c payload) → k1 ≡ after_command k c payload r → k' ≡ k1
+pub command_rejected : {S : Type 0} (notes : S → DoneValue → S → Type 0) (n : Nexus) (k k1 k' : TasksValue) (s : S) (c : ScsiCommand)
+    (payload : List ℕ) (r : Result TakenCommand TasksFault) (v : TakenCommand)
+    (reason : RejectReason) (stat_sn : SerialNumber) (rejected : List ℕ) → r ≡ Ok v → v ≡ taken.Rejected reason
+    → (r ≢ Err NoMemory → r ≡ command_answer k c payload) → k1 ≡ after_command k c payload r → k' ≡ k1
     → Acts notes n k s (Commanded c payload) (refusal k1 stat_sn reason rejected) k' s
 command_rejected {S} notes n k k1 k' s c payload r v reason stat_sn rejected is as_ told after same =
-    command_acts notes n k k1 k' s s c payload r (taken.Rejected reason) (refusal k1 stat_sn reason rejected) (cc) told after same (stat_sn, rejected, refl, refl)
+    command_acts notes n k k1 k' s s c payload r (taken.Rejected reason) (refusal k1 stat_sn reason rejected) (cc) told after same
+    (stat_sn, rejected, refl, refl)
 
 data_is : (r : Result TakenData TasksFault) (v : TakenData) (asked : Result TakenData TasksFault) → r ≡ Ok v → (r ≢ Err NoMemory → r ≡ asked) → asked ≡ Ok v
 data_is r v asked is told = sym (told (λ e. absurd cc)) ∙ is
 
 -- a Data-Out that was taken so
-pub data_steps : (k k1 k' : TasksValue) (d : DataOut) (payload : List ℕ) (r : Result TakenData TasksFault) (v : TakenData) → r ≡ Ok v → (r ≢ Err NoMemory → r ≡ data_answer k d (length payload))
+pub data_steps : (k k1 k' : TasksValue) (d : DataOut) (payload : List ℕ) (r : Result TakenData TasksFault) (v : TakenData) → r ≡ Ok v
+    → (r ≢ Err NoMemory → r ≡ data_answer k d (length payload))
     → k1 ≡ after_data k d payload r → k' ≡ k1 → k' ≡ stepped k (DataCame d payload)
 data_steps k k1 k' d payload r v is told after same =
     let e : data_answer k d (length payload) ≡ Ok v = data_is r v (data_answer k d (length payload)) is told in
     same ∙ after ∙ ap (after_data k d payload) (is ∙ sym e)
 
-pub data_tells : (k k1 k' : TasksValue) (d : DataOut) (payload : List ℕ) (r : Result TakenData TasksFault) (v : TakenData) (said : List TargetPduValue) → r ≡ Ok v
+pub data_tells : (k k1 k' : TasksValue) (d : DataOut) (payload : List ℕ) (r : Result TakenData TasksFault) (v : TakenData)
+    (said : List TargetPduValue) → r ≡ Ok v
     → (r ≢ Err NoMemory → r ≡ data_answer k d (length payload)) → k' ≡ k1 → Tells k1 (data_outcome (Ok v)) said → Tells k' (outcome k (DataCame d payload)) said
 data_tells k k1 k' d payload r v said is told same tells =
     let e : data_answer k d (length payload) ≡ Ok v = data_is r v (data_answer k d (length payload)) is told in
     subst (λ (x : TasksValue). Tells x (data_outcome (data_answer k d (length payload))) said) (sym same)
     (subst (λ (a : Result TakenData TasksFault). Tells k1 (data_outcome a) said) (sym e) tells)
 
-pub data_rejected : (k k1 k' : TasksValue) (d : DataOut) (payload : List ℕ) (r : Result TakenData TasksFault) (v : TakenData) (reason : RejectReason) (stat_sn : SerialNumber) (rejected : List ℕ) → r ≡ Ok v
-    → v ≡ taken_data.Rejected reason → (r ≢ Err NoMemory → r ≡ data_answer k d (length payload)) → k' ≡ k1 → Tells k' (outcome k (DataCame d payload)) (refusal k1 stat_sn reason rejected)
+pub data_rejected : (k k1 k' : TasksValue) (d : DataOut) (payload : List ℕ) (r : Result TakenData TasksFault) (v : TakenData) (reason : RejectReason)
+    (stat_sn : SerialNumber) (rejected : List ℕ) → r ≡ Ok v
+    → v ≡ taken_data.Rejected reason → (r ≢ Err NoMemory → r ≡ data_answer k d (length payload)) → k' ≡ k1 → Tells k' (outcome k (DataCame d payload))
+    (refusal k1 stat_sn reason rejected)
 data_rejected k k1 k' d payload r v reason stat_sn rejected is as_ told same =
     data_tells k k1 k' d payload r (taken_data.Rejected reason) (refusal k1 stat_sn reason rejected) (cc) told same (stat_sn, rejected, refl)
 
-told_does : {S : Type 0} (notes : S → DoneValue → S → Type 0) (n : Nexus) (s t : S) (k : TasksValue) (o : Outcome) (said : List TargetPduValue) → t ≡ s → Tells k o said → Does notes n s k o said t
+told_does : {S : Type 0} (notes : S → DoneValue → S → Type 0) (n : Nexus) (s t : S) (k : TasksValue) (o : Outcome) (said : List TargetPduValue)
+    → t ≡ s → Tells k o said → Does notes n s k o said t
 told_does notes n s t k Nothing said same tells = (tells, same)
 told_does notes n s t k (Reject reason) said same tells = (tells.0, tells.1, tells.2, same)
 told_does notes n s t k (Execute command bytes) said same tells = absurd tells
 told_does notes n s t k (Fail command fault) said same tells = absurd tells
 told_does notes n s t k (Ask request) said same tells = absurd tells
 
-pub told_acts : {S : Type 0} (notes : S → DoneValue → S → Type 0) (n : Nexus) (k k' : TasksValue) (s t : S) (act : Act) (said : List TargetPduValue) → t ≡ s → k' ≡ stepped k act
+pub told_acts : {S : Type 0} (notes : S → DoneValue → S → Type 0) (n : Nexus) (k k' : TasksValue) (s t : S) (act : Act) (said : List TargetPduValue)
+    → t ≡ s → k' ≡ stepped k act
     → Tells k' (outcome k act) said → Acts notes n k s act said k' t
 told_acts notes n k k' s t act said same steps tells = (steps, told_does notes n s t k' (outcome k act) said same tells)
 
@@ -179,7 +189,8 @@ at_most (t ∷ ts) = omega (arith, few_turns t.awaiting)
 first_goes : (k : TasksValue) (t : TaskValue) (ts : List TaskValue) → k.waiting ≡ t ∷ ts → left_to_do (drop 1 k.waiting) < length ts * 2 + 1
 first_goes k t ts e = subst (λ (ws : List TaskValue). left_to_do (drop 1 ws) < length ts * 2 + 1) (sym e) (omega (arith, at_most ts))
 
-first_asked : (k : TasksValue) (t u : TaskValue) (ts : List TaskValue) → k.waiting ≡ t ∷ ts → turn u.awaiting ≡ 1 → left_to_do (u ∷ drop 1 k.waiting) < length ts * 2 + 2
+first_asked : (k : TasksValue) (t u : TaskValue) (ts : List TaskValue) → k.waiting ≡ t ∷ ts → turn u.awaiting ≡ 1
+    → left_to_do (u ∷ drop 1 k.waiting) < length ts * 2 + 2
 first_asked k t u ts e one = subst (λ (ws : List TaskValue). left_to_do (u ∷ drop 1 ws) < length ts * 2 + 2) (sym e) (omega (arith, one))
 
 turn_falls : (k : TasksValue) (t : TaskValue) (ts : List TaskValue) (b : Bool) → k.waiting ≡ t ∷ ts
@@ -194,17 +205,20 @@ task_falls k t ts (awaits.Data sequence) e goes = absurd cc
 task_falls k t ts (awaits.Failing fault) e goes = absurd cc
 task_falls k t ts (awaits.Failed fault) e goes = first_goes k t ts e
 
-tasks_fall : (k : TasksValue) (ws : List TaskValue) → k.waiting ≡ ws → is_idle (next_for k (slice_get ws 0)) ≡ false → left_to_do (left_for k (slice_get ws 0)).waiting < left_to_do ws
+tasks_fall : (k : TasksValue) (ws : List TaskValue) → k.waiting ≡ ws → is_idle (next_for k (slice_get ws 0)) ≡ false
+    → left_to_do (left_for k (slice_get ws 0)).waiting < left_to_do ws
 tasks_fall k [] e goes = absurd cc
 tasks_fall k (t ∷ ts) e goes = task_falls k t ts t.awaiting e goes
 
-pub falls : (k k1 k' : TasksValue) (next : NextTask) → next ≡ next_of k → k1 ≡ after_next k → k' ≡ k1 → is_idle next ≡ false → left_to_do k'.waiting < left_to_do k.waiting
+pub falls : (k k1 k' : TasksValue) (next : NextTask) → next ≡ next_of k → k1 ≡ after_next k → k' ≡ k1 → is_idle next ≡ false
+    → left_to_do k'.waiting < left_to_do k.waiting
 falls k k1 k' next is left same goes =
     subst (λ (x : TasksValue). left_to_do x.waiting < left_to_do k.waiting) (sym (same ∙ left)) (tasks_fall k k.waiting refl (ap is_idle (sym is) ∙ goes))
 
 -- ---- where nothing is to be done all stays
 
-turn_goes : (k : TasksValue) (t : TaskValue) (b : Bool) → is_idle (cond b (found.Execute (handed k.limit t)) (found.Ask (request k.parameters k.limit k.next_tag t))) ≡ false
+turn_goes : (k : TasksValue) (t : TaskValue) (b : Bool)
+    → is_idle (cond b (found.Execute (handed k.limit t)) (found.Ask (request k.parameters k.limit k.next_tag t))) ≡ false
 turn_goes k t true = refl
 turn_goes k t false = refl
 

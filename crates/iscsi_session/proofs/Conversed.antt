@@ -1,19 +1,21 @@
 -- A conversation, step by step.
-use Rattle.std.proofs.Common.{◌≡◌, ◌⊎◌, ◌≤◌, ℕ, Bool, true, false, arith, List, [], ◌++◌, drop, refl, sym, subst, append-nil, Option, Result, Ok, Err, OnOk, IsErr, inl, inr, All}
+use Rattle.std.proofs.Common.{◌≡◌, ◌⊎◌, ◌≤◌, ℕ, Bool, true, false, arith, List, [], ◌++◌, drop, refl, sym, subst, append-nil, Option, Result, Ok, Err}
+use Rattle.std.proofs.Common.{OnOk, IsErr, inl, inr, All}
 use Rattle.std.specs.Io.KnownBytes.{Appends}
-use Rattle.scsi_nexus.specs.declared.nexus.Nexus.{Nexus}
-use Rattle.logical_unit.specs.Answers.{DoneValue}
 use Rattle.iscsi_pdu.specs.Pdus.{InitiatorPduValue, TargetPduValue}
 use Rattle.iscsi_answers.specs.Written.{bytes_of_all}
 use Rattle.iscsi_tasks.specs.Next.{next_of}
 use Rattle.iscsi_tasks.specs.declared.next_task.NextTask.TheVariants.{Idle}
 use Rattle.iscsi_tasks.specs.Values.{TasksValue}
-use Rattle.iscsi_session.specs.Executing.{GoesOn}
 use Rattle.read_buffer.specs.Reading.{Added}
+use Rattle.iscsi_session.specs.Moments.{Advances}
 use Rattle.iscsi_session.specs.Saying.{Says}
-use Rattle.iscsi_session.specs.Talking.{Answers, BeginsWith, Converses, IsAskedToLeave, IsPinged, MayAsk, Writes, asked_to_leave, pinged, without_units}
+use Rattle.iscsi_session.specs.Talking.{Answers, BeginsWith, Converses, IsAskedToLeave, IsPinged, MayAsk, Moment, Writes, asked_to_leave, pinged}
+use Rattle.iscsi_session.specs.Worlds.{World}
 use Rattle.iscsi_session.proofs.Acted.{said_more}
-use Rattle.iscsi_session.proofs.Talked.{answers_none, answers_one, answers_pinged, answers_then, answers_went, converses_asked, converses_none, converses_read, converses_then, converses_within, writes_flushed, writes_said, writes_then}
+use Rattle.iscsi_session.proofs.Talked.{answers_resets, answers_none, answers_one, answers_pinged, answers_then}
+use Rattle.iscsi_session.proofs.Talked.{converses_asked, converses_none, converses_read, converses_then, converses_within}
+use Rattle.iscsi_session.proofs.Talked.{writes_flushed, writes_said, writes_then}
 
 pub no_matter : {A F : Type 0} (Q : Type 0) (r : Result A F) → IsErr r → OnOk r Q
 no_matter Q (Ok value) e = absurd cc
@@ -22,148 +24,159 @@ no_matter Q (Err fault) e = tt
 -- ---- what is pending
 
 -- what was answered so far, and what was added
-abbrev pub IsAnswered : {S : Type 0} → (S → DoneValue → S → Type 0) → (count : S → ℕ) → (resets ends : ℕ → Type 0) → Nexus → TasksValue → S → (pending out0 : List ℕ) → TasksValue → S → (rest out : List ℕ) → Type 0
-IsAnswered notes count resets ends n k0 s0 pending out0 k s rest out = (said : List TargetPduValue) × Answers notes count resets ends 0 n k0 s0 pending said k s rest × (out ≡ out0 ++ bytes_of_all said)
+abbrev pub IsAnswered : {S : Type 0} → World S → Moment S → Moment S → Type 0
+IsAnswered w a b = (said : List TargetPduValue) × Answers w 0 a said b b.pending × (b.out ≡ a.out ++ bytes_of_all said)
 
-pub answered_none : {S : Type 0} {resets ends : ℕ → Type 0} (notes : S → DoneValue → S → Type 0) (count : S → ℕ) (n : Nexus) (k : TasksValue) (s : S) (pending out : List ℕ) → IsAnswered notes count resets ends n k s pending out k s pending out
-answered_none {resets = resets} {ends = ends} notes count n k s pending out = ([], answers_none notes count n k s pending, sym (append-nil out))
+pub answered_none : {S : Type 0} (w : World S) (a : Moment S) → IsAnswered w a a
+answered_none w a = ([], answers_none w a, sym (append-nil a.out))
 
 -- a PDU more
-pub answered_more : {S : Type 0} {resets ends : ℕ → Type 0} (notes : S → DoneValue → S → Type 0) (count : S → ℕ) (n : Nexus) (k0 k k' : TasksValue) (s0 s t : S) (pending out0 rest out rest' out' : List ℕ) (p : InitiatorPduValue) (size : ℕ)
-    → IsAnswered notes count resets ends n k0 s0 pending out0 k s rest out → next_of k ≡ Idle → BeginsWith rest p size → rest' ≡ drop size rest
-    → (said : List TargetPduValue) × Says notes count n p k s said k' t × (out' ≡ out ++ bytes_of_all said) → IsAnswered notes count resets ends n k0 s0 pending out0 k' t rest' out'
-answered_more {S} {resets = resets} {ends = ends} notes count n k0 k k' s0 s t pending out0 rest out rest' out' p size so idle here cut one = (
+pub answered_more : {S : Type 0} (w : World S) (a b c : Moment S) (p : InitiatorPduValue) (size : ℕ)
+    → IsAnswered w a b → next_of b.tasks ≡ Idle → BeginsWith b.pending p size → c.pending ≡ drop size b.pending
+    → (said : List TargetPduValue) × Says w.works p b.tasks b.service said c.tasks c.service × (c.out ≡ b.out ++ bytes_of_all said)
+    → IsAnswered w a c
+answered_more {S} w a b c p size so idle here cut one = (
   so.0 ++ one.0,
-  answers_then notes count n k0 k k' s0 s t pending rest rest' so.0 one.0 so.1 (answers_one notes count n k k' s t rest rest' p size one.0 idle here cut one.1),
-  said_more so.0 one.0 out0 out out' so.2 one.2,
+  answers_then w a b c c.pending so.0 one.0 so.1 (answers_one w b c c.pending p size one.0 idle here cut one.1),
+  said_more so.0 one.0 a.out b.out c.out so.2 one.2,
 )
 
 -- a PDU that may have been taken, and by which the connection broke
-pub answered_broken : {S A F : Type 0} {resets ends : ℕ → Type 0} (notes : S → DoneValue → S → Type 0) (count : S → ℕ) (n : Nexus) (k0 k k' : TasksValue) (s0 s t : S) (pending out0 rest out : List ℕ) (p : InitiatorPduValue) (size : ℕ) (r : Result A F)
-    (Q : List TargetPduValue → List ℕ → Type 0) → IsAnswered notes count resets ends n k0 s0 pending out0 k s rest out → next_of k ≡ Idle → BeginsWith rest p size → IsErr r
-    → ((said : List TargetPduValue) × Says notes count n p k s said k' t × Unit {0}) ⊎ ((k' ≡ k) × (t ≡ s))
-    → (said : List TargetPduValue) × (rest' : List ℕ) × Answers notes count resets ends 0 n k0 s0 pending said k' t rest' × OnOk r (Q said rest')
-answered_broken {S} {resets = resets} {ends = ends} notes count n k0 k k' s0 s t pending out0 rest out p size r Q so idle here e (inl one) = (
+pub answered_broken : {S A F : Type 0} (w : World S) (a b c : Moment S) (p : InitiatorPduValue) (size : ℕ) (r : Result A F)
+    (Q : List TargetPduValue → List ℕ → Type 0) → IsAnswered w a b → next_of b.tasks ≡ Idle → BeginsWith b.pending p size → IsErr r
+    → ((said : List TargetPduValue) × Says w.works p b.tasks b.service said c.tasks c.service × Unit {0})
+    ⊎ ((c.tasks ≡ b.tasks) × (c.service ≡ b.service))
+    → (said : List TargetPduValue) × (rest : List ℕ) × Answers w 0 a said c rest × OnOk r (Q said rest)
+answered_broken {S} w a b c p size r Q so idle here e (inl one) = (
   so.0 ++ one.0,
-  drop size rest,
-  answers_then notes count n k0 k k' s0 s t pending rest (drop size rest) so.0 one.0 so.1 (answers_one notes count n k k' s t rest (drop size rest) p size one.0 idle here refl one.1),
+  drop size b.pending,
+  answers_then w a b c (drop size b.pending) so.0 one.0 so.1 (answers_one w b c (drop size b.pending) p size one.0 idle here refl one.1),
   no_matter _ r e,
 )
-answered_broken {S} {resets = resets} {ends = ends} notes count n k0 k k' s0 s t pending out0 rest out p size r Q so idle here e (inr still) = (
+answered_broken {S} w a b c p size r Q so idle here e (inr still) = (
   so.0,
-  rest,
-  subst (λ (x : TasksValue). Answers notes count resets ends 0 n k0 s0 pending so.0 x t rest) (sym still.0) (subst (λ (x : S). Answers notes count resets ends 0 n k0 s0 pending so.0 k x rest) (sym still.1) so.1),
+  b.pending,
+  subst (λ (x : TasksValue). Answers w 0 a so.0 (record c { tasks = x }) b.pending) (sym still.0)
+      (subst (λ (x : S). Answers w 0 a so.0 (record b { service = x }) b.pending) (sym still.1) so.1),
   no_matter _ r e,
 )
 
--- of units that others have reset the commands that waited there went unexecuted, those behind them went on, and then PDUs were answered
-went : {S : Type 0} {resets ends : ℕ → Type 0} (notes : S → DoneValue → S → Type 0) (count : S → ℕ) (n : Nexus) (k left k1 : TasksValue) (s m : S) (pending units : List ℕ) (times : ℕ) (said : List TargetPduValue)
-    → All resets units → left ≡ without_units k units → GoesOn notes n times left s said k1 m → Answers notes count resets ends 0 n k s pending said k1 m pending
-went {S} {resets = resets} {ends = ends} notes count n k left k1 s m pending units times said told dropped so =
-    answers_went notes count n times k k1 s m pending units said told (subst (λ (x : TasksValue). GoesOn notes n times x s said k1 m) dropped so)
-
-pub went_then : {S A F : Type 0} {resets ends : ℕ → Type 0} (notes : S → DoneValue → S → Type 0) (count : S → ℕ) (n : Nexus) (k left k1 k' : TasksValue) (s m t : S) (pending rest' out mid out' : List ℕ) (r : Result A F)
-    → (units : List ℕ) × All resets units × (left ≡ without_units k units)
-    → (times : ℕ) × (said : List TargetPduValue) × GoesOn notes n times left s said k1 m × (mid ≡ out ++ bytes_of_all said)
-    → (said : List TargetPduValue) × (rest : List ℕ) × Answers notes count resets ends 0 n k1 m pending said k' t rest × OnOk r ((rest ≡ rest') × (out' ≡ mid ++ bytes_of_all said))
-    → (said : List TargetPduValue) × (rest : List ℕ) × Answers notes count resets ends 0 n k s pending said k' t rest × OnOk r ((rest ≡ rest') × (out' ≡ out ++ bytes_of_all said))
-went_then {S} {resets = resets} {ends = ends} notes count n k left k1 k' s m t pending rest' out mid out' (Ok value) told so one = (
-  so.1 ++ one.0,
-  one.1,
-  answers_then notes count n k k1 k' s m t pending pending one.1 so.1 one.0 (went notes count n k left k1 s m pending told.0 so.0 so.1 told.1 told.2 so.2) one.2,
-  (one.3.0, said_more so.1 one.0 out mid out' so.3 one.3.1),
-)
-went_then {S} {resets = resets} {ends = ends} notes count n k left k1 k' s m t pending rest' out mid out' (Err fault) told so one = (
-  so.1 ++ one.0,
-  one.1,
-  answers_then notes count n k k1 k' s m t pending pending one.1 so.1 one.0 (went notes count n k left k1 s m pending told.0 so.0 so.1 told.1 told.2 so.2) one.2,
-  tt,
-)
-
--- where a fault ended it
-pub went_broken : {S A F : Type 0} {resets ends : ℕ → Type 0} (notes : S → DoneValue → S → Type 0) (count : S → ℕ) (n : Nexus) (k left k' : TasksValue) (s t : S) (pending : List ℕ) (r : Result A F) (P : List TargetPduValue → Type 0)
-    (Q : List TargetPduValue → List ℕ → Type 0) → IsErr r → (units : List ℕ) × All resets units × (left ≡ without_units k units)
-    → (times : ℕ) × (said : List TargetPduValue) × GoesOn notes n times left s said k' t × P said
-    → (said : List TargetPduValue) × (rest : List ℕ) × Answers notes count resets ends 0 n k s pending said k' t rest × OnOk r (Q said rest)
-went_broken {S} {resets = resets} {ends = ends} notes count n k left k' s t pending r P Q e told so =
-    (so.1, pending, went notes count n k left k' s t pending told.0 so.0 so.1 told.1 told.2 so.2, no_matter _ r e)
-
--- ---- what is written
-
-abbrev pub IsWritten : {S : Type 0} → (S → DoneValue → S → Type 0) → (count : S → ℕ) → (resets ends : ℕ → Type 0) → Nexus → TasksValue → S → (pending out0 : List ℕ) → (w0 : Option (List ℕ)) → TasksValue → S → (rest out : List ℕ) → (w : Option (List ℕ)) → Type 0
-IsWritten notes count resets ends n k0 s0 pending out0 w0 k s rest out w = (said : List TargetPduValue) × Answers notes count resets ends 0 n k0 s0 pending said k s rest × Writes w0 w out0 out said
-
-pub written_none : {S : Type 0} {resets ends : ℕ → Type 0} (notes : S → DoneValue → S → Type 0) (count : S → ℕ) (n : Nexus) (k : TasksValue) (s : S) (pending out : List ℕ) (w : Option (List ℕ)) → IsWritten notes count resets ends n k s pending out w k s pending out w
-written_none {resets = resets} {ends = ends} notes count n k s pending out w = ([], answers_none notes count n k s pending, writes_said w out out [] (sym (append-nil out)))
-
--- some answers more, which were written
-pub written_more : {S : Type 0} {resets ends : ℕ → Type 0} (notes : S → DoneValue → S → Type 0) (count : S → ℕ) (n : Nexus) (k0 k k' : TasksValue) (s0 s t : S) (pending out0 rest out rest' mid out' : List ℕ) (w0 w w' : Option (List ℕ))
-    → IsWritten notes count resets ends n k0 s0 pending out0 w0 k s rest out w
-    → (said : List TargetPduValue) × (rest1 : List ℕ) × Answers notes count resets ends 0 n k s rest said k' t rest1 × ((rest1 ≡ rest') × (mid ≡ out ++ bytes_of_all said)) → Appends w w' mid → out' ≡ []
-    → IsWritten notes count resets ends n k0 s0 pending out0 w0 k' t rest' out' w'
-written_more {S} {resets = resets} {ends = ends} notes count n k0 k k' s0 s t pending out0 rest out rest' mid out' w0 w w' so one gone none =
-    let all = so.0 ++ (one.0 ++ []) in (
-      all,
-      subst (λ (x : List ℕ). Answers notes count resets ends 0 n k0 s0 pending all k' t x) one.3.0
-          (answers_then notes count n k0 k k' s0 s t pending rest one.1 so.0 (one.0 ++ []) so.1
-          (subst (λ (x : List TargetPduValue). Answers notes count resets ends 0 n k s rest x k' t one.1) (sym (append-nil one.0)) one.2)),
-      writes_then w0 w w' out0 out out' so.0 (one.0 ++ []) so.2
-          (writes_then w w w' out mid out' one.0 [] (writes_said w out mid one.0 one.3.1) (writes_flushed w w' mid out' gone none)),
+-- resets by others were taken, and then PDUs were answered
+pub resets_then : {S A F : Type 0} (w : World S) (a m b : Moment S) (r : Result A F)
+    → (units : List ℕ) × All w.resets units
+    × ((said : List TargetPduValue) × w.takes_resets units a.tasks a.service said m.tasks m.service × (m.out ≡ a.out ++ bytes_of_all said))
+    → m.pending ≡ a.pending → Advances w r m b → Advances w r a b
+resets_then {S} w a m b (Ok value) so same one =
+    let up = so.2 in
+    let before : Answers w 0 a up.0 m m.pending =
+    subst (λ (xs : List ℕ). Answers w 0 a up.0 m xs) (sym same) (answers_resets w a m so.0 up.0 so.1 up.1) in (
+      up.0 ++ one.0,
+      one.1,
+      answers_then w a m b one.1 up.0 one.0 before one.2,
+      (one.3.0, said_more up.0 one.0 a.out m.out b.out up.2 one.3.1),
+    )
+resets_then {S} w a m b (Err fault) so same one =
+    let up = so.2 in
+    let before : Answers w 0 a up.0 m m.pending =
+    subst (λ (xs : List ℕ). Answers w 0 a up.0 m xs) (sym same) (answers_resets w a m so.0 up.0 so.1 up.1) in (
+      up.0 ++ one.0,
+      one.1,
+      answers_then w a m b one.1 up.0 one.0 before one.2,
+      tt,
     )
 
 -- where a fault ended it
-pub written_broken : {S A F : Type 0} {resets ends : ℕ → Type 0} (notes : S → DoneValue → S → Type 0) (count : S → ℕ) (n : Nexus) (k0 k k' : TasksValue) (s0 s t : S) (pending out0 rest out : List ℕ) (w0 w : Option (List ℕ)) (r : Result A F)
-    (P Q : List TargetPduValue → List ℕ → Type 0) → IsWritten notes count resets ends n k0 s0 pending out0 w0 k s rest out w → IsErr r
-    → (said : List TargetPduValue) × (rest1 : List ℕ) × Answers notes count resets ends 0 n k s rest said k' t rest1 × P said rest1
-    → (said : List TargetPduValue) × (rest' : List ℕ) × Answers notes count resets ends 0 n k0 s0 pending said k' t rest' × OnOk r (Q said rest')
-written_broken {S} {resets = resets} {ends = ends} notes count n k0 k k' s0 s t pending out0 rest out w0 w r P Q so e one =
-    (so.0 ++ one.0, one.1, answers_then notes count n k0 k k' s0 s t pending rest one.1 so.0 one.0 so.1 one.2, no_matter _ r e)
+pub resets_broken : {S A F : Type 0} (w : World S) (a b : Moment S) (r : Result A F) (P : List TargetPduValue → Type 0)
+    (Q : List TargetPduValue → List ℕ → Type 0) → IsErr r
+    → (units : List ℕ) × All w.resets units
+    × ((said : List TargetPduValue) × w.takes_resets units a.tasks a.service said b.tasks b.service × P said)
+    → (said : List TargetPduValue) × (rest : List ℕ) × Answers w 0 a said b rest × OnOk r (Q said rest)
+resets_broken {S} w a b r P Q e so =
+    let up = so.2 in (up.0, a.pending, answers_resets w a b so.0 up.0 so.1 up.1, no_matter _ r e)
+
+-- ---- what is written
+
+abbrev pub IsWritten : {S : Type 0} → World S → Moment S → (v0 : Option (List ℕ)) → Moment S → (v : Option (List ℕ)) → Type 0
+IsWritten w a v0 b v = (said : List TargetPduValue) × Answers w 0 a said b b.pending × Writes v0 v a.out b.out said
+
+pub written_none : {S : Type 0} (w : World S) (a : Moment S) (v : Option (List ℕ)) → IsWritten w a v a v
+written_none w a v = ([], answers_none w a, writes_said v a.out a.out [] (sym (append-nil a.out)))
+
+-- some answers more, which were written
+pub written_more : {S : Type 0} (w : World S) (a b m : Moment S) (out : List ℕ) (v0 v v' : Option (List ℕ)) → IsWritten w a v0 b v
+    → (said : List TargetPduValue) × (rest : List ℕ) × Answers w 0 b said m rest × ((rest ≡ m.pending) × (m.out ≡ b.out ++ bytes_of_all said))
+    → Appends v v' m.out → out ≡ [] → IsWritten w a v0 (record m { out = out }) v'
+written_more {S} w a b m out v0 v v' so one gone none =
+    let all = so.0 ++ (one.0 ++ []) in (
+      all,
+      subst (λ (xs : List ℕ). Answers w 0 a all m xs) one.3.0
+          (answers_then w a b m one.1 so.0 (one.0 ++ []) so.1
+          (subst (λ (xs : List TargetPduValue). Answers w 0 b xs m one.1) (sym (append-nil one.0)) one.2)),
+      writes_then v0 v v' a.out b.out out so.0 (one.0 ++ []) so.2
+          (writes_then v v v' b.out m.out out one.0 [] (writes_said v b.out m.out one.0 one.3.1) (writes_flushed v v' m.out out gone none)),
+    )
+
+-- where a fault ended it
+pub written_broken : {S A F : Type 0} (w : World S) (a b c : Moment S) (v0 v : Option (List ℕ)) (r : Result A F)
+    (P Q : List TargetPduValue → List ℕ → Type 0) → IsWritten w a v0 b v → IsErr r
+    → (said : List TargetPduValue) × (rest : List ℕ) × Answers w 0 b said c rest × P said rest
+    → (said : List TargetPduValue) × (rest : List ℕ) × Answers w 0 a said c rest × OnOk r (Q said rest)
+written_broken {S} w a b c v0 v r P Q so e one =
+    (so.0 ++ one.0, one.1, answers_then w a b c one.1 so.0 one.0 so.1 one.2, no_matter _ r e)
 
 -- ---- what is read
 
-abbrev pub IsTalked : {S : Type 0} → (S → DoneValue → S → Type 0) → (count : S → ℕ) → (resets ends : ℕ → Type 0) → (most : ℕ) → Nexus → TasksValue → S → (pending out0 : List ℕ) → (left0 w0 : Option (List ℕ)) → TasksValue → S → (rest out : List ℕ) → (left w : Option (List ℕ)) → Type 0
-IsTalked notes count resets ends most n k0 s0 pending out0 left0 w0 k s rest out left w = (said : List TargetPduValue) × Converses notes count resets ends most n k0 s0 pending left0 left said k s rest × Writes w0 w out0 out said
+abbrev pub IsTalked : {S : Type 0} → World S → (most : ℕ) → Moment S → (left0 v0 : Option (List ℕ)) → Moment S
+    → (left v : Option (List ℕ)) → Type 0
+IsTalked w most a left0 v0 b left v =
+    (said : List TargetPduValue) × Converses w most a left0 left said b b.pending × Writes v0 v a.out b.out said
 
-pub talked_none : {S : Type 0} {resets ends : ℕ → Type 0} (notes : S → DoneValue → S → Type 0) (count : S → ℕ) (n : Nexus) (k : TasksValue) (s : S) (pending out : List ℕ) (left w : Option (List ℕ))
-    → IsTalked notes count resets ends 0 n k s pending out left w k s pending out left w
-talked_none {resets = resets} {ends = ends} notes count n k s pending out left w = ([], converses_none notes count n k s pending left, writes_said w out out [] (sym (append-nil out)))
+pub talked_none : {S : Type 0} (w : World S) (a : Moment S) (left v : Option (List ℕ)) → IsTalked w 0 a left v a left v
+talked_none w a left v = ([], converses_none w a left, writes_said v a.out a.out [] (sym (append-nil a.out)))
 
-pub talked_more : {S : Type 0} {resets ends : ℕ → Type 0} {most : ℕ} (notes : S → DoneValue → S → Type 0) (count : S → ℕ) (n : Nexus) (k0 k k' : TasksValue) (s0 s t : S) (pending out0 rest out rest' out' : List ℕ) (left0 left w0 w w' : Option (List ℕ))
-    → IsTalked notes count resets ends most n k0 s0 pending out0 left0 w0 k s rest out left w
-    → (said : List TargetPduValue) × (rest1 : List ℕ) × Answers notes count resets ends 0 n k s rest said k' t rest1 × ((rest1 ≡ rest') × Writes w w' out out' said)
-    → IsTalked notes count resets ends most n k0 s0 pending out0 left0 w0 k' t rest' out' left w'
-talked_more {S} {resets = resets} {ends = ends} {most = most} notes count n k0 k k' s0 s t pending out0 rest out rest' out' left0 left w0 w w' so one = (
+pub talked_more : {S : Type 0} {most : ℕ} (w : World S) (a b c : Moment S) (left0 left v0 v v' : Option (List ℕ))
+    → IsTalked w most a left0 v0 b left v
+    → (said : List TargetPduValue) × (rest : List ℕ) × Answers w 0 b said c rest × ((rest ≡ c.pending) × Writes v v' b.out c.out said)
+    → IsTalked w most a left0 v0 c left v'
+talked_more {S} {most = most} w a b c left0 left v0 v v' so one = (
   so.0 ++ one.0,
-  subst (λ (x : List ℕ). Converses notes count resets ends most n k0 s0 pending left0 left (so.0 ++ one.0) k' t x) one.3.0
-      (converses_then notes count n k0 k k' s0 s t pending rest one.1 left0 left so.0 one.0 so.1 one.2),
-  writes_then w0 w w' out0 out out' so.0 one.0 so.2 one.3.1,
+  subst (λ (xs : List ℕ). Converses w most a left0 left (so.0 ++ one.0) c xs) one.3.0
+      (converses_then w a b c one.1 left0 left so.0 one.0 so.1 one.2),
+  writes_then v0 v v' a.out b.out c.out so.0 one.0 so.2 one.3.1,
 )
 
 -- where a fault ended it
-pub talked_broken : {S A F : Type 0} {resets ends : ℕ → Type 0} {most : ℕ} (notes : S → DoneValue → S → Type 0) (count : S → ℕ) (n : Nexus) (k0 k k' : TasksValue) (s0 s t : S) (pending out0 rest out : List ℕ) (left0 left w0 w : Option (List ℕ)) (r : Result A F)
-    (P Q : List TargetPduValue → List ℕ → Type 0) → IsTalked notes count resets ends most n k0 s0 pending out0 left0 w0 k s rest out left w → IsErr r
-    → (said : List TargetPduValue) × (rest1 : List ℕ) × Answers notes count resets ends 0 n k s rest said k' t rest1 × P said rest1
-    → (said : List TargetPduValue) × (rest' : List ℕ) × Converses notes count resets ends most n k0 s0 pending left0 left said k' t rest' × OnOk r (Q said rest')
-talked_broken {S} {resets = resets} {ends = ends} {most = most} notes count n k0 k k' s0 s t pending out0 rest out left0 left w0 w r P Q so e one =
-    (so.0 ++ one.0, one.1, converses_then notes count n k0 k k' s0 s t pending rest one.1 left0 left so.0 one.0 so.1 one.2, no_matter _ r e)
+pub talked_broken : {S A F : Type 0} {most : ℕ} (w : World S) (a b c : Moment S) (left0 left v0 v : Option (List ℕ)) (r : Result A F)
+    (P Q : List TargetPduValue → List ℕ → Type 0) → IsTalked w most a left0 v0 b left v → IsErr r
+    → (said : List TargetPduValue) × (rest : List ℕ) × Answers w 0 b said c rest × P said rest
+    → (said : List TargetPduValue) × (rest : List ℕ) × Converses w most a left0 left said c rest × OnOk r (Q said rest)
+talked_broken {S} {most = most} w a b c left0 left v0 v r P Q so e one =
+    (so.0 ++ one.0, one.1, converses_then w a b c one.1 left0 left so.0 one.0 so.1 one.2, no_matter _ r e)
 
-pub talked_read : {S : Type 0} {resets ends : ℕ → Type 0} {most : ℕ} (notes : S → DoneValue → S → Type 0) (count : S → ℕ) (n : Nexus) (k0 k : TasksValue) (s0 s : S) (pending out0 rest out rest' : List ℕ) (left0 left left' w0 w : Option (List ℕ))
-    → IsTalked notes count resets ends most n k0 s0 pending out0 left0 w0 k s rest out left w → Added rest rest' left left' → IsTalked notes count resets ends most n k0 s0 pending out0 left0 w0 k s rest' out left' w
-talked_read {resets = resets} {ends = ends} {most = most} notes count n k0 k s0 s pending out0 rest out rest' left0 left left' w0 w so got =
-    (so.0, converses_read notes count n k0 k s0 s pending rest rest' left0 left left' so.0 so.1 got, so.2)
+pub talked_read : {S : Type 0} {most : ℕ} (w : World S) (a b : Moment S) (pending : List ℕ) (left0 left left' v0 v : Option (List ℕ))
+    → IsTalked w most a left0 v0 b left v → Added b.pending pending left left'
+    → IsTalked w most a left0 v0 (record b { pending = pending }) left' v
+talked_read {most = most} w a b pending left0 left left' v0 v so got =
+    (so.0, converses_read w a b pending left0 left left' so.0 so.1 got, so.2)
 
-pub talked_same : {S : Type 0} {resets ends : ℕ → Type 0} {most : ℕ} (notes : S → DoneValue → S → Type 0) (count : S → ℕ) (n : Nexus) (k0 k : TasksValue) (s0 s : S) (pending out0 rest out out' : List ℕ) (left0 left w0 w : Option (List ℕ))
-    → IsTalked notes count resets ends most n k0 s0 pending out0 left0 w0 k s rest out left w → out' ≡ out → IsTalked notes count resets ends most n k0 s0 pending out0 left0 w0 k s rest out' left w
-talked_same {S} {resets = resets} {ends = ends} {most = most} notes count n k0 k s0 s pending out0 rest out out' left0 left w0 w so same =
-    subst (λ (x : List ℕ). IsTalked notes count resets ends most n k0 s0 pending out0 left0 w0 k s rest x left w) (sym same) so
+pub talked_same : {S : Type 0} {most : ℕ} (w : World S) (a b : Moment S) (out : List ℕ) (left0 left v0 v : Option (List ℕ))
+    → IsTalked w most a left0 v0 b left v → out ≡ b.out → IsTalked w most a left0 v0 (record b { out = out }) left v
+talked_same {S} {most = most} w a b out left0 left v0 v so same =
+    subst (λ (xs : List ℕ). IsTalked w most a left0 v0 (record b { out = xs }) left v) (sym same) so
 
-pub talked_pinged : {S : Type 0} {resets ends : ℕ → Type 0} {most : ℕ} (notes : S → DoneValue → S → Type 0) (count : S → ℕ) (n : Nexus) (k0 k : TasksValue) (s0 s : S) (pending out0 rest out out' : List ℕ) (left0 left w0 w : Option (List ℕ))
-    → IsTalked notes count resets ends most n k0 s0 pending out0 left0 w0 k s rest out left w → (out' ≡ out) ⊎ IsPinged k out out' → IsTalked notes count resets ends most n k0 s0 pending out0 left0 w0 k s rest out' left w
-talked_pinged {resets = resets} {ends = ends} {most = most} notes count n k0 k s0 s pending out0 rest out out' left0 left w0 w so (inl same) = talked_same notes count n k0 k s0 s pending out0 rest out out' left0 left w0 w so same
-talked_pinged {S} {resets = resets} {ends = ends} {most = most} notes count n k0 k s0 s pending out0 rest out out' left0 left w0 w so (inr ping) = (
-  so.0 ++ pinged k ping.0,
-  converses_then notes count n k0 k k s0 s s pending rest rest left0 left so.0 (pinged k ping.0) so.1 (answers_pinged notes count n k s rest ping.0),
-  writes_then w0 w w out0 out out' so.0 (pinged k ping.0) so.2 (writes_said w out out' (pinged k ping.0) ping.1),
+pub talked_as : {S : Type 0} {most : ℕ} (w : World S) (a b : Moment S) (k : TasksValue) (left0 left v0 v : Option (List ℕ))
+    → IsTalked w most a left0 v0 b left v → k ≡ b.tasks → IsTalked w most a left0 v0 (record b { tasks = k }) left v
+talked_as {S} {most = most} w a b k left0 left v0 v so same =
+    subst (λ (x : TasksValue). IsTalked w most a left0 v0 (record b { tasks = x }) left v) (sym same) so
+
+pub talked_pinged : {S : Type 0} {most : ℕ} (w : World S) (a b : Moment S) (out : List ℕ) (left0 left v0 v : Option (List ℕ))
+    → IsTalked w most a left0 v0 b left v → (out ≡ b.out) ⊎ IsPinged b.tasks b.out out
+    → IsTalked w most a left0 v0 (record b { out = out }) left v
+talked_pinged {most = most} w a b out left0 left v0 v so (inl same) = talked_same w a b out left0 left v0 v so same
+talked_pinged {S} {most = most} w a b out left0 left v0 v so (inr ping) = (
+  so.0 ++ pinged b.tasks ping.0,
+  converses_then w a b b b.pending left0 left so.0 (pinged b.tasks ping.0) so.1 (answers_pinged w b ping.0),
+  writes_then v0 v v a.out b.out out so.0 (pinged b.tasks ping.0) so.2 (writes_said v b.out out (pinged b.tasks ping.0) ping.1),
 )
 
 -- how often a logout was asked for
@@ -176,29 +189,24 @@ few_asked true = omega arith
 few_asked false = omega arith
 
 -- once at most
-pub talked_within : {S : Type 0} {resets ends : ℕ → Type 0} (b : Bool) (notes : S → DoneValue → S → Type 0) (count : S → ℕ) (n : Nexus) (k0 k : TasksValue) (s0 s : S) (pending out0 rest out : List ℕ) (left0 left w0 w : Option (List ℕ))
-    → IsTalked notes count resets ends (times_asked b) n k0 s0 pending out0 left0 w0 k s rest out left w → IsTalked notes count resets ends 1 n k0 s0 pending out0 left0 w0 k s rest out left w
-talked_within b notes count n k0 k s0 s pending out0 rest out left0 left w0 w so =
-    (so.0, converses_within (times_asked b) 1 notes count n k0 k s0 s pending rest left0 left so.0 (few_asked b) so.1, so.2)
-
-pub talked_as : {S : Type 0} {resets ends : ℕ → Type 0} {most : ℕ} (notes : S → DoneValue → S → Type 0) (count : S → ℕ) (n : Nexus) (k0 k k' : TasksValue) (s0 s : S) (pending out0 rest out : List ℕ) (left0 left w0 w : Option (List ℕ))
-    → IsTalked notes count resets ends most n k0 s0 pending out0 left0 w0 k s rest out left w → k' ≡ k → IsTalked notes count resets ends most n k0 s0 pending out0 left0 w0 k' s rest out left w
-talked_as {S} {resets = resets} {ends = ends} {most = most} notes count n k0 k k' s0 s pending out0 rest out left0 left w0 w so same =
-    subst (λ (x : TasksValue). IsTalked notes count resets ends most n k0 s0 pending out0 left0 w0 x s rest out left w) (sym same) so
+pub talked_within : {S : Type 0} (asked : Bool) (w : World S) (a b : Moment S) (left0 left v0 v : Option (List ℕ))
+    → IsTalked w (times_asked asked) a left0 v0 b left v → IsTalked w 1 a left0 v0 b left v
+talked_within asked w a b left0 left v0 v so =
+    (so.0, converses_within (times_asked asked) 1 w a b b.pending left0 left so.0 (few_asked asked) so.1, so.2)
 
 -- a logout may have been asked for
-pub talked_asked : {S : Type 0} {resets ends : ℕ → Type 0} (asked asked' : Bool) (notes : S → DoneValue → S → Type 0) (count : S → ℕ) (n : Nexus) (k0 k : TasksValue) (s0 s : S) (pending out0 rest out out' : List ℕ) (left0 left w0 w : Option (List ℕ))
-    → IsTalked notes count resets ends (times_asked asked) n k0 s0 pending out0 left0 w0 k s rest out left w → MayAsk ends k asked asked' out out'
-    → IsTalked notes count resets ends (times_asked asked') n k0 s0 pending out0 left0 w0 k s rest out' left w
-talked_asked {S} {resets = resets} {ends = ends} asked asked' notes count n k0 k s0 s pending out0 rest out out' left0 left w0 w so (inl still) =
-    subst (λ (b : Bool). IsTalked notes count resets ends (times_asked b) n k0 s0 pending out0 left0 w0 k s rest out' left w) (sym still.0)
-    (talked_same notes count n k0 k s0 s pending out0 rest out out' left0 left w0 w so still.1)
-talked_asked {S} {resets = resets} {ends = ends} asked asked' notes count n k0 k s0 s pending out0 rest out out' left0 left w0 w so (inr first) =
-    let one : IsTalked notes count resets ends 0 n k0 s0 pending out0 left0 w0 k s rest out left w =
-    subst (λ (b : Bool). IsTalked notes count resets ends (times_asked b) n k0 s0 pending out0 left0 w0 k s rest out left w) first.0 so in
-    let ask : IsAskedToLeave ends k out out' = first.2 in
-    subst (λ (b : Bool). IsTalked notes count resets ends (times_asked b) n k0 s0 pending out0 left0 w0 k s rest out' left w) (sym first.1) (
-      one.0 ++ asked_to_leave k ask.0 ask.1,
-      converses_asked notes count n k0 k s0 s pending rest left0 left one.0 ask.0 ask.1 one.1 ask.2,
-      writes_then w0 w w out0 out out' one.0 (asked_to_leave k ask.0 ask.1) one.2 (writes_said w out out' (asked_to_leave k ask.0 ask.1) ask.3),
+pub talked_asked : {S : Type 0} (asked asked' : Bool) (w : World S) (a b : Moment S) (out : List ℕ) (left0 left v0 v : Option (List ℕ))
+    → IsTalked w (times_asked asked) a left0 v0 b left v → MayAsk w.ends b.tasks asked asked' b.out out
+    → IsTalked w (times_asked asked') a left0 v0 (record b { out = out }) left v
+talked_asked {S} asked asked' w a b out left0 left v0 v so (inl still) =
+    subst (λ (x : Bool). IsTalked w (times_asked x) a left0 v0 (record b { out = out }) left v) (sym still.0)
+    (talked_same w a b out left0 left v0 v so still.1)
+talked_asked {S} asked asked' w a b out left0 left v0 v so (inr first) =
+    let one : IsTalked w 0 a left0 v0 b left v = subst (λ (x : Bool). IsTalked w (times_asked x) a left0 v0 b left v) first.0 so in
+    let ask : IsAskedToLeave w.ends b.tasks b.out out = first.2 in
+    subst (λ (x : Bool). IsTalked w (times_asked x) a left0 v0 (record b { out = out }) left v) (sym first.1) (
+      one.0 ++ asked_to_leave b.tasks ask.0 ask.1,
+      converses_asked w a b left0 left one.0 ask.0 ask.1 one.1 ask.2,
+      writes_then v0 v v a.out b.out out one.0 (asked_to_leave b.tasks ask.0 ask.1) one.2
+          (writes_said v b.out out (asked_to_leave b.tasks ask.0 ask.1) ask.3),
     )

@@ -1,11 +1,10 @@
 -- PDUs taken off a stream, one after another, and what is written.
-use Rattle.std.proofs.Common.{◌≡◌, ◌≤◌, ◌+◌, ℕ, List, [], ◌∷◌, ◌++◌, length-append, drop, refl, sym, ap, subst, ◌∙◌, append_assoc, append-nil, Option, Some, None, arith, All}
+use Rattle.std.proofs.Common.{◌≡◌, ◌≤◌, ◌+◌, ℕ, List, [], ◌∷◌, ◌++◌, length, length-append, drop, refl, sym, ap, subst, ◌∙◌, append_assoc, append-nil}
+use Rattle.std.proofs.Common.{Option, Some, None, arith, All}
 use Rattle.std.proofs.lemmas.List.Elements.{All-append, All-cons, All-nil}
 use Rattle.std.proofs.lemmas.List.{drop-append-le}
 use Rattle.std.proofs.lemmas.Grind.{flat_map-append}
 use Rattle.std.specs.Io.KnownBytes.{Appends}
-use Rattle.scsi_nexus.specs.declared.nexus.Nexus.{Nexus}
-use Rattle.logical_unit.specs.Answers.{DoneValue}
 use Rattle.iscsi_pdu.specs.Pdus.{InitiatorPduValue, TargetPduValue, initiator_found, parsed_initiator}
 use Rattle.iscsi_pdu.specs.declared.serial_number.SerialNumber.{SerialNumber}
 use Rattle.iscsi_pdu.specs.Segments.{Found, Partial, Complete, Invalid, IsKnown, SegmentsValue, segments}
@@ -15,15 +14,25 @@ use Rattle.iscsi_tasks.specs.Next.{next_of}
 use Rattle.iscsi_tasks.specs.declared.next_task.NextTask.TheVariants.{Idle}
 use Rattle.iscsi_tasks.specs.Values.{TasksValue}
 use Rattle.session.proofs.Read.{consumes_more, consumes_none}
-use Rattle.iscsi_session.specs.Executing.{GoesOn}
 use Rattle.read_buffer.specs.Reading.{Added}
 use Rattle.iscsi_session.specs.Saying.{Says}
-use Rattle.iscsi_session.specs.Talking.{Answers, BeginsWith, Came, Converses, Ending, Event, IsSo, Silence, Told, Takes, Talks, Writes, asked_to_leave, leave_requests, pdus_of, pinged, without_units}
+use Rattle.iscsi_session.specs.Talking.{Answers, BeginsWith, Came, Converses, Ending, Event, IsSo, Moment, Silence, Told, Takes, Talks, Writes}
+use Rattle.iscsi_session.specs.Talking.{asked_to_leave, leave_requests, pdus_of, pinged}
+use Rattle.iscsi_session.specs.Worlds.{World}
 
 known_segments : (s : Found SegmentsValue) → IsKnown (initiator_found s) → IsKnown s
 known_segments (Partial wanted) known = known
 known_segments (Complete s count) known = tt
 known_segments (Invalid fault) known = tt
+
+-- a PDU that was parsed
+pub begins_with : (bytes pending : List ℕ) (p : InitiatorPduValue) (size : ℕ) → pending ≡ bytes → Complete p size ≡ parsed_initiator 262144 pending
+    → (48 ≤ size) × (size ≤ length pending) → BeginsWith bytes p size
+begins_with bytes pending p size same parsed within = record {
+  parsed = sym (ap (parsed_initiator 262144) same) ∙ sym parsed;
+  some = within.0;
+  whole = omega (arith, within.1, ap length same);
+}
 
 -- a PDU that is there stays, whatever follows
 pub begins_before : (bytes more : List ℕ) (p : InitiatorPduValue) (size : ℕ) → BeginsWith bytes p size → BeginsWith (bytes ++ more) p size
@@ -44,7 +53,8 @@ takes_before (p ∷ ps) bytes rest piece so =
     let here : BeginsWith bytes p so.0 = so.1 in (
       so.0,
       begins_before bytes piece p so.0 here,
-      subst (λ (xs : List ℕ). Takes xs ps (rest ++ piece)) (sym (drop-append-le so.0 bytes piece here.whole)) (takes_before ps (drop so.0 bytes) rest piece so.2),
+      subst (λ (xs : List ℕ). Takes xs ps (rest ++ piece)) (sym (drop-append-le so.0 bytes piece here.whole))
+          (takes_before ps (drop so.0 bytes) rest piece so.2),
     )
 
 pdus_append : (es fs : List Event) → pdus_of (es ++ fs) ≡ pdus_of es ++ pdus_of fs
@@ -61,19 +71,19 @@ requests_append (Silence ∷ es) fs = requests_append es fs
 requests_append (Told units ∷ es) fs = requests_append es fs
 requests_append (Ending seconds ∷ es) fs = omega (arith, requests_append es fs)
 
-talks_append : {S : Type 0} (notes : S → DoneValue → S → Type 0) (count : S → ℕ) (n : Nexus) (es fs : List Event) (k k1 k' : TasksValue) (s m t : S) (a b : List TargetPduValue)
-    → Talks notes count n es k s a k1 m → Talks notes count n fs k1 m b k' t → Talks notes count n (es ++ fs) k s (a ++ b) k' t
-talks_append {S} notes count n [] fs k k1 k' s m t a b one two =
-    subst (λ (x : List TargetPduValue). Talks notes count n fs k s (x ++ b) k' t) (sym one.0)
-    (subst (λ (x : TasksValue). Talks notes count n fs x s b k' t) one.1 (subst (λ (x : S). Talks notes count n fs k1 x b k' t) one.2 two))
-talks_append {S} notes count n (e ∷ es) fs k k1 k' s m t a b one two = (
+talks_append : {S : Type 0} (w : World S) (es fs : List Event) (k k1 k' : TasksValue) (s m t : S) (a b : List TargetPduValue)
+    → Talks w es k s a k1 m → Talks w fs k1 m b k' t → Talks w (es ++ fs) k s (a ++ b) k' t
+talks_append {S} w [] fs k k1 k' s m t a b one two =
+    subst (λ (x : List TargetPduValue). Talks w fs k s (x ++ b) k' t) (sym one.0)
+    (subst (λ (x : TasksValue). Talks w fs x s b k' t) one.1 (subst (λ (x : S). Talks w fs k1 x b k' t) one.2 two))
+talks_append {S} w (e ∷ es) fs k k1 k' s m t a b one two = (
   one.0,
   one.1,
   one.2,
   one.3 ++ b,
   ap (λ (xs : List TargetPduValue). xs ++ b) one.4 ∙ append_assoc one.2 one.3 b,
   one.5,
-  talks_append notes count n es fs one.0 k1 k' one.1 m t one.3 b one.6 two,
+  talks_append w es fs one.0 k1 k' one.1 m t one.3 b one.6 two,
 )
 
 -- ---- what is pending
@@ -81,124 +91,135 @@ talks_append {S} notes count n (e ∷ es) fs k k1 k' s m t a b one two = (
 one_so : (resets ends : ℕ → Type 0) (e : Event) → IsSo resets ends e → All (IsSo resets ends) (e ∷ [])
 one_so resets ends e so = All-cons (IsSo resets ends) e [] so (All-nil (IsSo resets ends))
 
-pub answers_none : {S : Type 0} {resets ends : ℕ → Type 0} {most : ℕ} (notes : S → DoneValue → S → Type 0) (count : S → ℕ) (n : Nexus) (k : TasksValue) (s : S) (pending : List ℕ) → Answers notes count resets ends most n k s pending [] k s pending
-answers_none {resets = resets} {ends = ends} {most = most} notes count n k s pending = record { events = []; so = All-nil (IsSo resets ends); asked = omega arith; talks = (refl, refl, refl); takes = refl }
+pub answers_none : {S : Type 0} {most : ℕ} (w : World S) (a : Moment S) → Answers w most a [] a a.pending
+answers_none {most = most} w a =
+    record { events = []; so = All-nil (IsSo w.resets w.ends); asked = omega arith; talks = (refl, refl, refl); takes = refl }
 
-answers_and : {S : Type 0} {resets ends : ℕ → Type 0} (i j most : ℕ) (notes : S → DoneValue → S → Type 0) (count : S → ℕ) (n : Nexus) (k k1 k' : TasksValue) (s m t : S) (pending mid rest : List ℕ) (a b : List TargetPduValue)
-    → i + j ≤ most → Answers notes count resets ends i n k s pending a k1 m mid → Answers notes count resets ends j n k1 m mid b k' t rest → Answers notes count resets ends most n k s pending (a ++ b) k' t rest
-answers_and {S} {resets = resets} {ends = ends} i j most notes count n k k1 k' s m t pending mid rest a b few one two = record {
+answers_and : {S : Type 0} (i j most : ℕ) (w : World S) (a m b : Moment S) (rest : List ℕ) (xs ys : List TargetPduValue)
+    → i + j ≤ most → Answers w i a xs m m.pending → Answers w j m ys b rest → Answers w most a (xs ++ ys) b rest
+answers_and {S} i j most w a m b rest xs ys few one two = record {
   events = one.events ++ two.events;
-  so = All-append (IsSo resets ends) one.events two.events one.so two.so;
+  so = All-append (IsSo w.resets w.ends) one.events two.events one.so two.so;
   asked = omega (arith, few, one.asked, two.asked, requests_append one.events two.events);
-  talks = talks_append notes count n one.events two.events k k1 k' s m t a b one.talks two.talks;
-  takes = subst (λ (ps : List InitiatorPduValue). Takes pending ps rest) (sym (pdus_append one.events two.events)) (takes_append (pdus_of one.events) (pdus_of two.events) pending mid rest one.takes two.takes);
+  talks = talks_append w one.events two.events a.tasks m.tasks b.tasks a.service m.service b.service xs ys one.talks two.talks;
+  takes =
+      subst (λ (ps : List InitiatorPduValue). Takes a.pending ps rest) (sym (pdus_append one.events two.events))
+      (takes_append (pdus_of one.events) (pdus_of two.events) a.pending m.pending rest one.takes two.takes);
 }
 
 -- more, in which no logout is asked for
-pub answers_then : {S : Type 0} {resets ends : ℕ → Type 0} {most : ℕ} (notes : S → DoneValue → S → Type 0) (count : S → ℕ) (n : Nexus) (k k1 k' : TasksValue) (s m t : S) (pending mid rest : List ℕ) (a b : List TargetPduValue)
-    → Answers notes count resets ends most n k s pending a k1 m mid → Answers notes count resets ends 0 n k1 m mid b k' t rest → Answers notes count resets ends most n k s pending (a ++ b) k' t rest
-answers_then {S} {most = most} notes count n k k1 k' s m t pending mid rest a b one two = answers_and most 0 most notes count n k k1 k' s m t pending mid rest a b (omega arith) one two
+pub answers_then : {S : Type 0} {most : ℕ} (w : World S) (a m b : Moment S) (rest : List ℕ) (xs ys : List TargetPduValue)
+    → Answers w most a xs m m.pending → Answers w 0 m ys b rest → Answers w most a (xs ++ ys) b rest
+answers_then {S} {most = most} w a m b rest xs ys one two = answers_and most 0 most w a m b rest xs ys (omega arith) one two
 
-pub answers_one : {S : Type 0} {resets ends : ℕ → Type 0} (notes : S → DoneValue → S → Type 0) (count : S → ℕ) (n : Nexus) (k k' : TasksValue) (s t : S) (pending rest : List ℕ) (p : InitiatorPduValue) (size : ℕ) (said : List TargetPduValue)
-    → next_of k ≡ Idle → BeginsWith pending p size → rest ≡ drop size pending → Says notes count n p k s said k' t → Answers notes count resets ends 0 n k s pending said k' t rest
-answers_one {resets = resets} {ends = ends} notes count n k k' s t pending rest p size said idle here cut says = record {
+pub answers_one : {S : Type 0} (w : World S) (a b : Moment S) (rest : List ℕ) (p : InitiatorPduValue) (size : ℕ) (said : List TargetPduValue)
+    → next_of a.tasks ≡ Idle → BeginsWith a.pending p size → rest ≡ drop size a.pending
+    → Says w.works p a.tasks a.service said b.tasks b.service → Answers w 0 a said b rest
+answers_one w a b rest p size said idle here cut says = record {
   events = Came p ∷ [];
-  so = one_so resets ends (Came p) tt;
+  so = one_so w.resets w.ends (Came p) tt;
   asked = omega arith;
-  talks = (k', t, said, [], sym (append-nil said), (idle, says), (refl, refl, refl));
+  talks = (b.tasks, b.service, said, [], sym (append-nil said), (idle, says), (refl, refl, refl));
   takes = (size, here, cut);
 }
 
-pub answers_pinged : {S : Type 0} {resets ends : ℕ → Type 0} (notes : S → DoneValue → S → Type 0) (count : S → ℕ) (n : Nexus) (k : TasksValue) (s : S) (pending : List ℕ) (stat_sn : SerialNumber)
-    → Answers notes count resets ends 0 n k s pending (pinged k stat_sn) k s pending
-answers_pinged {resets = resets} {ends = ends} notes count n k s pending stat_sn = record {
+pub answers_pinged : {S : Type 0} (w : World S) (a : Moment S) (stat_sn : SerialNumber) → Answers w 0 a (pinged a.tasks stat_sn) a a.pending
+answers_pinged w a stat_sn = record {
   events = Silence ∷ [];
-  so = one_so resets ends Silence tt;
+  so = one_so w.resets w.ends Silence tt;
   asked = omega arith;
-  talks = (k, s, pinged k stat_sn, [], sym (append-nil (pinged k stat_sn)), (stat_sn, refl, refl, refl), (refl, refl, refl));
+  talks = (a.tasks, a.service, pinged a.tasks stat_sn, [], sym (append-nil (pinged a.tasks stat_sn)), (stat_sn, refl, refl, refl), (refl, refl, refl));
   takes = refl;
 }
 
-pub answers_asked : {S : Type 0} {resets ends : ℕ → Type 0} (notes : S → DoneValue → S → Type 0) (count : S → ℕ) (n : Nexus) (k : TasksValue) (s : S) (pending : List ℕ) (stat_sn : SerialNumber) (seconds : ℕ)
-    → ends seconds → Answers notes count resets ends 1 n k s pending (asked_to_leave k stat_sn seconds) k s pending
-answers_asked {resets = resets} {ends = ends} notes count n k s pending stat_sn seconds so = record {
-  events = Ending seconds ∷ [];
-  so = one_so resets ends (Ending seconds) so;
-  asked = omega arith;
-  talks = (k, s, asked_to_leave k stat_sn seconds, [], sym (append-nil (asked_to_leave k stat_sn seconds)), (stat_sn, refl, refl, refl), (refl, refl, refl));
-  takes = refl;
-}
+pub answers_asked : {S : Type 0} (w : World S) (a : Moment S) (stat_sn : SerialNumber) (seconds : ℕ)
+    → w.ends seconds → Answers w 1 a (asked_to_leave a.tasks stat_sn seconds) a a.pending
+answers_asked w a stat_sn seconds so =
+    let said = asked_to_leave a.tasks stat_sn seconds in record {
+      events = Ending seconds ∷ [];
+      so = one_so w.resets w.ends (Ending seconds) so;
+      asked = omega arith;
+      talks = (a.tasks, a.service, said, [], sym (append-nil said), (stat_sn, refl, refl, refl), (refl, refl, refl));
+      takes = refl;
+    }
 
-pub answers_went : {S : Type 0} {resets ends : ℕ → Type 0} (notes : S → DoneValue → S → Type 0) (count : S → ℕ) (n : Nexus) (times : ℕ) (k k' : TasksValue) (s t : S) (pending units : List ℕ) (said : List TargetPduValue)
-    → All resets units → GoesOn notes n times (without_units k units) s said k' t → Answers notes count resets ends 0 n k s pending said k' t pending
-answers_went {resets = resets} {ends = ends} notes count n times k k' s t pending units said told so = record {
+pub answers_resets : {S : Type 0} (w : World S) (a b : Moment S) (units : List ℕ) (said : List TargetPduValue)
+    → All w.resets units → w.takes_resets units a.tasks a.service said b.tasks b.service → Answers w 0 a said b a.pending
+answers_resets w a b units said told so = record {
   events = Told units ∷ [];
-  so = one_so resets ends (Told units) told;
+  so = one_so w.resets w.ends (Told units) told;
   asked = omega arith;
-  talks = (k', t, said, [], sym (append-nil said), (times, so), (refl, refl, refl));
+  talks = (b.tasks, b.service, said, [], sym (append-nil said), so, (refl, refl, refl));
   takes = refl;
 }
 
-answers_before : {S : Type 0} {resets ends : ℕ → Type 0} {most : ℕ} (notes : S → DoneValue → S → Type 0) (count : S → ℕ) (n : Nexus) (k k' : TasksValue) (s t : S) (pending rest piece : List ℕ) (said : List TargetPduValue)
-    → Answers notes count resets ends most n k s pending said k' t rest → Answers notes count resets ends most n k s (pending ++ piece) said k' t (rest ++ piece)
-answers_before {resets = resets} {ends = ends} {most = most} notes count n k k' s t pending rest piece said so = record {
+answers_before : {S : Type 0} {most : ℕ} (w : World S) (a b : Moment S) (rest piece : List ℕ) (said : List TargetPduValue)
+    → Answers w most a said b rest → Answers w most (record a { pending = a.pending ++ piece }) said b (rest ++ piece)
+answers_before {most = most} w a b rest piece said so = record {
   events = so.events;
   so = so.so;
   asked = so.asked;
   talks = so.talks;
-  takes = takes_before (pdus_of so.events) pending rest piece so.takes;
+  takes = takes_before (pdus_of so.events) a.pending rest piece so.takes;
 }
+
+-- where what the answers end in is known by another name
+pub answers_as : {S : Type 0} {most : ℕ} (w : World S) (a b : Moment S) (k : TasksValue) (rest : List ℕ) (said : List TargetPduValue)
+    → k ≡ b.tasks → Answers w most a said b rest → Answers w most a said (record b { tasks = k }) rest
+answers_as {S} {most = most} w a b k rest said same so =
+    subst (λ (x : TasksValue). Answers w most a said (record b { tasks = x }) rest) (sym same) so
 
 -- ---- and what is read
 
-pub converses_none : {S : Type 0} {resets ends : ℕ → Type 0} {most : ℕ} (notes : S → DoneValue → S → Type 0) (count : S → ℕ) (n : Nexus) (k : TasksValue) (s : S) (pending : List ℕ) (left : Option (List ℕ))
-    → Converses notes count resets ends most n k s pending left left [] k s pending
-converses_none {resets = resets} {ends = ends} {most = most} notes count n k s pending left = record {
-  read = [];
-  consumed = consumes_none left;
-  answers = subst (λ (xs : List ℕ). Answers notes count resets ends most n k s xs [] k s pending) (sym (append-nil pending)) (answers_none notes count n k s pending);
-}
+pub converses_none : {S : Type 0} {most : ℕ} (w : World S) (a : Moment S) (left : Option (List ℕ)) → Converses w most a left left [] a a.pending
+converses_none {most = most} w a left = (
+  [],
+  consumes_none left,
+  subst (λ (xs : List ℕ). Answers w most (record a { pending = xs }) [] a a.pending) (sym (append-nil a.pending)) (answers_none {most = most} w a),
+)
 
-pub converses_then : {S : Type 0} {resets ends : ℕ → Type 0} {most : ℕ} (notes : S → DoneValue → S → Type 0) (count : S → ℕ) (n : Nexus) (k k1 k' : TasksValue) (s m t : S) (pending mid rest : List ℕ) (left left' : Option (List ℕ)) (a b : List TargetPduValue)
-    → Converses notes count resets ends most n k s pending left left' a k1 m mid → Answers notes count resets ends 0 n k1 m mid b k' t rest → Converses notes count resets ends most n k s pending left left' (a ++ b) k' t rest
-converses_then {S} {resets = resets} {ends = ends} {most = most} notes count n k k1 k' s m t pending mid rest left left' a b one two = record {
-  read = one.read;
-  consumed = one.consumed;
-  answers = answers_then notes count n k k1 k' s m t (pending ++ one.read) mid rest a b one.answers two;
-}
+pub converses_then : {S : Type 0} {most : ℕ} (w : World S) (a m b : Moment S) (rest : List ℕ) (left left' : Option (List ℕ))
+    (xs ys : List TargetPduValue) → Converses w most a left left' xs m m.pending → Answers w 0 m ys b rest
+    → Converses w most a left left' (xs ++ ys) b rest
+converses_then {S} {most = most} w a m b rest left left' xs ys one two =
+    (one.0, one.1, answers_then w (record a { pending = a.pending ++ one.0 }) m b rest xs ys one.2 two)
 
-pub converses_read : {S : Type 0} {resets ends : ℕ → Type 0} {most : ℕ} (notes : S → DoneValue → S → Type 0) (count : S → ℕ) (n : Nexus) (k k' : TasksValue) (s t : S) (pending rest rest' : List ℕ) (left left1 left2 : Option (List ℕ)) (said : List TargetPduValue)
-    → Converses notes count resets ends most n k s pending left left1 said k' t rest → Added rest rest' left1 left2 → Converses notes count resets ends most n k s pending left left2 said k' t rest'
-converses_read {S} {resets = resets} {ends = ends} {most = most} notes count n k k' s t pending rest rest' left left1 left2 said so got = record {
-  read = so.read ++ got.0;
-  consumed = consumes_more left left1 left2 so.read got.0 so.consumed got.2;
-  answers = subst (λ (xs : List ℕ). Answers notes count resets ends most n k s (pending ++ (so.read ++ got.0)) said k' t xs) (sym got.1)
-      (subst (λ (xs : List ℕ). Answers notes count resets ends most n k s xs said k' t (rest ++ got.0)) (append_assoc pending so.read got.0)
-      (answers_before notes count n k k' s t (pending ++ so.read) rest got.0 said so.answers));
-}
+pub converses_read : {S : Type 0} {most : ℕ} (w : World S) (a b : Moment S) (pending : List ℕ) (left left1 left2 : Option (List ℕ))
+    (said : List TargetPduValue) → Converses w most a left left1 said b b.pending → Added b.pending pending left1 left2
+    → Converses w most a left left2 said (record b { pending = pending }) pending
+converses_read {S} {most = most} w a b pending left left1 left2 said so got = (
+  so.0 ++ got.0,
+  consumes_more left left1 left2 so.0 got.0 so.1 got.2,
+  subst (λ (xs : List ℕ). Answers w most (record a { pending = a.pending ++ (so.0 ++ got.0) }) said b xs) (sym got.1)
+      (subst (λ (xs : List ℕ). Answers w most (record a { pending = xs }) said b (b.pending ++ got.0)) (append_assoc a.pending so.0 got.0)
+      (answers_before w (record a { pending = a.pending ++ so.0 }) b b.pending got.0 said so.2)),
+)
 
 -- a logout is asked for, the first time
-pub converses_asked : {S : Type 0} {resets ends : ℕ → Type 0} (notes : S → DoneValue → S → Type 0) (count : S → ℕ) (n : Nexus) (k k' : TasksValue) (s t : S) (pending rest : List ℕ) (left left' : Option (List ℕ)) (a : List TargetPduValue) (stat_sn : SerialNumber) (seconds : ℕ)
-    → Converses notes count resets ends 0 n k s pending left left' a k' t rest → ends seconds → Converses notes count resets ends 1 n k s pending left left' (a ++ asked_to_leave k' stat_sn seconds) k' t rest
-converses_asked {S} notes count n k k' s t pending rest left left' a stat_sn seconds one so = record {
-  read = one.read;
-  consumed = one.consumed;
-  answers = answers_and 0 1 1 notes count n k k' k' s t t (pending ++ one.read) rest rest a (asked_to_leave k' stat_sn seconds) (omega arith) one.answers (answers_asked notes count n k' t rest stat_sn seconds so);
-}
+pub converses_asked : {S : Type 0} (w : World S) (a b : Moment S) (left left' : Option (List ℕ)) (xs : List TargetPduValue) (stat_sn : SerialNumber)
+    (seconds : ℕ) → Converses w 0 a left left' xs b b.pending → w.ends seconds
+    → Converses w 1 a left left' (xs ++ asked_to_leave b.tasks stat_sn seconds) b b.pending
+converses_asked {S} w a b left left' xs stat_sn seconds one so = (
+  one.0,
+  one.1,
+  answers_and 0 1 1 w (record a { pending = a.pending ++ one.0 }) b b b.pending xs (asked_to_leave b.tasks stat_sn seconds) (omega arith) one.2
+      (answers_asked w b stat_sn seconds so),
+)
 
-pub converses_within : {S : Type 0} {resets ends : ℕ → Type 0} (i most : ℕ) (notes : S → DoneValue → S → Type 0) (count : S → ℕ) (n : Nexus) (k k' : TasksValue) (s t : S) (pending rest : List ℕ) (left left' : Option (List ℕ)) (said : List TargetPduValue)
-    → i ≤ most → Converses notes count resets ends i n k s pending left left' said k' t rest → Converses notes count resets ends most n k s pending left left' said k' t rest
-converses_within i most notes count n k k' s t pending rest left left' said few so = record {
-  read = so.read;
-  consumed = so.consumed;
-  answers = record {
-    events = so.answers.events;
-    so = so.answers.so;
-    asked = omega (arith, few, so.answers.asked);
-    talks = so.answers.talks;
-    takes = so.answers.takes;
-  };
-}
+pub converses_within : {S : Type 0} (i most : ℕ) (w : World S) (a b : Moment S) (rest : List ℕ) (left left' : Option (List ℕ))
+    (said : List TargetPduValue) → i ≤ most → Converses w i a left left' said b rest → Converses w most a left left' said b rest
+converses_within i most w a b rest left left' said few so =
+    let answers = so.2 in (
+      so.0,
+      so.1,
+      record {
+        events = answers.events;
+        so = answers.so;
+        asked = omega (arith, few, answers.asked);
+        talks = answers.talks;
+        takes = answers.takes;
+      },
+    )
 
 -- ---- what is written
 
@@ -220,10 +241,12 @@ writes_said w out out' said e = ([], appends_none w, e)
 pub writes_flushed : (w w' : Option (List ℕ)) (out out' : List ℕ) → Appends w w' out → out' ≡ [] → Writes w w' out out' []
 writes_flushed w w' out out' gone none = (out, gone, ap (λ (xs : List ℕ). out ++ xs) none)
 
-pub writes_then : (w w1 w2 : Option (List ℕ)) (out mid out' : List ℕ) (a b : List TargetPduValue) → Writes w w1 out mid a → Writes w1 w2 mid out' b → Writes w w2 out out' (a ++ b)
+pub writes_then : (w w1 w2 : Option (List ℕ)) (out mid out' : List ℕ) (a b : List TargetPduValue) → Writes w w1 out mid a → Writes w1 w2 mid out' b
+    → Writes w w2 out out' (a ++ b)
 writes_then w w1 w2 out mid out' a b one two = (
   one.0 ++ two.0,
   appends_more w w1 w2 one.0 two.0 one.1 two.1,
-  append_assoc one.0 two.0 out' ∙ ap (λ (xs : List ℕ). one.0 ++ xs) two.2 ∙ sym (append_assoc one.0 mid (bytes_of_all b)) ∙ ap (λ (xs : List ℕ). xs ++ bytes_of_all b) one.2
+  append_assoc one.0 two.0 out' ∙ ap (λ (xs : List ℕ). one.0 ++ xs) two.2
+      ∙ sym (append_assoc one.0 mid (bytes_of_all b)) ∙ ap (λ (xs : List ℕ). xs ++ bytes_of_all b) one.2
       ∙ append_assoc out (bytes_of_all a) (bytes_of_all b) ∙ ap (λ (xs : List ℕ). out ++ xs) (sym (flat_map-append bytes_of a b)),
 )

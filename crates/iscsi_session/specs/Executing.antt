@@ -79,11 +79,14 @@ abbrev pub unit_number : (lun : ℕ) → ℕ
 unit_number lun = unwrap_or (unit_of lun) 255
 
 -- what answers a command to which its unit has replied so
-abbrev pub answer_to : TasksValue → TransferLimits → SerialNumber → ScsiCommand → (handed_over : ℕ) → Status → Option Sense → (bytes : List ℕ) → List TargetPduValue
-answer_to k limits stat_sn command handed_over status sense bytes = command_answer limits (numbers k stat_sn) (answered_command command handed_over) status sense bytes
+abbrev pub answer_to : TasksValue → TransferLimits → SerialNumber → ScsiCommand → (handed_over : ℕ) → Status → Option Sense
+    → (bytes : List ℕ) → List TargetPduValue
+answer_to k limits stat_sn command handed_over status sense bytes =
+    command_answer limits (numbers k stat_sn) (answered_command command handed_over) status sense bytes
 
 -- a command is handed to its unit with these data, once, and answered by what the unit has replied to that very call
-pub record Executes {S : Type 0} (notes : S → DoneValue → S → Type 0) (n : Nexus) (s : S) (k : TasksValue) (command : ScsiCommand) (bytes : List ℕ) (said : List TargetPduValue) (t : S) : Type 0 where
+pub record Executes {S : Type 0} (notes : S → DoneValue → S → Type 0) (n : Nexus) (s : S) (k : TasksValue) (command : ScsiCommand) (bytes : List ℕ)
+    (said : List TargetPduValue) (t : S) : Type 0 where
   pub done : DoneValue
   pub limits : TransferLimits
   pub stat_sn : SerialNumber
@@ -136,10 +139,12 @@ abbrev pub Acts : {S : Type 0} → (S → DoneValue → S → Type 0) → Nexus 
 Acts notes n k s act said k' t = (k' ≡ stepped k act) × Does notes n s k' (outcome k act) said t
 
 -- what is to be done next is done, so many times
-unfoldable pub GoesOn : {S : Type 0} → (S → DoneValue → S → Type 0) → Nexus → (times : ℕ) → TasksValue → S → (said : List TargetPduValue) → TasksValue → S → Type 0
+unfoldable pub GoesOn : {S : Type 0} → (S → DoneValue → S → Type 0) → Nexus → (times : ℕ) → TasksValue → S
+    → (said : List TargetPduValue) → TasksValue → S → Type 0
 GoesOn notes n zero k s said k' t = (said ≡ []) × (k' ≡ k) × (t ≡ s)
 GoesOn {S} notes n (suc times) k s said k' t =
-    (k1 : TasksValue) × (m : S) × (first last : List TargetPduValue) × (said ≡ first ++ last) × GoesOn notes n times k s first k1 m × Acts notes n k1 m AskedNext last k' t
+    (k1 : TasksValue) × (m : S) × (first last : List TargetPduValue) × (said ≡ first ++ last)
+    × GoesOn notes n times k s first k1 m × Acts notes n k1 m AskedNext last k' t
 
 abbrev pub is_idle : NextTask → Bool
 is_idle found.Idle = true

@@ -57,7 +57,8 @@ handed es = map (λ e. (unit_number e.command.lun, event.Command e.command.cdb e
 
 -- these commands and data, and no others, are brought to the tasks, in this order; and of the calls that are made the commands are those that the
 -- tasks execute, in the same order, each once and with the data that they have for it
-pub record Hands {S : Type 0} (notes : S → DoneValue → S → Type 0) (n : Nexus) (k : TasksValue) (s : S) (brings : List Act) (k' : TasksValue) (t : S) : Type 0 where
+pub record Hands {S : Type 0} (notes : S → DoneValue → S → Type 0) (n : Nexus) (k : TasksValue) (s : S) (brings : List Act) (k' : TasksValue)
+    (t : S) : Type 0 where
   pub acts : List Act
   pub calls : List DoneValue
   pub run_is : k' ≡ run k acts

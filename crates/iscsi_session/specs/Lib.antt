@@ -1,8 +1,10 @@
 pub mod Faults
 pub mod Executing
 pub mod Managing
+pub mod Worlds
 pub mod Saying
 pub mod Talking
+pub mod Moments
 pub mod Texts
 pub mod LoggingIn
 pub mod Handing

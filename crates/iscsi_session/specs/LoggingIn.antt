@@ -22,7 +22,8 @@ use Rattle.iscsi_session.specs.declared.login.LoginWait.TheVariants as wait
 abbrev pub Requests : List Coming → (bytes rest : List ℕ) → Type 0
 Requests [] bytes rest = rest ≡ bytes
 Requests (c ∷ cs) bytes rest =
-    (p : InitiatorPduValue) × (size : ℕ) × BeginsWith bytes p size × (p.header ≡ sent.LoginRequest c.request) × (p.payload ≡ c.text) × Requests cs (drop size bytes) rest
+    (p : InitiatorPduValue) × (size : ℕ) × BeginsWith bytes p size × (p.header ≡ sent.LoginRequest c.request)
+    × (p.payload ≡ c.text) × Requests cs (drop size bytes) rest
 
 -- an exchange takes them
 pub record Exchanges (target : LoginTarget) (e e' : ExchangeValue) (bytes rest : List ℕ) : Type 0 where

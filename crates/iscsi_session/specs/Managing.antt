@@ -12,7 +12,9 @@ use Rattle.iscsi_pdu.specs.declared.task_management.TaskManagementFunction.{Task
 use Rattle.iscsi_pdu.specs.declared.task_management.TaskManagementFunction.TheVariants as asked
 use Rattle.iscsi_pdu.specs.declared.task_management_request.TaskManagementRequest.{TaskManagementRequest}
 use Rattle.iscsi_pdu.specs.declared.task_management_result.TaskManagementResult.{TaskManagementResult}
-use Rattle.iscsi_pdu.specs.declared.task_management_result.TaskManagementResult.TheVariants.{FunctionComplete, TaskDoesNotExist, LunDoesNotExist, TaskAllegianceReassignmentNotSupported, FunctionNotSupported, FunctionRejected}
+use Rattle.iscsi_pdu.specs.declared.task_management_result.TaskManagementResult.TheVariants.{FunctionComplete, TaskDoesNotExist, LunDoesNotExist}
+use Rattle.iscsi_pdu.specs.declared.task_management_result.TaskManagementResult.TheVariants.{TaskAllegianceReassignmentNotSupported}
+use Rattle.iscsi_pdu.specs.declared.task_management_result.TaskManagementResult.TheVariants.{FunctionNotSupported, FunctionRejected}
 use Rattle.iscsi_tasks.specs.Values.{TasksValue}
 use Rattle.iscsi_tasks.specs.Commands.{is_taken, counted}
 use Rattle.iscsi_tasks.specs.Aborts.{is_waiting_at, without_task, without_unit}
@@ -55,7 +57,8 @@ ResetsUnit notes k s None k' t result = (k' ≡ k) × (t ≡ s) × (result ≡ L
 ResetsUnit notes k s (Some unit) k' t result = (k' ≡ without_unit k unit) × Resets notes unit s t result
 
 -- what a function does
-abbrev pub Manages : {S : Type 0} → (S → DoneValue → S → Type 0) → (units : ℕ) → TaskManagementRequest → TasksValue → S → TaskManagementFunction → TasksValue → S → TaskManagementResult → Type 0
+abbrev pub Manages : {S : Type 0} → (S → DoneValue → S → Type 0) → (units : ℕ) → TaskManagementRequest → TasksValue → S → TaskManagementFunction
+    → TasksValue → S → TaskManagementResult → Type 0
 Manages notes units r k s asked.AbortTask k' t result = AbortsTask k r.referenced_task_tag (unit_below units (unit_of r.lun)) k' result × (t ≡ s)
 Manages notes units r k s asked.AbortTaskSet k' t result = AbortsTaskSet k (unit_below units (unit_of r.lun)) k' result × (t ≡ s)
 Manages notes units r k s asked.LogicalUnitReset k' t result = ResetsUnit notes k s (unit_below units (unit_of r.lun)) k' t result
@@ -67,7 +70,8 @@ Manages notes units r k s asked.TargetColdReset k' t result = (k' ≡ k) × (t �
 Manages notes units r k s asked.Reserved k' t result = (k' ≡ k) × (t ≡ s) × (result ≡ FunctionNotSupported)
 
 -- a request is taken or passed over by its number, and what was taken is answered
-abbrev pub ManagesTasks : {S : Type 0} → (S → DoneValue → S → Type 0) → (count : S → ℕ) → TaskManagementRequest → TasksValue → S → (said : List TargetPduValue) → TasksValue → S → Type 0
+abbrev pub ManagesTasks : {S : Type 0} → (S → DoneValue → S → Type 0) → (count : S → ℕ) → TaskManagementRequest → TasksValue → S
+    → (said : List TargetPduValue) → TasksValue → S → Type 0
 ManagesTasks notes count r k s said k' t =
     MatchBool (is_taken k r.immediate r.cmd_sn)
     ((result : TaskManagementResult) × (stat_sn : SerialNumber) × Manages notes (count s) r (counted k r.immediate) s r.function k' t result

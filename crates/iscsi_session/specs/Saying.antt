@@ -1,4 +1,4 @@
--- What a normal session does with its PDUs. `notes s d t` says that a call with the answer d makes t of the service s.
+-- What a session does with its PDUs. `notes s d t` says that a call with the answer d makes t of the service s.
 use Rattle.std.specs.Prelude.{◌≡◌, ℕ, Bool, true, false, MatchBool, List, [], ◌∷◌, ◌++◌, if◌then◌else◌}
 use Rattle.scsi_nexus.specs.declared.nexus.Nexus.{Nexus}
 use Rattle.logical_unit.specs.Answers.{DoneValue}
@@ -9,11 +9,13 @@ use Rattle.iscsi_pdu.specs.declared.target_header.TargetHeader.{TargetHeader}
 use Rattle.iscsi_pdu.specs.declared.target_header.TargetHeader.TheVariants as said
 use Rattle.iscsi_pdu.specs.declared.serial_number.SerialNumber.{SerialNumber}
 use Rattle.iscsi_answers.specs.Written.{bytes_of_all}
+use Rattle.iscsi_tasks.specs.Aborts.{without_unit}
 use Rattle.iscsi_tasks.specs.Commands.{is_taken, counted}
 use Rattle.iscsi_tasks.specs.Runs.{Commanded, DataCame}
 use Rattle.iscsi_tasks.specs.Values.{TasksValue}
 use Rattle.iscsi_session.specs.Executing.{Acts, GoesOn}
 use Rattle.iscsi_session.specs.Managing.{ManagesTasks}
+use Rattle.iscsi_session.specs.Worlds.{World, world}
 
 -- a number is used up, if it is the one that is expected
 abbrev pub numbered : TasksValue → (immediate : Bool) → SerialNumber → TasksValue
@@ -62,24 +64,42 @@ abbrev pub AddsPlain : (out out' : List ℕ) → Type 0
 AddsPlain out out' = (said : List TargetPduValue) × IsPlain said × (out' ≡ out ++ bytes_of_all said)
 
 -- a PDU of a task happens to the tasks
-abbrev pub TakesTask : {S : Type 0} → (S → DoneValue → S → Type 0) → (count : S → ℕ) → Nexus → InitiatorHeader → (payload : List ℕ) → TasksValue → S → (said : List TargetPduValue) → TasksValue → S → Type 0
+abbrev pub TakesTask : {S : Type 0} → (S → DoneValue → S → Type 0) → (count : S → ℕ) → Nexus → InitiatorHeader → (payload : List ℕ)
+    → TasksValue → S → (said : List TargetPduValue) → TasksValue → S → Type 0
 TakesTask notes count n (sent.ScsiCommand p) payload k s said k' t = Acts notes n k s (Commanded p payload) said k' t
 TakesTask notes count n (sent.DataOut p) payload k s said k' t = Acts notes n k s (DataCame p payload) said k' t
 TakesTask notes count n (sent.TaskManagementRequest p) payload k s said k' t = ManagesTasks notes count p k s said k' t
 TakesTask notes count n _ payload k s said k' t = ⊥
 
--- and then those that wait go on
-pub record Works {S : Type 0} (notes : S → DoneValue → S → Type 0) (count : S → ℕ) (n : Nexus) (p : InitiatorPduValue) (k : TasksValue) (s : S) (said : List TargetPduValue) (k' : TasksValue) (t : S) : Type 0 where
+-- and then those that wait go on: what a normal session does with it
+pub record Works {S : Type 0} (notes : S → DoneValue → S → Type 0) (count : S → ℕ) (n : Nexus) (h : InitiatorHeader) (payload : List ℕ)
+    (k : TasksValue) (s : S) (said : List TargetPduValue) (k' : TasksValue) (t : S) : Type 0 where
   pub tasks : TasksValue
   pub service : S
   pub first : List TargetPduValue
   pub others : List TargetPduValue
   pub times : ℕ
   pub said_is : said ≡ first ++ others
-  pub takes : TakesTask notes count n p.header p.payload k s first tasks service
+  pub takes : TakesTask notes count n h payload k s first tasks service
   pub goes_on : GoesOn notes n times tasks service others k' t
 
--- one PDU
-abbrev pub Says : {S : Type 0} → (S → DoneValue → S → Type 0) → (count : S → ℕ) → Nexus → InitiatorPduValue → TasksValue → S → (said : List TargetPduValue) → TasksValue → S → Type 0
-Says notes count n p k s said k' t =
-    MatchBool (is_of_tasks p.header) (Works notes count n p k s said k' t) ((k' ≡ behind_other k p.header) × (t ≡ s) × IsPlain said)
+-- without the commands that wait at these units, the first of them last
+abbrev pub without_units : TasksValue → (units : List ℕ) → TasksValue
+without_units k [] = k
+without_units k (unit ∷ units) = without_unit (without_units k units) unit
+
+-- of units that others have reset the commands that wait there go unexecuted, and those that waited behind them go on
+abbrev pub TakesResets : {S : Type 0} → (S → DoneValue → S → Type 0) → Nexus → (units : List ℕ) → TasksValue → S
+    → (said : List TargetPduValue) → TasksValue → S → Type 0
+TakesResets notes n units k s said k' t = (times : ℕ) × GoesOn notes n times (without_units k units) s said k' t
+
+-- the world of a normal session
+abbrev pub normal_world : {S : Type 0} → (S → DoneValue → S → Type 0) → (count : S → ℕ) → Nexus → (resets ends : ℕ → Type 0) → World S
+normal_world notes count n resets ends = world (Works notes count n) (TakesResets notes n) resets ends
+
+-- one PDU; what comes of one of a task `works` says
+abbrev pub Says : {S : Type 0}
+    → (works : InitiatorHeader → (payload : List ℕ) → TasksValue → S → (said : List TargetPduValue) → TasksValue → S → Type 0)
+    → InitiatorPduValue → TasksValue → S → (said : List TargetPduValue) → TasksValue → S → Type 0
+Says works p k s said k' t =
+    MatchBool (is_of_tasks p.header) (works p.header p.payload k s said k' t) ((k' ≡ behind_other k p.header) × (t ≡ s) × IsPlain said)

@@ -1,5 +1,5 @@
 -- A whole session. `notes s d t` says that a call with the answer d makes t of the service s.
-use Rattle.std.specs.Prelude.{◌≡◌, ◌⊎◌, ◌≤◌, ℕ, Bool, true, List, ◌++◌, All, Option, Result, OnOk}
+use Rattle.std.specs.Prelude.{◌≡◌, ◌⊎◌, ◌≤◌, ℕ, Bool, true, List, [], ◌++◌, All, Option, Result, OnOk}
 use Rattle.std.specs.Io.KnownBytes.{Consumes, Appends}
 use Rattle.logical_unit.specs.Answers.{DoneValue}
 use Rattle.iscsi_pdu.specs.Pdus.{TargetPduValue}
@@ -17,7 +17,8 @@ use Rattle.iscsi_tasks.specs.declared.next_task.NextTask.TheVariants.{Idle}
 use Rattle.session.specs.Serving.{IsLostBelow}
 use Rattle.iscsi_session.specs.Handing.{Hands, brought_in}
 use Rattle.iscsi_session.specs.LoggingIn.{HasReached, Requests, nexus_of}
-use Rattle.iscsi_session.specs.Talking.{Converses, Event, IsSo, Takes, Talks, leave_requests, pdus_of}
+use Rattle.iscsi_session.specs.Saying.{normal_world}
+use Rattle.iscsi_session.specs.Talking.{Converses, Event, IsSo, Moment, Takes, Talks, leave_requests, pdus_of}
 
 -- the tasks of a session that a login has begun, whose units take 131,053 bytes of data of a command
 abbrev pub first_tasks : FullFeature → TasksValue
@@ -27,19 +28,35 @@ first_tasks begun = begun_tasks begun.parameters 131053 begun.cmd_sn
 abbrev pub WritesLast : (written written' : Option (List ℕ)) → (said : List TargetPduValue) → Type 0
 WritesLast written written' said = (login : List ℕ) × Appends written written' (login ++ bytes_of_all said)
 
--- from the last request of a login on: PDUs, and then the nexus is lost at every unit, once
-pub record Holds {S : Type 0} (notes : S → DoneValue → S → Type 0) (count : S → ℕ) (resets ends : ℕ → Type 0) (port : ℕ) (begun : FullFeature) (s : S) (pending : List ℕ) (left left' : Option (List ℕ)) (said : List TargetPduValue) (all : Bool) (t : S) : Type 0 where
-  pub ended : TasksValue
+-- where a login leaves a session, nothing said behind it yet
+abbrev pub first_moment : {S : Type 0} → FullFeature → S → (pending : List ℕ) → Moment S
+first_moment begun s pending = record { tasks = first_tasks begun; service = s; pending = pending; out = [] }
+
+-- a normal session from the last request of its login on: PDUs, and then the nexus is lost at every unit, once
+pub record Holds {S : Type 0} (notes : S → DoneValue → S → Type 0) (count : S → ℕ) (resets ends : ℕ → Type 0) (port : ℕ)
+    (begun : FullFeature) (s : S) (pending : List ℕ) (left left' : Option (List ℕ)) (said : List TargetPduValue) (all : Bool) (t : S) : Type 0 where
+  pub normal : begun.session_type ≡ Normal
+  pub last : Moment S
   pub rest : List ℕ
-  pub before_loss : S
-  pub converses : Converses notes count resets ends 1 (nexus_of port begun) (first_tasks begun) s pending left left' said ended before_loss rest
-  pub lost : IsLostBelow notes (nexus_of port begun) (count before_loss) before_loss t all
+  pub converses :
+      Converses (normal_world notes count (nexus_of port begun) resets ends) 1 (first_moment begun s pending) left left' said last rest
+  pub lost : IsLostBelow notes (nexus_of port begun) (count last.service) last.service t all
+
+-- that, or nothing at the service. Where it ends without a fault nothing is left to be done, all that was said is written, and the nexus was lost at
+-- every unit
+abbrev pub ServesBehind : {S A F : Type 0} → (S → DoneValue → S → Type 0) → (count : S → ℕ) → (resets ends : ℕ → Type 0) → (port : ℕ)
+    → FullFeature → S → (pending : List ℕ) → (left left' written written' : Option (List ℕ)) → Result A F → S → Type 0
+ServesBehind notes count resets ends port begun s pending left left' written written' result t =
+    (t ≡ s) ⊎ ((said : List TargetPduValue) × (all : Bool)
+    × (held : Holds notes count resets ends port begun s pending left left' said all t)
+    × OnOk result ((all ≡ true) × (next_of held.last.tasks ≡ Idle) × WritesLast written written' said))
 
 -- a normal session: what was read is a login, by which full feature is reached, and then PDUs, and perhaps part of another. To each of these happens
 -- what its tasks say, one after another; the commands that are handed to units are those that the tasks execute, in that order, each once and with
 -- the data that they have for it, all under the nexus that the login was let in as, and nothing but the PDUs has brought the tasks commands and data;
 -- a logout is asked for once at most; and at last the nexus is lost at every unit, once
-pub record IsServed {S : Type 0} (notes : S → DoneValue → S → Type 0) (count : S → ℕ) (resets ends : ℕ → Type 0) (target : LoginTarget) (challenge : Option Challenge) (port : ℕ) (s : S) (left left' : Option (List ℕ)) (said : List TargetPduValue) (all : Bool) (t : S) : Type 0 where
+pub record IsServed {S : Type 0} (notes : S → DoneValue → S → Type 0) (count : S → ℕ) (resets ends : ℕ → Type 0) (target : LoginTarget)
+    (challenge : Option Challenge) (port : ℕ) (s : S) (left left' : Option (List ℕ)) (said : List TargetPduValue) (all : Bool) (t : S) : Type 0 where
   pub begun : FullFeature
   pub read : List ℕ
   pub comings : List Coming
@@ -55,13 +72,15 @@ pub record IsServed {S : Type 0} (notes : S → DoneValue → S → Type 0) (cou
   pub takes : Takes stream (pdus_of events) rest
   pub so : All (IsSo resets ends) events
   pub asked : leave_requests events ≤ 1
-  pub talks : Talks notes count (nexus_of port begun) events (first_tasks begun) s said ended before_loss
+  pub talks : Talks (normal_world notes count (nexus_of port begun) resets ends) events (first_tasks begun) s said ended before_loss
   pub hands : Hands notes (nexus_of port begun) (first_tasks begun) s (brought_in events) ended before_loss
   pub lost : IsLostBelow notes (nexus_of port begun) (count before_loss) before_loss t all
 
 -- that, or a connection that does nothing at the service: one that isn't let in, or a discovery session. Where it ends without a fault nothing
 -- is left to be done, all that was said is written, and the nexus was lost at every unit
-unfoldable pub Serves : {S A F : Type 0} → (S → DoneValue → S → Type 0) → (count : S → ℕ) → (resets ends : ℕ → Type 0) → LoginTarget → Option Challenge → (port : ℕ) → S → (left left' written written' : Option (List ℕ)) → Result A F → S → Type 0
+unfoldable pub Serves : {S A F : Type 0} → (S → DoneValue → S → Type 0) → (count : S → ℕ) → (resets ends : ℕ → Type 0) → LoginTarget
+    → Option Challenge → (port : ℕ) → S → (left left' written written' : Option (List ℕ)) → Result A F → S → Type 0
 Serves notes count resets ends target challenge port s left left' written written' result t =
-    (t ≡ s) ⊎ ((said : List TargetPduValue) × (all : Bool) × (served : IsServed notes count resets ends target challenge port s left left' said all t)
+    (t ≡ s) ⊎ ((said : List TargetPduValue) × (all : Bool)
+    × (served : IsServed notes count resets ends target challenge port s left left' said all t)
     × OnOk result ((all ≡ true) × (next_of served.ended ≡ Idle) × WritesLast written written' said))

@@ -3,6 +3,7 @@ ghost use Rattle.std.specs.Io.KnownBytes.{Appends};
 ghost use Rattle.iscsi_session.specs.Faults.{IsLater};
 
 use crate::fault::IscsiFault;
+use crate::portal::Portal;
 use crate::texts::OpenText;
 use iscsi_answers::{SequenceNumbers, TransferLimits};
 use iscsi_login::FullFeature;
@@ -16,25 +17,36 @@ const MOST_DATA: u32 = 131_053;
 
 /// A connection in full feature.
 #[derive(Drop)]
-pub(crate) struct Connection {
+pub(crate) struct Connection<'p> {
+    pub(crate) portal: Portal<'p>,
     pub(crate) tasks: Tasks,
     pub(crate) limits: TransferLimits,
     pub(crate) stat_sn: SerialNumber,
     pub(crate) open_text: OpenText,
     pub(crate) cid: u16,
+    /// The answers that wait to be written.
+    pub(crate) out: Vec<u8>,
 }
 
-impl Connection {
+impl<'p> Connection<'p> {
     ghost use Rattle.std.specs.Prelude.{◌≡◌};
     ghost use Rattle.iscsi_tasks.specs.Values.{begun_tasks};
     ghost use Rattle.iscsi_session.specs.Executing.{numbers};
 
-    /// One that begins, with the StatSN of its first answer.
-    pub(crate) fn new(alloc: Global, begun: &FullFeature, stat_sn: SerialNumber) -> Connection
-        ensures { result.tasks ≡ begun_tasks begun.now.parameters 131053 begun.now.cmd_sn }
+    /// One that begins, with the StatSN of its first answer, behind answers that wait.
+    pub(crate) fn new(
+        alloc: Global,
+        portal: Portal<'p>,
+        begun: &FullFeature,
+        stat_sn: SerialNumber,
+        out: Vec<u8>,
+    ) -> Connection<'p>
+        ensures tasks { result.tasks ≡ begun_tasks begun.now.parameters 131053 begun.now.cmd_sn }
+        ensures out { result.out.items ≡ out.items }
     {
         let parameters = begun.parameters;
         Connection {
+            portal,
             tasks: Tasks::new(alloc, parameters, MOST_DATA, begun.cmd_sn),
             limits: TransferLimits::new(
                 parameters.max_send_data_segment_length,
@@ -43,6 +55,7 @@ impl Connection {
             stat_sn,
             open_text: OpenText::new(alloc),
             cid: begun.cid,
+            out,
         }
     }
 
@@ -59,7 +72,8 @@ impl Connection {
 
     /// Behind an answer that takes up a StatSN.
     pub(crate) fn has_answered(&mut self)
-        ensures { self.new.tasks ≡ self.old.tasks }
+        ensures tasks { self.new.tasks ≡ self.old.tasks }
+        ensures out { self.new.out.items ≡ self.old.out.items }
     {
         self.stat_sn = self.stat_sn.next();
     }

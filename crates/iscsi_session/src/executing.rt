@@ -6,11 +6,12 @@ ghost use Rattle.iscsi_tasks.specs.Next.{next_of};
 ghost use Rattle.iscsi_tasks.specs.Runs.{Commanded, DataCame, stepped};
 ghost use Rattle.iscsi_tasks.specs.declared.next_task.NextTask.TheVariants.{Idle};
 ghost use Rattle.iscsi_session.specs.Faults.{IsLater};
-ghost use Rattle.iscsi_session.specs.Executing.{Acts, Adds, Does, Executes, GoesOn, OrElse, Tells, answer_to, demand, failure, is_idle, next_outcome, outcome};
+ghost use Rattle.iscsi_session.specs.Executing.{Acts, Adds, Does, Executes, GoesOn, OrElse, Tells};
+ghost use Rattle.iscsi_session.specs.Executing.{answer_to, demand, failure, is_idle, next_outcome, outcome};
 
 use crate::connection::Connection;
 use crate::fault::IscsiFault;
-use crate::requests::reject;
+use crate::requests::{BasicHeader, reject};
 use iscsi_answers::{AnsweredCommand, UnitAnswer, write_command_answer, write_ready_to_transfer};
 use iscsi_pdu::{DataOut, ScsiCommand, unit_of};
 use iscsi_tasks::{NextTask, TakenCommand, TakenData, TaskFault, TransferRequest};
@@ -30,14 +31,15 @@ fn execute<S: Service>(
     alloc: Global,
     service: &mut S,
     nexus: Nexus,
-    connection: &mut Connection,
+    connection: &mut Connection<'_>,
     command: &ScsiCommand,
     bytes: &[u8],
-    out: &mut Vec<u8>,
 ) -> Result<(), IscsiFault>
     ensures fault { IfErr result IsLater }
     ensures tasks { connection.new.tasks ≡ connection.old.tasks }
-    ensures executed { (said : List TargetPduValue) × Executes S.notes nexus service.old connection.old.tasks command.now bytes.now said service.new × Adds result out.old.items out.new.items said }
+    ensures executed { (said : List TargetPduValue)
+        × Executes S.notes nexus service.old connection.old.tasks command.now bytes.now said service.new
+        × Adds result connection.old.out.items connection.new.out.items said }
 {
     let lun = unit_of(command.lun).unwrap_or(NO_UNIT);
     let done = service.submit(alloc, nexus, lun, &command.cdb, bytes);
@@ -48,39 +50,46 @@ fn execute<S: Service>(
         data: reply.payload.bytes(),
     };
     let handed_over = bytes.len().min(u32::MAX as usize) as u32;
-    answer_command(connection, command, handed_over, &answer, out)
+    answer_command(connection, command, handed_over, &answer)
 }
 
 /// Adds what answers a command of whose data so many bytes were handed over.
 fn answer_command(
-    connection: &mut Connection,
+    connection: &mut Connection<'_>,
     command: &ScsiCommand,
     handed_over: u32,
     answer: &UnitAnswer<'_>,
-    out: &mut Vec<u8>,
 ) -> Result<(), IscsiFault>
     requires { length answer.now.data.now < 2 ^ 32 }
     ensures fault { IfErr result IsLater }
     ensures tasks { connection.new.tasks ≡ connection.old.tasks }
-    ensures answered { OnOk result (out.new.items ≡ out.old.items ++ bytes_of_all (answer_to connection.old.tasks connection.old.limits connection.old.stat_sn command.now handed_over answer.now.status answer.now.sense answer.now.data.now)) }
+    ensures answered { OnOk result (connection.new.out.items ≡ connection.old.out.items
+        ++ bytes_of_all (answer_to connection.old.tasks connection.old.limits connection.old.stat_sn command.now handed_over
+        answer.now.status answer.now.sense answer.now.data.now)) }
 {
     let answered = AnsweredCommand::of(command, handed_over);
     let numbers = connection.numbers();
-    write_command_answer(out, connection.limits, numbers, answered, answer)?;
+    write_command_answer(
+        &mut connection.out,
+        connection.limits,
+        numbers,
+        answered,
+        answer,
+    )?;
     connection.has_answered();
     Ok(())
 }
 
 /// Answers a command that isn't executed, since its data aren't right.
 fn fail(
-    connection: &mut Connection,
+    connection: &mut Connection<'_>,
     command: &ScsiCommand,
     fault: TaskFault,
-    out: &mut Vec<u8>,
 ) -> Result<(), IscsiFault>
     ensures fault { IfErr result IsLater }
     ensures tasks { connection.new.tasks ≡ connection.old.tasks }
-    ensures failed { OnOk result (out.new.items ≡ out.old.items ++ bytes_of_all (failure connection.old.tasks connection.old.limits connection.old.stat_sn command.now fault)) }
+    ensures failed { OnOk result (connection.new.out.items ≡ connection.old.out.items
+        ++ bytes_of_all (failure connection.old.tasks connection.old.limits connection.old.stat_sn command.now fault)) }
 {
     let (asc, ascq) = fault.additional_sense();
     let sense = Sense {
@@ -94,22 +103,19 @@ fn fail(
         sense: Some(sense),
         data: &[],
     };
-    answer_command(connection, command, 0, &answer, out)
+    answer_command(connection, command, 0, &answer)
 }
 
 /// Asks for data.
-fn ask(
-    connection: &mut Connection,
-    request: TransferRequest,
-    out: &mut Vec<u8>,
-) -> Result<(), IscsiFault>
+fn ask(connection: &mut Connection<'_>, request: TransferRequest) -> Result<(), IscsiFault>
     ensures fault { IfErr result IsLater }
     ensures tasks { connection.new.tasks ≡ connection.old.tasks }
-    ensures asked { OnOk result (out.new.items ≡ out.old.items ++ bytes_of_all (demand connection.old.tasks connection.old.stat_sn request)) }
+    ensures asked { OnOk result (connection.new.out.items ≡ connection.old.out.items
+        ++ bytes_of_all (demand connection.old.tasks connection.old.stat_sn request)) }
 {
     let numbers = connection.numbers();
     let ready = request.ready_to_transfer(numbers.stat_sn, numbers.exp_cmd_sn, numbers.max_cmd_sn);
-    write_ready_to_transfer(out, ready)?;
+    write_ready_to_transfer(&mut connection.out, ready)?;
     Ok(())
 }
 
@@ -118,30 +124,23 @@ fn do_next<S: Service>(
     alloc: Global,
     service: &mut S,
     nexus: Nexus,
-    connection: &mut Connection,
+    connection: &mut Connection<'_>,
     next: NextTask,
-    out: &mut Vec<u8>,
 ) -> Result<(), IscsiFault>
     ensures fault { IfErr result IsLater }
     ensures tasks { connection.new.tasks ≡ connection.old.tasks }
-    ensures done { (said : List TargetPduValue) × Does S.notes nexus service.old connection.old.tasks (next_outcome next) said service.new × Adds result out.old.items out.new.items said }
+    ensures done { (said : List TargetPduValue)
+        × Does S.notes nexus service.old connection.old.tasks (next_outcome next) said service.new
+        × Adds result connection.old.out.items connection.new.out.items said }
 {
     match next {
         NextTask::Idle => Ok(()),
         NextTask::Execute(task) => {
             let command = task.command();
-            execute(
-                alloc,
-                service,
-                nexus,
-                connection,
-                &command,
-                task.data(),
-                out,
-            )
+            execute(alloc, service, nexus, connection, &command, task.data())
         }
-        NextTask::Ask(request) => ask(connection, request, out),
-        NextTask::Fail(task, fault) => fail(connection, &task.command(), fault, out),
+        NextTask::Ask(request) => ask(connection, request),
+        NextTask::Fail(task, fault) => fail(connection, &task.command(), fault),
     }
 }
 
@@ -157,11 +156,12 @@ pub(crate) fn go_on<S: Service>(
     alloc: Global,
     service: &mut S,
     nexus: Nexus,
-    connection: &mut Connection,
-    out: &mut Vec<u8>,
+    connection: &mut Connection<'_>,
 ) -> Result<(), IscsiFault>
     ensures fault { IfErr result IsLater }
-    ensures gone { (times : ℕ) × (said : List TargetPduValue) × GoesOn S.notes nexus times connection.old.tasks service.old said connection.new.tasks service.new × Adds result out.old.items out.new.items said }
+    ensures gone { (times : ℕ) × (said : List TargetPduValue)
+        × GoesOn S.notes nexus times connection.old.tasks service.old said connection.new.tasks service.new
+        × Adds result connection.old.out.items connection.new.out.items said }
     ensures idle { OnOk result (next_of connection.new.tasks ≡ Idle) }
 {
     'steps: loop {
@@ -169,7 +169,7 @@ pub(crate) fn go_on<S: Service>(
         if is_idle(&next) {
             return Ok(());
         }
-        do_next(alloc, service, nexus, connection, next, out)?;
+        do_next(alloc, service, nexus, connection, next)?;
     }
 }
 
@@ -178,19 +178,21 @@ pub(crate) fn take_command<S: Service>(
     alloc: Global,
     service: &mut S,
     nexus: Nexus,
-    connection: &mut Connection,
+    connection: &mut Connection<'_>,
     command: &ScsiCommand,
-    header: &[u8],
+    header: &BasicHeader,
     payload: &[u8],
-    out: &mut Vec<u8>,
 ) -> Result<(), IscsiFault>
     ensures fault { IfErr result IsLater }
-    ensures taken { OrElse result ((connection.new.tasks ≡ connection.old.tasks) × (service.new ≡ service.old)) ((said : List TargetPduValue) × Acts S.notes nexus connection.old.tasks service.old (Commanded command.now payload.now) said connection.new.tasks service.new × Adds result out.old.items out.new.items said) }
+    ensures taken { OrElse result ((connection.new.tasks ≡ connection.old.tasks) × (service.new ≡ service.old))
+        ((said : List TargetPduValue)
+        × Acts S.notes nexus connection.old.tasks service.old (Commanded command.now payload.now) said connection.new.tasks service.new
+        × Adds result connection.old.out.items connection.new.out.items said) }
 {
     match connection.tasks.take_command(command, payload)? {
         TakenCommand::PassedOver => Ok(()),
         TakenCommand::Waits => Ok(()),
-        TakenCommand::Rejected(reason) => reject(connection, reason, header, out),
+        TakenCommand::Rejected(reason) => reject(connection, reason, header),
         TakenCommand::Execute(count) => execute(
             alloc,
             service,
@@ -198,25 +200,26 @@ pub(crate) fn take_command<S: Service>(
             connection,
             command,
             &payload[..count],
-            out,
         ),
     }
 }
 
 /// Takes a Data-Out.
 pub(crate) fn take_data(
-    connection: &mut Connection,
+    connection: &mut Connection<'_>,
     data_out: &DataOut,
-    header: &[u8],
+    header: &BasicHeader,
     payload: &[u8],
-    out: &mut Vec<u8>,
 ) -> Result<(), IscsiFault>
     ensures fault { IfErr result IsLater }
-    ensures taken { OrElse result (connection.new.tasks ≡ connection.old.tasks) ((said : List TargetPduValue) × (connection.new.tasks ≡ stepped connection.old.tasks (DataCame data_out.now payload.now)) × Tells connection.new.tasks (outcome connection.old.tasks (DataCame data_out.now payload.now)) said × Adds result out.old.items out.new.items said) }
+    ensures taken { OrElse result (connection.new.tasks ≡ connection.old.tasks)
+        ((said : List TargetPduValue) × (connection.new.tasks ≡ stepped connection.old.tasks (DataCame data_out.now payload.now))
+        × Tells connection.new.tasks (outcome connection.old.tasks (DataCame data_out.now payload.now)) said
+        × Adds result connection.old.out.items connection.new.out.items said) }
 {
     match connection.tasks.take_data(data_out, payload)? {
         TakenData::Taken => Ok(()),
         TakenData::PassedOver => Ok(()),
-        TakenData::Rejected(reason) => reject(connection, reason, header, out),
+        TakenData::Rejected(reason) => reject(connection, reason, header),
     }
 }

@@ -5,9 +5,9 @@
 mod answering;
 mod claiming;
 mod connection;
-mod discovery;
 mod executing;
 mod fault;
+mod kinds;
 mod login;
 mod managing;
 mod pdu_buffer;
@@ -22,6 +22,6 @@ mod texts;
 pub use claiming::{Claim, SessionIdentity, SessionRegister, claim_of, claim_rows};
 pub use fault::{IscsiEnd, IscsiFault};
 pub use iscsi_answers::PortalAddress;
-pub use portal::Portal;
+pub use portal::{Arrival, Portal};
 pub use rows::{handing_rows, outcome_rows};
 pub use serving::serve;

@@ -34,7 +34,9 @@ fn take_pdu(
     pdu: &InitiatorPdu<'_>,
     out: &mut Vec<u8>,
 ) -> Result<LoginProgress, AllocError>
-    ensures taken { IfOk result (λ progress. UnlessRefused progress ((request : LoginRequest) × (pdu.now.header ≡ sent.LoginRequest request) × (exchange.new ≡ taken exchange.old target.now request pdu.now.payload.now))) }
+    ensures taken { IfOk result (λ progress. UnlessRefused progress ((request : LoginRequest)
+        × (pdu.now.header ≡ sent.LoginRequest request)
+        × (exchange.new ≡ taken exchange.old target.now request pdu.now.payload.now))) }
     ensures begins { IfOk result (λ progress. WhereBegins progress (HasReached exchange.new)) }
 {
     match &pdu.header {
@@ -88,7 +90,8 @@ pub(crate) fn await_login<R: Read, W: Write>(
     turns: u64,
 ) -> Result<LoginWait, IscsiFault>
     requires { read_buffer.old ≡ [] }
-    ensures came { IfOk result (λ wait. WhereBegun wait (λ begun. LogsIn target.now exchange.old exchange.new (R.remaining reader.old) (R.remaining reader.new) read_buffer.new)) }
+    ensures came { IfOk result (λ wait. WhereBegun wait (λ begun.
+        LogsIn target.now exchange.old exchange.new (R.remaining reader.old) (R.remaining reader.new) read_buffer.new)) }
     ensures begins { IfOk result (λ wait. WhereBegun wait (HasReached exchange.new)) }
     ensures written { IfOk result (λ wait. WhereBegun wait (λ begun. (told : List ℕ) × Appends (W.contents writer.old) (W.contents writer.new) told)) }
 {

@@ -4,7 +4,8 @@ ghost use Rattle.iscsi_pdu.specs.Pdus.{TargetPduValue};
 ghost use Rattle.iscsi_pdu.specs.Luns as luns;
 ghost use Rattle.iscsi_session.specs.Faults.{IsLater};
 ghost use Rattle.iscsi_session.specs.Executing.{Adds};
-ghost use Rattle.iscsi_session.specs.Managing.{AbortsTask, AbortsTaskSet, Manages, ManagesTasks, Resets, ResetsBelow, ResetsUnit, reset_result, unit_below};
+ghost use Rattle.iscsi_session.specs.Managing.{AbortsTask, AbortsTaskSet, Manages, ManagesTasks, Resets, ResetsBelow, ResetsUnit};
+ghost use Rattle.iscsi_session.specs.Managing.{reset_result, unit_below};
 
 use crate::claiming::SessionRegister;
 use crate::connection::Connection;
@@ -21,12 +22,13 @@ pub(crate) fn manage<S: Service, G: SessionRegister>(
     alloc: Global,
     service: &mut S,
     register: &G,
-    connection: &mut Connection,
+    connection: &mut Connection<'_>,
     request: &TaskManagementRequest,
-    out: &mut Vec<u8>,
 ) -> Result<(), IscsiFault>
     ensures fault { IfErr result IsLater }
-    ensures managed { (said : List TargetPduValue) × ManagesTasks S.notes S.count request.now connection.old.tasks service.old said connection.new.tasks service.new × Adds result out.old.items out.new.items said }
+    ensures managed { (said : List TargetPduValue)
+        × ManagesTasks S.notes S.count request.now connection.old.tasks service.old said connection.new.tasks service.new
+        × Adds result connection.old.out.items connection.new.out.items said }
 {
     if !connection
         .tasks
@@ -36,7 +38,12 @@ pub(crate) fn manage<S: Service, G: SessionRegister>(
     }
     let result = result_of(alloc, service, register, &mut connection.tasks, request);
     let numbers = connection.numbers();
-    write_task_management_response(out, numbers, request.initiator_task_tag, result)?;
+    write_task_management_response(
+        &mut connection.out,
+        numbers,
+        request.initiator_task_tag,
+        result,
+    )?;
     connection.has_answered();
     Ok(())
 }
@@ -49,7 +56,8 @@ fn result_of<S: Service, G: SessionRegister>(
     tasks: &mut Tasks,
     request: &TaskManagementRequest,
 ) -> TaskManagementResult
-    ensures managed { Manages S.notes (S.count service.old) request.now tasks.old service.old request.now.function tasks.new service.new result }
+    ensures managed { Manages S.notes (S.count service.old) request.now tasks.old service.old request.now.function
+        tasks.new service.new result }
 {
     let unit = unit_below(service.units(), unit_of(request.lun));
     match request.function {

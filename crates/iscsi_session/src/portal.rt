@@ -1,5 +1,5 @@
 use iscsi_answers::PortalAddress;
-use iscsi_login::LoginTarget;
+use iscsi_login::{Challenge, LoginTarget};
 
 /// Where a connection has come to.
 #[derive(Clone, Copy)]
@@ -11,4 +11,15 @@ pub struct Portal<'a> {
     pub address: &'a str,
     /// All portals of the target; that of the group is told by `address`.
     pub portals: &'a [PortalAddress],
+}
+
+/// A connection that has come in at a portal.
+#[derive(Clone, Copy)]
+pub struct Arrival<'a> {
+    /// Where it has come to.
+    pub portal: Portal<'a>,
+    /// What its initiator is asked, if it is to prove who it is.
+    pub challenge: Option<Challenge>,
+    /// The number that its session has then, not 0.
+    pub tsih: u16,
 }

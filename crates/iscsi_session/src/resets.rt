@@ -1,6 +1,6 @@
 //! Units that other sessions reset.
 ghost use Rattle.std.specs.Prelude.{◌≡◌, ℕ, List, All};
-ghost use Rattle.iscsi_session.specs.Talking.{without_units};
+ghost use Rattle.iscsi_session.specs.Saying.{without_units};
 
 use crate::claiming::SessionRegister;
 use iscsi_tasks::Tasks;

@@ -16,7 +16,9 @@ pub fn outcome_rows()
     ensures waits { outcome (expecting 1) (Commanded (write 4 true) (7 ∷ 8 ∷ [])) ≡ Nothing }
     ensures passed_over { outcome (expecting 2) (Commanded (write 2 true) (7 ∷ 8 ∷ [])) ≡ Nothing }
     ensures no_task { outcome (expecting 1) (DataCame (data_out 0 0 2 true) (9 ∷ 10 ∷ [])) ≡ Reject InvalidPduField }
-    ensures last { outcome (run (expecting 1) (Commanded (write 4 true) (7 ∷ 8 ∷ []) ∷ (AskedNext ∷ (DataCame (data_out 0 0 2 true) (9 ∷ 10 ∷ []) ∷ [])))) AskedNext ≡ Execute (write 4 true) (7 ∷ (8 ∷ (9 ∷ (10 ∷ [])))) }
+    ensures last { outcome
+        (run (expecting 1) (Commanded (write 4 true) (7 ∷ 8 ∷ []) ∷ (AskedNext ∷ (DataCame (data_out 0 0 2 true) (9 ∷ 10 ∷ []) ∷ []))))
+        AskedNext ≡ Execute (write 4 true) (7 ∷ (8 ∷ (9 ∷ (10 ∷ [])))) }
 {}
 
 /// Worked rows: a write whose data come in two halves is handed over once, to the unit of its LUN, with both.

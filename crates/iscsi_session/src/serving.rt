@@ -1,23 +1,24 @@
-ghost use Rattle.std.specs.Prelude.{◌≡◌, ◌⊎◌, ◌++◌, ℕ, Bool, true, List, [], IfErr, OnOk};
+ghost use Rattle.std.specs.Prelude.{◌≡◌, ◌⊎◌, ℕ, List, IfErr, OnOk};
 ghost use Rattle.iscsi_pdu.specs.Pdus.{TargetPduValue};
 ghost use Rattle.iscsi_chap.specs.declared.session_type.SessionType.TheVariants.{Normal};
-ghost use Rattle.iscsi_tasks.specs.Values.{TasksValue};
 ghost use Rattle.iscsi_tasks.specs.Next.{next_of};
 ghost use Rattle.iscsi_tasks.specs.declared.next_task.NextTask.TheVariants.{Idle};
 ghost use Rattle.iscsi_session.specs.Faults.{IsLater};
 ghost use Rattle.iscsi_session.specs.Leaving.{Leaves};
-ghost use Rattle.iscsi_session.specs.Talking.{Converses};
-ghost use Rattle.iscsi_session.specs.Serving.{Holds, Serves, WritesLast, first_tasks};
+ghost use Rattle.iscsi_session.specs.LoggingIn.{nexus_of};
+ghost use Rattle.iscsi_session.specs.Serving.{Serves, ServesBehind, WritesLast, first_moment};
+ghost use Rattle.iscsi_session.specs.Talking.{Converses, Moment};
+ghost use Rattle.iscsi_session.specs.Worlds.{world};
 
 use crate::claiming::{Claim, SessionIdentity, SessionRegister, claim_of};
 use crate::connection::{Connection, flush};
-use crate::discovery::{NO_NEXUS, NoUnits};
 use crate::fault::{IscsiEnd, IscsiFault};
+use crate::kinds::{DiscoverySession, NormalSession, SessionKind};
 use crate::login::{LoginWait, await_login};
 use crate::pdu_buffer::PduBuffer;
-use crate::portal::Portal;
-use crate::talking::{ROOM, converse};
-use iscsi_login::{Challenge, FullFeature, LoginExchange};
+use crate::portal::Arrival;
+use crate::talking::{ROOM, Session};
+use iscsi_login::{FullFeature, LoginExchange};
 use iscsi_pdu::LoginStatus;
 use scsi_nexus::Nexus;
 use session::{Service, SessionFault, lose_at_units};
@@ -25,7 +26,7 @@ use std::alloc::Global;
 use std::io::{Read, Write};
 
 /// One connection, from its first Login Request to its end; the reader is read at most `turns` times. Its nexus is the SAS address that
-/// the initiator is let in as, at the portal group; `tsih` is the number that its session has then, not 0.
+/// the initiator is let in as, at the portal group.
 ///
 /// ```text
 ///   no login yet ── login, the nexus is free ──> full feature ── PDUs ──> full feature
@@ -51,113 +52,197 @@ pub fn serve<S: Service, G: SessionRegister, R: Read, W: Write>(
     alloc: Global,
     service: &mut S,
     register: &G,
-    portal: &Portal<'_>,
-    challenge: Option<Challenge>,
-    tsih: u16,
+    arrival: &Arrival<'_>,
     reader: &mut R,
     writer: &mut W,
     turns: u64,
 ) -> Result<IscsiEnd, IscsiFault>
-    ensures service { Leaves S.notes S.count portal.now.group service.old service.new }
+    ensures service { Leaves S.notes S.count arrival.now.portal.group service.old service.new }
     ensures refused { IfErr result (λ fault. IsLater fault ⊎ (service.new ≡ service.old)) }
-    ensures session { Serves S.notes S.count (G.resets register.now) (G.ends register.now) portal.now.target.now challenge portal.now.group service.old (R.remaining reader.old) (R.remaining reader.new) (W.contents writer.old) (W.contents writer.new) result service.new }
+    ensures session { Serves S.notes S.count (G.resets register.now) (G.ends register.now)
+        arrival.now.portal.target.now arrival.now.challenge arrival.now.portal.group service.old
+        (R.remaining reader.old) (R.remaining reader.new) (W.contents writer.old) (W.contents writer.new) result service.new }
 {
     let mut read_buffer = PduBuffer::new(alloc)?;
     let mut out = Vec::with_capacity(alloc, ROOM)?;
-    let mut exchange = LoginExchange::new(alloc, portal.group, challenge);
-    let wait = await_login(
-        portal.target,
+    let mut exchange = LoginExchange::new(alloc, arrival.portal.group, arrival.challenge);
+    let (begun, turns) = match await_login(
+        arrival.portal.target,
         &mut exchange,
         &mut read_buffer,
         &mut out,
         reader,
         writer,
         turns,
-    )?;
-    let (begun, turns) = match wait {
+    )? {
         LoginWait::Begins { begun, turns } => (begun, turns),
         LoginWait::Ended(end) => return Ok(end),
     };
-    if begun.session_type.has_units() {
-        hold(
-            alloc,
-            service,
-            register,
-            portal,
-            &mut exchange,
-            tsih,
-            &begun,
-            &mut read_buffer,
-            &mut out,
-            reader,
-            writer,
-            turns,
-        )
-    } else {
-        discover(
-            alloc,
-            register,
-            portal,
-            &mut exchange,
-            tsih,
-            &begun,
-            &mut read_buffer,
-            &mut out,
-            reader,
-            writer,
-            turns,
-        )
-    }
-}
-
-/// Refuses a login whose last response is asked for, and says how the connection ends.
-fn refuse<W: Write>(
-    exchange: &mut LoginExchange,
-    status: LoginStatus,
-    out: &mut Vec<u8>,
-    writer: &mut W,
-) -> IscsiFault {
-    if exchange.refuse(status, out).is_err() {
-        return IscsiFault::NoMemory;
-    }
-    match flush(out, writer) {
-        Ok(()) => IscsiFault::Refused(status),
-        Err(fault) => fault,
-    }
-}
-
-/// A discovery session, from the last request of its login to its end. It takes the place of none.
-fn discover<G: SessionRegister, R: Read, W: Write>(
-    alloc: Global,
-    register: &G,
-    portal: &Portal<'_>,
-    exchange: &mut LoginExchange,
-    tsih: u16,
-    begun: &FullFeature,
-    read_buffer: &mut PduBuffer,
-    out: &mut Vec<u8>,
-    reader: &mut R,
-    writer: &mut W,
-    turns: u64,
-) -> Result<IscsiEnd, IscsiFault> {
-    if begun.tsih != 0 {
-        return Err(refuse(exchange, LoginStatus::SessionDoesNotExist, out, writer));
-    }
-    greet_and_converse(
-        alloc,
-        &mut NoUnits,
-        register,
-        NO_NEXUS,
-        portal,
+    let login = DueLogin {
+        arrival: *arrival,
         exchange,
-        tsih,
         begun,
+        turns,
         read_buffer,
         out,
-        reader,
-        writer,
-        turns,
-    )
+    };
+    login.serve(alloc, service, register, reader, writer)
+}
+
+/// A login whose last response is asked for.
+#[derive(Drop)]
+struct DueLogin<'a> {
+    arrival: Arrival<'a>,
+    exchange: LoginExchange,
+    begun: FullFeature,
+    /// As many reads may follow.
+    turns: u64,
+    read_buffer: PduBuffer,
+    out: Vec<u8>,
+}
+
+impl<'a> DueLogin<'a> {
+    /// What an initiator that was let in is, at the portal group.
+    fn nexus(&self) -> Nexus
+        ensures { result ≡ nexus_of self.now.arrival.portal.group self.now.begun }
+    {
+        Nexus {
+            sas: self.begun.admission.sas(),
+            port: self.arrival.portal.group,
+        }
+    }
+
+    /// What its session is known by beside the nexus.
+    fn identity(&self) -> SessionIdentity {
+        SessionIdentity {
+            isid: self.begun.isid,
+            tsih: self.arrival.tsih,
+            cid: self.begun.cid,
+        }
+    }
+
+    /// Serves the session, by its type.
+    fn serve<S: Service, G: SessionRegister, R: Read, W: Write>(
+        self,
+        alloc: Global,
+        service: &mut S,
+        register: &G,
+        reader: &mut R,
+        writer: &mut W,
+    ) -> Result<IscsiEnd, IscsiFault>
+        ensures service { Leaves S.notes S.count self.entry.arrival.portal.group service.old service.new }
+        ensures refused { IfErr result (λ fault. IsLater fault ⊎ (service.new ≡ service.old)) }
+        ensures session { ServesBehind S.notes S.count (G.resets register.now) (G.ends register.now)
+            self.entry.arrival.portal.group self.entry.begun service.old self.entry.read_buffer
+            (R.remaining reader.old) (R.remaining reader.new) (W.contents writer.old) (W.contents writer.new) result service.new }
+    {
+        if self.begun.session_type.has_units() {
+            self.serve_session(alloc, service, register, reader, writer)
+        } else {
+            self.serve_discovery(alloc, register, reader, writer)
+        }
+    }
+
+    /// Refuses the login, and says how the connection ends.
+    fn refuse<W: Write>(self, status: LoginStatus, writer: &mut W) -> IscsiFault {
+        let DueLogin {
+            mut exchange,
+            mut out,
+            ..
+        } = self;
+        if exchange.refuse(status, &mut out).is_err() {
+            return IscsiFault::NoMemory;
+        }
+        match flush(&mut out, writer) {
+            Ok(()) => IscsiFault::Refused(status),
+            Err(fault) => fault,
+        }
+    }
+
+    /// A discovery session, from the last request of its login to its end. It takes the place of none.
+    fn serve_discovery<G: SessionRegister, R: Read, W: Write>(
+        self,
+        alloc: Global,
+        register: &G,
+        reader: &mut R,
+        writer: &mut W,
+    ) -> Result<IscsiEnd, IscsiFault> {
+        if self.begun.tsih != 0 {
+            return Err(self.refuse(LoginStatus::SessionDoesNotExist, writer));
+        }
+        self.begin(DiscoverySession, alloc, &mut (), register, reader, writer)
+    }
+
+    /// A normal session, from the last request of its login to its end.
+    fn serve_session<S: Service, G: SessionRegister, R: Read, W: Write>(
+        self,
+        alloc: Global,
+        service: &mut S,
+        register: &G,
+        reader: &mut R,
+        writer: &mut W,
+    ) -> Result<IscsiEnd, IscsiFault>
+        requires { self.begun.session_type ≡ Normal }
+        ensures service { Leaves S.notes S.count self.entry.arrival.portal.group service.old service.new }
+        ensures refused { IfErr result (λ fault. IsLater fault ⊎ (service.new ≡ service.old)) }
+        ensures session { ServesBehind S.notes S.count (G.resets register.now) (G.ends register.now)
+            self.entry.arrival.portal.group self.entry.begun service.old self.entry.read_buffer
+            (R.remaining reader.old) (R.remaining reader.new) (W.contents writer.old) (W.contents writer.new) result service.new }
+    {
+        let nexus = self.nexus();
+        let key = match enter(service, register, nexus, &self.begun) {
+            Ok(key) => key,
+            Err(status) => return Err(self.refuse(status, writer)),
+        };
+        register.note(nexus, self.identity(), self.exchange.initiator_name());
+        let kind = NormalSession { nexus };
+        let ended = self.begin(kind, alloc, service, register, reader, writer);
+        let is_lost = lose_at_units(alloc, service, nexus);
+        service.logout(key);
+        if !is_lost {
+            return Err(IscsiFault::NoMemory);
+        }
+        match ended {
+            Ok(end) => Ok(end),
+            Err(fault) => Err(fault),
+        }
+    }
+
+    /// Begins a session of a type: adds the last response of the login, and answers what comes behind it.
+    fn begin<S, K: SessionKind<S>, G: SessionRegister, R: Read, W: Write>(
+        self,
+        kind: K,
+        alloc: Global,
+        service: &mut S,
+        register: &G,
+        reader: &mut R,
+        writer: &mut W,
+    ) -> Result<IscsiEnd, IscsiFault>
+        ensures fault { IfErr result IsLater }
+        ensures talks { (said : List TargetPduValue) × (ended : Moment S) × (rest : List ℕ) × Converses
+            (world (K.works kind) (K.takes_resets kind) (G.resets register.now) (G.ends register.now))
+            1 (first_moment self.entry.begun service.old self.entry.read_buffer) (R.remaining reader.old) (R.remaining reader.new)
+            said ended rest
+            × (ended.service ≡ service.new)
+            × OnOk result ((next_of ended.tasks ≡ Idle) × WritesLast (W.contents writer.old) (W.contents writer.new) said) }
+    {
+        let DueLogin {
+            arrival,
+            mut exchange,
+            begun,
+            turns,
+            read_buffer,
+            mut out,
+        } = self;
+        exchange.accept(arrival.tsih, &mut out)?;
+        let stat_sn = exchange.next_stat_sn();
+        let mut session = Session {
+            kind,
+            connection: Connection::new(alloc, arrival.portal, &begun, stat_sn, out),
+            read_buffer,
+        };
+        session.serve_requests(alloc, service, register, reader, writer, turns)
+    }
 }
 
 /// Has the nexus of a login enter the directory, behind the session whose place it takes, if it does, and gives its key; else says how
@@ -185,66 +270,6 @@ fn enter<S: Service, G: SessionRegister>(
     }
 }
 
-/// A normal session, from the last request of its login to its end.
-fn hold<S: Service, G: SessionRegister, R: Read, W: Write>(
-    alloc: Global,
-    service: &mut S,
-    register: &G,
-    portal: &Portal<'_>,
-    exchange: &mut LoginExchange,
-    tsih: u16,
-    begun: &FullFeature,
-    read_buffer: &mut PduBuffer,
-    out: &mut Vec<u8>,
-    reader: &mut R,
-    writer: &mut W,
-    turns: u64,
-) -> Result<IscsiEnd, IscsiFault>
-    requires { begun.now.session_type ≡ Normal }
-    ensures service { Leaves S.notes S.count portal.now.group service.old service.new }
-    ensures refused { IfErr result (λ fault. IsLater fault ⊎ (service.new ≡ service.old)) }
-    ensures session { (service.new ≡ service.old) ⊎ ((said : List TargetPduValue) × (all : Bool) × (held : Holds S.notes S.count (G.resets register.now) (G.ends register.now) portal.now.group begun.now service.old read_buffer.old (R.remaining reader.old) (R.remaining reader.new) said all service.new) × OnOk result ((all ≡ true) × (next_of held.ended ≡ Idle) × WritesLast (W.contents writer.old) (W.contents writer.new) said)) }
-{
-    let nexus = Nexus {
-        sas: begun.admission.sas(),
-        port: portal.group,
-    };
-    let key = match enter(service, register, nexus, begun) {
-        Ok(key) => key,
-        Err(status) => return Err(refuse(exchange, status, out, writer)),
-    };
-    let session = SessionIdentity {
-        isid: begun.isid,
-        tsih,
-        cid: begun.cid,
-    };
-    register.note(nexus, session, exchange.initiator_name());
-    let ended = greet_and_converse(
-        alloc,
-        service,
-        register,
-        nexus,
-        portal,
-        exchange,
-        tsih,
-        begun,
-        read_buffer,
-        out,
-        reader,
-        writer,
-        turns,
-    );
-    let is_lost = lose_at_units(alloc, service, nexus);
-    service.logout(key);
-    if !is_lost {
-        return Err(IscsiFault::NoMemory);
-    }
-    match ended {
-        Ok(end) => Ok(end),
-        Err(fault) => Err(fault),
-    }
-}
-
 /// How a login is refused whose nexus the service doesn't take.
 fn status_of(fault: SessionFault) -> LoginStatus {
     match fault {
@@ -255,41 +280,4 @@ fn status_of(fault: SessionFault) -> LoginStatus {
         | SessionFault::Write
         | SessionFault::NoMemory => LoginStatus::TargetError,
     }
-}
-
-/// Adds the last response of the login, and answers what comes behind it.
-fn greet_and_converse<S: Service, G: SessionRegister, R: Read, W: Write>(
-    alloc: Global,
-    service: &mut S,
-    register: &G,
-    nexus: Nexus,
-    portal: &Portal<'_>,
-    exchange: &mut LoginExchange,
-    tsih: u16,
-    begun: &FullFeature,
-    read_buffer: &mut PduBuffer,
-    out: &mut Vec<u8>,
-    reader: &mut R,
-    writer: &mut W,
-    turns: u64,
-) -> Result<IscsiEnd, IscsiFault>
-    ensures fault { IfErr result IsLater }
-    ensures talks { begun.now.session_type ≡ Normal → (said : List TargetPduValue) × (ended : TasksValue) × (rest : List ℕ) × Converses S.notes S.count (G.resets register.now) (G.ends register.now) 1 nexus (first_tasks begun.now) service.old read_buffer.old (R.remaining reader.old) (R.remaining reader.new) said ended service.new rest × OnOk result ((next_of ended ≡ Idle) × WritesLast (W.contents writer.old) (W.contents writer.new) said) }
-{
-    exchange.accept(tsih, out)?;
-    let mut connection = Connection::new(alloc, begun, exchange.next_stat_sn());
-    converse(
-        alloc,
-        service,
-        register,
-        nexus,
-        portal,
-        begun.session_type,
-        &mut connection,
-        read_buffer,
-        out,
-        reader,
-        writer,
-        turns,
-    )
 }

@@ -6,7 +6,7 @@ ghost use Rattle.iscsi_session.specs.Saying.{AddsPlain, numbered};
 use crate::connection::Connection;
 use crate::fault::IscsiFault;
 use crate::portal::Portal;
-use crate::requests::turn_down;
+use crate::requests::{BasicHeader, turn_down};
 use iscsi_answers::{
     Portals, TextTags, TransferLimits, declared_length, write_text_answers, write_text_response,
 };
@@ -80,6 +80,13 @@ impl OpenText {
         &answer[self.sent.min(answer.len())..]
     }
 
+    /// Behind a piece of the answer, of so many bytes at most, by a request that may be the last.
+    fn has_sent(&mut self, most: usize, is_final: bool) {
+        let is_at_end = is_final && self.left().len() <= most;
+        self.sent = self.sent.saturating_add(most);
+        self.tag = if is_at_end { None } else { Some(TEXT_TAG) };
+    }
+
     /// Whether a request with so many bytes of text may come: one with C has no F, no text comes before the answer to the one before it is
     /// sent, and none is too long.
     fn may_come(&self, request: &TextRequest, payload: &[u8]) -> bool
@@ -105,7 +112,9 @@ impl OpenText {
     /// Makes the answer to a text that is whole, where nothing is left of that to the one before it.
     fn answer(&mut self, portal: &Portal<'_>, session_type: SessionType) -> Result<(), AllocError>
         requires { length self.old.gathered ≤ 65536 }
-        ensures { OnOk result (self.new ≡ answered_whole (is_discovery session_type) portal.now.target.now.name.items (target_items portal.now.target.now.name.items portal.now.group portal.now.address.now portal.now.portals.now) self.old) }
+        ensures { OnOk result (self.new ≡ answered_whole (is_discovery session_type) portal.now.target.now.name.items
+            (target_items portal.now.target.now.name.items portal.now.group portal.now.address.now portal.now.portals.now)
+            self.old) }
     {
         if !self.left().is_empty() {
             return Ok(());
@@ -132,17 +141,15 @@ impl OpenText {
 
 /// Takes a text request: the first of a text, or one that goes on with a text or asks for what is left of the answer.
 pub(crate) fn take_text(
-    connection: &mut Connection,
-    portal: &Portal<'_>,
+    connection: &mut Connection<'_>,
     session_type: SessionType,
     request: &TextRequest,
-    header: &[u8],
+    header: &BasicHeader,
     payload: &[u8],
-    out: &mut Vec<u8>,
 ) -> Result<bool, IscsiFault>
     ensures fault { IfErr result IsLater }
     ensures tasks { connection.new.tasks ≡ numbered connection.old.tasks request.now.immediate request.now.cmd_sn }
-    ensures said { OnOk result (AddsPlain out.old.items out.new.items) }
+    ensures said { OnOk result (AddsPlain connection.old.out.items connection.new.out.items) }
 {
     if !connection
         .tasks
@@ -153,50 +160,46 @@ pub(crate) fn take_text(
     if request.target_transfer_tag == RESERVED_TAG {
         connection.open_text.forget();
     } else if connection.open_text.tag != Some(request.target_transfer_tag) {
-        return turn_down(connection, RejectReason::ProtocolError, header, out);
+        return turn_down(connection, RejectReason::ProtocolError, header);
     }
     if !connection.open_text.may_come(request, payload) {
         connection.open_text.forget();
-        return turn_down(connection, RejectReason::ProtocolError, header, out);
+        return turn_down(connection, RejectReason::ProtocolError, header);
     }
-    take_piece(connection, portal, session_type, request, payload, out)?;
+    take_piece(connection, session_type, request, payload)?;
     Ok(false)
 }
 
 /// Takes a piece of a text, and answers it: without a text as long as more is to come.
 fn take_piece(
-    connection: &mut Connection,
-    portal: &Portal<'_>,
+    connection: &mut Connection<'_>,
     session_type: SessionType,
     request: &TextRequest,
     payload: &[u8],
-    out: &mut Vec<u8>,
 ) -> Result<(), IscsiFault>
     requires { length connection.old.open_text.gathered + length payload.now ≤ 65536 }
     ensures fault { IfErr result IsLater }
     ensures tasks { connection.new.tasks ≡ connection.old.tasks }
-    ensures said { OnOk result (AddsPlain out.old.items out.new.items) }
+    ensures said { OnOk result (AddsPlain connection.old.out.items connection.new.out.items) }
 {
     connection.open_text.gather(payload)?;
     if request.continues {
-        return answer_text(connection, request, out);
+        return answer_text(connection, request);
     }
     let declared = length_in(connection.open_text.gathered.as_slice());
-    connection.open_text.answer(portal, session_type)?;
-    answer_text(connection, request, out)?;
+    connection
+        .open_text
+        .answer(&connection.portal, session_type)?;
+    answer_text(connection, request)?;
     declare(&mut connection.limits, declared);
     Ok(())
 }
 
 /// Adds what is left of an answer, as much of it as the initiator takes.
-fn answer_text(
-    connection: &mut Connection,
-    request: &TextRequest,
-    out: &mut Vec<u8>,
-) -> Result<(), IscsiFault>
+fn answer_text(connection: &mut Connection<'_>, request: &TextRequest) -> Result<(), IscsiFault>
     ensures fault { IfErr result IsLater }
     ensures tasks { connection.new.tasks ≡ connection.old.tasks }
-    ensures said { OnOk result (AddsPlain out.old.items out.new.items) }
+    ensures said { OnOk result (AddsPlain connection.old.out.items connection.new.out.items) }
 {
     let numbers = connection.numbers();
     let tags = TextTags {
@@ -205,11 +208,9 @@ fn answer_text(
         is_final: request.is_final,
     };
     let left = connection.open_text.left();
-    write_text_response(out, connection.limits, numbers, tags, left)?;
+    write_text_response(&mut connection.out, connection.limits, numbers, tags, left)?;
     let most = connection.limits.max_data_segment_length as usize;
-    let is_at_end = request.is_final && left.len() <= most;
-    connection.open_text.sent = connection.open_text.sent.saturating_add(most);
-    connection.open_text.tag = if is_at_end { None } else { Some(TEXT_TAG) };
+    connection.open_text.has_sent(most, request.is_final);
     connection.has_answered();
     Ok(())
 }

@@ -30,7 +30,8 @@ end_words None = codes "ended by a fault"
 
 abbrev pub ended_session_text : EndedSession → List ℕ
 ended_session_text s =
-    decimal s.number ++ (whose s.nexus ++ (end_words s.end ++ (codes " after " ++ (decimal s.commands ++ (codes " commands and " ++ (decimal s.seconds ++ codes " seconds"))))))
+    decimal s.number ++ (whose s.nexus ++ (end_words s.end
+    ++ (codes " after " ++ (decimal s.commands ++ (codes " commands and " ++ (decimal s.seconds ++ codes " seconds"))))))
 
 abbrev pub event_text : Event → List ℕ
 event_text (event.Begins number) = codes "vtl: session " ++ (decimal number ++ codes " begins")

@@ -5,4 +5,5 @@ use Rattle.scsi_nexus.specs.Text.{nexus_text}
 use Rattle.server.specs.declared.logged_in.LoggedIn.{LoggedIn}
 
 abbrev pub logged_in_text : LoggedIn → List ℕ
-logged_in_text login = codes "vtl: session " ++ (decimal login.number ++ (codes " of " ++ (nexus_text login.nexus ++ (codes ": " ++ (login.name.now ++ codes " logged in")))))
+logged_in_text login =
+    codes "vtl: session " ++ (decimal login.number ++ (codes " of " ++ (nexus_text login.nexus ++ (codes ": " ++ (login.name.now ++ codes " logged in")))))

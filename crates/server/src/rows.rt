@@ -7,7 +7,8 @@ ghost use Rattle.server.specs.Rows.{Gives, IsCommandOf, IsLossOf, a, b};
 pub fn session_rows()
     ensures nobody { Gives (None ∷ []) [] }
     ensures one { (d l : DoneValue) → IsCommandOf a d → IsLossOf a l → Gives (Some a ∷ []) (d ∷ (l ∷ [])) }
-    ensures two { (d l e m : DoneValue) → IsCommandOf a d → IsLossOf a l → IsCommandOf b e → IsLossOf b m → Gives (Some a ∷ (Some b ∷ [])) (d ∷ (l ∷ (e ∷ (m ∷ [])))) }
+    ensures two { (d l e m : DoneValue) → IsCommandOf a d → IsLossOf a l → IsCommandOf b e → IsLossOf b m
+        → Gives (Some a ∷ (Some b ∷ [])) (d ∷ (l ∷ (e ∷ (m ∷ [])))) }
     ensures of_another { (d l : DoneValue) → IsCommandOf b d → Gives (Some a ∷ []) (d ∷ (l ∷ [])) → ⊥ }
     ensures without_the_loss { (d : DoneValue) → IsCommandOf a d → Gives (Some a ∷ []) (d ∷ []) → ⊥ }
 {}

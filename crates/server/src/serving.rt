@@ -11,12 +11,11 @@ use crate::door::{Door, PortalDoor};
 use crate::faulty_session::{Cause, FaultySession};
 use crate::kept_writer::KeptWriter;
 use crate::live_sessions::SessionsBeside;
-use crate::teller::Teller;
 use crate::timed_reader::{Patience, TimedReader};
 use crate::worker::Visit;
 use crate::worker_service::WorkerService;
 use iscsi_login::{Authentication, Challenge};
-use iscsi_session::{IscsiEnd, IscsiFault, Portal, PortalAddress};
+use iscsi_session::{Arrival, IscsiEnd, IscsiFault, Portal, PortalAddress};
 use session::{End, SeatService, Service, SessionFault, serve};
 use std::alloc::{AllocError, Global};
 use std::io::{Read, Write};
@@ -30,9 +29,14 @@ const LOOK: u64 = 1;
 
 /// Serves a session of a connection, for no longer than its host may be silent, or take for a reply, and names its fault, if it
 /// had one.
-pub(crate) fn hold<'a, S: SeatService, C: Caretaker, R: Clock + RandomSource + Wait, E: Write>(
+pub(crate) fn serve_connection<
+    'a,
+    S: SeatService,
+    C: Caretaker,
+    R: Clock + RandomSource + Wait,
+    E: Write,
+>(
     alloc: Global,
-    rt: &R,
     service: &mut WorkerService<'a, S, C, R, E>,
     acceptor: &Acceptor<'_>,
     visit: Visit<'_, '_>,
@@ -44,7 +48,7 @@ pub(crate) fn hold<'a, S: SeatService, C: Caretaker, R: Clock + RandomSource + W
     let flags = service.flags;
     let limited = stream.set_write_timeout(times.write);
     let (Ok(mut reader), Ok(())) = (
-        TimedReader::new(rt, stream, flags, patience_at(visit.door, times)),
+        TimedReader::new(service.rt, stream, flags, patience_at(visit.door, times)),
         limited,
     ) else {
         return Err(FaultySession {
@@ -54,15 +58,7 @@ pub(crate) fn hold<'a, S: SeatService, C: Caretaker, R: Clock + RandomSource + W
         });
     };
     let mut writer = KeptWriter { stream, flags };
-    match meet(
-        alloc,
-        rt,
-        service,
-        acceptor,
-        visit,
-        &mut reader,
-        &mut writer,
-    ) {
+    match serve_session(alloc, service, acceptor, visit, &mut reader, &mut writer) {
         Ok(end) => Ok(end),
         Err(cause) => Err(FaultySession {
             number: visit.number,
@@ -94,7 +90,7 @@ fn patience_at(door: &Door<'_>, times: WaitTimes) -> Patience {
 }
 
 /// Serves a session of a door.
-fn meet<
+fn serve_session<
     'a,
     S: SeatService,
     C: Caretaker,
@@ -104,7 +100,6 @@ fn meet<
     O: Write,
 >(
     alloc: Global,
-    rt: &R,
     service: &mut WorkerService<'a, S, C, R, E>,
     acceptor: &Acceptor<'_>,
     visit: Visit<'_, '_>,
@@ -114,14 +109,32 @@ fn meet<
     ensures { Leaves (DoesForWorker S.notes S.settles) S.count service.old service.new }
 {
     match visit.door.portal() {
-        None => match converse(alloc, service, reader, writer) {
+        None => match serve_frames(alloc, service, reader, writer) {
             Ok(end) => Ok(end),
             Err(fault) => Err(Cause::Fault(fault)),
         },
         Some(portal) => {
-            let teller = service.teller;
-            match converse_by_iscsi(
-                alloc, rt, service, acceptor, portal, visit, teller, reader, writer,
+            let came_to = PortalDoor {
+                address: visit.visitor.came_to.unwrap_or(portal.address),
+                ..portal
+            };
+            let sessions = acceptor.limits.sessions;
+            let beside = SessionsBeside {
+                rt: service.rt,
+                sessions,
+                key: visit.key,
+                number: visit.number,
+                teller: service.teller,
+                seen: sessions.resets().copied(),
+            };
+            match serve_iscsi(
+                alloc,
+                service,
+                &beside,
+                acceptor.doors(),
+                came_to,
+                reader,
+                writer,
             ) {
                 Ok(end) => Ok(end),
                 Err(fault) => Err(Cause::Iscsi(fault)),
@@ -131,63 +144,47 @@ fn meet<
 }
 
 /// Serves one session of frames.
-fn converse<'a, S: SeatService, C: Caretaker, R: Wait, E: Write, I: Read, O: Write>(
+fn serve_frames<'a, S: SeatService, C: Caretaker, R: Wait, E: Write, I: Read, O: Write>(
     alloc: Global,
     service: &mut WorkerService<'a, S, C, R, E>,
     reader: &mut I,
     writer: &mut O,
 ) -> Result<End, SessionFault>
-    ensures session { IfOk result (λ end. Serves (DoesForWorker S.notes S.settles) S.count service.old (I.remaining reader.old) (I.remaining reader.new) (O.contents writer.old) (O.contents writer.new) end service.new) }
+    ensures session { IfOk result (λ end. Serves (DoesForWorker S.notes S.settles) S.count service.old (I.remaining reader.old) (I.remaining reader.new)
+        (O.contents writer.old) (O.contents writer.new) end service.new) }
     ensures service { Leaves (DoesForWorker S.notes S.settles) S.count service.old service.new }
-    ensures broken { IfErr result (λ fault. IsKeptOut service.old (I.remaining reader.old) (I.remaining reader.new) (O.contents writer.old) (O.contents writer.new) fault service.new ⊎ BreaksOff (DoesForWorker S.notes S.settles) S.count service.old (I.remaining reader.old) fault service.new) }
+    ensures broken { IfErr result (λ fault.
+        IsKeptOut service.old (I.remaining reader.old) (I.remaining reader.new) (O.contents writer.old) (O.contents writer.new) fault service.new
+        ⊎ BreaksOff (DoesForWorker S.notes S.settles) S.count service.old (I.remaining reader.old) fault service.new) }
 {
     serve(alloc, service, reader, writer, u64::MAX)
 }
 
-/// Serves one session of iSCSI, at a portal where it has come in.
-fn converse_by_iscsi<S: Service, R: Clock + RandomSource + Wait, E: Write, I: Read, O: Write>(
+/// Serves one session of iSCSI, at a portal whose address is the one that it has come to.
+fn serve_iscsi<S: Service, R: Clock + RandomSource + Wait, E: Write, I: Read, O: Write>(
     alloc: Global,
-    rt: &R,
     service: &mut S,
-    acceptor: &Acceptor<'_>,
-    door: PortalDoor<'_>,
-    visit: Visit<'_, '_>,
-    teller: &Teller<E>,
+    beside: &SessionsBeside<'_, R, E>,
+    doors: &[Door<'_>],
+    came_to: PortalDoor<'_>,
     reader: &mut I,
     writer: &mut O,
 ) -> Result<End, IscsiFault>
-    ensures { iscsi.Leaves S.notes S.count door.entry.group service.old service.new }
+    ensures { iscsi.Leaves S.notes S.count came_to.entry.group service.old service.new }
 {
-    let came_to = visit.visitor.came_to.unwrap_or(door.address);
-    let portals = addresses_from(alloc, acceptor.doors(), came_to)?;
-    let address = came_to.to_string(alloc)?;
-    let portal = Portal {
-        target: door.target,
-        group: door.group,
-        address: address.as_str(),
-        portals: &portals,
+    let portals = addresses_from(alloc, doors, came_to.address)?;
+    let address = came_to.address.to_string(alloc)?;
+    let arrival = Arrival {
+        portal: Portal {
+            target: came_to.target,
+            group: came_to.group,
+            address: address.as_str(),
+            portals: &portals,
+        },
+        challenge: challenge_for(beside.rt, &came_to.target.authentication),
+        tsih: u16::try_from(beside.key.saturating_add(1)).unwrap_or(u16::MAX),
     };
-    let challenge = challenge_for(rt, &door.target.authentication);
-    let tsih = u16::try_from(visit.key.saturating_add(1)).unwrap_or(u16::MAX);
-    let register = SessionsBeside {
-        rt,
-        sessions: acceptor.limits.sessions,
-        key: visit.key,
-        number: visit.number,
-        teller,
-        seen: acceptor.limits.sessions.resets().copied(),
-    };
-    let ended = iscsi_session::serve(
-        alloc,
-        service,
-        &register,
-        &portal,
-        challenge,
-        tsih,
-        reader,
-        writer,
-        u64::MAX,
-    )?;
+    let ended = iscsi_session::serve(alloc, service, beside, &arrival, reader, writer, u64::MAX)?;
     Ok(match ended {
         IscsiEnd::Logout => End::Logout,
         IscsiEnd::Closed => End::Closed,

@@ -27,26 +27,32 @@ pub(crate) fn flags_of(alloc: Global, count: usize) -> Result<Vec<SessionFlags>,
     Ok(flags)
 }
 
+/// What all workers of a library work with.
+#[derive(Drop)]
+pub(crate) struct WorkerMeans<'a, C: Caretaker, R: Wait, E: Write> {
+    pub rt: &'a R,
+    pub caretaker: &'a C,
+    pub resets: &'a ResetCounts,
+    pub drain: Option<&'a RecordDrain>,
+    pub teller: &'a Teller<E>,
+}
+
 /// A worker who has served nobody.
 fn worker_for<'a, S: SeatService, C: Caretaker, R: Wait, E: Write>(
-    rt: &'a R,
+    means: &WorkerMeans<'a, C, R, E>,
     seat_service: S,
-    caretaker: &'a C,
     flags: &'a SessionFlags,
-    resets: &'a ResetCounts,
-    drain: Option<&'a RecordDrain>,
-    teller: &'a Teller<E>,
 ) -> Worker<'a, S, C, R, E>
     ensures { result.service ≡ seat_service }
 {
     let service = WorkerService {
         seat_service,
-        caretaker,
-        rt,
-        drain,
-        teller,
+        caretaker: means.caretaker,
+        rt: means.rt,
+        drain: means.drain,
+        teller: means.teller,
         flags,
-        resets,
+        resets: means.resets,
         session: SessionSoFar::new(),
     };
     Worker {
@@ -57,14 +63,10 @@ fn worker_for<'a, S: SeatService, C: Caretaker, R: Wait, E: Write>(
 
 /// Workers who serve by these, in their order, each with the flags at its place.
 pub(crate) fn workers_of<'a, S: SeatService, C: Caretaker, R: Wait, E: Write>(
-    rt: &'a R,
+    means: &WorkerMeans<'a, C, R, E>,
     alloc: Global,
     services: Vec<S>,
-    caretaker: &'a C,
     flags: &'a [SessionFlags],
-    resets: &'a ResetCounts,
-    drain: Option<&'a RecordDrain>,
-    teller: &'a Teller<E>,
 ) -> Result<Vec<Worker<'a, S, C, R, E>>, AllocError>
     requires { length flags.now ≡ vec_len services }
     ensures { IfOk result (λ workers. map (λ w. w.service) workers.items ≡ services.items) }
@@ -72,15 +74,7 @@ pub(crate) fn workers_of<'a, S: SeatService, C: Caretaker, R: Wait, E: Write>(
     let mut workers = Vec::new(alloc);
     let mut place = 0usize;
     'services: for seat_service in services {
-        workers.push(worker_for(
-            rt,
-            seat_service,
-            caretaker,
-            &flags[place],
-            resets,
-            drain,
-            teller,
-        ))?;
+        workers.push(worker_for(means, seat_service, &flags[place]))?;
         place += 1;
     }
     Ok(workers)

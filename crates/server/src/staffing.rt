@@ -9,7 +9,7 @@ use crate::caretaker::Caretaker;
 use crate::faulty_session::FaultySession;
 use crate::keeping::write_behind;
 use crate::record_drain::RecordDrain;
-use crate::staff::{flags_of, give_back, workers_of};
+use crate::staff::{WorkerMeans, flags_of, give_back, workers_of};
 use crate::teller::Teller;
 use crate::worker::Worker;
 use session::SeatService;
@@ -133,8 +133,14 @@ fn serve_sessions<
     let mut back = Vec::new(alloc);
     back.reserve(services.len())?;
     let taken = mem::replace(services, Vec::new(alloc));
-    let resets = acceptor.limits.sessions.resets();
-    let mut workers = workers_of(rt, alloc, taken, caretaker, &flags, resets, drain, teller)?;
+    let means = WorkerMeans {
+        rt,
+        caretaker,
+        resets: acceptor.limits.sessions.resets(),
+        drain,
+        teller,
+    };
+    let mut workers = workers_of(&means, alloc, taken, &flags)?;
     work_all(rt, alloc, workers.as_mut_slice(), acceptor);
     let served = give_back(workers, &mut back);
     *services = back;

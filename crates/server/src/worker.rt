@@ -7,7 +7,7 @@ use crate::caretaker::Caretaker;
 use crate::door::{Door, Visitor};
 use crate::event::{EndedSession, Event};
 use crate::faulty_session::{FaultySession, first_accepted};
-use crate::holding::hold;
+use crate::serving::serve_connection;
 use crate::worker_service::{SessionSoFar, WorkerService};
 use session::SeatService;
 use std::alloc::Global;
@@ -110,7 +110,7 @@ impl<'a, S: SeatService, C: Caretaker, R: Clock + RandomSource + Wait, E: Write>
         self.service.flags.begin();
         teller.tell(rt, &Event::Begins(number));
         let begun = Instant::now(rt);
-        let ended = hold(alloc, rt, &mut self.service, acceptor, visit);
+        let ended = serve_connection(alloc, &mut self.service, acceptor, visit);
         let seconds = match begun {
             Ok(begun) => begun.elapsed(rt).unwrap_or(Duration::ZERO).as_secs(),
             Err(_) => 0,

@@ -2,7 +2,7 @@
 use super::assert_same;
 use crate::socket_sessions::Empty;
 use iscsi_login::{Access, Authentication, LoginTarget};
-use iscsi_session::{Portal, SessionIdentity, SessionRegister, serve};
+use iscsi_session::{Arrival, Portal, SessionIdentity, SessionRegister, serve};
 use scsi_nexus::Nexus;
 use std::alloc::Global;
 use std::process::Abort;
@@ -110,11 +110,15 @@ fn target(rt: &impl Abort, alloc: Global) -> LoginTarget {
 
 /// How often the nexus is lost, with what is told.
 fn served(alloc: Global, target: &LoginTarget, sent: &[u8], told: &mut Vec<u8>) -> u64 {
-    let portal = Portal {
-        target,
-        group: 1,
-        address: "10.0.0.1:3260",
-        portals: &[],
+    let arrival = Arrival {
+        portal: Portal {
+            target,
+            group: 1,
+            address: "10.0.0.1:3260",
+            portals: &[],
+        },
+        challenge: None,
+        tsih: 7,
     };
     let mut service = Empty { losses: 0 };
     let mut reader = sent;
@@ -122,9 +126,7 @@ fn served(alloc: Global, target: &LoginTarget, sent: &[u8], told: &mut Vec<u8>) 
         alloc,
         &mut service,
         &Alone,
-        &portal,
-        None,
-        7,
+        &arrival,
         &mut reader,
         told,
         999,

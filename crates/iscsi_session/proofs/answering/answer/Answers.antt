@@ -1,30 +1,83 @@
-use Rattle.std.proofs.Common.{◌≡◌, ◌∙◌, false, sym, rules}
+use Rattle.std.proofs.Common.{◌∙◌, ap, refl, sym}
 use Rattle.iscsi_pdu.specs.Views.{initiator_value}
-use Rattle.iscsi_session.specs.Saying.{is_of_tasks}
-use Rattle.iscsi_session.proofs.Acted.{when}
-use Rattle.iscsi_session.proofs.Managed.{idle_behind, other_said, work_said}
+use Rattle.iscsi_session.specs.Saying.{behind_other}
+use Rattle.iscsi_session.proofs.Managed.{idle_behind, other_said, task_said}
 use Rattle.iscsi_session.proofs.answering.answer.Goals as goal
-use Rattle.iscsi_session.proofs.answering.answer.Goals.{in-Normal, in_default, else-is_normal-via-then-is_normal+else-is_of_tasks, else-is_normal-via-else-is_normal}
 
-pub returns-in_err-work-clause-said : goal.returns-in_err-work-clause-said
-returns-in_err-work-clause-said g c normal =
-    work_said g.S.Service.notes g.S.Service.count c.args.nexus (initiator_value c.args.pdu.now) c.args.connection.now.tasks _ c.args.service.now _ c.args.out.now.items _ _ c.from_residual.result c.from_residual.ensures.0 (sym c.is_of_tasks.ensures ∙ c.if-is_of_tasks.true) c.in_err-work.ensures.worked
+pub returns-in-ScsiCommand-clause-said : goal.returns-in-ScsiCommand-clause-said
+returns-in-ScsiCommand-clause-said g c =
+    task_said (g.K.SessionKind.works c.args.kind) (initiator_value c.args.pdu.now) _ c.args.connection.now.tasks _ c.args.service.now _
+    c.args.connection.now.out.items _ _ c.take_command.result c.in-ScsiCommand.is refl c.take_command.ensures.worked
 
-pub returns-then-is_of_tasks-clause-said : goal.returns-then-is_of_tasks-clause-said
-returns-then-is_of_tasks-clause-said g c normal =
-    let did = c.in_ok-work.ensures.worked in
-    (did.0, when _ _ (is_of_tasks c.args.pdu.now.header) (sym c.is_of_tasks.ensures ∙ c.if-is_of_tasks.true) did.1, did.2)
+pub returns-in-DataOut-clause-said : goal.returns-in-DataOut-clause-said
+returns-in-DataOut-clause-said g c =
+    task_said (g.K.SessionKind.works c.args.kind) (initiator_value c.args.pdu.now) _ c.args.connection.now.tasks _ c.args.service.now _
+    c.args.connection.now.out.items _ _ c.take_data.result c.in-DataOut.is refl c.take_data.ensures.worked
 
-pub returns-clause-idle : goal.returns-clause-idle
-returns-clause-idle g c idle = idle_behind c.answer_other.result c.args.connection.now.tasks c.answer_other.new.connection.tasks c.args.pdu.now.header c.answer_other.ensures.tasks idle
+pub returns-in-TaskManagementRequest-clause-said : goal.returns-in-TaskManagementRequest-clause-said
+returns-in-TaskManagementRequest-clause-said g c =
+    task_said (g.K.SessionKind.works c.args.kind) (initiator_value c.args.pdu.now) _ c.args.connection.now.tasks _ c.args.service.now _
+    c.args.connection.now.out.items _ _ c.take_management.result c.in-TaskManagementRequest.is refl
+    (c.take_management.ensures.worked c.args.pdu.now.payload.now)
 
-pub returns-clause-said : goal.returns-clause-said
-returns-clause-said g c normal =
-    let none : is_of_tasks c.args.pdu.now.header ≡ false = elim c.else-is_normal.branch [
-      | else-is_normal-via-then-is_normal+else-is_of_tasks w ↦ sym w.is_of_tasks.ensures ∙ w.if-is_of_tasks.false
-      | else-is_normal-via-else-is_normal w ↦ elim c.match-matches.branch [
-        | in-Normal v ↦ cc
-        | in_default v ↦ search rules
-      ]
-    ] in
-    other_said g.S.Service.notes g.S.Service.count c.args.nexus (initiator_value c.args.pdu.now) c.args.connection.now.tasks _ c.args.service.now c.args.out.now.items c.answer_other.new.out.items _ c.answer_other.result none c.answer_other.ensures.tasks c.answer_other.ensures.said
+pub returns-in-NopOut-clause-said : goal.returns-in-NopOut-clause-said
+returns-in-NopOut-clause-said g c =
+    other_said (g.K.SessionKind.works c.args.kind) (initiator_value c.args.pdu.now) _ c.args.connection.now.tasks _ c.args.service.now
+    c.args.connection.now.out.items _ _ c.take_nop_out.result c.in-NopOut.is refl c.take_nop_out.ensures.tasks c.take_nop_out.ensures.said
+
+pub returns-in-NopOut-clause-idle : goal.returns-in-NopOut-clause-idle
+returns-in-NopOut-clause-idle g c idle =
+    let k = c.args.connection.now.tasks in
+    idle_behind c.take_nop_out.result k _ c.args.pdu.now.header (c.take_nop_out.ensures.tasks ∙ ap (behind_other k) (sym c.in-NopOut.is)) idle
+
+pub returns-in-TextRequest-clause-said : goal.returns-in-TextRequest-clause-said
+returns-in-TextRequest-clause-said g c =
+    other_said (g.K.SessionKind.works c.args.kind) (initiator_value c.args.pdu.now) _ c.args.connection.now.tasks _ c.args.service.now
+    c.args.connection.now.out.items _ _ c.take_text.result c.in-TextRequest.is refl c.take_text.ensures.tasks c.take_text.ensures.said
+
+pub returns-in-TextRequest-clause-idle : goal.returns-in-TextRequest-clause-idle
+returns-in-TextRequest-clause-idle g c idle =
+    let k = c.args.connection.now.tasks in
+    idle_behind c.take_text.result k _ c.args.pdu.now.header (c.take_text.ensures.tasks ∙ ap (behind_other k) (sym c.in-TextRequest.is)) idle
+
+pub returns-in-LogoutRequest-clause-said : goal.returns-in-LogoutRequest-clause-said
+returns-in-LogoutRequest-clause-said g c =
+    other_said (g.K.SessionKind.works c.args.kind) (initiator_value c.args.pdu.now) _ c.args.connection.now.tasks _ c.args.service.now
+    c.args.connection.now.out.items _ _ c.take_logout.result c.in-LogoutRequest.is refl c.take_logout.ensures.tasks c.take_logout.ensures.said
+
+pub returns-in-LogoutRequest-clause-idle : goal.returns-in-LogoutRequest-clause-idle
+returns-in-LogoutRequest-clause-idle g c idle =
+    let k = c.args.connection.now.tasks in
+    idle_behind c.take_logout.result k _ c.args.pdu.now.header (c.take_logout.ensures.tasks ∙ ap (behind_other k) (sym c.in-LogoutRequest.is)) idle
+
+pub returns-in-Unknown-clause-said : goal.returns-in-Unknown-clause-said
+returns-in-Unknown-clause-said g c =
+    other_said (g.K.SessionKind.works c.args.kind) (initiator_value c.args.pdu.now) _ c.args.connection.now.tasks _ c.args.service.now
+    c.args.connection.now.out.items _ _ c.take_unsupported.result c.in-Unknown.is refl c.take_unsupported.ensures.tasks c.take_unsupported.ensures.said
+
+pub returns-in-Unknown-clause-idle : goal.returns-in-Unknown-clause-idle
+returns-in-Unknown-clause-idle g c idle =
+    let k = c.args.connection.now.tasks in
+    idle_behind c.take_unsupported.result k _ c.args.pdu.now.header (c.take_unsupported.ensures.tasks ∙ ap (behind_other k) (sym c.in-Unknown.is)) idle
+
+pub returns-in-LoginRequest-clause-said : goal.returns-in-LoginRequest-clause-said
+returns-in-LoginRequest-clause-said g c =
+    other_said (g.K.SessionKind.works c.args.kind) (initiator_value c.args.pdu.now) _ c.args.connection.now.tasks _ c.args.service.now
+    c.args.connection.now.out.items _ _ c.turn_down.result c.in-LoginRequest.is refl c.turn_down.ensures.tasks c.turn_down.ensures.said
+
+pub returns-in-LoginRequest-clause-idle : goal.returns-in-LoginRequest-clause-idle
+returns-in-LoginRequest-clause-idle g c idle =
+    let k = c.args.connection.now.tasks in
+    idle_behind c.turn_down.result k _ c.args.pdu.now.header (c.turn_down.ensures.tasks ∙ ap (behind_other k) (sym c.in-LoginRequest.is)) idle
+
+pub returns-in-SnackRequest-clause-said : goal.returns-in-SnackRequest-clause-said
+returns-in-SnackRequest-clause-said g c =
+    other_said (g.K.SessionKind.works c.args.kind) (initiator_value c.args.pdu.now) _ c.args.connection.now.tasks _ c.args.service.now
+    c.args.connection.now.out.items _ _ c.turn_down-in-SnackRequest.result c.in-SnackRequest.is refl c.turn_down-in-SnackRequest.ensures.tasks
+    c.turn_down-in-SnackRequest.ensures.said
+
+pub returns-in-SnackRequest-clause-idle : goal.returns-in-SnackRequest-clause-idle
+returns-in-SnackRequest-clause-idle g c idle =
+    let k = c.args.connection.now.tasks in
+    idle_behind c.turn_down-in-SnackRequest.result k _ c.args.pdu.now.header
+    (c.turn_down-in-SnackRequest.ensures.tasks ∙ ap (behind_other k) (sym c.in-SnackRequest.is)) idle

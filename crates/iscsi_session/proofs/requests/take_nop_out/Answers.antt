@@ -1,5 +1,6 @@
+use Rattle.std.proofs.Common.{◌∙◌}
 use Rattle.iscsi_session.proofs.Acted.{plain_one}
 use Rattle.iscsi_session.proofs.requests.take_nop_out.Goals as goal
 
 pub returns-clause-said : goal.returns-clause-said
-returns-clause-said c = plain_one _ _ _ c.in_ok-write_nop_in.ensures tt
+returns-clause-said c = plain_one _ _ _ (c.has_answered.ensures.out ∙ c.in_ok-write_nop_in.ensures) tt

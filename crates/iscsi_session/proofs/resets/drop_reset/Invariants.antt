@@ -1,5 +1,5 @@
 use Rattle.std.proofs.Common.{◌≡◌, ℕ, List, All}
-use Rattle.iscsi_session.specs.Talking.{without_units}
+use Rattle.iscsi_session.specs.Saying.{without_units}
 use Rattle.iscsi_session.proofs.resets.drop_reset.Given as goal
 
 -- the units that were told, and what is left without them

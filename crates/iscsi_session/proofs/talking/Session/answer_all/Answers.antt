@@ -1,0 +1,71 @@
+use Rattle.std.proofs.Common.{◌∙◌, refl}
+use Rattle.iscsi_session.specs.Moments.{moment}
+use Rattle.iscsi_session.specs.Worlds.{world}
+use Rattle.iscsi_session.proofs.Conversed.{written_broken, written_more, written_none}
+use Rattle.iscsi_session.proofs.talking.Session.answer_all.Goals as goal
+
+pub batches-init : goal.batches-init
+batches-init g c = (refl, c.requires, written_none _ (moment c.args.self.now c.args.service.now) (g.W.Write.contents c.args.writer.now))
+
+pub returns-in_err-flush-clause-talks : goal.returns-in_err-flush-clause-talks
+returns-in_err-flush-clause-talks g c =
+    let w = world (g.K.SessionKind.works c.args.self.now.kind) (g.K.SessionKind.takes_resets c.args.self.now.kind)
+    (g.G.SessionRegister.resets c.args.register.now) (g.G.SessionRegister.ends c.args.register.now) in
+    let a = moment c.args.self.now c.args.service.now in
+    let b = moment c.batches.self c.batches.service in
+    let v0 = g.W.Write.contents c.args.writer.now in
+    let v = g.W.Write.contents c.batches.writer in
+    written_broken w a b (moment c.answer_batch-pause.new.self c.answer_batch-pause.new.service) v0 v c.from_residual.result _ _ c.batches.invariant.2
+    c.from_residual.ensures.0 (rw c.batches.invariant.0 at c.answer_batch-pause.ensures.talks)
+
+pub returns-in_err-pause-clause-talks : goal.returns-in_err-pause-clause-talks
+returns-in_err-pause-clause-talks g c =
+    let w = world (g.K.SessionKind.works c.args.self.now.kind) (g.K.SessionKind.takes_resets c.args.self.now.kind)
+    (g.G.SessionRegister.resets c.args.register.now) (g.G.SessionRegister.ends c.args.register.now) in
+    let a = moment c.args.self.now c.args.service.now in
+    let b = moment c.batches.self c.batches.service in
+    let v0 = g.W.Write.contents c.args.writer.now in
+    let v = g.W.Write.contents c.batches.writer in
+    written_broken w a b (moment c.answer_batch-pause.new.self c.answer_batch-pause.new.service) v0 v c.from_residual-in_err-pause.result _ _
+    c.batches.invariant.2 c.from_residual-in_err-pause.ensures.0 (rw c.batches.invariant.0 at c.answer_batch-pause.ensures.talks)
+
+pub returns-in-NeedsInput-clause-talks : goal.returns-in-NeedsInput-clause-talks
+returns-in-NeedsInput-clause-talks g c =
+    let w = world (g.K.SessionKind.works c.args.self.now.kind) (g.K.SessionKind.takes_resets c.args.self.now.kind)
+    (g.G.SessionRegister.resets c.args.register.now) (g.G.SessionRegister.ends c.args.register.now) in
+    let a = moment c.args.self.now c.args.service.now in
+    let b = moment c.batches.self c.batches.service in
+    let v0 = g.W.Write.contents c.args.writer.now in
+    let v = g.W.Write.contents c.batches.writer in
+    let m = moment c.answer_batch-pause.new.self c.answer_batch-pause.new.service in
+    let so = written_more w a b m c.flush.new.out.items v0 v _ c.batches.invariant.2 (rw c.batches.invariant.0 at c.in_ok-pause.ensures.talks)
+    c.in_ok-flush.ensures.written c.flush.ensures.empty in
+    (so.0, _, so.1, (refl, so.2))
+
+pub returns-in-LoggedOut-clause-talks : goal.returns-in-LoggedOut-clause-talks
+returns-in-LoggedOut-clause-talks g c =
+    let w = world (g.K.SessionKind.works c.args.self.now.kind) (g.K.SessionKind.takes_resets c.args.self.now.kind)
+    (g.G.SessionRegister.resets c.args.register.now) (g.G.SessionRegister.ends c.args.register.now) in
+    let a = moment c.args.self.now c.args.service.now in
+    let b = moment c.batches.self c.batches.service in
+    let v0 = g.W.Write.contents c.args.writer.now in
+    let v = g.W.Write.contents c.batches.writer in
+    let m = moment c.answer_batch-pause.new.self c.answer_batch-pause.new.service in
+    let so = written_more w a b m c.flush.new.out.items v0 v _ c.batches.invariant.2 (rw c.batches.invariant.0 at c.in_ok-pause.ensures.talks)
+    c.in_ok-flush.ensures.written c.flush.ensures.empty in
+    (so.0, _, so.1, (refl, so.2))
+
+pub batches-preserved : goal.batches-preserved
+batches-preserved g c =
+    let w = world (g.K.SessionKind.works c.args.self.now.kind) (g.K.SessionKind.takes_resets c.args.self.now.kind)
+    (g.G.SessionRegister.resets c.args.register.now) (g.G.SessionRegister.ends c.args.register.now) in
+    let a = moment c.args.self.now c.args.service.now in
+    let b = moment c.batches.self c.batches.service in
+    let v0 = g.W.Write.contents c.args.writer.now in
+    let v = g.W.Write.contents c.batches.writer in
+    let m = moment c.answer_batch-pause.new.self c.answer_batch-pause.new.service in (
+      c.answer_batch-pause.ensures.kind ∙ c.batches.invariant.0,
+      c.in_ok-pause.ensures.idle,
+      written_more w a b m c.flush.new.out.items v0 v _ c.batches.invariant.2 (rw c.batches.invariant.0 at c.in_ok-pause.ensures.talks)
+          c.in_ok-flush.ensures.written c.flush.ensures.empty,
+    )

@@ -1,0 +1,104 @@
+use Rattle.std.proofs.lemmas.Grind.{common_steps}
+use Rattle.std.proofs.Common.{ap, refl, arith}
+use Rattle.std.proofs.lemmas.List.{length-drop}
+use Rattle.std.proofs.Common.{length}
+use Rattle.iscsi_pdu.specs.Views.{initiator_value}
+use Rattle.iscsi_session.specs.Moments.{moment}
+use Rattle.iscsi_session.specs.Worlds.{world}
+use Rattle.iscsi_session.proofs.Conversed.{answered_broken, answered_more, answered_none}
+use Rattle.iscsi_session.proofs.Talked.{begins_with}
+use Rattle.iscsi_session.proofs.talking.Session.answer_pending.Goals as goal
+
+pub pdus-init : goal.pdus-init
+pdus-init g c = (refl, omega arith, c.requires, answered_none _ (moment c.args.self.now c.args.service.now))
+
+pub returns-in_err-ends-in-Complete-clause-talks : goal.returns-in_err-ends-in-Complete-clause-talks
+returns-in_err-ends-in-Complete-clause-talks g c =
+    let w = world (g.K.SessionKind.works c.args.self.now.kind) (g.K.SessionKind.takes_resets c.args.self.now.kind)
+    (g.G.SessionRegister.resets c.args.register.now) (g.G.SessionRegister.ends c.args.register.now) in
+    let a = moment c.args.self.now c.args.service.now in
+    let b = moment c.pdus.self c.pdus.service in
+    let pdu = initiator_value c.in-Complete.pdu in
+    let size = c.in-Complete.count in
+    let here = begins_with c.pdus.self.read_buffer c.pending-pending.result.now pdu size c.pending-pending.ensures c.in-Complete.ensures.parsed
+    c.in-Complete.ensures.within in
+    answered_broken w a b (record {
+      tasks = c.answer.new.connection.tasks;
+      service = c.answer.new.service;
+      pending = c.pdus.self.read_buffer;
+      out = c.answer.new.connection.out.items;
+    }) pdu size c.from_residual.result _ c.pdus.invariant.3 c.pdus.invariant.2 here c.from_residual.ensures.0
+    (rw c.pdus.invariant.0 at c.in_err-ends-in-Complete.ensures.said)
+
+pub returns-then-ends-clause-talks : goal.returns-then-ends-clause-talks
+returns-then-ends-clause-talks g c =
+    let w = world (g.K.SessionKind.works c.args.self.now.kind) (g.K.SessionKind.takes_resets c.args.self.now.kind)
+    (g.G.SessionRegister.resets c.args.register.now) (g.G.SessionRegister.ends c.args.register.now) in
+    let a = moment c.args.self.now c.args.service.now in
+    let b = moment c.pdus.self c.pdus.service in
+    let pdu = initiator_value c.in-Complete.pdu in
+    let size = c.in-Complete.count in
+    let here = begins_with c.pdus.self.read_buffer c.pending-pending.result.now pdu size c.pending-pending.ensures c.in-Complete.ensures.parsed
+    c.in-Complete.ensures.within in
+    let so = answered_more w a b (record {
+      tasks = c.answer.new.connection.tasks;
+      service = c.answer.new.service;
+      pending = c.consume.new.self;
+      out = c.answer.new.connection.out.items;
+    }) pdu size c.pdus.invariant.3 c.pdus.invariant.2 here c.consume.ensures (rw c.pdus.invariant.0 at c.in_ok-ends-in-Complete.ensures.said) in
+    (so.0, _, so.1, (refl, so.2))
+
+pub returns-then-len-ge-BATCH-clause-talks : goal.returns-then-len-ge-BATCH-clause-talks
+returns-then-len-ge-BATCH-clause-talks g c =
+    let w = world (g.K.SessionKind.works c.args.self.now.kind) (g.K.SessionKind.takes_resets c.args.self.now.kind)
+    (g.G.SessionRegister.resets c.args.register.now) (g.G.SessionRegister.ends c.args.register.now) in
+    let a = moment c.args.self.now c.args.service.now in
+    let b = moment c.pdus.self c.pdus.service in
+    let pdu = initiator_value c.in-Complete.pdu in
+    let size = c.in-Complete.count in
+    let here = begins_with c.pdus.self.read_buffer c.pending-pending.result.now pdu size c.pending-pending.ensures c.in-Complete.ensures.parsed
+    c.in-Complete.ensures.within in
+    let so = answered_more w a b (record {
+      tasks = c.answer.new.connection.tasks;
+      service = c.answer.new.service;
+      pending = c.consume.new.self;
+      out = c.answer.new.connection.out.items;
+    }) pdu size c.pdus.invariant.3 c.pdus.invariant.2 here c.consume.ensures (rw c.pdus.invariant.0 at c.in_ok-ends-in-Complete.ensures.said) in
+    (so.0, _, so.1, (refl, so.2))
+
+pub returns-in-Partial-clause-talks : goal.returns-in-Partial-clause-talks
+returns-in-Partial-clause-talks g c =
+    let so = c.pdus.invariant.3 in
+    (so.0, _, so.1, (refl, so.2))
+
+pub returns-in-Invalid-clause-talks : goal.returns-in-Invalid-clause-talks
+returns-in-Invalid-clause-talks g c =
+    let so = c.pdus.invariant.3 in
+    (so.0, _, so.1, tt)
+
+pub pdus-preserved : goal.pdus-preserved
+pdus-preserved g c =
+    let w = world (g.K.SessionKind.works c.args.self.now.kind) (g.K.SessionKind.takes_resets c.args.self.now.kind)
+    (g.G.SessionRegister.resets c.args.register.now) (g.G.SessionRegister.ends c.args.register.now) in
+    let a = moment c.args.self.now c.args.service.now in
+    let b = moment c.pdus.self c.pdus.service in
+    let pdu = initiator_value c.in-Complete.pdu in
+    let size = c.in-Complete.count in
+    let here = begins_with c.pdus.self.read_buffer c.pending-pending.result.now pdu size c.pending-pending.ensures c.in-Complete.ensures.parsed
+    c.in-Complete.ensures.within in (
+      c.pdus.invariant.0,
+      omega (arith, c.pdus.invariant.1, ap length c.consume.ensures, length-drop c.in-Complete.count c.pdus.self.read_buffer),
+      c.in_ok-ends-in-Complete.ensures.idle c.pdus.invariant.2,
+      answered_more w a b (record {
+        tasks = c.answer.new.connection.tasks;
+        service = c.answer.new.service;
+        pending = c.consume.new.self;
+        out = c.answer.new.connection.out.items;
+      }) pdu size c.pdus.invariant.3 c.pdus.invariant.2 here c.consume.ensures (rw c.pdus.invariant.0 at c.in_ok-ends-in-Complete.ensures.said),
+    )
+
+pub returns-then-len-ge-BATCH-clause-full : goal.returns-then-len-ge-BATCH-clause-full
+returns-then-len-ge-BATCH-clause-full g c = grind (arith, common_steps)
+
+pub pdus-smaller : goal.pdus-smaller
+pdus-smaller g c = grind (arith, common_steps)
