@@ -26,7 +26,9 @@ line_words SecretLength = codes "a secret has 12 to 128 bytes"
 abbrev pub socket_text : SocketFault → Option (List ℕ)
 socket_text (serve.Listen fault) = Some (listen_text fault)
 socket_text (serve.CannotRead path) = Some (codes "vtl: device fault\nvtl: cannot read " ++ string_bytes path)
-socket_text (serve.OpenSecrets path) = Some (codes "vtl: others than its owner may read or change " ++ (string_bytes path ++ (codes ": say chmod 600 " ++ string_bytes path)))
-socket_text (serve.BadSecrets path number what) = Some (codes "vtl: " ++ (string_bytes path ++ (codes ", line " ++ (decimal number ++ (codes ": " ++ line_words what)))))
+socket_text (serve.OpenSecrets path) =
+    Some (codes "vtl: others than its owner may read or change " ++ (string_bytes path ++ (codes ": say chmod 600 " ++ string_bytes path)))
+socket_text (serve.BadSecrets path number what) =
+    Some (codes "vtl: " ++ (string_bytes path ++ (codes ", line " ++ (decimal number ++ (codes ": " ++ line_words what)))))
 socket_text (serve.Folder fault) = None
 socket_text (serve.Server fault) = Some (host.fault_text fault)

@@ -21,12 +21,15 @@ abbrev pub silent_session : ℕ → FaultySession
 silent_session number = record { number = number; nexus = None; cause = Silence }
 
 pub record LinesOfServing : Type 0 where
-  pub session : socket_text (Server (Session (silent_session 3))) ≡ Some (codes "vtl: device fault\nvtl: session 3 before its LOGIN: nothing came in time")
+  pub session : socket_text (Server (Session (silent_session 3)))
+      ≡ Some (codes "vtl: device fault\nvtl: session 3 before its LOGIN: nothing came in time")
   pub later_session : socket_text (Server (Session (silent_session 12))) ≡ Some (codes "vtl: device fault\nvtl: session 12 before its LOGIN: nothing came in time")
   pub mismatch : socket_text (Server (Close close.Mismatch))
       ≡ Some (codes "vtl: device fault\nvtl: the library could not be closed: what the sessions were told is not what the records say")
-  pub seat_missing : socket_text (Server (Close close.SeatMissing)) ≡ Some (codes "vtl: device fault\nvtl: the library could not be closed: a seat is missing")
-  pub no_room_to_compare : socket_text (Server (Close close.NoMemory)) ≡ Some (codes "vtl: device fault\nvtl: the library could not be closed: want of memory")
+  pub seat_missing : socket_text (Server (Close close.SeatMissing))
+      ≡ Some (codes "vtl: device fault\nvtl: the library could not be closed: a seat is missing")
+  pub no_room_to_compare : socket_text (Server (Close close.NoMemory))
+      ≡ Some (codes "vtl: device fault\nvtl: the library could not be closed: want of memory")
   pub write : socket_text (Server Write) ≡ Some (codes "vtl: device fault\nvtl: the lines of the records could not be written")
   pub media : socket_text (Server Media) ≡ Some (codes "vtl: device fault\nvtl: not all of the media could be written")
   pub no_memory : socket_text (Server NoMemory) ≡ Some (codes "vtl: want of memory")

@@ -23,6 +23,6 @@ mod unwritten_teller;
 pub use laws::{fault_rows, worked_rows};
 pub use library_service::LibraryService;
 pub use server_fault::{ServerFault, earlier};
-pub use serving::serve_library;
+pub use serving::{ServiceMeans, serve_library};
 pub use socket::serve;
 pub use socket_fault::SocketFault;

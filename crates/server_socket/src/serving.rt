@@ -40,6 +40,16 @@ use std::time::Clock;
 use tape_keeper::TapeKeeper;
 use target_core::TargetCore;
 
+/// What a library is served with: where its records go, what keeps its tapes, and what is told.
+#[derive(Drop)]
+pub struct ServiceMeans<'a, R: Wait, K: TapeKeeper<Device>, E: Write> {
+    pub rt: &'a R,
+    pub alloc: Global,
+    pub records: RecordOutput,
+    pub keeper: &'a K,
+    pub teller: &'a Teller<E>,
+}
+
 /// Serves a target to connections of doors, each by a worker and as the nexus that its LOGIN names or its initiator is let in as, and
 /// tells what happens. A keeper keeps its tapes meanwhile, and all of them once the last has ended. Then the library is closed, and what
 /// is wanted of the records is written, LUN 0 first, also where a session had a fault. Lines that can't be written are kept and tried
@@ -49,23 +59,20 @@ use target_core::TargetCore;
 /// at the end.
 pub fn serve_library<
     R: Clock + RandomSource + Threads + Wait + Sync,
-    W: Write + Send,
-    E: Write + Send,
     K: TapeKeeper<Device> + Sync,
+    E: Write + Send,
+    W: Write + Send,
 >(
-    rt: &R,
-    alloc: Global,
+    means: &ServiceMeans<'_, R, K, E>,
     core: TargetCore<Device>,
     doors: &[Door<'_>],
     limits: ServeLimits<'_>,
-    records: RecordOutput,
-    keeper: &K,
     writer: &mut W,
-    teller: &Teller<E>,
 ) -> Result<(), ServerFault>
     requires some { 0 < limits.workers }
     requires doors { (0 < length doors.now) × (length doors.now ≤ 5) }
-    ensures served { OnOk result (ServesLibrary (units_of core) (limits.entry.workers * length doors.now) records (W.contents writer.old) (W.contents writer.new)) }
+    ensures served { OnOk result (ServesLibrary (units_of core) (limits.entry.workers * length doors.now) means.now.records
+        (W.contents writer.old) (W.contents writer.new)) }
     ensures fault { IfErr result (λ fault. MayTell limits.entry.term fault) }
 {
     let seats = seats_at(limits.workers, doors.len());
@@ -78,8 +85,8 @@ pub fn serve_library<
         four: Blank::new(parts),
     };
     let acceptor = Acceptor::new(doors, limits);
-    serve_with_ledgers::<Brand, Brand, Brand, Brand, Brand, R, W, E, K>(
-        rt, alloc, core, seats, blanks, &acceptor, records, keeper, writer, teller,
+    serve_with_ledgers::<Brand, Brand, Brand, Brand, Brand, R, K, E, W>(
+        means, core, seats, blanks, &acceptor, writer,
     )
 }
 
@@ -102,20 +109,16 @@ fn serve_with_ledgers<
     L3: UnitLedger + Send + Sync,
     L4: UnitLedger + Send + Sync,
     R: Clock + RandomSource + Threads + Wait + Sync,
-    W: Write + Send,
-    E: Write + Send,
     K: TapeKeeper<Device> + Sync,
+    E: Write + Send,
+    W: Write + Send,
 >(
-    rt: &R,
-    alloc: Global,
+    means: &ServiceMeans<'_, R, K, E>,
     core: TargetCore<Device>,
     workers: usize,
     blanks: Blanks,
     acceptor: &Acceptor<'_>,
-    records: RecordOutput,
-    keeper: &K,
     writer: &mut W,
-    teller: &Teller<E>,
 ) -> Result<(), ServerFault>
     requires some { 0 < workers }
     requires zero { (blanks.zero.name ≡ L0.name) × (blanks.zero.parts ≡ L0.parts) × (L0.parts ≡ workers) }
@@ -124,9 +127,10 @@ fn serve_with_ledgers<
     requires three { (blanks.three.name ≡ L3.name) × (blanks.three.parts ≡ L3.parts) × (L3.parts ≡ workers) }
     requires four { (blanks.four.name ≡ L4.name) × (blanks.four.parts ≡ L4.parts) × (L4.parts ≡ workers) }
     requires since { IsSince (units_of core) L0.since L1.since L2.since L3.since L4.since }
-    ensures served { OnOk result (ServesLibrary (units_of core) workers records (W.contents writer.old) (W.contents writer.new)) }
+    ensures served { OnOk result (ServesLibrary (units_of core) workers means.now.records (W.contents writer.old) (W.contents writer.new)) }
     ensures fault { IfErr result (λ fault. MayTell acceptor.now.limits.term fault) }
 {
+    let (rt, alloc, teller) = (means.rt, means.alloc, means.teller);
     let opened = Library::<L0, L1, L2, L3, L4, Device, Pass>::new(
         alloc, core, workers, blanks, Pass,
     );
@@ -135,18 +139,11 @@ fn serve_with_ledgers<
         Err((refused, _)) => return Err(refused.into()),
     };
     let mut batch = Batch::new(alloc);
-    let served = serve_seats(
-        rt, alloc, &library, &mut seats, acceptor, records, keeper, &mut batch, writer, teller,
-    )?;
-    let kept = keep_at_the_end(
-        rt,
-        alloc,
-        keeper,
-        &LibraryTapes { library: &library },
-        teller,
-    );
-    let left = write_rest(rt, alloc, records, batch, writer, teller);
-    let audit = records.of_the_rest();
+    let served = serve_seats(means, &library, &mut seats, acceptor, &mut batch, writer)?;
+    let tapes = LibraryTapes { library: &library };
+    let kept = keep_at_the_end(rt, alloc, means.keeper, &tapes, teller);
+    let left = write_rest(means, batch, writer);
+    let audit = means.records.of_the_rest();
     let listener = UnwrittenTeller { rt, teller };
     let closed = close_and_write(rt, alloc, library, seats, audit, writer, &listener);
     told_of(earlier(
@@ -163,45 +160,39 @@ fn serve_seats<
     L3: UnitLedger + Send + Sync,
     L4: UnitLedger + Send + Sync,
     R: Clock + RandomSource + Threads + Wait + Sync,
-    W: Write + Send,
-    E: Write + Send,
     K: TapeKeeper<Device> + Sync,
+    E: Write + Send,
+    W: Write + Send,
 >(
-    rt: &R,
-    alloc: Global,
+    means: &ServiceMeans<'_, R, K, E>,
     library: &Library<L0, L1, L2, L3, L4, Device, Pass>,
     seats: &mut Vec<Seat<L0, L1, L2, L3, L4>>,
     acceptor: &Acceptor<'_>,
-    records: RecordOutput,
-    keeper: &K,
     batch: &mut Batch,
     writer: &mut W,
-    teller: &Teller<E>,
 ) -> Result<Option<FaultySession>, AllocError>
-    ensures lines { WritesOut records (W.contents writer.old) (W.contents writer.new) (left_in batch.old) (left_in batch.new) }
+    ensures lines { WritesOut means.now.records (W.contents writer.old) (W.contents writer.new) (left_in batch.old) (left_in batch.new) }
     ensures served { OnOk result (SeatsCome library.now.units seats.old.items seats.new.items) }
 {
+    let alloc = means.alloc;
     let mut back = Vec::new(alloc);
     back.reserve(seats.len())?;
     let taken = mem::replace(seats, Vec::new(alloc));
     let directory = Mutex::new(Directory::new(alloc));
-    let mut services = services_of(rt, alloc, library, &directory, taken)?;
+    let mut services = services_of(means.rt, alloc, library, &directory, taken)?;
     let tapes = LibraryTapes { library };
     let caretaker = KeptTapes {
-        keeper,
+        keeper: means.keeper,
         tapes: &tapes,
     };
     let served = serve_services(
-        rt,
-        alloc,
+        means,
         &mut services,
         &caretaker,
         library,
         acceptor,
-        records,
         batch,
         writer,
-        teller,
     )?;
     give_back(services, back, seats);
     Ok(served)
@@ -213,71 +204,66 @@ fn serve_services<
     C: Caretaker + Sync,
     D: RecordSource + Sync,
     R: Clock + RandomSource + Threads + Wait + Sync,
-    W: Write + Send,
+    K: TapeKeeper<Device> + Sync,
     E: Write + Send,
+    W: Write + Send,
 >(
-    rt: &R,
-    alloc: Global,
+    means: &ServiceMeans<'_, R, K, E>,
     services: &mut Vec<S>,
     caretaker: &C,
     units: &D,
     acceptor: &Acceptor<'_>,
-    records: RecordOutput,
     batch: &mut Batch,
     writer: &mut W,
-    teller: &Teller<E>,
 ) -> Result<Option<FaultySession>, AllocError>
-    ensures lines { WritesOut records (W.contents writer.old) (W.contents writer.new) (left_in batch.old) (left_in batch.new) }
+    ensures lines { WritesOut means.now.records (W.contents writer.old) (W.contents writer.new) (left_in batch.old) (left_in batch.new) }
     ensures served { OnOk result (AllZip (ComesBySessions S.notes S.settles S.count) services.old.items services.new.items) }
 {
-    match records {
+    let (rt, alloc, teller) = (means.rt, means.alloc, means.teller);
+    match means.records {
         RecordOutput::AtTheEnd(_) => serve_all(
             rt, alloc, services, caretaker, acceptor, None, teller,
         ),
-        RecordOutput::AsTheyCome => {
-            let drain = RecordDrain::new();
-            serve_and_write(
-                rt, alloc, services, caretaker, units, acceptor, &drain, batch, writer, teller,
-            )
-        }
+        RecordOutput::AsTheyCome => serve_and_write(
+            means, services, caretaker, units, acceptor, batch, writer,
+        ),
     }
 }
 
 /// Serves sessions with a worker at each service, while a thread of its own hands their records out as they come.
 fn serve_and_write<
-    'x,
     S: SeatService + Send,
     C: Caretaker + Sync,
     D: RecordSource + Sync,
     R: Clock + RandomSource + Threads + Wait + Sync,
-    W: Write + Send,
+    K: TapeKeeper<Device> + Sync,
     E: Write + Send,
+    W: Write + Send,
 >(
-    rt: &'x R,
-    alloc: Global,
+    means: &ServiceMeans<'_, R, K, E>,
     services: &mut Vec<S>,
-    caretaker: &'x C,
+    caretaker: &C,
     units: &D,
     acceptor: &Acceptor<'_>,
-    drain: &'x RecordDrain,
     batch: &mut Batch,
     writer: &mut W,
-    teller: &'x Teller<E>,
 ) -> Result<Option<FaultySession>, AllocError>
     ensures lines { HandsOut (W.contents writer.old) (W.contents writer.new) (left_in batch.old) (left_in batch.new) }
     ensures served { OnOk result (AllZip (ComesBySessions S.notes S.settles S.count) services.old.items services.new.items) }
 {
+    let (rt, alloc, teller) = (means.rt, means.alloc, means.teller);
     let alloc_of_workers = alloc;
+    let drain = RecordDrain::new();
     let ((), served) = thread::join_mut(
         rt,
-        &mut || hand_out_as_asked(drain, rt, alloc, units, batch, writer, teller),
+        &mut || hand_out_as_asked(&drain, rt, alloc, units, batch, writer, teller),
         &mut || serve_and_end(
             rt,
             alloc_of_workers,
             services,
             caretaker,
             acceptor,
-            drain,
+            &drain,
             teller,
         ),
     );
@@ -285,37 +271,32 @@ fn serve_and_write<
 }
 
 /// Writes the lines that are left of the records that were taken last, where some were, or tells which have none.
-fn write_rest<R: Wait, W: Write, E: Write>(
-    rt: &R,
-    alloc: Global,
-    records: RecordOutput,
+fn write_rest<R: Wait, K: TapeKeeper<Device>, E: Write, W: Write>(
+    means: &ServiceMeans<'_, R, K, E>,
     batch: Batch,
     writer: &mut W,
-    teller: &Teller<E>,
 ) -> Option<ServerFault>
-    ensures left { result ≡ None → WritesOut records (W.contents writer.old) (W.contents writer.new) (left_in batch) [] }
+    ensures left { result ≡ None → WritesOut means.now.records (W.contents writer.old) (W.contents writer.new) (left_in batch) [] }
     ensures fault { IfSome result (λ f. (f ≡ fault.Write) ⊎ (f ≡ fault.NoMemory)) }
 {
-    match records {
+    match means.records {
         RecordOutput::AtTheEnd(_) => None,
-        RecordOutput::AsTheyCome => write_batch(rt, alloc, batch, writer, teller),
+        RecordOutput::AsTheyCome => write_batch(means, batch, writer),
     }
 }
 
 /// Writes the lines that are left of a batch, or tells which of its records have none.
-fn write_batch<R: Wait, W: Write, E: Write>(
-    rt: &R,
-    alloc: Global,
+fn write_batch<R: Wait, K: TapeKeeper<Device>, E: Write, W: Write>(
+    means: &ServiceMeans<'_, R, K, E>,
     mut batch: Batch,
     writer: &mut W,
-    teller: &Teller<E>,
 ) -> Option<ServerFault>
     ensures left { result ≡ None → GoesOn (W.contents writer.old) (W.contents writer.new) (left_in batch) [] }
     ensures fault { IfSome result (λ f. (f ≡ fault.Write) ⊎ (f ≡ fault.NoMemory)) }
 {
-    let written = batch.write_left(alloc, writer);
+    let written = batch.write_left(means.alloc, writer);
     if let Some(records) = batch.unwritten() {
-        teller.tell(rt, &Event::Unwritten(records));
+        means.teller.tell(means.rt, &Event::Unwritten(records));
     }
     written.err()
 }

@@ -12,9 +12,9 @@ use crate::kept_library::{KeptLibrary, kept_library};
 use crate::notice::{Notice, tell};
 use crate::places::{Places, open_places};
 use crate::server_fault::ServerFault;
-use crate::serving::serve_library;
+use crate::serving::{ServiceMeans, serve_library};
 use crate::socket_fault::SocketFault;
-use command_line::{MediaOptions, ServeOptions};
+use command_line::ServeOptions;
 use library_device::Device;
 use output_lines::{Audit, RecordOutput};
 use program_options::{LibraryOptions, MAX_READS, ServeTimes, ServeUntil};
@@ -81,49 +81,15 @@ pub fn serve<
     match media {
         Some(media) => {
             let size = options.volume_size;
-            serve_kept(
-                rt, files, media, size, &memory, socket, &made, service, errors,
-            )
+            let kept = kept_library(rt.alloc(), files, media, size, &memory, errors)?;
+            let KeptLibrary { core, keeper } = kept;
+            serve_at(rt, core, &keeper, socket, &made, service, errors)
         }
         None => {
             let core = library_within(rt.alloc(), &options, &memory)?;
             serve_at(rt, core, &NoKeeper, socket, &made, service, errors)
         }
     }
-}
-
-/// Serves a library that is read from its folder, and kept there.
-fn serve_kept<
-    R: AllocGlobal
-        + Clock
-        + Files
-        + Input
-        + Net<Listener = TcpListener, Stream = TcpStream>
-        + Print
-        + RandomSource
-        + Sync
-        + Threads
-        + Wait,
-    E: Write + Send,
->(
-    rt: &R,
-    files: &HostRuntime,
-    media: MediaOptions,
-    volume_size: u64,
-    memory: &MemoryLimit,
-    socket: Option<String>,
-    made: &PortalTarget,
-    service: ServiceOptions,
-    errors: &mut E,
-) -> Result<(), SocketFault>
-    requires size { (0 < volume_size) × (volume_size ≤ capacity_limit) }
-    requires some { 1 ≤ workers_of service.until }
-    requires some_places { 0 < vec_len made.now.portals + count_of socket }
-    requires few_places { vec_len made.now.portals + count_of socket ≤ 5 }
-{
-    let kept = kept_library(rt.alloc(), files, media, volume_size, memory, errors)?;
-    let KeptLibrary { core, keeper } = kept;
-    serve_at(rt, core, &keeper, socket, made, service, errors)
 }
 
 /// The limit on the memory of all volumes, where there is one.
@@ -245,17 +211,14 @@ fn serve_until<
         {
             let mut writer = io::writer(rt);
             let limits = limits_of(until, times, &sessions);
-            serve_library(
+            let means = ServiceMeans {
                 rt,
-                rt.alloc(),
-                core,
-                &places.doors,
-                limits,
+                alloc: rt.alloc(),
                 records,
                 keeper,
-                &mut writer,
                 teller,
-            )
+            };
+            serve_library(&means, core, &places.doors, limits, &mut writer)
         },
         || match until {
             ServeUntil::Sessions(_) => {}

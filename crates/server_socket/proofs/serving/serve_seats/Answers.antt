@@ -7,10 +7,10 @@ use Rattle.server_socket.proofs.ServedSeats.{as_many, seats_left}
 use Rattle.server_socket.proofs.serving.serve_seats.Goals as goal
 
 pub returns-in_err-reserve-clause-lines : goal.returns-in_err-reserve-clause-lines
-returns-in_err-reserve-clause-lines g c = writes_none c.args.records (g.W.Write.contents c.args.writer.now) _
+returns-in_err-reserve-clause-lines g c = writes_none c.args.means.now.records (g.W.Write.contents c.args.writer.now) _
 
 pub returns-in_err-services-clause-lines : goal.returns-in_err-services-clause-lines
-returns-in_err-services-clause-lines g c = writes_none c.args.records (g.W.Write.contents c.args.writer.now) _
+returns-in_err-services-clause-lines g c = writes_none c.args.means.now.records (g.W.Write.contents c.args.writer.now) _
 
 pub give_back-requires : goal.give_back-requires
 give_back-requires g c =
