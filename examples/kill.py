@@ -245,8 +245,8 @@ class Library:
         """How many tails were cut off; every other line has to be known."""
         count = 0
         with open(self.told, encoding="utf-8") as told:
-            for line in told:
-                if re.fullmatch(r"vtl: \S+\.tap: a tail of \d+ bytes that was cut off is lost\n", line):
+            for line in told.read().splitlines():
+                if re.fullmatch(r"vtl: \S+\.tap: a tail of \d+ bytes that was cut off is lost", line):
                     count += 1
                 else:
                     assert re.match(r"vtl: (serving at |took )", line), f"told: {line}"

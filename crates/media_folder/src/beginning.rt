@@ -8,6 +8,7 @@ use crate::record::{RecordFile, RecordOf, SyncedRecord, record_path};
 use crate::rights::NEW_FILE;
 use crate::store::{FileAccess, FileStore, Surroundings, new_path};
 use crate::trust::Trust;
+use std::alloc::Global;
 use std::fs::{self, File, Files, OpenFile, OpenOptions};
 use std::io::{self, BufReader, ErrorKind, Read, Seek, SeekFrom, Write};
 use std::os::unix::fs::OpenOptionsExt;
@@ -19,7 +20,7 @@ const MOST_TAILS: u32 = 1_000_000;
 const AT_ONCE: usize = 131_072;
 
 /// Begins to write a volume's file: bytes that it has behind those that may be read are moved away, and its record says which are on the
-/// disk. A protected file stays as it is.
+/// disk. How many these are. A protected file stays as it is.
 pub(crate) fn begin_writing<'a, R: AllocGlobal + Files<File = File>, E: Write>(
     rt: &R,
     folder: &LibraryFolder,
@@ -27,9 +28,9 @@ pub(crate) fn begin_writing<'a, R: AllocGlobal + Files<File = File>, E: Write>(
     trust: Trust,
     boot: BootId,
     errors: &mut E,
-) -> Result<(), FolderFault> {
+) -> Result<u64, FolderFault> {
     match store.access() {
-        FileAccess::ReadOnly => return Ok(()),
+        FileAccess::ReadOnly => return Ok(trust.synced),
         FileAccess::ReadWrite => {}
     }
     if remove_unfinished(rt, store.path()).is_err() {
@@ -37,6 +38,7 @@ pub(crate) fn begin_writing<'a, R: AllocGlobal + Files<File = File>, E: Write>(
         return Err(FolderFault::CannotWrite(path));
     }
     move_tail(rt, folder, store, trust.read, errors)?;
+    let trust = with_tail(rt.alloc(), store.file(), trust);
     let around = Surroundings {
         alloc: rt.alloc(),
         boot,
@@ -45,6 +47,43 @@ pub(crate) fn begin_writing<'a, R: AllocGlobal + Files<File = File>, E: Write>(
     if begin_record(rt, store, trust, around).is_err() || folder.sync().is_err() {
         let path = record_path(rt.alloc(), store.path())?;
         return Err(FolderFault::CannotWrite(path));
+    }
+    Ok(trust.synced)
+}
+
+/// What may be read behind the bytes that are known to be on the disk was written by a program that ended since, in this run of the machine.
+/// A sync that failed there may have made it count as written, so it is written once more where it is, and then the next sync brings it to
+/// the disk. Where that fails the volume's tape is written again from the bytes on that are known to be there.
+fn with_tail(alloc: Global, file: &File, trust: Trust) -> Trust {
+    match write_again(alloc, file, trust.synced, trust.read) {
+        Ok(()) => Trust {
+            synced: trust.synced.max(trust.read),
+            ..trust
+        },
+        Err(_) => trust,
+    }
+}
+
+/// Writes the bytes between two offsets of a file again, each where it is.
+fn write_again(alloc: Global, file: &File, from: u64, to: u64) -> io::Result<()> {
+    let mut file = file;
+    let mut bytes = Vec::new(alloc);
+    let mut at = from;
+    for _piece in 0..u64::MAX {
+        if at >= to {
+            break;
+        }
+        bytes.clear();
+        file.seek(SeekFrom::Start(at))?;
+        let count = file
+            .take((to - at).min(AT_ONCE as u64))
+            .read_to_end(&mut bytes)?;
+        if count == 0 {
+            return Err(io::Error::from(ErrorKind::UnexpectedEof));
+        }
+        file.seek(SeekFrom::Start(at))?;
+        file.write_all(bytes.as_slice())?;
+        at = at.saturating_add(count as u64);
     }
     Ok(())
 }

@@ -204,11 +204,11 @@ fn keep_volume<'a, R: AllocGlobal + Files<File = File>, E: Write>(
         ends,
         trust,
     } = read;
-    begin_writing(rt, folder, &mut store, trust, boot, errors)?;
+    let synced = begin_writing(rt, folder, &mut store, trust, boot, errors)?;
     Ok(KeptVolume {
         element,
         volume,
-        image: open_image(store, ends, trust.synced),
+        image: open_image(store, ends, synced),
     })
 }
 
