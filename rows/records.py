@@ -51,8 +51,8 @@ class Found(typing.NamedTuple):
 MOVED = "bytes that were not known to be on the disk when the machine stopped were moved to"
 FOUND = {
     "same-boot": Found(
-        "what lies behind the bytes that were on the disk is read, if the machine wasn't booted since", THREE, 14, BOOT, [b"hi", None, b"odd"], None,
-        THREE, 14),
+        "what lies behind the bytes that were on the disk is read and brought there, if the machine wasn't booted since", THREE, 14, BOOT,
+        [b"hi", None, b"odd"], None, THREE, 26),
     "another-boot": Found(
         "what lies behind them isn't read, and is moved away, if the machine was booted since", THREE, 14, ANOTHER, [b"hi", None],
         f"{FIRST}: 12 {MOVED} DIR/{TAIL}", HI + MARK, 14),
