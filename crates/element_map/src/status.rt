@@ -1,6 +1,7 @@
 //! The parameter data of READ ELEMENT STATUS.
 
 ghost use Rattle.std.specs.Prelude.{◌≡◌, ◌<◌, ◌≤◌, ◌+◌, ◌*◌, ◌^◌, ◌∷◌, [], ◌++◌, length, vec_len, vec_capacity, IfOk};
+ghost use Rattle.tape_medium.specs.Limits.{block_limit};
 ghost use Rattle.tape_medium.specs.ElementStatus.{two_bytes, three_bytes, descriptor_length, tag_information, descriptor, page_of, element_status};
 ghost use Rattle.element_map.specs.Runs.{code_of, page_length, in_run, IsRun};
 ghost use Rattle.element_map.specs.Pages.{reported_at, page_header, descriptors};
@@ -26,7 +27,7 @@ impl Elements {
         voltag: bool,
     ) -> Result<Vec<u8>, AllocError>
         ensures status { IfOk result (λ bytes. bytes.items ≡ element_status self.now type_code start count voltag) }
-        ensures short { IfOk result (λ bytes. length bytes.items ≤ 65536) }
+        ensures short { IfOk result (λ bytes. length bytes.items ≤ block_limit) }
     {
         let report = self.report(type_code, start, count);
         let length = report.length(voltag);

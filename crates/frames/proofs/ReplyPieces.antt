@@ -8,6 +8,7 @@ use Rattle.scsi_sense.specs.declared.fault.SenseFault.{SenseFault}
 use Rattle.scsi_sense.specs.declared.sense.Sense.{Sense}
 use Rattle.scsi_sense.specs.declared.status.Status.{Status}
 use Rattle.scsi_sense.specs.FixedSense.{decoded_sense}
+use Rattle.frames.specs.Limits.{reply_limit}
 use Rattle.frames.specs.ParsedReplies.{ParsedReplyValue, Partial, coded_status, parsed_login_reply, parsed_reset_reply, parsed_numbered, parsed_with_sense, parsed_sense, parsed_counted, parsed_status, parsed_command_reply, parsed_reply_body, parsed_sized_reply, parsed_reply}
 use Rattle.frames.proofs.Streams.{cut_stays}
 use Rattle.frames.proofs.WrittenReplies.{parsed_reply_is}
@@ -19,7 +20,8 @@ either true x x' y y' h i known = h refl known
 either false x x' y y' h i known = i refl known
 
 numbered_stays : (status : Status) (sense : Option Sense) (before size : ℕ) (left more : List ℕ) → 8 ≤ size
-    → (parsed_numbered status sense before size left ≡ Partial → ⊥) → parsed_numbered status sense before size (left ++ more) ≡ parsed_numbered status sense before size left
+    → (parsed_numbered status sense before size left ≡ Partial → ⊥) → parsed_numbered status sense before size (left ++ more) ≡
+    parsed_numbered status sense before size left
 numbered_stays status sense before size left more least known =
     elim (cases_lt (length left) size) [
       | inl short ↦ (let here : ltb (length left) size ≡ true = lt-ltb _ _ short in absurd (known (rw here refl)))
@@ -32,7 +34,8 @@ numbered_stays status sense before size left more least known =
     ]
 
 with_sense_stays : (status : Status) (size : ℕ) (left more : List ℕ) (r : Result Sense SenseFault) → 29 ≤ size → 18 ≤ length left
-    → (parsed_with_sense status size left r ≡ Partial → ⊥) → parsed_with_sense status size (left ++ more) r ≡ parsed_with_sense status size left r
+    → (parsed_with_sense status size left r ≡ Partial → ⊥) → parsed_with_sense status size (left ++ more) r ≡ parsed_with_sense status size
+    left r
 with_sense_stays status size left more (Err fault) least long known = refl
 with_sense_stays status size left more (Ok sense) least long known =
     ap (λ (xs : List ℕ). parsed_numbered status (Some sense) 25 (size - 21) xs) (drop-append-le 18 left more long)
@@ -50,10 +53,12 @@ sense_long : (status : Status) (size : ℕ) (left more : List ℕ) → 29 ≤ si
 sense_long status size left more least long known =
     sense_there status size (left ++ more) least (omega (arith, length-append left more))
     ∙ ap (λ (xs : List ℕ). parsed_with_sense status size (left ++ more) (decoded_sense xs)) (take-append-le 18 left more long)
-    ∙ with_sense_stays status size left more (decoded_sense (take 18 left)) least long (λ e. known (sense_there status size left least long ∙ e))
+    ∙ with_sense_stays status size left more (decoded_sense (take 18 left)) least long
+    (λ e. known (sense_there status size left least long ∙ e))
     ∙ sym (sense_there status size left least long)
 
-sense_stays : (status : Status) (size : ℕ) (left more : List ℕ) → (parsed_sense status size left ≡ Partial → ⊥) → parsed_sense status size (left ++ more) ≡ parsed_sense status size left
+sense_stays : (status : Status) (size : ℕ) (left more : List ℕ) → (parsed_sense status size left ≡ Partial → ⊥) → parsed_sense status size
+    (left ++ more) ≡ parsed_sense status size left
 sense_stays status size left more known =
     elim (cases_lt size 29) [
       | inl few ↦ (let here : ltb size 29 ≡ true = lt-ltb _ _ few in rw here refl)
@@ -83,27 +88,33 @@ command_reply_stays : (size : ℕ) (fields more : List ℕ) → 11 ≤ size → 
 command_reply_stays size [] more least known = absurd (known refl)
 command_reply_stays size (code ∷ fields) more least known = status_stays (coded_status code) size fields more least known
 
-login_reply_stays : (fields more : List ℕ) → (parsed_login_reply fields ≡ Partial → ⊥) → parsed_login_reply (fields ++ more) ≡ parsed_login_reply fields
+login_reply_stays : (fields more : List ℕ) → (parsed_login_reply fields ≡ Partial → ⊥) → parsed_login_reply (fields ++ more) ≡
+    parsed_login_reply fields
 login_reply_stays [] more known = absurd (known refl)
 login_reply_stays (code ∷ fields) more known = refl
 
-reset_reply_stays : (fields more : List ℕ) → (parsed_reset_reply fields ≡ Partial → ⊥) → parsed_reset_reply (fields ++ more) ≡ parsed_reset_reply fields
+reset_reply_stays : (fields more : List ℕ) → (parsed_reset_reply fields ≡ Partial → ⊥) → parsed_reset_reply (fields ++ more) ≡
+    parsed_reset_reply fields
 reset_reply_stays [] more known = absurd (known refl)
 reset_reply_stays (code ∷ fields) more known = refl
 
-reply_body_stays : (size : ℕ) (body more : List ℕ) → (parsed_reply_body size body ≡ Partial → ⊥) → parsed_reply_body size (body ++ more) ≡ parsed_reply_body size body
+reply_body_stays : (size : ℕ) (body more : List ℕ) → (parsed_reply_body size body ≡ Partial → ⊥) → parsed_reply_body size (body ++ more) ≡
+    parsed_reply_body size body
 unfolding parsed_reply_body
 reply_body_stays size [] more known = absurd (known refl)
 reply_body_stays size (kind ∷ fields) more known =
     either (eqb kind 0x81) _ _ _ _ (λ is. either (eqb size 2) _ _ _ _ (λ two. login_reply_stays fields more) (λ other here. refl))
-    (λ is. either (eqb kind 0x82) _ _ _ _ (λ is. either (leb 11 size) _ _ _ _ (λ least. command_reply_stays size fields more (leb-true _ _ least)) (λ other here. refl))
+    (λ is. either (eqb kind 0x82) _ _ _ _ (λ is. either (leb 11 size) _ _ _ _ (λ least. command_reply_stays size fields more
+    (leb-true _ _ least)) (λ other here. refl))
     (λ is. either (eqb kind 0x83) _ _ _ _ (λ is. either (eqb size 2) _ _ _ _ (λ two. reset_reply_stays fields more) (λ other here. refl))
     (λ is here. refl)))
     known
 
-sized_reply_stays : (size : ℕ) (body more : List ℕ) → (parsed_sized_reply size body ≡ Partial → ⊥) → parsed_sized_reply size (body ++ more) ≡ parsed_sized_reply size body
+sized_reply_stays : (size : ℕ) (body more : List ℕ) → (parsed_sized_reply size body ≡ Partial → ⊥) → parsed_sized_reply size (body ++ more)
+    ≡ parsed_sized_reply size body
 sized_reply_stays size body more known =
-    either (eqb size 0) _ _ _ _ (λ none here. refl) (λ some. either (ltb 65565 size) _ _ _ _ (λ long here. refl) (λ fits. reply_body_stays size body more)) known
+    either (eqb size 0) _ _ _ _ (λ none here. refl) (λ some. either (ltb reply_limit size) _ _ _ _ (λ long here. refl)
+    (λ fits. reply_body_stays size body more)) known
 
 short_is_partial : (b : List ℕ) → length b < 4 → parsed_reply b ≡ Partial
 unfolding parsed_reply

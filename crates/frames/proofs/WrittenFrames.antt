@@ -6,6 +6,7 @@ use Rattle.std.proofs.Math.Seq.{take-append_seam, drop-append_seam}
 use Rattle.byteorder.specs.Endian.{big_bytes, big_number}
 use Rattle.byteorder.specs.Numbers.{big_number-reads_back, length-bytes_high_first}
 use Rattle.scsi_nexus.specs.declared.nexus.Nexus.{Nexus}
+use Rattle.frames.specs.Limits.{frame_limit}
 use Rattle.frames.specs.Frames.{FrameValue, Login, Command, Reset, Logout, Complete, named_login, parsed_login, whole_command, parsed_command, parsed_body, parsed_sized, parsed_frame}
 use Rattle.frames.specs.Sending.{IsSendable, HasWidth, is_behind_login, frame_body, frame_bytes}
 use Rattle.frames.specs.Stream.{Stop, Reads, frame}
@@ -30,7 +31,12 @@ body_behind body rest =
 
 pub long_enough : (body rest : List ℕ) → 4 ≤ length ((big_bytes 4 (length body) ++ body) ++ rest)
 long_enough body rest =
-    omega (arith, length-append (big_bytes 4 (length body) ++ body) rest, length-append (big_bytes 4 (length body)) body, length-bytes_high_first 4 (length body))
+    omega (
+      arith,
+      length-append (big_bytes 4 (length body) ++ body) rest,
+      length-append (big_bytes 4 (length body)) body,
+      length-bytes_high_first 4 (length body),
+    )
 
 parsed_frame_of_body : (l : Bool) (body rest : List ℕ) → length body < 2 ^ 32
     → parsed_frame l ((big_bytes 4 (length body) ++ body) ++ rest) ≡ parsed_sized l (length body) (body ++ rest)
@@ -43,11 +49,13 @@ login_named : (nexus : Nexus) → 1 ≤ nexus.port → nexus.port ≤ 4 → name
 login_named nexus least most = grind arith
 
 -- the fields of a LOGIN
-login_fields : (nexus : Nexus) (fields : List ℕ) → 10 ≤ length fields → big_number 8 fields ≡ nexus.sas → big_number 2 (drop 8 fields) ≡ nexus.port
+login_fields : (nexus : Nexus) (fields : List ℕ) → 10 ≤ length fields → big_number 8 fields ≡ nexus.sas → big_number 2 (drop 8 fields) ≡
+    nexus.port
     → 1 ≤ nexus.port → nexus.port ≤ 4 → parsed_login fields ≡ Complete (Login nexus) 15
 login_fields nexus fields long sas port least most =
     let here : ltb (length fields) 10 ≡ false = le-ltb _ _ long in
-    let found : parsed_login fields ≡ named_login (record { sas = big_number 8 fields; port = big_number 2 (drop 8 fields) }) = rw here refl in
+    let found : parsed_login fields ≡ named_login (record { sas = big_number 8 fields; port = big_number 2 (drop 8 fields) }) = rw here refl
+    in
     found
     ∙ ap (λ (n : ℕ). named_login (record { sas = n; port = big_number 2 (drop 8 fields) })) sas
     ∙ ap (λ (n : ℕ). named_login (record { sas = nexus.sas; port = n })) port
@@ -57,7 +65,8 @@ login_again : (nexus : Nexus) (rest : List ℕ) → nexus.sas < 2 ^ 64 → 1 ≤
     → parsed_login ((big_bytes 8 nexus.sas ++ big_bytes 2 nexus.port) ++ rest) ≡ Complete (Login nexus) 15
 login_again nexus rest wide least most =
     login_fields nexus ((big_bytes 8 nexus.sas ++ big_bytes 2 nexus.port) ++ rest) (omega arith)
-    (big_number-reads_back 8 nexus.sas (big_bytes 2 nexus.port ++ rest) wide) (big_number-reads_back 2 nexus.port rest (omega arith)) least most
+    (big_number-reads_back 8 nexus.sas (big_bytes 2 nexus.port ++ rest) wide) (big_number-reads_back 2 nexus.port rest (omega arith)) least
+    most
 
 -- the fields of a COMMAND
 command_tests : (lun size count : ℕ) (more : List ℕ) → 1 ≤ count → count ≤ 16 → 3 + count ≤ size → size ≤ 3 + length more
@@ -77,10 +86,12 @@ command_cut lun size cdb bytes rest is =
     let joined : (cdb ++ bytes) ++ rest ≡ cdb ++ (bytes ++ rest) = append_assoc cdb bytes rest in
     let first : take (length cdb) ((cdb ++ bytes) ++ rest) ≡ cdb = ap (take (length cdb)) joined ∙ take-append_seam cdb (bytes ++ rest) in
     let behind : drop (2 + length cdb) (lun ∷ length cdb ∷ ((cdb ++ bytes) ++ rest)) ≡ bytes ++ rest =
-    sym (drop-drop (length cdb) 2 (lun ∷ length cdb ∷ ((cdb ++ bytes) ++ rest))) ∙ ap (drop (length cdb)) joined ∙ drop-append_seam cdb (bytes ++ rest) in
+    sym (drop-drop (length cdb) 2 (lun ∷ length cdb ∷ ((cdb ++ bytes) ++ rest))) ∙ ap (drop (length cdb)) joined ∙ drop-append_seam cdb
+    (bytes ++ rest) in
     let sent : take (size - 3 - length cdb) (drop (2 + length cdb) (lun ∷ length cdb ∷ ((cdb ++ bytes) ++ rest))) ≡ bytes =
     ap (take (size - 3 - length cdb)) behind ∙ take_seam bytes rest (size - 3 - length cdb) (omega arith) in
-    ap (λ (xs : List ℕ). Command lun xs (take (size - 3 - length cdb) (drop (2 + length cdb) (lun ∷ length cdb ∷ ((cdb ++ bytes) ++ rest))))) first
+    ap (λ (xs : List ℕ). Command lun xs (take (size - 3 - length cdb) (drop (2 + length cdb)
+    (lun ∷ length cdb ∷ ((cdb ++ bytes) ++ rest))))) first
     ∙ ap (λ (xs : List ℕ). Command lun cdb xs) sent
 
 command_again : (lun size : ℕ) (cdb bytes rest : List ℕ) → 1 ≤ length cdb → length cdb ≤ 16 → size ≡ 3 + length cdb + length bytes
@@ -90,11 +101,12 @@ command_again lun size cdb bytes rest least most is =
     (omega (arith, length-append (cdb ++ bytes) rest, length-append cdb bytes))
     ∙ ap (λ (s : FrameValue). Complete s (4 + size)) (command_cut lun size cdb bytes rest is)
 
-sized_command_body : (size : ℕ) (fields : List ℕ) → 4 ≤ size → size ≤ 131072 → parsed_sized true size (0x02 ∷ fields) ≡ parsed_command size fields
+sized_command_body : (size : ℕ) (fields : List ℕ) → 4 ≤ size → size ≤ frame_limit → parsed_sized true size (0x02 ∷ fields) ≡ parsed_command
+    size fields
 unfolding parsed_body
 sized_command_body size fields least most =
     let some : eqb size 0 ≡ false = ne_eqb _ _ (λ e. omega (arith, e)) in
-    let short : ltb 131072 size ≡ false = le-ltb _ _ most in
+    let short : ltb frame_limit size ≡ false = le-ltb _ _ most in
     let four : leb 4 size ≡ true = le-leb _ _ least in
     rw (some, short, four) refl
 
@@ -105,7 +117,8 @@ unfolding parsed_body
 body_again (Login nexus) rest can wide = login_again nexus rest wide can.0 can.1
 body_again (Command lun cdb bytes) rest can wide =
     let size : length (frame_body (Command lun cdb bytes)) ≡ 3 + length cdb + length bytes = omega (arith, length-append cdb bytes) in
-    sized_command_body (length (frame_body (Command lun cdb bytes))) (lun ∷ length cdb ∷ ((cdb ++ bytes) ++ rest)) (omega (arith, size, can.0)) (omega (arith, size, can.2))
+    sized_command_body (length (frame_body (Command lun cdb bytes))) (lun ∷ length cdb ∷ ((cdb ++ bytes) ++ rest))
+    (omega (arith, size, can.0)) (omega (arith, size, can.2))
     ∙ command_again lun (length (frame_body (Command lun cdb bytes))) cdb bytes rest can.0 can.1 size
 body_again (Reset lun) rest can wide = refl
 body_again Logout rest can wide = refl
@@ -119,7 +132,8 @@ body_fits Logout can = omega arith
 pub length_whole : (body : List ℕ) → length (big_bytes 4 (length body) ++ body) ≡ 4 + length body
 length_whole body = omega (arith, length-append (big_bytes 4 (length body)) body, length-bytes_high_first 4 (length body))
 
-pub frame_again : (f : FrameValue) (rest : List ℕ) → IsSendable f → HasWidth f → parsed_frame (is_behind_login f) (frame_bytes f ++ rest) ≡ Complete f (length (frame_bytes f))
+pub frame_again : (f : FrameValue) (rest : List ℕ) → IsSendable f → HasWidth f → parsed_frame (is_behind_login f) (frame_bytes f ++ rest) ≡
+    Complete f (length (frame_bytes f))
 frame_again f rest can wide =
     parsed_frame_of_body (is_behind_login f) (frame_body f) rest (body_fits f can) ∙ body_again f rest can wide
     ∙ ap (λ (n : ℕ). Complete f n) (sym (length_whole (frame_body f)))

@@ -11,6 +11,8 @@ use Rattle.scsi_sense.specs.Status.{status_code}
 use Rattle.scsi_sense.specs.FixedSense.{IsWritable, ReadsBack, fixed_sense, decoded_sense}
 use Rattle.frames.specs.declared.reply_frame.LoginAnswer.{LoginAnswer}
 use Rattle.frames.specs.declared.reply_frame.LoginAnswer.TheVariants.{Accepted, AlreadyConnected}
+use Rattle.tape_medium.specs.Limits.{block_limit}
+use Rattle.frames.specs.Limits.{reply_limit}
 use Rattle.frames.specs.Replies.{ReplyFrameValue, LoginReply, CommandReply, ResetReply, LogoutReply, IsShort, reply_body, reply_bytes}
 use Rattle.frames.specs.ParsedReplies.{Complete, IsTellable, coded_status, parsed_reset_status, parsed_numbered, parsed_with_sense, parsed_sense, parsed_status, parsed_reply_body, parsed_sized_reply, parsed_reply}
 use Rattle.frames.proofs.WrittenFrames.{take_seam, length_read, body_behind, long_enough, length_whole}
@@ -33,14 +35,19 @@ coded_again Busy = refl
 coded_again ReservationConflict = refl
 
 -- the number of the record and the data
-numbered_again : (status : Status) (sense : Option Sense) (before size number : ℕ) (payload rest : List ℕ) → number < 2 ^ 64 → size ≡ 8 + length payload
-    → parsed_numbered status sense before size (big_bytes 8 number ++ (payload ++ rest)) ≡ Complete (CommandReply status sense number payload) (before + size)
+numbered_again : (status : Status) (sense : Option Sense) (before size number : ℕ) (payload rest : List ℕ) → number < 2 ^ 64 → size ≡ 8 +
+    length payload
+    → parsed_numbered status sense before size (big_bytes 8 number ++ (payload ++ rest)) ≡ Complete
+    (CommandReply status sense number payload) (before + size)
 numbered_again status sense before size number payload rest wide is =
-    let whole : ltb (length (big_bytes 8 number ++ (payload ++ rest))) size ≡ false = le-ltb _ _ (omega (arith, length-append payload rest)) in
+    let whole : ltb (length (big_bytes 8 number ++ (payload ++ rest))) size ≡ false = le-ltb _ _ (omega (arith, length-append payload rest))
+    in
     let found : parsed_numbered status sense before size (big_bytes 8 number ++ (payload ++ rest))
-    ≡ Complete (CommandReply status sense (big_number 8 (big_bytes 8 number ++ (payload ++ rest))) (take (size - 8) (payload ++ rest))) (before + size) = rw whole refl in
+    ≡ Complete (CommandReply status sense (big_number 8 (big_bytes 8 number ++ (payload ++ rest))) (take (size - 8) (payload ++ rest)))
+    (before + size) = rw whole refl in
     found
-    ∙ ap (λ (n : ℕ). Complete (CommandReply status sense n (take (size - 8) (payload ++ rest))) (before + size)) (big_number-reads_back 8 number (payload ++ rest) wide)
+    ∙ ap (λ (n : ℕ). Complete (CommandReply status sense n (take (size - 8) (payload ++ rest))) (before + size))
+    (big_number-reads_back 8 number (payload ++ rest) wide)
     ∙ ap (λ (xs : List ℕ). Complete (CommandReply status sense number xs) (before + size)) (take_seam payload rest (size - 8) (omega arith))
 
 -- the sense data, and what follows them
@@ -49,30 +56,35 @@ sensed_again : ReadsBack → (status : Status) (sense : Sense) (size : ℕ) (lef
 sensed_again reads status sense size left can least =
     let long : ltb size 29 ≡ false = le-ltb _ _ least in
     let there : ltb (length (fixed_sense sense ++ left)) 18 ≡ false = le-ltb _ _ (omega arith) in
-    let found : parsed_sense status size (fixed_sense sense ++ left) ≡ parsed_with_sense status size (fixed_sense sense ++ left) (decoded_sense (fixed_sense sense)) =
+    let found : parsed_sense status size (fixed_sense sense ++ left) ≡ parsed_with_sense status size (fixed_sense sense ++ left)
+    (decoded_sense (fixed_sense sense)) =
     rw (long, there) refl in
     found ∙ ap (λ (r : Result Sense SenseFault). parsed_with_sense status size (fixed_sense sense ++ left) r) (reads sense can)
 
-sized_command_reply : (status : Status) (size : ℕ) (fields : List ℕ) → 11 ≤ size → size ≤ 65565
+sized_command_reply : (status : Status) (size : ℕ) (fields : List ℕ) → 11 ≤ size → size ≤ reply_limit
     → parsed_sized_reply size (0x82 ∷ status_code status ∷ fields) ≡ parsed_status (Some status) size fields
 unfolding parsed_reply_body
 sized_command_reply status size fields least most =
     let some : eqb size 0 ≡ false = ne_eqb _ _ (λ e. omega (arith, e)) in
-    let short : ltb 65565 size ≡ false = le-ltb _ _ most in
+    let short : ltb reply_limit size ≡ false = le-ltb _ _ most in
     let enough : leb 11 size ≡ true = le-leb _ _ least in
-    let found : parsed_sized_reply size (0x82 ∷ status_code status ∷ fields) ≡ parsed_status (coded_status (status_code status)) size fields = rw (some, short, enough) refl in
+    let found : parsed_sized_reply size (0x82 ∷ status_code status ∷ fields) ≡ parsed_status (coded_status (status_code status)) size fields
+    = rw (some, short, enough) refl in
     found ∙ ap (λ (o : Option Status). parsed_status o size fields) (coded_again status)
 
-plain_again : (status : Status) (size number : ℕ) (payload rest : List ℕ) → number < 2 ^ 64 → size ≡ 11 + length payload → length payload ≤ 65536
-    → parsed_sized_reply size (0x82 ∷ status_code status ∷ 0 ∷ (big_bytes 8 number ++ (payload ++ rest))) ≡ Complete (CommandReply status None number payload) (4 + size)
+plain_again : (status : Status) (size number : ℕ) (payload rest : List ℕ) → number < 2 ^ 64 → size ≡ 11 + length payload → length payload ≤
+    block_limit
+    → parsed_sized_reply size (0x82 ∷ status_code status ∷ 0 ∷ (big_bytes 8 number ++ (payload ++ rest))) ≡ Complete
+    (CommandReply status None number payload) (4 + size)
 plain_again status size number payload rest wide is short =
     let count : 7 + (size - 3) ≡ 4 + size = omega arith in
     sized_command_reply status size _ (omega arith) (omega arith)
     ∙ numbered_again status None 7 (size - 3) number payload rest wide (omega arith)
     ∙ ap (λ (n : ℕ). Complete (CommandReply status None number payload) n) count
 
-with_sense_again : ReadsBack → (status : Status) (sense : Sense) (size number : ℕ) (payload rest : List ℕ) → IsWritable sense → number < 2 ^ 64
-    → size ≡ 29 + length payload → length payload ≤ 65536
+with_sense_again : ReadsBack → (status : Status) (sense : Sense) (size number : ℕ) (payload rest : List ℕ) → IsWritable sense → number < 2 ^
+    64
+    → size ≡ 29 + length payload → length payload ≤ block_limit
     → parsed_sized_reply size (0x82 ∷ status_code status ∷ 0x12 ∷ (fixed_sense sense ++ (big_bytes 8 number ++ (payload ++ rest))))
     ≡ Complete (CommandReply status (Some sense) number payload) (4 + size)
 with_sense_again reads status sense size number payload rest can wide is short =
@@ -82,7 +94,8 @@ with_sense_again reads status sense size number payload rest can wide is short =
     ∙ numbered_again status (Some sense) 25 (size - 21) number payload rest wide (omega arith)
     ∙ ap (λ (n : ℕ). Complete (CommandReply status (Some sense) number payload) n) count
 
-login_reply_again : (answer : LoginAnswer) (rest : List ℕ) → parsed_sized_reply 2 (reply_body (LoginReply answer) ++ rest) ≡ Complete (LoginReply answer) 6
+login_reply_again : (answer : LoginAnswer) (rest : List ℕ) → parsed_sized_reply 2 (reply_body (LoginReply answer) ++ rest) ≡ Complete
+    (LoginReply answer) 6
 unfolding parsed_reply_body
 login_reply_again Accepted rest = refl
 login_reply_again AlreadyConnected rest = refl
@@ -95,7 +108,8 @@ reply_body_again reads (LoginReply answer) rest short can = login_reply_again an
 reply_body_again reads (CommandReply status None number payload) rest short can =
     plain_again status (length (reply_body (CommandReply status None number payload))) number payload rest can.0 (omega arith) short
 reply_body_again reads (CommandReply status (Some sense) number payload) rest short can =
-    with_sense_again reads status sense (length (reply_body (CommandReply status (Some sense) number payload))) number payload rest can.1 can.0 (omega arith) short
+    with_sense_again reads status sense (length (reply_body (CommandReply status (Some sense) number payload))) number payload rest can.1
+    can.0 (omega arith) short
 reply_body_again reads (ResetReply status) rest short can = ap parsed_reset_status (coded_again status)
 reply_body_again reads LogoutReply rest short can = refl
 
@@ -106,7 +120,8 @@ reply_fits (CommandReply status (Some sense) number payload) short = omega arith
 reply_fits (ResetReply status) short = omega arith
 reply_fits LogoutReply short = omega arith
 
-pub reply_again : ReadsBack → (r : ReplyFrameValue) (rest : List ℕ) → IsShort r → IsTellable r → parsed_reply (reply_bytes r ++ rest) ≡ Complete r (length (reply_bytes r))
+pub reply_again : ReadsBack → (r : ReplyFrameValue) (rest : List ℕ) → IsShort r → IsTellable r → parsed_reply (reply_bytes r ++ rest) ≡
+    Complete r (length (reply_bytes r))
 reply_again reads r rest short can =
     parsed_reply_of_body (reply_body r) rest (reply_fits r short) ∙ reply_body_again reads r rest short can
     ∙ ap (λ (n : ℕ). Complete r n) (sym (length_whole (reply_body r)))

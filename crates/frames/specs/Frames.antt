@@ -2,6 +2,7 @@
 use Rattle.std.specs.Prelude.{ℕ, ◌+◌, ◌-◌, ◌==◌, ◌&&◌, ◌||◌, nat_lt, nat_le, not, Bool, List, [], ◌∷◌, length, take, drop, slice_index, if◌then◌else◌}
 use Rattle.byteorder.specs.Endian.{big_number}
 use Rattle.scsi_nexus.specs.declared.nexus.Nexus.{Nexus}
+use Rattle.frames.specs.Limits.{frame_limit}
 use Rattle.frames.specs.declared.fault.FrameFault.{FrameFault}
 use Rattle.frames.specs.declared.fault.FrameFault.TheVariants.{BadFrame, TooLong}
 
@@ -60,7 +61,7 @@ parsed_body logged size (kind ∷ fields) =
 abbrev pub parsed_sized : (logged : Bool) → (size : ℕ) → (body : List ℕ) → ParsedFrameValue
 parsed_sized logged size body =
     if size == 0 then Invalid BadFrame
-    else if nat_lt 131072 size then Invalid TooLong
+    else if nat_lt frame_limit size then Invalid TooLong
     else parsed_body logged size body
 
 unfoldable pub parsed_frame : (logged : Bool) → (bytes : List ℕ) → ParsedFrameValue

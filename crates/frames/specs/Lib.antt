@@ -1,3 +1,4 @@
+pub mod Limits
 pub mod Frames
 pub mod Replies
 pub mod Sending

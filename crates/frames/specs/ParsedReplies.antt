@@ -9,6 +9,7 @@ use Rattle.scsi_sense.specs.FixedSense.{decoded_sense, IsWritable}
 use Rattle.frames.specs.declared.reply_frame.LoginAnswer.TheVariants.{Accepted, AlreadyConnected}
 use Rattle.frames.specs.declared.reply_fault.ReplyFault.{ReplyFault}
 use Rattle.frames.specs.declared.reply_fault.ReplyFault.TheVariants.{NoBody, TooLong, UnknownKind, BadLength, UnknownAnswer, UnknownStatus, BadSenseLength, BadSense}
+use Rattle.frames.specs.Limits.{reply_limit}
 use Rattle.frames.specs.Replies.{ReplyFrameValue, LoginReply, CommandReply, ResetReply, LogoutReply}
 
 -- what a stream of replies begins with: less than a reply, a reply of so many bytes, or a fault
@@ -90,11 +91,11 @@ parsed_reply_body size (kind ∷ fields) =
     else if kind == 0x84 then if size == 1 then Complete LogoutReply 5 else Invalid BadLength
     else Invalid UnknownKind
 
--- the longest reply has 65,536 bytes of data behind 29 others: kind, status, length of the sense data, sense data, number
+-- of the whole, by its length
 abbrev pub parsed_sized_reply : (size : ℕ) → (body : List ℕ) → ParsedReplyValue
 parsed_sized_reply size body =
     if size == 0 then Invalid NoBody
-    else if nat_lt 65565 size then Invalid TooLong
+    else if nat_lt reply_limit size then Invalid TooLong
     else parsed_reply_body size body
 
 unfoldable pub parsed_reply : (bytes : List ℕ) → ParsedReplyValue

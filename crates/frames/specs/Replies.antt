@@ -5,6 +5,7 @@ use Rattle.scsi_sense.specs.declared.sense.Sense.{Sense}
 use Rattle.scsi_sense.specs.declared.status.Status.{Status}
 use Rattle.scsi_sense.specs.Status.{status_code}
 use Rattle.scsi_sense.specs.FixedSense.{fixed_sense}
+use Rattle.tape_medium.specs.Limits.{block_limit}
 use Rattle.frames.specs.declared.reply_frame.LoginAnswer.{LoginAnswer}
 use Rattle.frames.specs.declared.reply_frame.LoginAnswer.TheVariants.{Accepted, AlreadyConnected}
 
@@ -36,5 +37,5 @@ reply_bytes reply = big_bytes 4 (length (reply_body reply)) ++ reply_body reply
 
 -- a command's data are those of a block at most
 abbrev pub IsShort : ReplyFrameValue → Type 0
-IsShort (CommandReply status sense number payload) = length payload ≤ 65536
+IsShort (CommandReply status sense number payload) = length payload ≤ block_limit
 IsShort reply = Unit {0}

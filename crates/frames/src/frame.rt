@@ -29,7 +29,7 @@ pub enum FrameRef<'a> {
 
 impl FrameRef<'_> {
     /// Whether a client may send it: a target port of 1 to 4; a CDB of 1 to 16 bytes, with data that a body of
-    /// 131,072 bytes has room for.
+    /// `MAX_BODY` bytes has room for.
     pub fn is_sendable(&self) -> bool
         ensures { IsTrue result ↔ IsSendable (frame_value self.now) }
     {

@@ -4,10 +4,20 @@ ghost use Rattle.scsi_sense.specs.declared.condition.Condition.TheVariants.{Powe
 ghost use Rattle.scsi_sense.specs.declared.status.Status.TheVariants.{Good, CheckCondition, Busy};
 ghost use Rattle.frames.specs.declared.reply_frame.LoginAnswer.TheVariants.{Accepted, AlreadyConnected};
 ghost use Rattle.frames.specs.Replies.{LoginReply, CommandReply, ResetReply, LogoutReply, reply_bytes};
+ghost use Rattle.frames.specs.Limits.{frame_size_limit, command_data_limit, reply_limit, reply_size_limit, frame_buffer_size};
 ghost use Rattle.frames.specs.declared.fault.FrameFault.TheVariants.{BadFrame, TooLong};
 ghost use Rattle.frames.specs.Frames.{FrameValue, Login, Command, Reset, Logout, Partial, Complete, Invalid, parsed_frame};
 ghost use Rattle.frames.specs.Rows.{a, login_by, test_unit_ready, write, logout, one_session, one_session_frames, cut_session};
 ghost use Rattle.frames.specs.Stream.{Reads, Stop, Waiting, Broken, Feeds, Takes};
+
+/// Worked rows: how long frames and replies are at the most.
+pub fn limit_rows()
+    ensures frame { frame_size_limit ≡ 131076 }
+    ensures command_data { command_data_limit ≡ 131053 }
+    ensures reply { reply_limit ≡ 65565 }
+    ensures whole_reply { reply_size_limit ≡ 65569 }
+    ensures buffer { frame_buffer_size ≡ 262144 }
+{}
 
 /// Worked rows: streams that begin with a frame, and what more lies behind it.
 pub fn frame_rows()

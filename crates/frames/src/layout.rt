@@ -2,6 +2,7 @@
 
 use read_buffer::ReadBuffer;
 use scsi_sense::SENSE_LENGTH;
+use tape_medium::MAX_BLOCK;
 
 /// How many bytes tell the length of the body that follows.
 pub const LENGTH_FIELD: usize = 4;
@@ -30,6 +31,9 @@ pub(crate) const COMMAND_FIELDS: usize = 2;
 /// The most bytes of a CDB.
 pub(crate) const MAX_CDB: usize = 16;
 
+/// The most data of a COMMAND with any CDB: what a body has room for behind its kind, its fields and the longest CDB.
+pub const MAX_COMMAND_DATA: usize = MAX_BODY - 1 - COMMAND_FIELDS - MAX_CDB;
+
 /// The kinds of reply frames.
 pub(crate) const LOGIN_REPLY: u8 = 0x81;
 
@@ -55,12 +59,12 @@ pub(crate) const BEFORE_SENSE: usize = 3;
 /// How many bytes the number of a record has.
 pub(crate) const NUMBER_FIELD: usize = 8;
 
-/// The most bytes of a reply's body: kind, status, the length of the sense data, 18 bytes of sense data, the
-/// record's number, and 65,536 bytes of data.
-pub const MAX_REPLY: usize = 65_565;
+/// The most bytes of a reply's body: kind, status, the length of the sense data, sense data, the record's number, and
+/// the data of an answer, a block's at most.
+pub const MAX_REPLY: usize = BEFORE_SENSE + SENSE_LENGTH + NUMBER_FIELD + MAX_BLOCK as usize;
 
 /// Room for what was read of a stream: some twice the longest frame, so that a read can bring many frames at once.
-pub const FRAME_BUFFER: usize = 262_144;
+pub const FRAME_BUFFER: usize = 2 * MAX_BODY;
 
 /// The bytes of a stream of which no frame was made yet.
 pub type FrameBuffer = ReadBuffer<FRAME_BUFFER>;

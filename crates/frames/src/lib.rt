@@ -19,10 +19,10 @@ pub use awaiting::{ReplyWait, await_reply};
 pub use fault::FrameFault;
 pub use frame::{FrameRef, ParsedFrame};
 pub use laws::{
-    broken_rows, fault_rows, frame_rows, one_reading, partial_rows, pieces_join, reply_rows,
-    stream_rows, taken_is_read,
+    broken_rows, fault_rows, frame_rows, limit_rows, one_reading, partial_rows, pieces_join,
+    reply_rows, stream_rows, taken_is_read,
 };
-pub use layout::{FRAME_BUFFER, FrameBuffer, LENGTH_FIELD, MAX_BODY, MAX_REPLY};
+pub use layout::{FRAME_BUFFER, FrameBuffer, LENGTH_FIELD, MAX_BODY, MAX_COMMAND_DATA, MAX_REPLY};
 pub use parse::parse_frame;
 pub use reply_fault::ReplyFault;
 pub use reply_frame::{LoginAnswer, ParsedReply, ReplyFrame, write_reply};

@@ -1,5 +1,6 @@
 ghost use Rattle.std.specs.Prelude.{◌≡◌, ◌≤◌, ◌<◌, ◌+◌, length};
 ghost use Rattle.frames.specs.Frames.{parsed_login, parsed_command, parsed_reset, parsed_body, parsed_frame, Partial};
+ghost use Rattle.frames.specs.Limits.{frame_limit, frame_size_limit};
 ghost use Rattle.frames.specs.Views.{parsed_value, IsWithin};
 
 use crate::fault::FrameFault;
@@ -29,7 +30,7 @@ fn login_of(fields: &[u8]) -> ParsedFrame<'_>
 /// A COMMAND whose body has `size` bytes, of these behind its kind.
 fn command_of(size: usize, fields: &[u8]) -> ParsedFrame<'_>
     requires least { 4 ≤ size }
-    requires most { size ≤ 131072 }
+    requires most { size ≤ frame_limit }
     ensures parsed { parsed_value result ≡ parsed_command size fields.now }
     ensures within { IsWithin (5 + length fields.now) result }
     ensures partial { parsed_value result ≡ Partial → length fields.now + 1 < size }
@@ -70,7 +71,7 @@ fn reset_of(fields: &[u8]) -> ParsedFrame<'_>
 #[tactic(auto, unfolding(crate::specs::Frames::parsed_body))]
 fn body_of(logged_in: bool, size: usize, body: &[u8]) -> ParsedFrame<'_>
     requires least { 0 < size }
-    requires most { size ≤ 131072 }
+    requires most { size ≤ frame_limit }
     ensures parsed { parsed_value result ≡ parsed_body logged_in size body.now }
     ensures within { IsWithin (4 + length body.now) result }
     ensures partial { parsed_value result ≡ Partial → length body.now < size }
@@ -96,7 +97,7 @@ fn body_of(logged_in: bool, size: usize, body: &[u8]) -> ParsedFrame<'_>
 pub fn parse_frame(logged_in: bool, bytes: &[u8]) -> ParsedFrame<'_>
     ensures parsed { parsed_value result ≡ parsed_frame logged_in bytes.now }
     ensures within { IsWithin (length bytes.now) result }
-    ensures partial { parsed_value result ≡ Partial → length bytes.now < 4 + 131072 }
+    ensures partial { parsed_value result ≡ Partial → length bytes.now < frame_size_limit }
 {
     if bytes.len() < LENGTH_FIELD {
         return ParsedFrame::Partial;

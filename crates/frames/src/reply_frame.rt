@@ -1,4 +1,6 @@
 ghost use Rattle.std.specs.Prelude.{◌≡◌, ◌≤◌, ◌<◌, ◌+◌, ◌++◌, length, vec_len, vec_capacity, OnOk, OnErr};
+ghost use Rattle.tape_medium.specs.Limits.{block_limit};
+ghost use Rattle.frames.specs.Limits.{reply_size_limit};
 ghost use Rattle.frames.specs.Replies.{IsShort, reply_bytes, sense_bytes, login_code, CommandReply};
 ghost use Rattle.frames.specs.Views.{reply_value};
 
@@ -50,14 +52,14 @@ fn code_of(answer: LoginAnswer) -> u8
 }
 
 /// Adds a reply frame: four bytes of length, then a body whose first byte is its kind. Room for all of it is
-/// made first; where memory is refused, nothing that counts was added. No reply has more than 65,569 bytes, so none takes
-/// memory where there is room for as many.
+/// made first; where memory is refused, nothing that counts was added. No reply has more bytes than
+/// `MAX_REPLY` behind its length, so none takes memory where there is room for as many.
 pub fn write_reply(out: &mut Vec<u8>, reply: &ReplyFrame<'_>) -> Result<(), AllocError>
     requires { IsShort (reply_value reply.now) }
     ensures added { OnOk result (out.new.items ≡ out.old.items ++ reply_bytes (reply_value reply.now)) }
-    ensures most { OnOk result (vec_len out.new ≤ vec_len out.old + 65569) }
+    ensures most { OnOk result (vec_len out.new ≤ vec_len out.old + reply_size_limit) }
     ensures capacity { vec_capacity out.old ≤ vec_capacity out.new }
-    ensures full { OnErr result (vec_capacity out.old < vec_len out.old + 65569) }
+    ensures full { OnErr result (vec_capacity out.old < vec_len out.old + reply_size_limit) }
 {
     match reply {
         ReplyFrame::Login(answer) => {
@@ -84,11 +86,11 @@ fn write_command_reply(
     number: u64,
     bytes: &[u8],
 ) -> Result<(), AllocError>
-    requires { length bytes.now ≤ 65536 }
+    requires { length bytes.now ≤ block_limit }
     ensures added { OnOk result (out.new.items ≡ out.old.items ++ reply_bytes (CommandReply status sense.now number bytes.now)) }
-    ensures most { OnOk result (vec_len out.new ≤ vec_len out.old + 65569) }
+    ensures most { OnOk result (vec_len out.new ≤ vec_len out.old + reply_size_limit) }
     ensures capacity { vec_capacity out.old ≤ vec_capacity out.new }
-    ensures full { OnErr result (vec_capacity out.old < vec_len out.old + 65569) }
+    ensures full { OnErr result (vec_capacity out.old < vec_len out.old + reply_size_limit) }
 {
     let size = COMMAND_REPLY_FIELDS + sense_length(sense) as usize + bytes.len();
     out.reserve(LENGTH_FIELD + size)?;

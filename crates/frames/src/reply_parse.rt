@@ -1,4 +1,5 @@
 ghost use Rattle.std.specs.Prelude.{◌≡◌, ◌≤◌, ◌<◌, ◌+◌, length};
+ghost use Rattle.frames.specs.Limits.{reply_limit, reply_size_limit};
 ghost use Rattle.frames.specs.ParsedReplies.{coded_status, parsed_login_reply, parsed_reset_reply, parsed_numbered, parsed_sense, parsed_command_reply, parsed_reply_body, parsed_reply, Partial};
 ghost use Rattle.frames.specs.Views.{parsed_reply_value, IsReplyWithin};
 
@@ -64,7 +65,7 @@ fn numbered_of(
 ) -> ParsedReply<'_>
     requires before { before ≤ 25 }
     requires least { 8 ≤ size }
-    requires most { size ≤ 65565 }
+    requires most { size ≤ reply_limit }
     ensures parsed { parsed_reply_value result ≡ parsed_numbered status sense before size left.now }
     ensures within { IsReplyWithin (before + length left.now) result }
     ensures partial { parsed_reply_value result ≡ Partial → length left.now < size }
@@ -83,7 +84,7 @@ fn numbered_of(
 
 /// A COMMAND's reply whose body has `size` bytes, from its sense data on.
 fn sensed_of(status: Status, size: usize, left: &[u8]) -> ParsedReply<'_>
-    requires most { size ≤ 65565 }
+    requires most { size ≤ reply_limit }
     ensures parsed { parsed_reply_value result ≡ parsed_sense status size left.now }
     ensures within { IsReplyWithin (7 + length left.now) result }
     ensures partial { parsed_reply_value result ≡ Partial → length left.now + 3 < size }
@@ -111,7 +112,7 @@ fn sensed_of(status: Status, size: usize, left: &[u8]) -> ParsedReply<'_>
 /// A COMMAND's reply whose body has `size` bytes, from its status on.
 fn command_reply_of(size: usize, fields: &[u8]) -> ParsedReply<'_>
     requires least { 11 ≤ size }
-    requires most { size ≤ 65565 }
+    requires most { size ≤ reply_limit }
     ensures parsed { parsed_reply_value result ≡ parsed_command_reply size fields.now }
     ensures within { IsReplyWithin (5 + length fields.now) result }
     ensures partial { parsed_reply_value result ≡ Partial → length fields.now + 1 < size }
@@ -142,7 +143,7 @@ fn command_reply_of(size: usize, fields: &[u8]) -> ParsedReply<'_>
 #[tactic(auto, unfolding(crate::specs::ParsedReplies::parsed_reply_body))]
 fn reply_body_of(size: usize, body: &[u8]) -> ParsedReply<'_>
     requires least { 0 < size }
-    requires most { size ≤ 65565 }
+    requires most { size ≤ reply_limit }
     ensures parsed { parsed_reply_value result ≡ parsed_reply_body size body.now }
     ensures within { IsReplyWithin (4 + length body.now) result }
     ensures partial { parsed_reply_value result ≡ Partial → length body.now < size }
@@ -168,7 +169,7 @@ fn reply_body_of(size: usize, body: &[u8]) -> ParsedReply<'_>
 pub fn parse_reply(bytes: &[u8]) -> ParsedReply<'_>
     ensures parsed { parsed_reply_value result ≡ parsed_reply bytes.now }
     ensures within { IsReplyWithin (length bytes.now) result }
-    ensures partial { parsed_reply_value result ≡ Partial → length bytes.now < 4 + 65565 }
+    ensures partial { parsed_reply_value result ≡ Partial → length bytes.now < reply_size_limit }
 {
     if bytes.len() < LENGTH_FIELD {
         return ParsedReply::Partial;

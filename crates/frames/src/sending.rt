@@ -1,5 +1,6 @@
 ghost use Rattle.std.specs.Prelude.{◌≡◌, ◌≤◌, ◌+◌, ◌++◌, length, OnOk, OnErr};
 ghost use Rattle.frames.specs.Frames.{Login, Command};
+ghost use Rattle.frames.specs.Limits.{frame_limit};
 ghost use Rattle.frames.specs.Sending.{IsSendable, frame_bytes};
 ghost use Rattle.frames.specs.Views.{frame_value};
 
@@ -37,7 +38,7 @@ fn write_login(out: &mut Vec<u8>, nexus: Nexus) -> Result<(), AllocError>
 /// Adds a COMMAND.
 fn write_command(out: &mut Vec<u8>, lun: u8, cdb: &[u8], bytes: &[u8]) -> Result<(), AllocError>
     requires cdb { length cdb.now ≤ 16 }
-    requires bytes { 3 + length cdb.now + length bytes.now ≤ 131072 }
+    requires bytes { 3 + length cdb.now + length bytes.now ≤ frame_limit }
     ensures ok { OnOk result (out.new.items ≡ out.old.items ++ frame_bytes (Command lun cdb.now bytes.now)) }
     ensures err { OnErr result (out.new.items ≡ out.old.items) }
 {

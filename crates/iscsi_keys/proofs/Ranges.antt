@@ -1,6 +1,7 @@
 -- What is agreed stays in its ranges.
 use Rattle.std.proofs.Common.{◌≡◌, ℕ, ◌≤◌, ◌&&◌, leb, Bool, true, false, cond, inl, inr, ◌⊎◌, List, [], ◌∷◌, Option, Some, None, refl, sym, subst, min, max, arith}
 use Rattle.std.proofs.lemmas.Bool.{cases_lt, le-leb, lt-leb}
+use Rattle.iscsi_keys.specs.Limits.{segment_limit}
 use Rattle.iscsi_keys.specs.Keys.{range}
 use Rattle.iscsi_keys.specs.Numbers.{number_in}
 use Rattle.iscsi_keys.specs.Answers.{in_range, number_answer, answer_to}
@@ -16,12 +17,14 @@ use Rattle.iscsi_keys.specs.declared.parameters.SessionParameters.{SessionParame
 use Rattle.iscsi_keys.specs.declared.negotiation.Negotiation.{Negotiation}
 
 -- a number is taken where it is in the range
-taken : (r : Range) (o : Option ℕ) → (in_range r o ≡ None) ⊎ ((n : ℕ) × (o ≡ Some n) × (in_range r o ≡ Some n) × (r.least ≤ n) × (n ≤ r.most))
+taken : (r : Range) (o : Option ℕ) → (in_range r o ≡ None) ⊎ ((n : ℕ) × (o ≡ Some n) × (in_range r o ≡ Some n) × (r.least ≤ n) ×
+    (n ≤ r.most))
 taken r None = inl refl
 taken r (Some n) = elim (cases_lt n r.least) [
   | inl below ↦ (let few : leb r.least n ≡ false = lt-leb _ _ below in inl (rw few refl))
   | inr least ↦ elim (cases_lt r.most n) [
-    | inl above ↦ (let enough : leb r.least n ≡ true = le-leb _ _ least in let many : leb n r.most ≡ false = lt-leb _ _ above in inl (rw (enough, many) refl))
+    | inl above ↦ (let enough : leb r.least n ≡ true = le-leb _ _ least in let many : leb n r.most ≡ false = lt-leb _ _ above in inl
+        (rw (enough, many) refl))
     | inr most ↦ (
         let enough : leb r.least n ≡ true = le-leb _ _ least in
         let within : leb n r.most ≡ true = le-leb _ _ most in
@@ -31,17 +34,29 @@ taken r (Some n) = elim (cases_lt n r.least) [
 
 -- what holds of each answer to a number
 number_case : (P : KeyAnswer → Type 0) (d : Bool) (chosen : ℕ → ℕ) (r : Range) (o : Option ℕ) → P answer.Irrelevant → P answer.Reject
-    → ((n : ℕ) → o ≡ Some n → r.least ≤ n → n ≤ r.most → P (answer.Number (chosen n))) → P (cond d answer.Irrelevant (number_answer chosen (in_range r o)))
+    → ((n : ℕ) → o ≡ Some n → r.least ≤ n → n ≤ r.most → P (answer.Number (chosen n))) → P
+    (cond d answer.Irrelevant (number_answer chosen (in_range r o)))
 number_case P true chosen r o i j k = i
 number_case P false chosen r o i j k = elim (taken r o) [
   | inl none ↦ subst (λ (x : Option ℕ). P (number_answer chosen x)) (sym none) j
   | inr w ↦ subst (λ (x : Option ℕ). P (number_answer chosen x)) (sym w.2) (k w.0 w.1 w.3 w.4)
 ]
 
-length_taken : (p : SessionParameters) (own n : ℕ) (o : Option ℕ) → o ≡ Some n → 512 ≤ n → n ≤ 16777215 → AreInRange p → AreInRange (with_length p (answer.Number own) o)
+length_taken : (p : SessionParameters) (own n : ℕ) (o : Option ℕ) → o ≡ Some n → 512 ≤ n → n ≤ 16777215 → AreInRange p → AreInRange
+    (with_length p (answer.Number own) o)
 length_taken p own n o e least most h =
     subst (λ (x : Option ℕ). AreInRange (with_length p (answer.Number own) x)) (sym e)
-    (record { some_segment = least; short_segment = most; some_burst = h.some_burst; short_burst = h.short_burst; some_first_burst = h.some_first_burst; short_first_burst = h.short_first_burst; first_within_burst = h.first_within_burst; short_wait = h.short_wait })
+    (record {
+      some_segment = least;
+      short_segment = most;
+      some_burst = h.some_burst;
+      short_burst = h.short_burst;
+      some_first_burst =
+          h.some_first_burst;
+      short_first_burst = h.short_first_burst;
+      first_within_burst = h.first_within_burst;
+      short_wait = h.short_wait;
+    })
 
 burst_taken : (p : SessionParameters) (n : ℕ) → 512 ≤ n → AreInRange p → AreInRange (with_burst p (answer.Number (min n 1048576)))
 burst_taken p n least h = record {
@@ -55,7 +70,8 @@ burst_taken p n least h = record {
   short_wait = h.short_wait;
 }
 
-first_taken : (p : SessionParameters) (n : ℕ) → 512 ≤ n → AreInRange p → AreInRange (with_first_burst p (answer.Number (min n (min 262144 p.max_burst_length))))
+first_taken : (p : SessionParameters) (n : ℕ) → 512 ≤ n → AreInRange p → AreInRange
+    (with_first_burst p (answer.Number (min n (min 262144 p.max_burst_length))))
 first_taken p n least h = record {
   some_segment = h.some_segment;
   short_segment = h.short_segment;
@@ -80,7 +96,8 @@ wait_taken p n most h = record {
 }
 
 -- parameters that differ in what has no range
-same_numbers : (p : SessionParameters) (r2t immediate : Bool) → AreInRange p → AreInRange (record p { initial_r2t = r2t; immediate_data = immediate })
+same_numbers : (p : SessionParameters) (r2t immediate : Bool) → AreInRange p → AreInRange
+    (record p { initial_r2t = r2t; immediate_data = immediate })
 same_numbers p r2t immediate h = record {
   some_segment = h.some_segment;
   short_segment = h.short_segment;
@@ -100,15 +117,19 @@ immediate_taken : (p : SessionParameters) (a : KeyAnswer) → AreInRange p → A
 immediate_taken p (answer.Boolean said) h = same_numbers p p.initial_r2t said h
 immediate_taken p _ h = h
 
-key_stays : (t : Terms) (p : SessionParameters) (k : Key) (value : List ℕ) → AreInRange p → AreInRange (agreed p k (answer_to t p.max_burst_length k value) (number_in value))
+key_stays : (t : Terms) (p : SessionParameters) (k : Key) (value : List ℕ) → AreInRange p → AreInRange
+    (agreed p k (answer_to t p.max_burst_length k value) (number_in value))
 key_stays t p key.MaxRecvDataSegmentLength value h =
-    number_case (λ (a : KeyAnswer). AreInRange (with_length p a (number_in value))) (t.discovery && false) (λ n. 262144) (range 512 16777215 262144) (number_in value) h h
-    (λ n e least most. length_taken p 262144 n (number_in value) e least most h)
+    number_case (λ (a : KeyAnswer). AreInRange (with_length p a (number_in value))) (t.discovery && false) (λ n. segment_limit)
+    (range 512 16777215 segment_limit) (number_in value) h h
+    (λ n e least most. length_taken p segment_limit n (number_in value) e least most h)
 key_stays t p key.MaxBurstLength value h =
-    number_case (λ (a : KeyAnswer). AreInRange (with_burst p a)) (t.discovery && true) (λ n. min n 1048576) (range 512 16777215 1048576) (number_in value) h h
+    number_case (λ (a : KeyAnswer). AreInRange (with_burst p a)) (t.discovery && true) (λ n. min n 1048576) (range 512 16777215 1048576)
+    (number_in value) h h
     (λ n e least most. burst_taken p n least h)
 key_stays t p key.FirstBurstLength value h =
-    number_case (λ (a : KeyAnswer). AreInRange (with_first_burst p a)) (t.discovery && true) (λ n. min n (min 262144 p.max_burst_length)) (range 512 16777215 (min 262144 p.max_burst_length)) (number_in value) h h
+    number_case (λ (a : KeyAnswer). AreInRange (with_first_burst p a)) (t.discovery && true) (λ n. min n (min 262144 p.max_burst_length))
+    (range 512 16777215 (min 262144 p.max_burst_length)) (number_in value) h h
     (λ n e least most. first_taken p n least h)
 key_stays t p key.DefaultTime2Wait value h =
     number_case (λ (a : KeyAnswer). AreInRange (with_wait p a)) (t.discovery && false) (λ n. max n 0) (range 0 3600 0) (number_in value) h h
@@ -121,7 +142,8 @@ either_stays : (n m : Negotiation) (b : Bool) → AreInRange n.parameters → Ar
 either_stays n m true h i = h
 either_stays n m false h i = i
 
-known_stays : (n : Negotiation) (o : Option Key) (value : List ℕ) → AreInRange n.parameters → AreInRange (negotiated_if_known n o value).parameters
+known_stays : (n : Negotiation) (o : Option Key) (value : List ℕ) → AreInRange n.parameters → AreInRange
+    (negotiated_if_known n o value).parameters
 known_stays n None value h = h
 known_stays n (Some k) value h = either_stays n _ (was_offered n k) h (key_stays n.terms n.parameters k value h)
 

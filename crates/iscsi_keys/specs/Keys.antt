@@ -1,6 +1,7 @@
 -- The table of keys: how each is written and negotiated, in which range, and the target's own value (RFC 7143, "Login/Text
 -- Operational Text Keys"; the target's own values: profile).
 use Rattle.std.specs.Prelude.{ℕ, Bool, true, false, List, [], ◌∷◌, codes}
+use Rattle.iscsi_keys.specs.Limits.{segment_limit}
 use Rattle.iscsi_keys.specs.declared.key.Key.{Key}
 use Rattle.iscsi_keys.specs.declared.key.Key.TheVariants as key
 use Rattle.iscsi_keys.specs.declared.kind.KeyKind.{KeyKind}
@@ -48,7 +49,7 @@ key_kind key.DataDigest = kind.List word.None
 key_kind key.MaxConnections = kind.Smaller (range 1 65535 1)
 key_kind key.InitialR2t = kind.Or false
 key_kind key.ImmediateData = kind.And true
-key_kind key.MaxRecvDataSegmentLength = kind.DeclaredNumber (range 512 16777215 262144)
+key_kind key.MaxRecvDataSegmentLength = kind.DeclaredNumber (range 512 16777215 segment_limit)
 key_kind key.MaxBurstLength = kind.Smaller (range 512 16777215 1048576)
 key_kind key.FirstBurstLength = kind.Smaller (range 512 16777215 262144)
 key_kind key.DefaultTime2Wait = kind.Larger (range 0 3600 0)
@@ -94,7 +95,8 @@ unfoldable pub all_keys : List Key
 all_keys =
     key.InitiatorName ∷ key.InitiatorAlias ∷ key.TargetName ∷ key.SessionType ∷ key.AuthMethod ∷ key.HeaderDigest
     ∷ key.DataDigest ∷ key.MaxConnections ∷ key.InitialR2t ∷ key.ImmediateData ∷ key.MaxRecvDataSegmentLength ∷ key.MaxBurstLength
-    ∷ key.FirstBurstLength ∷ key.DefaultTime2Wait ∷ key.DefaultTime2Retain ∷ key.MaxOutstandingR2t ∷ key.DataPduInOrder ∷ key.DataSequenceInOrder
+    ∷ key.FirstBurstLength ∷ key.DefaultTime2Wait ∷ key.DefaultTime2Retain ∷ key.MaxOutstandingR2t ∷ key.DataPduInOrder ∷
+    key.DataSequenceInOrder
     ∷ key.ErrorRecoveryLevel ∷ key.TaskReporting ∷ key.IfMarker ∷ key.OfMarker ∷ key.IfMarkInt ∷ key.OfMarkInt ∷ []
 
 abbrev pub key_place : Key → ℕ

@@ -5,6 +5,7 @@ use Rattle.std.proofs.lemmas.List.Elements.{All-append, All-cons, All-nil}
 use Rattle.std.proofs.lemmas.List.{drop-append-le}
 use Rattle.std.proofs.lemmas.Grind.{flat_map-append}
 use Rattle.std.specs.Io.KnownBytes.{Appends}
+use Rattle.iscsi_keys.specs.Limits.{segment_limit}
 use Rattle.iscsi_pdu.specs.Pdus.{InitiatorPduValue, TargetPduValue, initiator_found, parsed_initiator}
 use Rattle.iscsi_pdu.specs.declared.serial_number.SerialNumber.{SerialNumber}
 use Rattle.iscsi_pdu.specs.Segments.{Found, Partial, Complete, Invalid, IsKnown, SegmentsValue, segments}
@@ -26,10 +27,11 @@ known_segments (Complete s count) known = tt
 known_segments (Invalid fault) known = tt
 
 -- a PDU that was parsed
-pub begins_with : (bytes pending : List ℕ) (p : InitiatorPduValue) (size : ℕ) → pending ≡ bytes → Complete p size ≡ parsed_initiator 262144 pending
+pub begins_with : (bytes pending : List ℕ) (p : InitiatorPduValue) (size : ℕ) → pending ≡ bytes → Complete p size ≡ parsed_initiator
+    segment_limit pending
     → (48 ≤ size) × (size ≤ length pending) → BeginsWith bytes p size
 begins_with bytes pending p size same parsed within = record {
-  parsed = sym (ap (parsed_initiator 262144) same) ∙ sym parsed;
+  parsed = sym (ap (parsed_initiator segment_limit) same) ∙ sym parsed;
   some = within.0;
   whole = omega (arith, within.1, ap length same);
 }
@@ -37,13 +39,15 @@ begins_with bytes pending p size same parsed within = record {
 -- a PDU that is there stays, whatever follows
 pub begins_before : (bytes more : List ℕ) (p : InitiatorPduValue) (size : ℕ) → BeginsWith bytes p size → BeginsWith (bytes ++ more) p size
 begins_before bytes more p size here =
-    let known : IsKnown (parsed_initiator 262144 bytes) = subst IsKnown (sym here.parsed) tt in record {
-      parsed = ap initiator_found (segments_stay 262144 bytes more (known_segments (segments 262144 bytes) known)) ∙ here.parsed;
+    let known : IsKnown (parsed_initiator segment_limit bytes) = subst IsKnown (sym here.parsed) tt in record {
+      parsed = ap initiator_found (segments_stay segment_limit bytes more (known_segments (segments segment_limit bytes) known)) ∙
+          here.parsed;
       some = here.some;
       whole = omega (arith, here.whole, length-append bytes more);
     }
 
-takes_append : (ps qs : List InitiatorPduValue) (bytes mid rest : List ℕ) → Takes bytes ps mid → Takes mid qs rest → Takes bytes (ps ++ qs) rest
+takes_append : (ps qs : List InitiatorPduValue) (bytes mid rest : List ℕ) → Takes bytes ps mid → Takes mid qs rest → Takes bytes (ps ++ qs)
+    rest
 takes_append [] qs bytes mid rest one two = subst (λ (xs : List ℕ). Takes xs qs rest) one two
 takes_append (p ∷ ps) qs bytes mid rest one two = (one.0, one.1, takes_append ps qs (drop one.0 bytes) mid rest one.2 two)
 
@@ -112,7 +116,8 @@ pub answers_then : {S : Type 0} {most : ℕ} (w : World S) (a m b : Moment S) (r
     → Answers w most a xs m m.pending → Answers w 0 m ys b rest → Answers w most a (xs ++ ys) b rest
 answers_then {S} {most = most} w a m b rest xs ys one two = answers_and most 0 most w a m b rest xs ys (omega arith) one two
 
-pub answers_one : {S : Type 0} (w : World S) (a b : Moment S) (rest : List ℕ) (p : InitiatorPduValue) (size : ℕ) (said : List TargetPduValue)
+pub answers_one : {S : Type 0} (w : World S) (a b : Moment S) (rest : List ℕ) (p : InitiatorPduValue) (size : ℕ)
+    (said : List TargetPduValue)
     → next_of a.tasks ≡ Idle → BeginsWith a.pending p size → rest ≡ drop size a.pending
     → Says w.works p a.tasks a.service said b.tasks b.service → Answers w 0 a said b rest
 answers_one w a b rest p size said idle here cut says = record {
@@ -128,7 +133,15 @@ answers_pinged w a stat_sn = record {
   events = Silence ∷ [];
   so = one_so w.resets w.ends Silence tt;
   asked = omega arith;
-  talks = (a.tasks, a.service, pinged a.tasks stat_sn, [], sym (append-nil (pinged a.tasks stat_sn)), (stat_sn, refl, refl, refl), (refl, refl, refl));
+  talks = (
+    a.tasks,
+    a.service,
+    pinged a.tasks stat_sn,
+    [],
+    sym (append-nil (pinged a.tasks stat_sn)),
+    (stat_sn, refl, refl, refl),
+    (refl, refl, refl),
+  );
   takes = refl;
 }
 
@@ -171,11 +184,13 @@ answers_as {S} {most = most} w a b k rest said same so =
 
 -- ---- and what is read
 
-pub converses_none : {S : Type 0} {most : ℕ} (w : World S) (a : Moment S) (left : Option (List ℕ)) → Converses w most a left left [] a a.pending
+pub converses_none : {S : Type 0} {most : ℕ} (w : World S) (a : Moment S) (left : Option (List ℕ)) → Converses w most a left left [] a
+    a.pending
 converses_none {most = most} w a left = (
   [],
   consumes_none left,
-  subst (λ (xs : List ℕ). Answers w most (record a { pending = xs }) [] a a.pending) (sym (append-nil a.pending)) (answers_none {most = most} w a),
+  subst (λ (xs : List ℕ). Answers w most (record a { pending = xs }) [] a a.pending) (sym (append-nil a.pending))
+      (answers_none {most = most} w a),
 )
 
 pub converses_then : {S : Type 0} {most : ℕ} (w : World S) (a m b : Moment S) (rest : List ℕ) (left left' : Option (List ℕ))
@@ -196,13 +211,15 @@ converses_read {S} {most = most} w a b pending left left1 left2 said so got = (
 )
 
 -- a logout is asked for, the first time
-pub converses_asked : {S : Type 0} (w : World S) (a b : Moment S) (left left' : Option (List ℕ)) (xs : List TargetPduValue) (stat_sn : SerialNumber)
+pub converses_asked : {S : Type 0} (w : World S) (a b : Moment S) (left left' : Option (List ℕ)) (xs : List TargetPduValue)
+    (stat_sn : SerialNumber)
     (seconds : ℕ) → Converses w 0 a left left' xs b b.pending → w.ends seconds
     → Converses w 1 a left left' (xs ++ asked_to_leave b.tasks stat_sn seconds) b b.pending
 converses_asked {S} w a b left left' xs stat_sn seconds one so = (
   one.0,
   one.1,
-  answers_and 0 1 1 w (record a { pending = a.pending ++ one.0 }) b b b.pending xs (asked_to_leave b.tasks stat_sn seconds) (omega arith) one.2
+  answers_and 0 1 1 w (record a { pending = a.pending ++ one.0 }) b b b.pending xs (asked_to_leave b.tasks stat_sn seconds) (omega arith)
+      one.2
       (answers_asked w b stat_sn seconds so),
 )
 
@@ -234,14 +251,16 @@ appends_more (Some us) (Some vs) None xs ys one two = absurd two
 appends_more (Some us) (Some vs) (Some ws) xs ys one two = two ∙ ap (λ (l : List ℕ). l ++ ys) one ∙ append_assoc us xs ys
 
 -- what was said waits
-pub writes_said : (w : Option (List ℕ)) (out out' : List ℕ) (said : List TargetPduValue) → out' ≡ out ++ bytes_of_all said → Writes w w out out' said
+pub writes_said : (w : Option (List ℕ)) (out out' : List ℕ) (said : List TargetPduValue) → out' ≡ out ++ bytes_of_all said → Writes w w out
+    out' said
 writes_said w out out' said e = ([], appends_none w, e)
 
 -- what waited was written
 pub writes_flushed : (w w' : Option (List ℕ)) (out out' : List ℕ) → Appends w w' out → out' ≡ [] → Writes w w' out out' []
 writes_flushed w w' out out' gone none = (out, gone, ap (λ (xs : List ℕ). out ++ xs) none)
 
-pub writes_then : (w w1 w2 : Option (List ℕ)) (out mid out' : List ℕ) (a b : List TargetPduValue) → Writes w w1 out mid a → Writes w1 w2 mid out' b
+pub writes_then : (w w1 w2 : Option (List ℕ)) (out mid out' : List ℕ) (a b : List TargetPduValue) → Writes w w1 out mid a → Writes w1 w2 mid
+    out' b
     → Writes w w2 out out' (a ++ b)
 writes_then w w1 w2 out mid out' a b one two = (
   one.0 ++ two.0,

@@ -2,6 +2,7 @@
 use Rattle.std.specs.Prelude.{◌≡◌, ◌⊎◌, ◌≤◌, ℕ, Bool, true, List, [], ◌++◌, All, Option, Result, OnOk}
 use Rattle.std.specs.Io.KnownBytes.{Consumes, Appends}
 use Rattle.logical_unit.specs.Answers.{DoneValue}
+use Rattle.frames.specs.Limits.{command_data_limit}
 use Rattle.iscsi_pdu.specs.Pdus.{TargetPduValue}
 use Rattle.iscsi_login.specs.ExchangeRuns.{exchanged}
 use Rattle.iscsi_login.specs.Exchanges.{started}
@@ -20,9 +21,9 @@ use Rattle.iscsi_session.specs.LoggingIn.{HasReached, Requests, nexus_of}
 use Rattle.iscsi_session.specs.Saying.{normal_world}
 use Rattle.iscsi_session.specs.Talking.{Converses, Event, IsSo, Moment, Takes, Talks, leave_requests, pdus_of}
 
--- the tasks of a session that a login has begun, whose units take 131,053 bytes of data of a command
+-- the tasks of a session that a login has begun, whose units take as much data of a command as a COMMAND frame has room for
 abbrev pub first_tasks : FullFeature → TasksValue
-first_tasks begun = begun_tasks begun.parameters 131053 begun.cmd_sn
+first_tasks begun = begun_tasks begun.parameters command_data_limit begun.cmd_sn
 
 -- what is said behind the login is what is written behind it
 abbrev pub WritesLast : (written written' : Option (List ℕ)) → (said : List TargetPduValue) → Type 0
@@ -34,7 +35,8 @@ first_moment begun s pending = record { tasks = first_tasks begun; service = s; 
 
 -- a normal session from the last request of its login on: PDUs, and then the nexus is lost at every unit, once
 pub record Holds {S : Type 0} (notes : S → DoneValue → S → Type 0) (count : S → ℕ) (resets ends : ℕ → Type 0) (port : ℕ)
-    (begun : FullFeature) (s : S) (pending : List ℕ) (left left' : Option (List ℕ)) (said : List TargetPduValue) (all : Bool) (t : S) : Type 0 where
+    (begun : FullFeature) (s : S) (pending : List ℕ) (left left' : Option (List ℕ)) (said : List TargetPduValue) (all : Bool) (t : S) : Type
+    0 where
   pub normal : begun.session_type ≡ Normal
   pub last : Moment S
   pub rest : List ℕ
@@ -52,11 +54,12 @@ ServesBehind notes count resets ends port begun s pending left left' written wri
     × OnOk result ((all ≡ true) × (next_of held.last.tasks ≡ Idle) × WritesLast written written' said))
 
 -- a normal session: what was read is a login, by which full feature is reached, and then PDUs, and perhaps part of another. To each of these happens
--- what its tasks say, one after another; the commands that are handed to units are those that the tasks execute, in that order, each once and with
--- the data that they have for it, all under the nexus that the login was let in as, and nothing but the PDUs has brought the tasks commands and data;
--- a logout is asked for once at most; and at last the nexus is lost at every unit, once
+-- what its tasks say, one after another; the commands that are handed to units are those that the tasks execute and whose LUN is a unit's number, in
+-- that order, each once and with the data that they have for it, all under the nexus that the login was let in as, and nothing but the PDUs has
+-- brought the tasks commands and data; a logout is asked for once at most; and at last the nexus is lost at every unit, once
 pub record IsServed {S : Type 0} (notes : S → DoneValue → S → Type 0) (count : S → ℕ) (resets ends : ℕ → Type 0) (target : LoginTarget)
-    (challenge : Option Challenge) (port : ℕ) (s : S) (left left' : Option (List ℕ)) (said : List TargetPduValue) (all : Bool) (t : S) : Type 0 where
+    (challenge : Option Challenge) (port : ℕ) (s : S) (left left' : Option (List ℕ)) (said : List TargetPduValue) (all : Bool) (t : S) :
+    Type 0 where
   pub begun : FullFeature
   pub read : List ℕ
   pub comings : List Coming

@@ -1,6 +1,7 @@
 -- The PDUs of a stream, one after another.
 use Rattle.std.specs.Prelude.{◌≡◌, ◌⊎◌, ◌≤◌, ℕ, suc, Bool, true, false, List, [], ◌∷◌, ◌++◌, length, drop, All, Option}
 use Rattle.std.specs.Io.KnownBytes.{Consumes, Appends}
+use Rattle.iscsi_keys.specs.Limits.{segment_limit}
 use Rattle.iscsi_pdu.specs.declared.serial_number.SerialNumber.{SerialNumber}
 use Rattle.iscsi_pdu.specs.Pdus.{InitiatorPduValue, TargetPduValue, parsed_initiator}
 use Rattle.iscsi_pdu.specs.Segments.{Complete}
@@ -13,9 +14,9 @@ use Rattle.iscsi_session.specs.Executing.{numbers}
 use Rattle.iscsi_session.specs.Saying.{Says}
 use Rattle.iscsi_session.specs.Worlds.{World}
 
--- a stream begins with a PDU of so many bytes, whose data segment has 262,144 bytes at most
+-- a stream begins with a PDU of so many bytes, whose data segment is no longer than the target takes
 pub record BeginsWith (bytes : List ℕ) (p : InitiatorPduValue) (size : ℕ) : Type 0 where
-  pub parsed : parsed_initiator 262144 bytes ≡ Complete p size
+  pub parsed : parsed_initiator segment_limit bytes ≡ Complete p size
   pub some : 48 ≤ size
   pub whole : size ≤ length bytes
 

@@ -5,6 +5,7 @@ ghost use Rattle.iscsi_session.specs.Faults.{IsLater};
 use crate::fault::IscsiFault;
 use crate::portal::Portal;
 use crate::texts::OpenText;
+use frames::MAX_COMMAND_DATA;
 use iscsi_answers::{SequenceNumbers, TransferLimits};
 use iscsi_login::FullFeature;
 use iscsi_pdu::SerialNumber;
@@ -12,8 +13,8 @@ use iscsi_tasks::Tasks;
 use std::alloc::Global;
 use std::io::Write;
 
-/// The most data of a command that a unit is handed, in bytes: as much as a COMMAND frame has room for behind a CDB of 16 bytes.
-const MOST_DATA: u32 = 131_053;
+/// The most data of a command that a unit is handed, in bytes: as much as a COMMAND frame has room for behind any CDB.
+const MOST_DATA: u32 = MAX_COMMAND_DATA as u32;
 
 /// A connection in full feature.
 #[derive(Drop)]
@@ -30,6 +31,7 @@ pub(crate) struct Connection<'p> {
 
 impl<'p> Connection<'p> {
     ghost use Rattle.std.specs.Prelude.{◌≡◌};
+    ghost use Rattle.frames.specs.Limits.{command_data_limit};
     ghost use Rattle.iscsi_tasks.specs.Values.{begun_tasks};
     ghost use Rattle.iscsi_session.specs.Executing.{numbers};
 
@@ -41,7 +43,7 @@ impl<'p> Connection<'p> {
         stat_sn: SerialNumber,
         out: Vec<u8>,
     ) -> Connection<'p>
-        ensures tasks { result.tasks ≡ begun_tasks begun.now.parameters 131053 begun.now.cmd_sn }
+        ensures tasks { result.tasks ≡ begun_tasks begun.now.parameters command_data_limit begun.now.cmd_sn }
         ensures out { result.out.items ≡ out.items }
     {
         let parameters = begun.parameters;

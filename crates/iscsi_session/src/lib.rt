@@ -23,5 +23,5 @@ pub use claiming::{Claim, SessionIdentity, SessionRegister, claim_of, claim_rows
 pub use fault::{IscsiEnd, IscsiFault};
 pub use iscsi_answers::PortalAddress;
 pub use portal::{Arrival, Portal};
-pub use rows::{handing_rows, outcome_rows};
+pub use rows::{handing_rows, outcome_rows, room_rows};
 pub use serving::serve;

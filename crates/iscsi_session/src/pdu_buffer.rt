@@ -1,7 +1,10 @@
+use iscsi_keys::TARGET_MAX_RECV_DATA_SEGMENT_LENGTH;
 use read_buffer::ReadBuffer;
+use tape_medium::MAX_BLOCK;
 
-/// Room for the longest PDU, of some 262,500 bytes, and for others behind it.
-const PDU_BUFFER: usize = 327_680;
+/// Room for the PDU with the longest data segment, and for others behind it.
+pub(crate) const PDU_BUFFER: usize = TARGET_MAX_RECV_DATA_SEGMENT_LENGTH as usize
+    + MAX_BLOCK as usize;
 
 /// The bytes of a connection of which no PDU was made yet.
 pub(crate) type PduBuffer = ReadBuffer<PDU_BUFFER>;

@@ -20,12 +20,13 @@ use iscsi_keys::TARGET_MAX_RECV_DATA_SEGMENT_LENGTH;
 use iscsi_pdu::{ParsedInitiatorPdu, parse_initiator_pdu};
 use std::alloc::Global;
 use std::io::{self, Read, Write};
+use tape_medium::MAX_BLOCK;
 
-/// As many bytes as are written at once: past this the answers are written.
-const BATCH: usize = 65_536;
+/// As many bytes as are written at once, those of a longest block: past this the answers are written.
+const BATCH: usize = MAX_BLOCK as usize;
 
-/// Room for what waits to be written and for the data of a command behind it.
-pub(crate) const ROOM: usize = 196_608;
+/// Room for what waits to be written and for the data of a command behind it, in PDUs.
+pub(crate) const ROOM: usize = 3 * MAX_BLOCK as usize;
 
 /// The target transfer tag of pings.
 const PING_TAG: u32 = 0;

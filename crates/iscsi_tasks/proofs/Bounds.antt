@@ -20,7 +20,8 @@ use Rattle.iscsi_tasks.specs.declared.taken.TakenCommand.TheVariants as taken
 use Rattle.iscsi_tasks.specs.declared.taken.TakenData.{TakenData}
 use Rattle.iscsi_tasks.specs.Values.{TaskValue, TasksValue, begun_tasks, held}
 use Rattle.iscsi_tasks.specs.Writes.{data_fault}
-use Rattle.iscsi_tasks.specs.Commands.{has_tag, is_taken, counted, after_command, command_answer, begun_task, is_waiting, is_at_once, remembered, most_waiting, most_held, room_for, waits_if, IsBounded}
+use Rattle.iscsi_tasks.specs.Limits.{most_waiting, most_held}
+use Rattle.iscsi_tasks.specs.Commands.{has_tag, is_taken, counted, after_command, command_answer, begun_task, is_waiting, is_at_once, remembered, room_for, waits_if, IsBounded}
 use Rattle.iscsi_tasks.specs.DataOuts.{unless_data_fault, task_at, task_after, tasks_after, data_answer, after_data, answer_among}
 use Rattle.iscsi_tasks.specs.Next.{is_whole, left_at, left_for, without_first, with_first_asked}
 use Rattle.iscsi_tasks.specs.Aborts.{is_at, is_named, is_waiting_at}
@@ -33,7 +34,8 @@ held-cons t ts = sum_by-cons (λ (u : TaskValue). length u.bytes) t ts
 -- ---- a command
 
 only_room : (over again now : Bool) (m : ℕ) (room : Result (Unit {0}) TasksFault)
-    → cond over (Ok taken.PassedOver) (cond again (Ok (taken.Rejected TaskInProgress)) (cond now (Ok (taken.Execute m)) (waits_if room))) ≡ Ok taken.Waits → room ≡ Ok tt
+    → cond over (Ok taken.PassedOver) (cond again (Ok (taken.Rejected TaskInProgress)) (cond now (Ok (taken.Execute m)) (waits_if room))) ≡
+    Ok taken.Waits → room ≡ Ok tt
 only_room true again now m room e = absurd cc
 only_room false true now m room e = absurd cc
 only_room false false true m room e = absurd cc
@@ -57,7 +59,8 @@ waits_bounded ts t e =
     }
 
 commanded_bounded : (s : TasksValue) (c : ScsiCommand) (payload : List ℕ) (r : Result TakenCommand TasksFault)
-    → (r ≡ Ok taken.Waits → room_for s.waiting (length (begun_task s.parameters c payload).bytes) ≡ Ok tt) → IsBounded s.waiting → IsBounded (after_command s c payload r).waiting
+    → (r ≡ Ok taken.Waits → room_for s.waiting (length (begun_task s.parameters c payload).bytes) ≡ Ok tt) → IsBounded s.waiting → IsBounded
+    (after_command s c payload r).waiting
 commanded_bounded s c payload (Ok taken.PassedOver) room b = b
 commanded_bounded s c payload (Ok (taken.Rejected reason)) room b = subst IsBounded (sym (count_waits s c.immediate)) b
 commanded_bounded s c payload (Ok (taken.Execute n)) room b = subst IsBounded (sym (count_waits s c.immediate)) b
@@ -66,11 +69,13 @@ commanded_bounded s c payload (Err fault) room b = b
 
 -- ---- a Data-Out
 
-added_size : (t : TaskValue) (s : DataSequence) (d : DataOut) (payload : List ℕ) (o : Option TaskFault) → length (unless_data_fault t s d payload o).bytes ≤ length t.bytes + length payload
+added_size : (t : TaskValue) (s : DataSequence) (d : DataOut) (payload : List ℕ) (o : Option TaskFault) → length
+    (unless_data_fault t s d payload o).bytes ≤ length t.bytes + length payload
 added_size t s d payload (Some fault) = omega arith
 added_size t s d payload None = omega (arith, length-append t.bytes payload)
 
-task_size : (t : TaskValue) (a : Awaiting) (d : DataOut) (payload : List ℕ) → length (task_at t a d payload).bytes ≤ length t.bytes + length payload
+task_size : (t : TaskValue) (a : Awaiting) (d : DataOut) (payload : List ℕ) → length (task_at t a d payload).bytes ≤ length t.bytes + length
+    payload
 task_size t awaits.Turn d payload = omega arith
 task_size t (awaits.Data s) d payload = added_size t s d payload (data_fault s (length t.bytes) d (length payload))
 task_size t (awaits.Failing fault) d payload = omega arith
@@ -93,26 +98,31 @@ one_grows d payload t ts after false g = record {
 
 data_grows : (ts : List TaskValue) (d : DataOut) (payload : List ℕ) → Grows ts (tasks_after ts d payload) (length payload)
 data_grows [] d payload = record { as_many = refl; as_much = omega arith }
-data_grows (t ∷ ts) d payload = one_grows d payload t ts (tasks_after ts d payload) (has_tag d.initiator_task_tag t) (data_grows ts d payload)
+data_grows (t ∷ ts) d payload = one_grows d payload t ts (tasks_after ts d payload) (has_tag d.initiator_task_tag t)
+    (data_grows ts d payload)
 
-only_fits : (waits fits : Bool) (x y answer : TakenData) → cond (not waits) (Ok x) (cond fits (Ok y) (Err TooMuchData)) ≡ Ok answer → waits ≡ true → fits ≡ true
+only_fits : (waits fits : Bool) (x y answer : TakenData) → cond (not waits) (Ok x) (cond fits (Ok y) (Err TooMuchData)) ≡ Ok answer → waits
+    ≡ true → fits ≡ true
 only_fits true true x y answer e w = refl
 only_fits true false x y answer e w = absurd cc
 only_fits false fits x y answer e w = absurd cc
 
-if_waiting_bounded : (s : TasksValue) (d : DataOut) (payload : List ℕ) (b : Bool) → (b ≡ true → held s.waiting + length payload ≤ most_held) → IsBounded s.waiting
+if_waiting_bounded : (s : TasksValue) (d : DataOut) (payload : List ℕ) (b : Bool) → (b ≡ true → held s.waiting + length payload ≤ most_held)
+    → IsBounded s.waiting
     → IsBounded (cond b (record s { waiting = tasks_after s.waiting d payload }) s).waiting
 if_waiting_bounded s d payload true fits b =
     let g = data_grows s.waiting d payload in
     record { few = omega (arith, g.as_many, b.few); little = omega (arith, g.as_much, fits refl) }
 if_waiting_bounded s d payload false fits b = b
 
-after_data_bounded : (s : TasksValue) (d : DataOut) (payload : List ℕ) (r : Result TakenData TasksFault) → data_answer s d (length payload) ≡ r → IsBounded s.waiting
+after_data_bounded : (s : TasksValue) (d : DataOut) (payload : List ℕ) (r : Result TakenData TasksFault) → data_answer s d (length payload)
+    ≡ r → IsBounded s.waiting
     → IsBounded (after_data s d payload r).waiting
 after_data_bounded s d payload (Ok answer) e b =
     if_waiting_bounded s d payload (is_waiting s d.initiator_task_tag)
     (λ waits. leb-true (held s.waiting + length payload) most_held
-    (only_fits (is_waiting s d.initiator_task_tag) (nat_le (held s.waiting + length payload) most_held) _ (answer_among s.waiting d (length payload)) answer e waits))
+    (only_fits (is_waiting s d.initiator_task_tag) (nat_le (held s.waiting + length payload) most_held) _
+    (answer_among s.waiting d (length payload)) answer e waits))
     b
 after_data_bounded s d payload (Err fault) e b = b
 
@@ -125,12 +135,14 @@ asked_bounded : (t u : TaskValue) (ts : List TaskValue) → u.bytes ≡ t.bytes 
 asked_bounded t u ts e b =
     record { few = b.few; little = omega (arith, b.little, ap (λ (xs : List ℕ). length xs) e, held-cons t ts, held-cons u ts) }
 
-turn_bounded : (s : TasksValue) (t : TaskValue) (ts : List TaskValue) (b : Bool) → s.waiting ≡ t ∷ ts → IsBounded (t ∷ ts) → IsBounded (cond b (without_first s) (with_first_asked s t)).waiting
+turn_bounded : (s : TasksValue) (t : TaskValue) (ts : List TaskValue) (b : Bool) → s.waiting ≡ t ∷ ts → IsBounded (t ∷ ts) → IsBounded
+    (cond b (without_first s) (with_first_asked s t)).waiting
 turn_bounded s t ts true e b = subst IsBounded (ap (drop 1) (sym e)) (rest_bounded t ts b)
 turn_bounded s t ts false e b =
     asked_bounded t _ (drop 1 s.waiting) refl (subst (λ (xs : List TaskValue). IsBounded (t ∷ xs)) (ap (drop 1) (sym e)) b)
 
-left_bounded : (s : TasksValue) (t : TaskValue) (ts : List TaskValue) (a : Awaiting) → s.waiting ≡ t ∷ ts → IsBounded (t ∷ ts) → IsBounded (left_at s t a).waiting
+left_bounded : (s : TasksValue) (t : TaskValue) (ts : List TaskValue) (a : Awaiting) → s.waiting ≡ t ∷ ts → IsBounded (t ∷ ts) → IsBounded
+    (left_at s t a).waiting
 left_bounded s t ts awaits.Turn e b = turn_bounded s t ts (is_whole s.limit t) e b
 left_bounded s t ts (awaits.Data sequence) e b = subst IsBounded (sym e) b
 left_bounded s t ts (awaits.Failing fault) e b = subst IsBounded (sym e) b
@@ -145,7 +157,11 @@ record Shrinks (ts us : List TaskValue) : Type 0 where
   not_much : held us ≤ held ts
 
 one_shrinks : (t : TaskValue) (ts kept : List TaskValue) (b : Bool) → Shrinks ts kept → Shrinks (t ∷ ts) (cond b (t ∷ kept) kept)
-one_shrinks t ts kept true h = record { no_more = omega (arith, h.no_more); not_much = omega (arith, h.not_much, held-cons t ts, held-cons t kept) }
+one_shrinks t ts kept true h = record {
+  no_more = omega (arith, h.no_more);
+  not_much = omega
+      (arith, h.not_much, held-cons t ts, held-cons t kept);
+}
 one_shrinks t ts kept false h = record { no_more = omega (arith, h.no_more); not_much = omega (arith, h.not_much, held-cons t ts) }
 
 filter_shrinks : (test : TaskValue → Bool) (ts : List TaskValue) → Shrinks ts (filter test ts)
@@ -171,7 +187,11 @@ step_bounded s (Commanded c payload) b =
 step_bounded s (DataCame d payload) b = after_data_bounded s d payload (data_answer s d (length payload)) refl b
 step_bounded s AskedNext b = next_bounded s s.waiting refl b
 step_bounded s (Aborted unit tag) b =
-    either_bounded (is_waiting_at s unit tag) (record s { waiting = filter (λ t. not (is_named unit tag t)) s.waiting; passed_over = remembered s.passed_over tag }) s
+    either_bounded (is_waiting_at s unit tag) (record s {
+      waiting = filter (λ t. not (is_named unit tag t)) s.waiting;
+      passed_over =
+          remembered s.passed_over tag;
+    }) s
     (filter_bounded (λ (t : TaskValue). not (is_named unit tag t)) s.waiting b) b
 step_bounded s (Dropped unit) b = filter_bounded (λ (t : TaskValue). not (is_at unit t)) s.waiting b
 
@@ -179,5 +199,6 @@ run_bounded : (s : TasksValue) (acts : List Act) → IsBounded s.waiting → IsB
 run_bounded s [] b = b
 run_bounded s (act ∷ acts) b = run_bounded (stepped s act) acts (step_bounded s act b)
 
-pub all_bounded : (p : SessionParameters) (limit : ℕ) (n : SerialNumber) (acts : List Act) → IsBounded (run (begun_tasks p limit n) acts).waiting
+pub all_bounded : (p : SessionParameters) (limit : ℕ) (n : SerialNumber) (acts : List Act) → IsBounded
+    (run (begun_tasks p limit n) acts).waiting
 all_bounded p limit n acts = run_bounded (begun_tasks p limit n) acts (record { few = omega arith; little = omega arith })

@@ -11,6 +11,7 @@ use Rattle.iscsi_tasks.specs.declared.taken.TakenCommand.{TakenCommand}
 use Rattle.iscsi_tasks.specs.declared.taken.TakenCommand.TheVariants.{PassedOver, Rejected, Execute, Waits}
 use Rattle.iscsi_tasks.specs.declared.fault.TasksFault.{TasksFault}
 use Rattle.iscsi_tasks.specs.declared.fault.TasksFault.TheVariants.{TooManyWaiting, TooMuchData}
+use Rattle.iscsi_tasks.specs.Limits.{most_waiting, most_held}
 use Rattle.iscsi_tasks.specs.Values.{TaskValue, TasksValue, held}
 use Rattle.iscsi_tasks.specs.Writes.{wanted, first_awaited}
 
@@ -55,13 +56,6 @@ is_whole_at wanted count _ = false
 abbrev pub is_at_once : TasksValue → ScsiCommand → (count : ℕ) → Bool
 is_at_once s c count =
     (length s.waiting == 0) && is_whole_at (wanted s.limit c) count (first_awaited s.parameters c count)
-
--- the most that wait, and the most bytes of data that they hold in all
-abbrev pub most_waiting : ℕ
-most_waiting = 32
-
-abbrev pub most_held : ℕ
-most_held = 3407872
 
 pub record IsBounded (waiting : List TaskValue) : Type 0 where
   pub few : length waiting ≤ most_waiting

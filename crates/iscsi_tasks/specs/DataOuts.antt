@@ -12,9 +12,10 @@ use Rattle.iscsi_tasks.specs.declared.fault.TaskFault.{TaskFault}
 use Rattle.iscsi_tasks.specs.declared.fault.TaskFault.TheVariants.{UnexpectedUnsolicitedData}
 use Rattle.iscsi_tasks.specs.declared.fault.TasksFault.{TasksFault}
 use Rattle.iscsi_tasks.specs.declared.fault.TasksFault.TheVariants.{TooMuchData}
+use Rattle.iscsi_tasks.specs.Limits.{most_held}
 use Rattle.iscsi_tasks.specs.Values.{TaskValue, TasksValue, held}
 use Rattle.iscsi_tasks.specs.Writes.{failed, data_fault, behind_data}
-use Rattle.iscsi_tasks.specs.Commands.{has_tag, is_waiting, most_held}
+use Rattle.iscsi_tasks.specs.Commands.{has_tag, is_waiting}
 
 abbrev pub with_fault : TaskValue → (is_final : Bool) → TaskFault → TaskValue
 with_fault t is_final fault = record t { bytes = []; awaiting = failed is_final fault }

@@ -1,6 +1,7 @@
 ghost use Rattle.std.specs.Prelude.{◌≡◌, true, false, Some, None};
 ghost use Rattle.iscsi_tasks.specs.declared.awaiting.Awaiting.TheVariants.{Turn, Data, Failing, Failed};
 ghost use Rattle.iscsi_tasks.specs.declared.fault.TaskFault.TheVariants.{UnexpectedUnsolicitedData, IncorrectAmountOfData, DataOffsetError};
+ghost use Rattle.iscsi_tasks.specs.Limits.{most_held};
 ghost use Rattle.iscsi_tasks.specs.Values.{begun_tasks};
 ghost use Rattle.iscsi_tasks.specs.Writes.{wanted, first_awaited, data_fault};
 ghost use Rattle.iscsi_tasks.specs.Windows.{max_cmd_sn};
@@ -28,6 +29,7 @@ pub fn data_rows()
 
 /// Worked rows: the numbers of a session, round the circle.
 pub fn number_rows()
+    ensures held { most_held ≡ 3407872 }
     ensures window { max_cmd_sn (begun_tasks (bursts true false) 12 (sn 0xFFFFFFFF)) ≡ sn 30 }
     ensures next { counted (begun_tasks (bursts true false) 12 (sn 0xFFFFFFFF)) false ≡ begun_tasks (bursts true false) 12 (sn 0) }
     ensures half_the_circle_away { is_taken (begun_tasks (bursts true false) 12 (sn 5)) false (sn 0x80000005) ≡ false }

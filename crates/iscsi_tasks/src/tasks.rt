@@ -5,7 +5,7 @@ use crate::passed_over::PassedOver;
 use crate::taken::{TakenCommand, TakenData};
 use crate::task::{Task, wanted};
 use crate::waiting::*;
-use iscsi_keys::SessionParameters;
+use iscsi_keys::{SessionParameters, TARGET_MAX_RECV_DATA_SEGMENT_LENGTH};
 use iscsi_pdu::{DataOut, RESERVED_TAG, RejectReason, ScsiCommand, SerialNumber};
 use std::alloc::Global;
 use std::marker::Model;
@@ -13,8 +13,12 @@ use std::marker::Model;
 /// How many commands wait at most, and how many an initiator may send ahead while none waits.
 pub const WINDOW: u32 = 32;
 
-/// The most bytes of data that the commands that wait hold in all.
-pub const MOST_HELD: usize = 3_407_872;
+/// The most bytes of data that a session holds, in its buffers and its commands: 4 MiB.
+const SESSION_DATA: usize = 4_194_304;
+
+/// The most bytes of data that the commands that wait hold in all: what is left of a session's beside three data segments, for the
+/// buffer of PDUs, the answers that wait to be written, and text.
+pub const MOST_HELD: usize = SESSION_DATA - 3 * TARGET_MAX_RECV_DATA_SEGMENT_LENGTH as usize;
 
 /// How many serial numbers there are.
 const NUMBERS: u64 = 0x1_0000_0000;
@@ -36,13 +40,14 @@ pub struct Tasks {
 
 impl Model for Tasks {
     ghost use Rattle.std.specs.Prelude.{◌≤◌, length};
+    ghost use Rattle.iscsi_tasks.specs.Limits.{most_waiting};
     ghost use Rattle.iscsi_tasks.specs.Values.{TasksValue, held};
 
     ghost Value = { TasksValue };
 
     ghost view = { λ t. record { parameters = t.parameters; limit = t.limit; exp_cmd_sn = t.exp_cmd_sn; waiting = t.waiting.items; passed_over = t.passed_over; next_tag = t.next_tag } };
 
-    ghost invariant = { λ t. length t.waiting.items ≤ 32 };
+    ghost invariant = { λ t. length t.waiting.items ≤ most_waiting };
 }
 
 impl Tasks {

@@ -2,9 +2,10 @@
 ghost use Rattle.std.specs.Prelude.{◌≡◌, ◌≢◌, ◌≤◌, ◌+◌, ◌++◌, ◌∷◌, [], nat_le, not, is_some, filter, length, vec_len, position, Some, Err, IfOk, OnOk, OnErr};
 ghost use Rattle.std.specs.List.{list_any};
 ghost use Rattle.iscsi_tasks.specs.declared.fault.TasksFault.TheVariants.{NoMemory};
+ghost use Rattle.iscsi_tasks.specs.Limits.{most_waiting, most_held};
 ghost use Rattle.iscsi_tasks.specs.Values.{held};
 ghost use Rattle.iscsi_tasks.specs.Windows.{numbered};
-ghost use Rattle.iscsi_tasks.specs.Commands.{has_tag, most_held, room_for};
+ghost use Rattle.iscsi_tasks.specs.Commands.{has_tag, room_for};
 ghost use Rattle.iscsi_tasks.specs.DataOuts.{answer_among, tasks_after};
 ghost use Rattle.iscsi_tasks.specs.Aborts.{is_at, is_named, remembered_at};
 
@@ -18,9 +19,9 @@ use std::alloc::AllocError;
 
 /// How many of them aren't immediate.
 pub(crate) fn numbered(waiting: &[Task]) -> u32
-    requires { length waiting.now ≤ 32 }
+    requires { length waiting.now ≤ most_waiting }
     ensures count { result ≡ numbered waiting.now }
-    ensures most { result ≤ 32 }
+    ensures most { result ≤ most_waiting }
 {
     let mut count = 0;
     for task in waiting {

@@ -14,10 +14,10 @@ use std::fs::{self, File, Files, OpenFile, OpenOptions};
 use std::io::{self, BufReader, ErrorKind, Read, Seek, SeekFrom, Take, Write};
 use tape_flush::{ImageEnds, ReadTape, ReadTapeFault, image_ends, read_tape};
 use tape_image::{IndexFault, index_image};
-use tape_medium::{MemoryLimit, Volume, VolumeTag};
+use tape_medium::{MAX_BLOCK, MemoryLimit, Volume, VolumeTag};
 
-/// How many bytes of a file are read at once, 128 KiB: more than the longest block takes.
-pub(crate) const AT_ONCE: usize = 131_072;
+/// How many bytes of a file are read at once: more than the longest block takes.
+pub(crate) const AT_ONCE: usize = 2 * MAX_BLOCK as usize;
 
 /// A volume as its file was read, with what is needed to write on that.
 #[derive(Drop)]

@@ -7,6 +7,8 @@ use Rattle.std.proofs.lemmas.List.Elements.{All-nil, All-cons}
 use Rattle.hex.specs.Hex.{decode_of}
 use Rattle.script_input.specs.declared.line_fault.LineFault.{LineFault}
 use Rattle.script_input.specs.declared.line_fault.LineFault.TheVariants.{BadHex, TooLong}
+use Rattle.frames.specs.Limits.{command_data_limit}
+use Rattle.script_lines.specs.Limits.{line_limit}
 use Rattle.script_lines.specs.Lines.{CommandWords, words_in, bytes_in, sole_unit_in, some_said, ◌>>=◌}
 use Rattle.script_lines.specs.Requests.{ClientRequestValue, command_request_in, reset_request_in, request_in, request_line_in, IsWithinLimits}
 use Rattle.script_lines.specs.Script.{lines_in, by_line}
@@ -38,7 +40,8 @@ reads_either Q false r s p q = q
 abbrev pub IsSized : ℕ → List ℕ → Type 0
 IsSized limit bytes = (0 < length bytes) × (length bytes ≤ limit)
 
-sized_if : (limit : ℕ) (bytes : List ℕ) (b : Bool) → (ltb 0 (length bytes) && leb (length bytes) limit) ≡ b → Reads (IsSized limit) (cond b (Ok bytes) (Err BadHex))
+sized_if : (limit : ℕ) (bytes : List ℕ) (b : Bool) → (ltb 0 (length bytes) && leb (length bytes) limit) ≡ b → Reads (IsSized limit)
+    (cond b (Ok bytes) (Err BadHex))
 sized_if limit bytes true e =
     let both = and_parts (ltb 0 (length bytes)) (leb (length bytes) limit) e in
     (ltb-true _ _ both.0, leb-true _ _ both.1)
@@ -52,20 +55,20 @@ hex_sized : (limit : ℕ) (word : List ℕ) → Reads (IsSized limit) (hex_in li
 unfolding hex_in
 hex_sized limit word = sized_by limit (hex_bytes (decode_of word))
 
-at_most_by : (r : Result (List ℕ) LineFault) → Reads (IsSized 131053) r → Reads (λ bytes. length bytes ≤ 131053) r
+at_most_by : (r : Result (List ℕ) LineFault) → Reads (IsSized command_data_limit) r → Reads (λ bytes. length bytes ≤ command_data_limit) r
 at_most_by (Ok bytes) h = h.1
 at_most_by (Err e) h = tt
 
-data_at_most : (word : Option (List ℕ)) → Reads (λ bytes. length bytes ≤ 131053) (bytes_in word)
+data_at_most : (word : Option (List ℕ)) → Reads (λ bytes. length bytes ≤ command_data_limit) (bytes_in word)
 data_at_most None = omega arith
-data_at_most (Some word) = at_most_by (hex_in 131053 word) (hex_sized 131053 word)
+data_at_most (Some word) = at_most_by (hex_in command_data_limit word) (hex_sized command_data_limit word)
 
 command_within : (words : Option CommandWords) → Reads IsWithinLimits (command_request_in words)
 command_within None = tt
 command_within (Some w) =
     reads_then (λ lun. Unit {0}) IsWithinLimits (unit_in w.lun) _ (reads_any (unit_in w.lun))
     (λ lun any. reads_then (IsSized 16) IsWithinLimits (hex_in 16 w.cdb) _ (hex_sized 16 w.cdb)
-    (λ cdb sized. reads_then (λ bytes. length bytes ≤ 131053) IsWithinLimits (bytes_in w.bytes) _ (data_at_most w.bytes)
+    (λ cdb sized. reads_then (λ bytes. length bytes ≤ command_data_limit) IsWithinLimits (bytes_in w.bytes) _ (data_at_most w.bytes)
     (λ bytes short. (sized.0, sized.1, short))))
 
 reset_within : (words : List (List ℕ)) → Reads IsWithinLimits (reset_request_in words)
@@ -74,7 +77,8 @@ reset_within words = reads_then (λ lun. Unit {0}) IsWithinLimits (sole_unit_in 
 request_within : (words : List (List ℕ)) → Reads IsWithinLimits (request_in words)
 request_within [] = tt
 request_within (first ∷ words) =
-    reads_either IsWithinLimits (bytes_eq first (codes "reset")) (reset_request_in words) (command_request_in (words_in ([] ∷ first ∷ words)))
+    reads_either IsWithinLimits (bytes_eq first (codes "reset")) (reset_request_in words)
+    (command_request_in (words_in ([] ∷ first ∷ words)))
     (reset_within words) (command_within (words_in ([] ∷ first ∷ words)))
 
 some_within : (r : Result ClientRequestValue LineFault) → Reads IsWithinLimits r → Reads (Has IsWithinLimits) (some_said r)
@@ -84,12 +88,13 @@ some_within (Err e) h = tt
 line_within : (line : List ℕ) → Reads (Has IsWithinLimits) (request_line_in line)
 unfolding request_line_in
 line_within line =
-    reads_either (Has IsWithinLimits) (ltb 270000 (length line)) (Err TooLong) _ tt
+    reads_either (Has IsWithinLimits) (ltb line_limit (length line)) (Err TooLong) _ tt
     (reads_either (Has IsWithinLimits) (eqb (length line) 0) (Ok None) _ tt
     (reads_either (Has IsWithinLimits) (eqb (get_or line 0 0) 35) (Ok None) _ tt
     (some_within (request_in (pieces 32 line)) (request_within (pieces 32 line)))))
 
-one_line : (n : ℕ) (read : Result (Option ClientRequestValue) LineFault) (others : Result (List ClientRequestValue) (ℕ × LineFault)) → Reads (Has IsWithinLimits) read
+one_line : (n : ℕ) (read : Result (Option ClientRequestValue) LineFault) (others : Result (List ClientRequestValue) (ℕ × LineFault)) → Reads
+    (Has IsWithinLimits) read
     → Reads (All IsWithinLimits) others → Reads (All IsWithinLimits) (by_line n read others)
 one_line n (Err fault) others one more = tt
 one_line n (Ok None) others one more = more
@@ -102,5 +107,6 @@ lines_within n (line ∷ lines) =
     one_line n (request_line_in line) (lines_in request_line_in (n + 1) lines) (line_within line) (lines_within (n + 1) lines)
 
 -- each request of a script
-pub requests_within : (text : List ℕ) (requests : List ClientRequestValue) → lines_in request_line_in 1 (pieces 10 text) ≡ Ok requests → All IsWithinLimits requests
+pub requests_within : (text : List ℕ) (requests : List ClientRequestValue) → lines_in request_line_in 1 (pieces 10 text) ≡ Ok requests → All
+    IsWithinLimits requests
 requests_within text requests read = subst (Reads (All IsWithinLimits)) read (lines_within 1 (pieces 10 text))

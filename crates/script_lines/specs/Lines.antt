@@ -8,7 +8,9 @@ use Rattle.script_input.specs.declared.line_fault.LineFault.{LineFault}
 use Rattle.script_input.specs.declared.line_fault.LineFault.TheVariants.{TooLong, WordCount}
 use Rattle.target_core.specs.declared.event.Event.{Event}
 use Rattle.target_core.specs.declared.event.Event.TheVariants as event
+use Rattle.frames.specs.Limits.{command_data_limit}
 use Rattle.scsi_nexus.specs.declared.nexus.Nexus.{Nexus}
+use Rattle.script_lines.specs.Limits.{line_limit}
 use Rattle.script_lines.specs.Text.{pieces}
 use Rattle.script_lines.specs.Words.{nexus_in, unit_in, hex_in}
 
@@ -51,7 +53,7 @@ abbrev pub ◌>>=◌ : {A B : Type 0} → Result A LineFault → (A → Result B
 
 abbrev pub bytes_in : Option (List ℕ) → Result (List ℕ) LineFault
 bytes_in None = Ok []
-bytes_in (Some word) = hex_in 131053 word
+bytes_in (Some word) = hex_in command_data_limit word
 
 -- the command of the words, tested in their order
 abbrev pub command_in : Option CommandWords → Result Said LineFault
@@ -95,7 +97,7 @@ some_said read = read >>= λ e. Ok (Some e)
 -- what a line says by its words: nothing, where it is empty or begins with #
 abbrev pub line_by : {A : Type 0} → (List (List ℕ) → Result A LineFault) → List ℕ → Result (Option A) LineFault
 line_by words_say line =
-    if nat_lt 270000 (length line) then Err TooLong
+    if nat_lt line_limit (length line) then Err TooLong
     else if length line == 0 then Ok None
     else if slice_index line 0 == 35 then Ok None
     else some_said (words_say (pieces 32 line))

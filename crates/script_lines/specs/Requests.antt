@@ -1,6 +1,7 @@
 -- A line of a host's script: a request, or nothing, or its first fault.
 use Rattle.std.specs.Prelude.{ℕ, ◌≤◌, ◌<◌, List, [], ◌∷◌, length, Option, Some, None, Result, Ok, Err, if◌then◌else◌, codes}
 use Rattle.std.specs.Str.{bytes_eq}
+use Rattle.frames.specs.Limits.{command_data_limit}
 use Rattle.script_input.specs.declared.line_fault.LineFault.{LineFault}
 use Rattle.script_input.specs.declared.line_fault.LineFault.TheVariants.{WordCount}
 use Rattle.script_lines.specs.declared.client_request.ClientRequest.{ClientRequest}
@@ -47,7 +48,7 @@ request_in (first ∷ words) =
 unfoldable pub request_line_in : List ℕ → Result (Option ClientRequestValue) LineFault
 request_line_in line = line_by request_in line
 
--- a CDB of 1 to 16 bytes, and at most 131,053 bytes of data
+-- a CDB of 1 to 16 bytes, and as many bytes of data at most as a frame has room for behind any CDB
 abbrev pub IsWithinLimits : ClientRequestValue → Type 0
-IsWithinLimits (Command lun cdb bytes) = (0 < length cdb) × (length cdb ≤ 16) × (length bytes ≤ 131053)
+IsWithinLimits (Command lun cdb bytes) = (0 < length cdb) × (length cdb ≤ 16) × (length bytes ≤ command_data_limit)
 IsWithinLimits (Reset lun) = Unit {0}

@@ -10,15 +10,13 @@ ghost use Rattle.script_lines.specs.Script.{TakesLine, saids};
 use crate::cutting::{cut, is_end};
 use crate::events::Events;
 use crate::words::{bytes_of, cdb_of, nexus_of, unit_of};
+use frames::MAX_COMMAND_DATA;
 use script_input::LineFault;
 use std::alloc::{AllocError, Global};
 use target_core::Event;
 
 /// The longest line, without its line feed.
 pub const MAX_LINE: usize = 270_000;
-
-/// The most data that a command may bring.
-const MAX_DATA: usize = 131_053;
 
 /// Why a line gave no event.
 #[derive(Clone, Copy)]
@@ -197,6 +195,6 @@ pub fn data_of(alloc: Global, word: Option<&[u8]>) -> Result<Vec<u8>, LineError>
 {
     match word {
         None => Ok(Vec::new(alloc)),
-        Some(word) => bytes_of(alloc, word, MAX_DATA),
+        Some(word) => bytes_of(alloc, word, MAX_COMMAND_DATA),
     }
 }

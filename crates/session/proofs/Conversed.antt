@@ -6,6 +6,7 @@ use Rattle.std.proofs.lemmas.List.{drop-append-le}
 use Rattle.std.specs.Io.KnownBytes.{Consumes, Appends, IsAtEnd}
 use Rattle.scsi_nexus.specs.declared.nexus.Nexus.{Nexus}
 use Rattle.logical_unit.specs.Answers.{DoneValue}
+use Rattle.frames.specs.Limits.{frame_size_limit}
 use Rattle.frames.specs.Frames.{FrameValue, Login, Partial, Complete, parsed_frame}
 use Rattle.read_buffer.specs.Reading.{Filled}
 use Rattle.frames.specs.declared.reply_frame.LoginAnswer.TheVariants.{Accepted}
@@ -26,7 +27,8 @@ use Rattle.session.proofs.Read.{consumes_none, consumes_more, nothing_more}
 
 -- what was read and written since what was pending at first, and what is pending now
 pub record Speaks
-    {S : Type 0} (notes : S → DoneValue → S → Type 0) (s : S) (before : State) (left left' written written' : Option (List ℕ)) (after : State)
+    {S : Type 0} (notes : S → DoneValue → S → Type 0) (s : S) (before : State) (left left' written written' : Option (List ℕ))
+    (after : State)
     (t : S) : Type 0 where
   pub read : List ℕ
   pub said : List ℕ
@@ -34,10 +36,11 @@ pub record Speaks
   pub appended : Appends written written' said
   pub answered : Answers notes s (record before { pending = before.pending ++ read }) (record after { out = said }) t
   pub partial : parsed_frame true after.pending ≡ Partial
-  pub short : length after.pending < 131076
+  pub short : length after.pending < frame_size_limit
 
 -- before the first read
-pub speaks_first : {S : Type 0} (notes : S → DoneValue → S → Type 0) (s t : S) (before after : State) (left written written' : Option (List ℕ))
+pub speaks_first : {S : Type 0} (notes : S → DoneValue → S → Type 0) (s t : S) (before after : State)
+    (left written written' : Option (List ℕ))
     → Writes notes s before written written' after t → Speaks notes s before left left written written' after t
 speaks_first notes s t before after left written written' w = record {
   read = [];
@@ -110,7 +113,8 @@ ends_with_logout notes s t before after read said left left' written written' to
 }
 
 -- a LOGOUT before the first read
-pub leaves_first : {S : Type 0} (notes : S → DoneValue → S → Type 0) (s t : S) (before after : State) (left written written' : Option (List ℕ))
+pub leaves_first : {S : Type 0} (notes : S → DoneValue → S → Type 0) (s t : S) (before after : State)
+    (left written written' : Option (List ℕ))
     → WritesAll notes s before written written' after t → Converses notes s before left left written written' end.Logout after.pending t
 leaves_first notes s t before after left written written' w = record {
   read = [];
@@ -181,28 +185,29 @@ pub held : {S : Type 0} (notes : S → DoneValue → S → Type 0) (s s1 m after
     → s1 ≡ s → Converses notes s1 (greeted before) middle left' written written' e rest m
     → IsLostBelow notes before.nexus (count m) m after is_lost → is_lost ≡ true → t ≡ after
     → IsHeld notes count s left left' written written' e t
-held {S} notes s s1 m after t before first rest size count is_lost left middle left' written written' e took login behind library so lost all last = record {
-  nexus = before.nexus;
-  read = first ++ so.read;
-  frames = so.frames;
-  rest = rest;
-  said = so.said;
-  before_loss = m;
-  consumed = consumes_more left middle left' first so.read took so.consumed;
-  taken = (
-    size,
-    stable false first so.read (Complete (Login before.nexus) size) login (λ e. absurd cc),
-    subst (λ (p : List ℕ). Takes true p (so.frames ++ last_frames e) rest)
-        (ap (λ (p : List ℕ). p ++ so.read) behind
-        ∙ sym (drop-append-le size first so.read (frame_within false first (Login before.nexus) size login))) so.taken,
-  );
-  talked = subst (λ (x : S). Talks notes before.nexus x so.frames (reply_bytes (LoginReply Accepted)) so.said m) library so.talked;
-  appended = so.appended;
-  ended = so.ended;
-  lost =
-      subst (λ (b : Bool). IsLostBelow notes before.nexus (count m) m t b) all
-      (subst (λ (x : S). IsLostBelow notes before.nexus (count m) m x is_lost) (sym last) lost);
-}
+held {S} notes s s1 m after t before first rest size count is_lost left middle left' written written' e took login behind library so lost
+    all last = record {
+      nexus = before.nexus;
+      read = first ++ so.read;
+      frames = so.frames;
+      rest = rest;
+      said = so.said;
+      before_loss = m;
+      consumed = consumes_more left middle left' first so.read took so.consumed;
+      taken = (
+        size,
+        stable false first so.read (Complete (Login before.nexus) size) login (λ e. absurd cc),
+        subst (λ (p : List ℕ). Takes true p (so.frames ++ last_frames e) rest)
+            (ap (λ (p : List ℕ). p ++ so.read) behind
+            ∙ sym (drop-append-le size first so.read (frame_within false first (Login before.nexus) size login))) so.taken,
+      );
+      talked = subst (λ (x : S). Talks notes before.nexus x so.frames (reply_bytes (LoginReply Accepted)) so.said m) library so.talked;
+      appended = so.appended;
+      ended = so.ended;
+      lost =
+          subst (λ (b : Bool). IsLostBelow notes before.nexus (count m) m t b) all
+          (subst (λ (x : S). IsLostBelow notes before.nexus (count m) m x is_lost) (sym last) lost);
+    }
 
 -- one that ended early
 pub broken_off : {S : Type 0} (notes : S → DoneValue → S → Type 0) (s s1 m after t : S) (n : Nexus) (first : List ℕ) (size : ℕ)

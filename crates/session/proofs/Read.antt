@@ -3,6 +3,7 @@ use Rattle.std.proofs.Common.{false, ◌⊎◌, inl, inr, ◌≡◌, ◌≤◌, 
 use Rattle.std.proofs.Common.{refl, sym, ap, subst, ◌∙◌, append_assoc, append-nil, arith}
 use Rattle.std.specs.Prelude.{Result, Ok, Err, IfOk, IfErr}
 use Rattle.std.specs.Io.KnownBytes.{Consumes, Keeps}
+use Rattle.frames.specs.Limits.{frame_buffer_size}
 use Rattle.frames.specs.Frames.{Invalid, parsed_frame}
 use Rattle.read_buffer.specs.Reading.{Filled}
 use Rattle.frames.specs.declared.fault.FrameFault.{FrameFault}
@@ -29,7 +30,8 @@ empty [] e = refl
 empty (x ∷ xs) e = absurd cc
 
 -- a read of nothing
-pub nothing_more : (read_buffer inbox' : List ℕ) (n : ℕ) (left left' : Option (List ℕ)) → Filled n read_buffer inbox' left left' → n ≡ 0 → inbox' ≡ read_buffer
+pub nothing_more : (read_buffer inbox' : List ℕ) (n : ℕ) (left left' : Option (List ℕ)) → Filled n read_buffer inbox' left left' → n ≡ 0 →
+    inbox' ≡ read_buffer
 nothing_more read_buffer inbox' n left left' got none =
     got.1 ∙ ap (λ (xs : List ℕ). read_buffer ++ xs) (empty got.0 (got.2 ∙ none)) ∙ append-nil read_buffer
 
@@ -38,8 +40,8 @@ pub reads_none : (most : ℕ) (left : Option (List ℕ)) → ReadsAtMost most le
 reads_none most left = ([], consumes_none left, omega arith)
 
 -- one read more
-pub reads_more : (turn count : ℕ) (pending pending' : List ℕ) (a b c : Option (List ℕ)) → ReadsAtMost (turn * 262144) a b
-    → Filled count pending pending' b c → count ≤ 262144 → ReadsAtMost ((turn + 1) * 262144) a c
+pub reads_more : (turn count : ℕ) (pending pending' : List ℕ) (a b c : Option (List ℕ)) → ReadsAtMost (turn * frame_buffer_size) a b
+    → Filled count pending pending' b c → count ≤ frame_buffer_size → ReadsAtMost ((turn + 1) * frame_buffer_size) a c
 reads_more turn count pending pending' a b c so got most =
     (so.0 ++ got.0, consumes_more a b c so.0 got.0 so.1 got.3, omega (arith, so.2, got.2, length-append so.0 got.0))
 
@@ -51,25 +53,28 @@ reads_kept most (Some xs) (Some ys) None so kept = absurd kept
 reads_kept most (Some xs) (Some ys) (Some zs) so kept = (so.0, subst (λ (l : List ℕ). xs ≡ so.0 ++ l) (sym kept) so.1, so.2)
 
 -- fewer reads are no more
-pub reads_within : (few most : ℕ) (a b : Option (List ℕ)) → few ≤ most → ReadsAtMost (few * 262144) a b → ReadsAtMost (most * 262144) a b
+pub reads_within : (few most : ℕ) (a b : Option (List ℕ)) → few ≤ most → ReadsAtMost (few * frame_buffer_size) a b → ReadsAtMost
+    (most * frame_buffer_size) a b
 reads_within few most a b le so = (so.0, so.1, omega (arith, so.2))
 
 -- the reads up to a LOGIN, and those behind it
-pub reads_then : (turns others : ℕ) (a b c : Option (List ℕ)) → others ≤ turns → ReadsAtMost ((turns - others) * 262144) a b
-    → ReadsAtMost (others * 262144) b c → ReadsAtMost (turns * 262144) a c
+pub reads_then : (turns others : ℕ) (a b c : Option (List ℕ)) → others ≤ turns → ReadsAtMost ((turns - others) * frame_buffer_size) a b
+    → ReadsAtMost (others * frame_buffer_size) b c → ReadsAtMost (turns * frame_buffer_size) a c
 reads_then turns others a b c le first rest =
     (first.0 ++ rest.0, consumes_more a b c first.0 rest.0 first.1 rest.1, omega (arith, first.2, rest.2, length-append first.0 rest.0))
 
 -- one read more, of those that there may be
-pub reads_on : (turn turns count : ℕ) (pending pending' : List ℕ) (a b c : Option (List ℕ)) → turn < turns → ReadsAtMost (turn * 262144) a b
-    → Filled count pending pending' b c → count ≤ 262144 → ReadsAtMost (turns * 262144) a c
+pub reads_on : (turn turns count : ℕ) (pending pending' : List ℕ) (a b c : Option (List ℕ)) → turn < turns → ReadsAtMost
+    (turn * frame_buffer_size) a b
+    → Filled count pending pending' b c → count ≤ frame_buffer_size → ReadsAtMost (turns * frame_buffer_size) a c
 reads_on turn turns count pending pending' a b c lt so got most =
     reads_within (turn + 1) turns a c (omega arith) (reads_more turn count pending pending' a b c so got most)
 
 -- one read more of all that is pending
 pub consumes_filled : (count : ℕ) (pending pending' : List ℕ) (a b c : Option (List ℕ)) → Consumes a b pending
     → Filled count pending pending' b c → Consumes a c pending'
-consumes_filled count pending pending' a b c so got = subst (λ (xs : List ℕ). Consumes a c xs) (sym got.1) (consumes_more a b c pending got.0 so got.3)
+consumes_filled count pending pending' a b c so got = subst (λ (xs : List ℕ). Consumes a c xs) (sym got.1)
+    (consumes_more a b c pending got.0 so got.3)
 
 -- what is no frame keeps out
 pub keeps_out : (fault : FrameFault) (read : List ℕ) → parsed_frame false read ≡ Invalid fault → KeepsOut (of_frame fault) read
@@ -78,14 +83,26 @@ keeps_out TooLong read e = ap fault_before_login e
 
 -- a LOGIN whose nexus isn't taken
 pub kept_out : (fault : SessionFault) (turns others : ℕ) (nexus : Nexus) (left left' : Option (List ℕ)) (pending : List ℕ)
-    → (fault ≡ session.AlreadyConnected) ⊎ (fault ≡ session.NoMemory) → Awaits turns left left' pending (Login nexus others) → IsKeptOutBy fault left left'
-kept_out fault turns others nexus left left' pending (inl e) came = rw e (record { read = came.0; consumed = came.2; shown = (nexus, came.1, came.3) })
+    → (fault ≡ session.AlreadyConnected) ⊎ (fault ≡ session.NoMemory) → Awaits turns left left' pending (Login nexus others) → IsKeptOutBy
+    fault left left'
+kept_out fault turns others nexus left left' pending (inl e) came = rw e (record {
+  read = came.0;
+  consumed = came.2;
+  shown =
+      (nexus, came.1, came.3);
+})
 kept_out fault turns others nexus left left' pending (inr e) came = rw e (record { read = came.0; consumed = came.2; shown = tt })
 
 -- and one of which the host couldn't be told so
-pub kept_untold : (fault : SessionFault) (turns others : ℕ) (nexus : Nexus) (left left' : Option (List ℕ)) (pending : List ℕ) → fault ≡ session.Write
+pub kept_untold : (fault : SessionFault) (turns others : ℕ) (nexus : Nexus) (left left' : Option (List ℕ)) (pending : List ℕ) → fault ≡
+    session.Write
     → Awaits turns left left' pending (Login nexus others) → IsKeptOutBy fault left left'
-kept_untold fault turns others nexus left left' pending e came = rw e (record { read = came.0; consumed = came.2; shown = (nexus, came.1, came.3) })
+kept_untold fault turns others nexus left left' pending e came = rw e (record {
+  read = came.0;
+  consumed = came.2;
+  shown =
+      (nexus, came.1, came.3);
+})
 
 -- what follows from a value, and from an error
 pub if_ok : {T E : Type 0} (r : Result T E) (P Q : T → Type 0) → ((x : T) → P x → Q x) → IfOk r P → IfOk r Q

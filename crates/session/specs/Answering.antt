@@ -6,7 +6,9 @@ use Rattle.logical_unit.specs.Answers as event
 use Rattle.logical_unit.specs.Answers.{DoneValue, IsAnswer}
 use Rattle.frames.specs.Frames.{FrameValue, Login, Command, Reset, Logout}
 use Rattle.frames.specs.Stream.{Takes}
+use Rattle.frames.specs.Limits.{reply_size_limit}
 use Rattle.frames.specs.Replies.{CommandReply, ResetReply, LogoutReply, reply_bytes}
+use Rattle.session.specs.Limits.{out_room}
 use Rattle.session.specs.declared.logged_in.Session.{Session}
 
 -- a session at one moment: whose it is, what has come and isn't answered yet, and the replies that wait to be written
@@ -87,4 +89,4 @@ pub record AnswersAllOut
 
 -- what waits to be written is no more than one reply of the largest, and there is room for another behind it
 abbrev pub HasRoom : (waiting capacity : ℕ) → Type 0
-HasRoom waiting capacity = (waiting ≤ 65569) × (131138 ≤ capacity)
+HasRoom waiting capacity = (waiting ≤ reply_size_limit) × (out_room ≤ capacity)

@@ -2,6 +2,7 @@
 use Rattle.std.specs.Prelude.{◌≡◌, ◌≤◌, ◌-◌, ◌*◌, ℕ, false, List, [], ◌∷◌, length, drop, Option, Some, None}
 use Rattle.std.specs.Io.KnownBytes.{Consumes, IsAtEnd}
 use Rattle.scsi_nexus.specs.declared.nexus.Nexus.{Nexus}
+use Rattle.frames.specs.Limits.{frame_buffer_size}
 use Rattle.frames.specs.Frames.{ParsedFrameValue, Login, Command, Reset, Logout, Partial, Complete, Invalid, parsed_frame}
 use Rattle.session.specs.declared.fault.End.{End}
 use Rattle.session.specs.declared.fault.End.TheVariants.{Closed, Cut}
@@ -22,7 +23,7 @@ ReadsAtMost most left left' = (read : List ℕ) × Consumes left left' read × (
 
 -- a LOGIN came by so many of the reads that there may be, and others may follow
 abbrev pub LeavesReads : (turns : ℕ) → (left left' : Option (List ℕ)) → LoginWait → Type 0
-LeavesReads turns left left' (wait.Login nexus others) = (others ≤ turns) × ReadsAtMost ((turns - others) * 262144) left left'
+LeavesReads turns left left' (wait.Login nexus others) = (others ≤ turns) × ReadsAtMost ((turns - others) * frame_buffer_size) left left'
 LeavesReads turns left left' (wait.Ended end) = Unit {0}
 
 -- what was read begins with a LOGIN, behind which the rest is pending; or the reader is at its end before one has come whole

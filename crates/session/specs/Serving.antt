@@ -7,6 +7,7 @@ use Rattle.scsi_sense.specs.declared.status.Status.TheVariants.{Good, CheckCondi
 use Rattle.logical_unit.specs.Answers as event
 use Rattle.logical_unit.specs.Answers.{DoneValue, IsAnswer}
 use Rattle.frames.specs.declared.reply_frame.LoginAnswer.TheVariants.{Accepted, AlreadyConnected}
+use Rattle.frames.specs.Limits.{frame_size_limit}
 use Rattle.frames.specs.Frames.{FrameValue, Login, Logout, Partial, Complete, parsed_frame}
 use Rattle.frames.specs.Replies.{LoginReply, LogoutReply, reply_bytes}
 use Rattle.frames.specs.Stream.{Takes}
@@ -26,7 +27,7 @@ pub record Writes
   pub appended : Appends written written' said
   pub answered : Answers notes s before (record after { out = said }) t
   pub partial : parsed_frame true after.pending ≡ Partial
-  pub short : length after.pending < 131076
+  pub short : length after.pending < frame_size_limit
 
 pub record WritesAll
     {S : Type 0} (notes : S → DoneValue → S → Type 0) (s : S) (before : State) (written written' : Option (List ℕ)) (after : State) (t : S)
@@ -126,7 +127,8 @@ pub record NeverLogsIn {S : Type 0} (s : S) (left left' written written' : Optio
 -- a session: what was read begins with a LOGIN and these frames, and LOGOUT where that ended it; what was written is the reply to LOGIN and
 -- just one reply for each frame, in order, of the answer to that very frame's call; and then the nexus was lost at every unit
 pub record IsHeld
-    {S : Type 0} (notes : S → DoneValue → S → Type 0) (count : S → ℕ) (s : S) (left left' written written' : Option (List ℕ)) (end : End) (t : S)
+    {S : Type 0} (notes : S → DoneValue → S → Type 0) (count : S → ℕ) (s : S) (left left' written written' : Option (List ℕ)) (end : End)
+    (t : S)
     : Type 0 where
   pub nexus : Nexus
   pub read : List ℕ
@@ -141,6 +143,7 @@ pub record IsHeld
   pub ended : EndsAt end left' rest
   pub lost : IsLostBelow notes nexus (count before_loss) before_loss t true
 
-abbrev pub Serves : {S : Type 0} → (S → DoneValue → S → Type 0) → (count : S → ℕ) → S → (left left' written written' : Option (List ℕ)) → End → S → Type 0
+abbrev pub Serves : {S : Type 0} → (S → DoneValue → S → Type 0) → (count : S → ℕ) → S → (left left' written written' : Option (List ℕ)) →
+    End → S → Type 0
 Serves notes count s left left' written written' end t =
     NeverLogsIn s left left' written written' end t ⊎ IsHeld notes count s left left' written written' end t

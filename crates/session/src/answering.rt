@@ -1,6 +1,7 @@
 ghost use Rattle.std.specs.Prelude.{◌≡◌, ◌≢◌, ◌≤◌, ◌<◌, ◌+◌, ◌++◌, Ok, OnOk, OnErr, vec_len, vec_capacity};
 ghost use Rattle.scsi_nexus.specs.declared.nexus.Nexus.{Nexus};
 ghost use Rattle.frames.specs.Frames as frames;
+ghost use Rattle.frames.specs.Limits.{reply_size_limit};
 ghost use Rattle.frames.specs.Views.{frame_value};
 ghost use Rattle.frames.specs.Replies.{LogoutReply, reply_bytes};
 ghost use Rattle.session.specs.Answering.{Commanded, WasReset, Says, ComesByCalls};
@@ -22,9 +23,9 @@ fn answer_command<S: Service>(
 ) -> Result<(), AllocError>
     ensures calls { ComesByCalls S.notes nexus service.old service.new }
     ensures said { OnOk result (Commanded S.notes service.old nexus lun cdb.now bytes.now out.old.items out.new.items service.new) }
-    ensures most { OnOk result (vec_len out.new ≤ vec_len out.old + 65569) }
+    ensures most { OnOk result (vec_len out.new ≤ vec_len out.old + reply_size_limit) }
     ensures capacity { vec_capacity out.old ≤ vec_capacity out.new }
-    ensures full { OnErr result (vec_capacity out.old < vec_len out.old + 65569) }
+    ensures full { OnErr result (vec_capacity out.old < vec_len out.old + reply_size_limit) }
 {
     let done = service.submit(alloc, nexus, lun, cdb, bytes);
     let reply = &done.receipt().reply;
@@ -46,9 +47,9 @@ fn answer_reset<S: Service>(
 ) -> Result<(), AllocError>
     ensures calls { (n : Nexus) → ComesByCalls S.notes n service.old service.new }
     ensures said { OnOk result (WasReset S.notes service.old lun out.old.items out.new.items service.new) }
-    ensures most { OnOk result (vec_len out.new ≤ vec_len out.old + 65569) }
+    ensures most { OnOk result (vec_len out.new ≤ vec_len out.old + reply_size_limit) }
     ensures capacity { vec_capacity out.old ≤ vec_capacity out.new }
-    ensures full { OnErr result (vec_capacity out.old < vec_len out.old + 65569) }
+    ensures full { OnErr result (vec_capacity out.old < vec_len out.old + reply_size_limit) }
 {
     let done = service.reset(alloc, lun);
     write_reply(out, &ReplyFrame::Reset(done.receipt().reply.status))
@@ -78,9 +79,9 @@ pub(crate) fn answer_frame<S: Service>(
         → Says S.notes nexus service.old (frame_value frame.entry) out.old.items out.new.items service.new }
     ensures logout { result ≡ Ok AfterFrame.Nothing → (frame_value frame.entry ≡ frames.Logout)
         × (out.new.items ≡ out.old.items ++ reply_bytes LogoutReply) × (service.new ≡ service.old) }
-    ensures most { OnOk result (vec_len out.new ≤ vec_len out.old + 65569) }
+    ensures most { OnOk result (vec_len out.new ≤ vec_len out.old + reply_size_limit) }
     ensures capacity { vec_capacity out.old ≤ vec_capacity out.new }
-    ensures full { OnErr result (vec_capacity out.old < vec_len out.old + 65569) }
+    ensures full { OnErr result (vec_capacity out.old < vec_len out.old + reply_size_limit) }
 {
     match frame {
         FrameRef::Login { .. } => Ok(AfterFrame::Again),

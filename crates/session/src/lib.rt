@@ -7,10 +7,12 @@ mod directory;
 mod fault;
 mod logged_in;
 mod login;
+mod rows;
 mod service;
 mod serving;
 
 pub use directory::Directory;
 pub use fault::{End, SessionFault};
+pub use rows::limit_rows;
 pub use service::{SeatService, Service};
 pub use serving::{lose_all, lose_at_units, serve};

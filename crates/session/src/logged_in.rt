@@ -1,6 +1,8 @@
 ghost use Rattle.std.specs.Prelude.{◌≡◌, ◌<◌, ◌≤◌, ◌⊎◌, ◌*◌, Ok, OnOk, IfOk, IfErr, IsOkUnless, [], length, vec_len, vec_capacity, true, false};
 ghost use Rattle.std.specs.Io.KnownBytes.{Appends};
+ghost use Rattle.frames.specs.Limits.{frame_size_limit, reply_size_limit, frame_buffer_size};
 ghost use Rattle.frames.specs.Frames.{parsed_frame, Partial};
+ghost use Rattle.session.specs.Limits.{out_room};
 ghost use Rattle.session.specs.Answering.{Answers, AnswersAll, AnswersOut, AnswersAllOut, ComesByCalls, HasRoom, state_of};
 ghost use Rattle.session.specs.Faults.{IsOfStream};
 ghost use Rattle.session.specs.Login.{ReadsAtMost};
@@ -69,12 +71,12 @@ impl Session {
     ) -> Result<Pause, SessionFault>
         requires { HasRoom (vec_len self.old.out) (vec_capacity self.old.out) }
         ensures capacity { vec_capacity self.old.out ≤ vec_capacity self.new.out }
-        ensures waits { result ≡ Ok Pause.NeedsInput → vec_len self.new.out ≤ 65569 }
+        ensures waits { result ≡ Ok Pause.NeedsInput → vec_len self.new.out ≤ reply_size_limit }
         ensures fault { IfErr result IsOfStream }
         ensures calls { ComesByCalls S.notes self.old.nexus service.old service.new }
         ensures goes_on { (result ≡ Ok Pause.NeedsInput) ⊎ (result ≡ Ok Pause.FlushDue)
             → Answers S.notes service.old (state_of self.old) (state_of self.new) service.new }
-        ensures dry { result ≡ Ok Pause.NeedsInput → (parsed_frame true self.new.read_buffer ≡ Partial) × (length self.new.read_buffer < 131076) }
+        ensures dry { result ≡ Ok Pause.NeedsInput → (parsed_frame true self.new.read_buffer ≡ Partial) × (length self.new.read_buffer < frame_size_limit) }
         ensures full { result ≡ Ok Pause.FlushDue → length self.new.read_buffer < length self.old.read_buffer }
         ensures leaves { result ≡ Ok Pause.LoggedOut → AnswersAll S.notes service.old (state_of self.old) (state_of self.new) service.new }
     {
@@ -112,7 +114,7 @@ impl Session {
         ensures calls { ComesByCalls S.notes self.old.nexus service.old service.new }
         ensures goes_on { result ≡ Ok true → AnswersOut S.notes service.old (state_of self.old)
             (W.contents writer.old) (W.contents writer.new) (state_of self.new) service.new }
-        ensures dry { result ≡ Ok true → (parsed_frame true self.new.read_buffer ≡ Partial) × (length self.new.read_buffer < 131076) }
+        ensures dry { result ≡ Ok true → (parsed_frame true self.new.read_buffer ≡ Partial) × (length self.new.read_buffer < frame_size_limit) }
         ensures leaves { result ≡ Ok false → AnswersAllOut S.notes service.old (state_of self.old)
             (W.contents writer.old) (W.contents writer.new) (state_of self.new) service.new }
     {
@@ -160,7 +162,7 @@ impl Session {
         requires { HasRoom (vec_len self.old.out) (vec_capacity self.old.out) }
         ensures fault { IfErr result IsOfStream }
         ensures calls { ComesByCalls S.notes self.old.nexus service.old service.new }
-        ensures reads { ReadsAtMost (turns * 262144) (R.remaining reader.old) (R.remaining reader.new) }
+        ensures reads { ReadsAtMost (turns * frame_buffer_size) (R.remaining reader.old) (R.remaining reader.new) }
         ensures talk { IfOk result (λ end. Converses S.notes service.old (state_of self.old) (R.remaining reader.old) (R.remaining reader.new)
             (W.contents writer.old) (W.contents writer.new) end self.new.read_buffer service.new) }
     {
@@ -190,10 +192,10 @@ impl Session {
         turns: u64,
     ) -> Result<End, SessionFault>
         requires empty { (self.old.out.items ≡ []) × (vec_len self.old.out ≡ 0) }
-        requires room { 131138 ≤ vec_capacity self.old.out }
+        requires room { out_room ≤ vec_capacity self.old.out }
         ensures fault { IfErr result IsOfStream }
         ensures calls { ComesByCalls S.notes self.old.nexus service.old service.new }
-        ensures reads { ReadsAtMost (turns * 262144) (R.remaining reader.old) (R.remaining reader.new) }
+        ensures reads { ReadsAtMost (turns * frame_buffer_size) (R.remaining reader.old) (R.remaining reader.new) }
         ensures talk { IfOk result (λ end. Converses S.notes service.old (greeted (state_of self.old)) (R.remaining reader.old) (R.remaining reader.new)
             (W.contents writer.old) (W.contents writer.new) end self.new.read_buffer service.new) }
     {

@@ -1,4 +1,5 @@
 ghost use Rattle.std.specs.Prelude.{◌≡◌, ◌≤◌, ◌*◌, [], IfOk, IfErr};
+ghost use Rattle.frames.specs.Limits.{frame_buffer_size};
 ghost use Rattle.session.specs.Faults.{IsOfStream};
 ghost use Rattle.session.specs.Login.{Awaits, IsKeptOutBy, LeavesReads, ReadsAtMost, end_of};
 
@@ -24,7 +25,7 @@ pub(crate) fn await_login<R: Read>(
 ) -> Result<LoginWait, SessionFault>
     requires { read_buffer.old ≡ [] }
     ensures wait { IfOk result (λ wait. Awaits turns (R.remaining reader.old) (R.remaining reader.new) read_buffer.new wait) }
-    ensures reads { ReadsAtMost (turns * 262144) (R.remaining reader.old) (R.remaining reader.new) }
+    ensures reads { ReadsAtMost (turns * frame_buffer_size) (R.remaining reader.old) (R.remaining reader.new) }
     ensures rest { IfOk result (λ wait. LeavesReads turns (R.remaining reader.old) (R.remaining reader.new) wait) }
     ensures fault { IfErr result IsOfStream }
     ensures kept_out { IfErr result (λ fault. IsKeptOutBy fault (R.remaining reader.old) (R.remaining reader.new)) }

@@ -1,5 +1,7 @@
 ghost use Rattle.std.specs.Prelude.{◌≡◌, ◌⊎◌, ◌≤◌, ◌*◌, IfOk, IfErr, OnOk, IsOkUnless, [], vec_len, vec_capacity};
 ghost use Rattle.std.specs.Io.KnownBytes.{Appends};
+ghost use Rattle.frames.specs.Limits.{frame_buffer_size};
+ghost use Rattle.session.specs.Limits.{out_room};
 ghost use Rattle.session.specs.Leaving.{Leaves};
 ghost use Rattle.session.specs.Login.{ReadsAtMost};
 ghost use Rattle.session.specs.Serving.{IsLostBelow, IsKeptOut, BreaksOff, Serves, refusal};
@@ -41,7 +43,7 @@ fn refuse_login<W: Write>(
     writer: &mut W,
 ) -> Result<(), SessionFault>
     requires empty { (out.old.items ≡ []) × (vec_len out.old ≡ 0) }
-    requires room { 131138 ≤ vec_capacity out.old }
+    requires room { out_room ≤ vec_capacity out.old }
     ensures said { OnOk result (Appends (W.contents writer.old) (W.contents writer.new) (refusal fault)) }
     ensures fault { IsOkUnless result SessionFault.Write }
 {
@@ -71,7 +73,7 @@ fn refuse_login<W: Write>(
 /// ```
 ///
 /// One session: its frames, however the stream is cut, and a reply frame for each, in order, from the answer to that
-/// very frame's call; the reader is read at most `turns` times, for 262,144 bytes each; a clause bounds the bytes. Room
+/// very frame's call; the reader is read at most `turns` times, for `FRAME_BUFFER` bytes each; a clause bounds the bytes. Room
 /// for the largest reply, behind what waits to be written, is made before a LOGIN is answered: from then on no reply takes memory.
 ///
 /// However a session that logged in ends, its nexus is lost at every unit, also where another has no
@@ -88,7 +90,7 @@ pub fn serve<S: Service, R: Read, W: Write>(
         (W.contents writer.old) (W.contents writer.new) end service.new) }
     ensures broken { IfErr result (λ fault. IsKeptOut service.old (R.remaining reader.old) (R.remaining reader.new)
         (W.contents writer.old) (W.contents writer.new) fault service.new ⊎ BreaksOff S.notes S.count service.old (R.remaining reader.old) fault service.new) }
-    ensures reads { ReadsAtMost (turns * 262144) (R.remaining reader.old) (R.remaining reader.new) }
+    ensures reads { ReadsAtMost (turns * frame_buffer_size) (R.remaining reader.old) (R.remaining reader.new) }
     ensures service { Leaves S.notes S.count service.old service.new }
 {
     let mut read_buffer = FrameBuffer::new(alloc)?;

@@ -1,5 +1,6 @@
 ghost use Rattle.std.specs.Prelude.{◌≡◌, ◌<◌, ◌≤◌, ◌++◌, length, slice_get, Some, OnOk, OnErr};
 ghost use Rattle.tape_medium.specs.Lent.{lent_object};
+ghost use Rattle.tape_image.specs.Limits.{part_limit};
 ghost use Rattle.tape_image.specs.Images.{object_bytes, IsKeepable};
 
 use std::alloc::AllocError;
@@ -22,7 +23,7 @@ pub(crate) fn object_at(tape: &Tape, at: u32) -> TapeObject<'_>
 pub(crate) fn part_length(object: TapeObject<'_>) -> usize
     requires { IsKeepable (lent_object object) }
     ensures value { result ≡ length (object_bytes (lent_object object.entry)) }
-    ensures within { result ≤ 65544 }
+    ensures within { result ≤ part_limit }
 {
     match object {
         TapeObject::Block(bytes) => {

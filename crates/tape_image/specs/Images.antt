@@ -1,6 +1,7 @@
 -- The bytes of an image (SIMH Magtape Representation and Handling): each logical object between its length and its length again.
 use Rattle.std.specs.Prelude.{ℕ, ◌+◌, ◌%◌, ◌≤◌, List, [], ◌∷◌, ◌++◌, length, replicate}
 use Rattle.byteorder.specs.Endian.{little_bytes}
+use Rattle.tape_medium.specs.Limits.{block_limit}
 use Rattle.tape_medium.specs.Object.{Object, Block, Mark}
 
 -- a zero byte behind a block of odd length
@@ -25,9 +26,9 @@ abbrev pub image_bytes : List Object → List ℕ
 image_bytes [] = []
 image_bytes (object ∷ others) = object_bytes object ++ image_bytes others
 
--- a block has 1 to 65,536 bytes
+-- a block has at least one byte, and as many as on a tape at the most
 abbrev pub IsKeepable : Object → Type 0
-IsKeepable (Block bytes) = (1 ≤ length bytes) × (length bytes ≤ 65536)
+IsKeepable (Block bytes) = (1 ≤ length bytes) × (length bytes ≤ block_limit)
 IsKeepable Mark = Unit {0}
 
 abbrev pub AreKeepable : List Object → Type 0

@@ -1,3 +1,4 @@
+pub mod Limits
 pub mod Images
 pub mod Parts
 pub mod Views

@@ -1,6 +1,7 @@
 -- What an image begins with (SIMH Magtape Representation and Handling).
 use Rattle.std.specs.Prelude.{ℕ, ◌+◌, ◌==◌, nat_lt, nat_le, List, length, take, drop, if◌then◌else◌}
 use Rattle.byteorder.specs.Endian.{little_number}
+use Rattle.tape_medium.specs.Limits.{block_limit}
 use Rattle.tape_medium.specs.Object.{Object, Block, Mark}
 use Rattle.tape_image.specs.Images.{padded, block_count}
 use Rattle.tape_image.specs.declared.fault.ImageFault.{ImageFault}
@@ -33,7 +34,7 @@ measured word bytes =
     else if word == 0xFFFFFFFF then End
     else if word == 0xFFFFFFFE then Gap
     else if nat_le 0x10000000 word then Invalid UnknownClass
-    else if nat_lt 65536 word then Invalid TooLong
+    else if nat_lt block_limit word then Invalid TooLong
     else sized word bytes
 
 unfoldable pub image_part : (bytes : List ℕ) → PartValue

@@ -5,8 +5,8 @@ use tape_medium::MAX_BLOCK;
 /// How many bytes tell the length of a block, before it and again behind it.
 pub const LENGTH_FIELD: usize = 4;
 
-/// The most bytes of a part: a block of 65,536 bytes between its lengths.
-pub const MAX_PART: usize = 65_544;
+/// The most bytes of a part: the longest block between its lengths.
+pub const MAX_PART: usize = LENGTH_FIELD + MAX_BLOCK as usize + LENGTH_FIELD;
 
 /// The length that is a filemark.
 pub(crate) const FILEMARK: u32 = 0;

@@ -1,4 +1,5 @@
 ghost use Rattle.std.specs.Prelude.{◌≡◌, ◌≤◌, ◌+◌, length};
+ghost use Rattle.tape_medium.specs.Limits.{block_limit};
 ghost use Rattle.tape_image.specs.Parts.{image_part, measured, sized};
 ghost use Rattle.tape_image.specs.Views.{part_value, IsWithin};
 
@@ -25,7 +26,7 @@ pub enum ImagePart<'a> {
 /// A block of `size` bytes between its lengths.
 fn block_of(size: usize, bytes: &[u8]) -> ImagePart<'_>
     requires least { 1 ≤ size }
-    requires most { size ≤ 65536 }
+    requires most { size ≤ block_limit }
     requires length { 4 ≤ length bytes.now }
     ensures part { part_value result ≡ sized size bytes.now }
     ensures within { IsWithin (length bytes.now) (part_value result) }
@@ -57,7 +58,7 @@ fn part_of(word: u32, bytes: &[u8]) -> ImagePart<'_>
     }
 }
 
-/// What an image begins with. Nothing is copied. Up to 65,544 bytes tell any part.
+/// What an image begins with. Nothing is copied. Up to `MAX_PART` bytes tell any part.
 #[tactic(auto, unfolding(crate::specs::Parts::image_part))]
 pub fn parse_image(bytes: &[u8]) -> ImagePart<'_>
     ensures part { part_value result ≡ image_part bytes.now }

@@ -1,5 +1,6 @@
 ghost use Rattle.std.specs.Prelude.{◌≡◌, ◌+◌, ◌≤◌, ◌<◌, [], length, take, IfOk, OnErr};
 ghost use Rattle.std.specs.Io.KnownBytes.{Keeps, IsAtEnd};
+ghost use Rattle.tape_image.specs.Limits.{part_limit};
 ghost use Rattle.tape_image.specs.Filling.{ReadBehind, Filled};
 
 use crate::layout::MAX_PART;
@@ -16,12 +17,13 @@ pub(crate) struct PartBuffer {
 
 impl Model for PartBuffer {
     ghost use Rattle.std.specs.Prelude.{◌≡◌, ◌≤◌, ℕ, List, take, vec_len};
+    ghost use Rattle.tape_image.specs.Limits.{part_limit};
 
     ghost Value = { List ℕ };
 
     ghost view = { λ p. take p.filled p.bytes.items };
 
-    ghost invariant = { λ p. (p.filled ≤ 65544) × (vec_len p.bytes ≡ 65544) };
+    ghost invariant = { λ p. (p.filled ≤ part_limit) × (vec_len p.bytes ≡ part_limit) };
 }
 
 impl PartBuffer {
@@ -38,7 +40,7 @@ impl PartBuffer {
     /// What was read of the part.
     pub(crate) fn pending(&self) -> &[u8]
         ensures value { result.now ≡ self.now }
-        ensures most { length self.now ≤ 65544 }
+        ensures most { length self.now ≤ part_limit }
     {
         &self.bytes.as_slice()[..self.filled]
     }
@@ -53,7 +55,7 @@ impl PartBuffer {
     /// nothing is wanted. An error of the reader, also an interrupted read, changes nothing.
     pub(crate) fn fill<R: Read>(&mut self, reader: &mut R, wanted: usize) -> io::Result<usize>
         requires least { length self.old ≤ wanted }
-        requires most { wanted ≤ 65544 }
+        requires most { wanted ≤ part_limit }
         ensures ok { IfOk result (λ count. Filled count self.old self.new (R.remaining reader.old) (R.remaining reader.new)) }
         ensures most { IfOk result (λ count. length self.old + count ≤ wanted) }
         ensures end { IfOk result (λ count. count ≡ 0 → length self.old < wanted → IsAtEnd (R.remaining reader.new)) }

@@ -3,6 +3,7 @@ ghost use Rattle.tape_medium.specs.Object.{Block, Mark};
 ghost use Rattle.tape_image.specs.declared.ending.ImageEnd.TheVariants.{WholeEnd, CutTail, Faulty};
 ghost use Rattle.tape_image.specs.declared.fault.ImageFault.TheVariants.{UnknownClass, TooLong, UnequalLengths};
 ghost use Rattle.tape_image.specs.Images.{object_bytes};
+ghost use Rattle.tape_image.specs.Limits.{part_limit};
 ghost use Rattle.tape_image.specs.Parts.{Partial, Complete, Gap, End, Invalid, image_part};
 ghost use Rattle.tape_image.specs.Reading.{Waiting, Ended, Broken, Reads, image_end};
 ghost use Rattle.tape_image.specs.Rows.{even, odd, mark, gap, end, hi, three, at_4};
@@ -18,6 +19,7 @@ pub fn part_rows()
     ensures read_mark { image_part (mark ++ even) ≡ Complete Mark 4 }
     ensures read_gap { image_part (gap ++ odd) ≡ Gap }
     ensures read_end { image_part (end ++ even) ≡ End }
+    ensures longest_part { part_limit ≡ 65544 }
 {}
 
 /// Worked rows: faults.

@@ -1,15 +1,16 @@
 ghost use Rattle.std.specs.Prelude.{◌≡◌, ◌≤◌, ◌<◌, ◌+◌, ◌++◌, length, vec_len, vec_capacity, OnOk, OnErr};
+ghost use Rattle.tape_medium.specs.Limits.{block_limit};
 ghost use Rattle.tape_medium.specs.Object.{Block, Mark};
 ghost use Rattle.tape_image.specs.Images.{object_bytes};
 
 use crate::layout::*;
 use std::alloc::AllocError;
 
-/// Adds a logical block of 1 to 65,536 bytes to an image. Where there is room for all of it no memory is taken; where memory is
+/// Adds a logical block, of at most `MAX_BLOCK` bytes, to an image. Where there is room for all of it no memory is taken; where memory is
 /// refused, nothing was added.
 pub fn write_block(out: &mut Vec<u8>, bytes: &[u8]) -> Result<(), AllocError>
     requires least { 1 ≤ length bytes.now }
-    requires most { length bytes.now ≤ 65536 }
+    requires most { length bytes.now ≤ block_limit }
     ensures ok { OnOk result (out.new.items ≡ out.old.items ++ object_bytes (Block bytes.now)) }
     ensures err { OnErr result (out.new.items ≡ out.old.items) }
     ensures full { OnErr result (vec_capacity out.old < vec_len out.old + length (object_bytes (Block bytes.now))) }

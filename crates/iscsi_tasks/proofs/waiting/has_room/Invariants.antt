@@ -1,6 +1,6 @@
 use Rattle.std.proofs.Common.{◌≡◌, ◌+◌, take}
 use Rattle.iscsi_tasks.specs.Values.{held}
-use Rattle.iscsi_tasks.specs.Commands.{most_held}
+use Rattle.iscsi_tasks.specs.Limits.{most_held}
 use Rattle.iscsi_tasks.proofs.waiting.has_room.Given as goal
 
 -- what the tasks so far leave

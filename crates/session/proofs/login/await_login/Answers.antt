@@ -3,6 +3,7 @@ use Rattle.std.proofs.Common.{◌≡◌, ◌∙◌, ◌*◌, ℕ, List, false, a
 use Rattle.std.specs.Io.KnownBytes.{Consumes}
 use Rattle.frames.specs.Frames.{Complete, parsed_frame}
 use Rattle.frames.specs.Views.{frame_value}
+use Rattle.frames.specs.Limits.{frame_buffer_size}
 use Rattle.session.specs.declared.fault.SessionFault.{SessionFault}
 use Rattle.session.specs.Login.{KeepsOut, end_of, fault_before_login}
 use Rattle.session.proofs.Read.{consumes_none, consumes_more, consumes_filled, keeps_out, nothing_more, reads_none}
@@ -12,10 +13,11 @@ pub reads-init : goal.reads-init
 unfolding parsed_frame
 reads-init g c =
     let none = c.requires in (
-      subst (λ (xs : List ℕ). Consumes (g.R.Read.remaining c.args.reader.now) (g.R.Read.remaining c.args.reader.now) xs) (sym none) (consumes_none _),
+      subst (λ (xs : List ℕ). Consumes (g.R.Read.remaining c.args.reader.now) (g.R.Read.remaining c.args.reader.now) xs) (sym none)
+          (consumes_none _),
       ap (parsed_frame false) none ∙ refl,
       omega (arith, ap length none),
-      reads_none (0 * 262144) (g.R.Read.remaining c.args.reader.now),
+      reads_none (0 * frame_buffer_size) (g.R.Read.remaining c.args.reader.now),
     )
 
 -- the read that gives nothing finds the end
@@ -44,7 +46,8 @@ returns-in-Invalid-clause-kept_out g c =
 pub returns-in-Complete-Command-default-clause-kept_out : goal.returns-in-Complete-Command-default-clause-kept_out
 returns-in-Complete-Command-default-clause-kept_out g c =
     let read = c.fill.new.self in
-    let shown : parsed_frame false read ≡ _ = sym (c.in-Complete-Command-default.ensures.parsed ∙ ap (parsed_frame false) c.pending-in-reads.ensures) in
+    let shown : parsed_frame false read ≡ _ = sym (c.in-Complete-Command-default.ensures.parsed ∙ ap (parsed_frame false)
+    c.pending-in-reads.ensures) in
     record {
       read = read;
       consumed = consumes_filled _ _ _ _ _ _ c.reads.invariant.0 c.in-Ok.ensures.ok;
@@ -56,7 +59,8 @@ returns-in-Complete-Command-default-clause-kept_out g c =
 pub returns-in-Complete-Reset-default-clause-kept_out : goal.returns-in-Complete-Reset-default-clause-kept_out
 returns-in-Complete-Reset-default-clause-kept_out g c =
     let read = c.fill.new.self in
-    let shown : parsed_frame false read ≡ _ = sym (c.in-Complete-Reset-default.ensures.parsed ∙ ap (parsed_frame false) c.pending-in-reads.ensures) in
+    let shown : parsed_frame false read ≡ _ = sym (c.in-Complete-Reset-default.ensures.parsed ∙ ap (parsed_frame false)
+    c.pending-in-reads.ensures) in
     record {
       read = read;
       consumed = consumes_filled _ _ _ _ _ _ c.reads.invariant.0 c.in-Ok.ensures.ok;
@@ -68,7 +72,8 @@ returns-in-Complete-Reset-default-clause-kept_out g c =
 pub returns-in-Complete-Logout-default-clause-kept_out : goal.returns-in-Complete-Logout-default-clause-kept_out
 returns-in-Complete-Logout-default-clause-kept_out g c =
     let read = c.fill.new.self in
-    let shown : parsed_frame false read ≡ _ = sym (c.in-Complete-Logout-default.ensures.parsed ∙ ap (parsed_frame false) c.pending-in-reads.ensures) in
+    let shown : parsed_frame false read ≡ _ = sym (c.in-Complete-Logout-default.ensures.parsed ∙ ap (parsed_frame false)
+    c.pending-in-reads.ensures) in
     record {
       read = read;
       consumed = consumes_filled _ _ _ _ _ _ c.reads.invariant.0 c.in-Ok.ensures.ok;

@@ -1,5 +1,6 @@
 use Rattle.std.proofs.Common.{◌-◌, length}
 use Rattle.tape_image.specs.Filling.{Added}
+use Rattle.tape_image.specs.Limits.{part_limit}
 use Rattle.tape_image.specs.Parts.{image_part}
 use Rattle.tape_image.specs.Walking.{HasNoMore}
 use Rattle.tape_image.proofs.reader.await_known.Given as goal
@@ -12,4 +13,4 @@ invariant-reads g l = record {
 }
 
 abbrev pub decreases-reads : goal.decreases-reads
-decreases-reads g l = 65544 - length l.part
+decreases-reads g l = part_limit - length l.part

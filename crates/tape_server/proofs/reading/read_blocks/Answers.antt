@@ -2,10 +2,11 @@ use Rattle.std.proofs.Common.{◌≡◌, ℕ, true, ◌≤◌, ◌*◌, length, 
 use Rattle.std.proofs.lemmas.Grind.{common_steps}
 use Rattle.tape_medium.specs.Tape.{ahead}
 use Rattle.device_server.specs.Drive.{is_fixed_transfer}
+use Rattle.tape_medium.specs.Limits.{block_limit}
 use Rattle.tape_server.proofs.RunLemmas.{length-run}
 use Rattle.tape_server.proofs.reading.read_blocks.Goals as goal
 
-whole-fits : (size count : ℕ) → is_fixed_transfer size count ≡ true → count * size ≤ 65536
+whole-fits : (size count : ℕ) → is_fixed_transfer size count ≡ true → count * size ≤ block_limit
 whole-fits size count h = grind (arith, common_steps)
 
 pub end_of_run-requires : goal.end_of_run-requires

@@ -1,6 +1,7 @@
 use Rattle.std.proofs.lemmas.Grind.{common_steps}
 use Rattle.std.proofs.Common.{◌≡◌, ◌*◌, ap, refl, ◌∙◌, arith, true, false}
 use Rattle.std.specs.Prelude.{Ok}
+use Rattle.frames.specs.Limits.{frame_buffer_size}
 use Rattle.session.specs.Answering.{state_of}
 use Rattle.session.specs.Login.{end_of}
 use Rattle.session.proofs.Conversed.{speaks_first, speaks_on, leaves_first, leaves_on, ends}
@@ -16,7 +17,7 @@ reads-init g c =
           (state_of c.answer_and_write.new.self) _ _ _ wrote,
       c.in_ok-answer_and_write.ensures.written,
       c.in_ok-answer_and_write.ensures.room,
-      reads_none (0 * 262144) (g.R.Read.remaining c.args.reader.now),
+      reads_none (0 * frame_buffer_size) (g.R.Read.remaining c.args.reader.now),
       c.answer_and_write.ensures.calls,
     )
 
@@ -25,7 +26,8 @@ reads-preserved g c =
     let so = c.reads.invariant in
     let on : c.in_ok-answer_and_write-2.field-0 ≡ true = c.if-not-branch-2.false in
     let wrote = c.in_ok-answer_and_write-2.ensures.goes_on (ap Ok on) in (
-      speaks_on g.S.Service.notes c.args.service.now c.reads.service _ (state_of c.args.self.now) (state_of c.reads.self) _ _ c.in-Ok.field-0
+      speaks_on g.S.Service.notes c.args.service.now c.reads.service _ (state_of c.args.self.now) (state_of c.reads.self) _ _
+          c.in-Ok.field-0
           _ _ _ _ _ _ so.0 c.in-Ok.ensures.ok refl so.1 wrote,
       c.in_ok-answer_and_write-2.ensures.written,
       c.in_ok-answer_and_write-2.ensures.room,

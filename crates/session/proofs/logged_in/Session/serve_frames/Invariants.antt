@@ -1,5 +1,6 @@
 use Rattle.std.proofs.Common.{◌≡◌, ◌*◌, [], vec_len}
 use Rattle.std.specs.Prelude.{vec_capacity}
+use Rattle.frames.specs.Limits.{frame_buffer_size}
 use Rattle.session.specs.Answering.{ComesByCalls, HasRoom, state_of}
 use Rattle.session.specs.Login.{ReadsAtMost}
 use Rattle.session.proofs.Conversed.{Speaks}
@@ -11,5 +12,5 @@ invariant-reads g l =
     (g.W.Write.contents l.fn.writer) (g.W.Write.contents l.writer) (state_of l.self) l.service
     × (l.self.out.items ≡ [])
     × HasRoom (vec_len l.self.out) (vec_capacity l.self.out)
-    × ReadsAtMost (l.turn * 262144) (g.R.Read.remaining l.fn.reader) (g.R.Read.remaining l.reader)
+    × ReadsAtMost (l.turn * frame_buffer_size) (g.R.Read.remaining l.fn.reader) (g.R.Read.remaining l.reader)
     × ComesByCalls g.S.Service.notes l.fn.self.nexus l.fn.service l.service

@@ -1,0 +1,12 @@
+-- How much room a connection makes for what comes and for what it answers (profile).
+use Rattle.std.specs.Prelude.{ℕ, ◌+◌, ◌*◌}
+use Rattle.iscsi_keys.specs.Limits.{segment_limit}
+use Rattle.tape_medium.specs.Limits.{block_limit}
+
+-- for the PDU with the longest data segment, and for others behind it
+abbrev pub pdu_buffer_size : ℕ
+pdu_buffer_size = segment_limit + block_limit
+
+-- for what waits to be written, as much as a block at the most, and for the data of a command behind it, in PDUs
+abbrev pub out_room : ℕ
+out_room = 3 * block_limit
