@@ -270,9 +270,9 @@ SENSES = [
 ]
 
 
-def explained(program: str, commands: list[bytes], answers: list[bytes]) -> list[str]:
-    """The lines of a client whose commands to the changer are answered so, with words."""
-    script = "".join(f"0 {cdb.hex()}\n" for cdb in commands).encode()
+def explained(program: str, commands: list[tuple[int, bytes]], answers: list[bytes]) -> list[str]:
+    """The lines of a client whose commands, each with the unit's number, are answered so, with words."""
+    script = "".join(f"{lun} {cdb.hex()}\n" for lun, cdb in commands).encode()
     replies = iter([ACCEPTED, *answers, LOGGED_OUT])
 
     def talk(stream: socket.socket) -> None:
@@ -290,21 +290,22 @@ def explained(program: str, commands: list[bytes], answers: list[bytes]) -> list
 
 
 def check_senses(program: str, rows: list[tuple[bytes, str]]) -> None:
-    lines = explained(program, [bytes(6)] * len(rows), [reply(2, sense) for sense, _ in rows])
+    lines = explained(program, [(0, bytes(6))] * len(rows), [reply(2, sense) for sense, _ in rows])
     for at, (sense, words) in enumerate(rows):
         compare(lines[2 * at : 2 * at + 2], [f"02 {sense.hex()} -", f"# CHECK CONDITION, {words}"], sense.hex())
 
 
-COMMANDS = [bytes.fromhex(cdb) for cdb in [
-    "12000000ff00", "12018000ff00", "1a003f00ff00", "34000000000000000000", "5e00000000000000ff00", "5e01000000000000ff00",
-    "5e03000000000000ff00", "a0000000000000ffff0000", "b8000000ffff0000ffff0000"]]
+# READ POSITION is a command of drives alone, READ ELEMENT STATUS one of the changer alone.
+COMMANDS = [(lun, bytes.fromhex(cdb)) for lun, cdb in [
+    (0, "12000000ff00"), (0, "12018000ff00"), (0, "1a003f00ff00"), (1, "34000000000000000000"), (0, "5e00000000000000ff00"),
+    (0, "5e01000000000000ff00"), (0, "5e03000000000000ff00"), (0, "a0000000000000ffff0000"), (0, "b8000000ffff0000ffff0000")]]
 
 
 def check_any(program: str, byte: int) -> None:
     """Whatever comes behind GOOD, whole or cut anywhere, is said in one line."""
-    asked = [(cdb, bytes([byte]) * length) for cdb in COMMANDS for length in range(200)]
-    lines = explained(program, [cdb for cdb, _ in asked], [reply(0, data=data) for _, data in asked])
-    for at, (cdb, data) in enumerate(asked):
+    asked = [(command, bytes([byte]) * length) for command in COMMANDS for length in range(200)]
+    lines = explained(program, [command for command, _ in asked], [reply(0, data=data) for _, data in asked])
+    for at, ((_, cdb), data) in enumerate(asked):
         line, words = lines[2 * at : 2 * at + 2]
         compare(line, f"00 - {data.hex() or '-'}", f"{cdb.hex()}, {len(data)} bytes")
         if not words.startswith("# GOOD"):

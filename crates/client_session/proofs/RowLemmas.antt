@@ -10,7 +10,6 @@ use Rattle.frames.specs.Replies.{LoginReply, CommandReply, LogoutReply}
 use Rattle.frames.specs.ParsedReplies.{parsed_reply_body, parsed_reply}
 use Rattle.frames.specs.Rows.{first_contact}
 use Rattle.scsi_cdb.specs.Commands.{command_of}
-use Rattle.explanations.specs.Contents.{request_of}
 use Rattle.explanations.specs.Explanation.{explanation}
 use Rattle.explanations.specs.Reservations.{generation_text, listed, registration_text}
 use Rattle.explanations.specs.Words.{cut, count_text, number_text}
@@ -42,7 +41,7 @@ faults_told = record {
 }
 
 pub replies_told : RepliesTold
-unfolding answer_line explanation request_of command_of generation_text listed registration_text cut encode_with digits padded_integral
+unfolding answer_line explanation command_of generation_text listed registration_text cut encode_with digits padded_integral
     char_count count_text number_text
 replies_told = record {
   sense = refl;

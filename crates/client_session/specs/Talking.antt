@@ -50,8 +50,8 @@ Tells bytes (reply ∷ replies) rest =
 -- what is written of the reply to a frame, as a replay writes it; of those to LOGIN and LOGOUT nothing is
 abbrev pub told_text : Explanations → FrameValue → ReplyFrameValue → List ℕ
 told_text explanations (Command lun cdb bytes) (CommandReply status sense number payload) =
-    answer_text explanations cdb status sense payload
-told_text explanations (Reset lun) (ResetReply status) = answer_text explanations [] status None []
+    answer_text explanations lun cdb status sense payload
+told_text explanations (Reset lun) (ResetReply status) = answer_text explanations lun [] status None []
 told_text explanations _ _ = []
 
 -- and of the replies to frames, in their order

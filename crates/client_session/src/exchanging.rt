@@ -51,7 +51,7 @@ pub(crate) fn take_reply(
             return Err(ClientSessionFault::Refused(*nexus));
         }
         (
-            FrameRef::Command { cdb, .. },
+            FrameRef::Command { lun, cdb, .. },
             ReplyFrame::Command {
                 status,
                 sense,
@@ -59,10 +59,10 @@ pub(crate) fn take_reply(
                 ..
             },
         ) => {
-            write_explained(line, words, cdb, status, &sense, bytes)?;
+            write_explained(line, words, *lun, cdb, status, &sense, bytes)?;
         }
-        (FrameRef::Reset { .. }, ReplyFrame::Reset(status)) => {
-            write_explained(line, words, b"", status, &None, b"")?;
+        (FrameRef::Reset { lun }, ReplyFrame::Reset(status)) => {
+            write_explained(line, words, *lun, b"", status, &None, b"")?;
         }
         (FrameRef::Logout, ReplyFrame::Logout) => {}
         _ => return Err(ClientSessionFault::BadReply),

@@ -1,5 +1,6 @@
--- A reply in words.
+-- A reply in words, by the CDB of the command and the kind of the unit that it was sent to.
 use Rattle.std.specs.Prelude.{ℕ, ◌==◌, List, [], ◌∷◌, ◌++◌, length, codes, Option, if◌then◌else◌}
+use Rattle.scsi_cdb.specs.declared.kind.Kind.{Kind}
 use Rattle.scsi_sense.specs.Text.{status_name}
 use Rattle.scsi_sense.specs.declared.sense.Sense.{Sense}
 use Rattle.scsi_sense.specs.declared.status.Status.{Status}
@@ -27,15 +28,15 @@ contents_text Other bytes = byte_count (length bytes)
 
 -- the data of a reply: read with GOOD alone, else counted
 abbrev pub payload_by : Status → Contents → List ℕ → List ℕ
-payload_by Good kind bytes = contents_text kind bytes
-payload_by CheckCondition kind bytes = byte_count (length bytes)
-payload_by Busy kind bytes = byte_count (length bytes)
-payload_by ReservationConflict kind bytes = byte_count (length bytes)
+payload_by Good contents bytes = contents_text contents bytes
+payload_by CheckCondition contents bytes = byte_count (length bytes)
+payload_by Busy contents bytes = byte_count (length bytes)
+payload_by ReservationConflict contents bytes = byte_count (length bytes)
 
-abbrev pub payload_text : (cdb : List ℕ) → Status → (payload : List ℕ) → List ℕ
-payload_text cdb status payload = if length payload == 0 then [] else payload_by status (contents_of cdb) payload
+abbrev pub payload_text : Kind → (cdb : List ℕ) → Status → (payload : List ℕ) → List ℕ
+payload_text kind cdb status payload = if length payload == 0 then [] else payload_by status (contents_of kind cdb) payload
 
 -- the line: the status, the sense data and the data
-unfoldable pub explanation : (cdb : List ℕ) → Status → Option Sense → (payload : List ℕ) → List ℕ
-explanation cdb status sense payload =
-    codes "# " ++ status_name status ++ sense_text_in sense ++ payload_text cdb status payload ++ 10 ∷ []
+unfoldable pub explanation : Kind → (cdb : List ℕ) → Status → Option Sense → (payload : List ℕ) → List ℕ
+explanation kind cdb status sense payload =
+    codes "# " ++ status_name status ++ sense_text_in sense ++ payload_text kind cdb status payload ++ 10 ∷ []

@@ -1,5 +1,5 @@
 ghost use Rattle.std.specs.Prelude.{◌≡◌};
-ghost use Rattle.explanations.specs.Contents.{contents_of, contents_of_action, contents_of_request, request_of};
+ghost use Rattle.explanations.specs.Contents.{contents_of, contents_of_action, contents_of_request};
 
 use crate::reservations::ReservationList;
 use scsi_cdb::{InServiceAction, Kind, Request, decode};
@@ -25,13 +25,13 @@ pub enum Contents {
     Other,
 }
 
-/// What the data of a reply to a command are. Bytes that are no command have none.
-pub fn contents_of(cdb: &[u8]) -> Contents
-    ensures { result ≡ contents_of cdb.now }
+/// What the data of a reply to a command are that was sent to a unit of a kind. Data of bytes that are no command of such a unit aren't read.
+pub fn contents_of(kind: Kind, cdb: &[u8]) -> Contents
+    ensures { result ≡ contents_of kind cdb.now }
 {
-    match request_of(cdb) {
-        Some(request) => contents_of_request(request),
-        None => Contents::Other,
+    match decode(kind, cdb) {
+        Ok(request) => contents_of_request(request),
+        Err(_) => Contents::Other,
     }
 }
 
@@ -61,16 +61,5 @@ fn contents_of_action(action: InServiceAction) -> Contents
         InServiceAction::ReadReservation => Contents::Reservations(ReservationList::Reservation),
         InServiceAction::ReadFullStatus => Contents::Reservations(ReservationList::Registrations),
         InServiceAction::ReportCapabilities => Contents::Other,
-    }
-}
-
-/// The request that a CDB spells for a drive, or else for a changer: no two commands have the same code.
-#[tactic(auto, unfolding(crate::specs::Contents::request_of))]
-fn request_of(cdb: &[u8]) -> Option<Request>
-    ensures { result ≡ request_of cdb.now }
-{
-    match decode(Kind::Drive, cdb) {
-        Ok(request) => Some(request),
-        Err(_) => decode(Kind::Changer, cdb).ok(),
     }
 }

@@ -9,27 +9,29 @@ use crate::reservations::write_reservations;
 use crate::senses::write_sense;
 use crate::units::{write_inquiry, write_luns, write_page};
 use crate::words::{write_count, write_words};
+use scsi_cdb::Kind;
 use scsi_sense::{Sense, Status};
 use std::alloc::AllocError;
 
-/// Adds a line that says in words what a reply to a command says: `# `, the status, then what its sense data
-/// mean, and its data where it is GOOD. Data may be cut anywhere: what is whole is said, and that they are cut.
-/// Data of other commands, or with another status, are counted. Where memory runs out a part of the line may
-/// have been added.
+/// Adds a line that says in words what a reply to a command says that was sent to a unit of a kind: `# `, the
+/// status, then what its sense data mean, and its data where it is GOOD. Data may be cut anywhere: what is whole is
+/// said, and that they are cut. Data of other commands, or with another status, are counted. Where memory runs out
+/// a part of the line may have been added.
 #[tactic(auto, unfolding(crate::specs::Explanation::explanation))]
 pub fn explain(
     line: &mut Vec<u8>,
+    kind: Kind,
     cdb: &[u8],
     status: Status,
     sense: &Option<Sense>,
     payload: &[u8],
 ) -> Result<(), AllocError>
-    ensures { OnOk result (line.new.items ≡ line.old.items ++ explanation cdb.now status sense.now payload.now) }
+    ensures { OnOk result (line.new.items ≡ line.old.items ++ explanation kind cdb.now status sense.now payload.now) }
 {
     write_words(line, "# ")?;
     write_words(line, status.text())?;
     write_sense_in(line, sense)?;
-    write_payload(line, cdb, status, payload)?;
+    write_payload(line, kind, cdb, status, payload)?;
     write_words(line, "\n")
 }
 
@@ -44,27 +46,28 @@ fn write_sense_in(line: &mut Vec<u8>, sense: &Option<Sense>) -> Result<(), Alloc
 
 fn write_payload(
     line: &mut Vec<u8>,
+    kind: Kind,
     cdb: &[u8],
     status: Status,
     payload: &[u8],
 ) -> Result<(), AllocError>
-    ensures { OnOk result (line.new.items ≡ line.old.items ++ payload_text cdb.now status payload.now) }
+    ensures { OnOk result (line.new.items ≡ line.old.items ++ payload_text kind cdb.now status payload.now) }
 {
     if payload.is_empty() {
         return Ok(());
     }
     match status {
-        Status::Good => write_contents(line, contents_of(cdb), payload),
+        Status::Good => write_contents(line, contents_of(kind, cdb), payload),
         Status::CheckCondition | Status::Busy | Status::ReservationConflict => {
             write_count(line, payload)
         }
     }
 }
 
-fn write_contents(line: &mut Vec<u8>, kind: Contents, bytes: &[u8]) -> Result<(), AllocError>
-    ensures { OnOk result (line.new.items ≡ line.old.items ++ contents_text kind bytes.now) }
+fn write_contents(line: &mut Vec<u8>, contents: Contents, bytes: &[u8]) -> Result<(), AllocError>
+    ensures { OnOk result (line.new.items ≡ line.old.items ++ contents_text contents bytes.now) }
 {
-    match kind {
+    match contents {
         Contents::StandardInquiry => write_inquiry(line, bytes),
         Contents::VitalProductData => write_page(line, bytes),
         Contents::ModeParameters => write_mode(line, bytes),

@@ -52,15 +52,24 @@ read_keys = 0x5E ∷ replicate 6 0 ++ 0 ∷ 0xFF ∷ 0 ∷ []
 abbrev pub keys : List ℕ
 keys = 0 ∷ 0 ∷ 0 ∷ 1 ∷ 0 ∷ 0 ∷ 0 ∷ 8 ∷ 0x11 ∷ 0x22 ∷ 0x33 ∷ 0x44 ∷ 0x55 ∷ 0x66 ∷ 0x77 ∷ 0x88 ∷ []
 
+-- READ ELEMENT STATUS
+abbrev pub read_element_status : List ℕ
+read_element_status = 0xB8 ∷ replicate 8 0 ++ 8 ∷ 0 ∷ 0 ∷ []
+
 pub record ExplainedReplies : Type 0 where
-  pub off : answer_text words.Off (replicate 6 0) Good None [] ≡ line (codes "00 - -")
-  pub good : answer_text words.On (replicate 6 0) Good None [] ≡ line (codes "00 - -") ++ line (codes "# GOOD")
-  pub sense : answer_text words.On (replicate 6 0) CheckCondition (Some power_on) []
+  pub off : answer_text words.Off 1 (replicate 6 0) Good None [] ≡ line (codes "00 - -")
+  pub good : answer_text words.On 1 (replicate 6 0) Good None [] ≡ line (codes "00 - -") ++ line (codes "# GOOD")
+  pub sense : answer_text words.On 1 (replicate 6 0) CheckCondition (Some power_on) []
       ≡ line (codes "02 700006000000000a00000000290000000000 -")
       ++ line (codes "# CHECK CONDITION, UNIT ATTENTION: power on, reset, or bus device reset occurred")
   -- the words are those of the command's data
-  pub told : answer_text words.On read_keys Good None keys
+  pub told : answer_text words.On 1 read_keys Good None keys
       ≡ line (codes "00 - 00000001000000081122334455667788") ++ line (codes "# GOOD, generation 1, keys 1122334455667788")
+  -- of a unit that has the command
+  pub changer : answer_text words.On 0 read_element_status Good None (replicate 8 0)
+      ≡ line (codes "00 - 0000000000000000") ++ line (codes "# GOOD, no elements")
+  pub drive : answer_text words.On 1 read_element_status Good None (replicate 8 0)
+      ≡ line (codes "00 - 0000000000000000") ++ line (codes "# GOOD, 8 bytes")
 
 abbrev pub entry : ℕ → Option Nexus → Act → Record
 entry number nexus act = record {
@@ -92,4 +101,5 @@ pub record AuditTexts : Type 0 where
       ≡ line (codes "1 - RESET 6 - - 00") ++ line (codes "2 500000000000000a.1 LOSS 6 - - 00") ++ line (codes "1 - MEDIUM-IN 6 - - 00")
   -- nobody reserved anything
   pub spans : audit_text Spans units
-      ≡ line (codes "1 - RESET 6 - - 00 -") ++ line (codes "2 500000000000000a.1 LOSS 6 - - 00 -") ++ line (codes "1 - MEDIUM-IN 6 - - 00 -")
+      ≡ line (codes "1 - RESET 6 - - 00 -") ++ line (codes "2 500000000000000a.1 LOSS 6 - - 00 -") ++ line
+      (codes "1 - MEDIUM-IN 6 - - 00 -")

@@ -6,6 +6,12 @@ use Rattle.target_core.specs.declared.event.Event.TheVariants.{Command, Loss, Re
 use Rattle.output_lines.specs.declared.explained.Explanations.{Explanations}
 use Rattle.output_lines.specs.Explained.{answer_text}
 
+-- the logical unit of an event
+abbrev pub lun_of : Event → ℕ
+lun_of (Command nexus lun cdb bytes) = lun
+lun_of (Loss nexus lun) = lun
+lun_of (Reset lun) = lun
+
 -- the CDB of an event: a loss and a reset have none
 abbrev pub cdb_of : Event → List ℕ
 cdb_of (Command nexus lun cdb bytes) = cdb.items
@@ -14,7 +20,7 @@ cdb_of (Reset lun) = []
 
 -- what is written of the reply to an event
 abbrev pub event_text : Explanations → Event → Reply → List ℕ
-event_text explanations event r = answer_text explanations (cdb_of event) r.status r.sense r.payload
+event_text explanations event r = answer_text explanations (lun_of event) (cdb_of event) r.status r.sense r.payload
 
 -- and of the replies to events, in their order
 abbrev pub run_text : Explanations → List Event → List Reply → List ℕ

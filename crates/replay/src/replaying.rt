@@ -5,7 +5,7 @@ ghost use Rattle.target_core.specs.Run.{Runs};
 ghost use Rattle.judgement.specs.declared.reply.Reply.{Reply};
 ghost use Rattle.logical_unit.specs.UnitView.{units_of};
 ghost use Rattle.script_input.specs.declared.line_fault.LineFault.{LineFault};
-ghost use Rattle.replay.specs.Texts.{cdb_of, event_text, run_text};
+ghost use Rattle.replay.specs.Texts.{cdb_of, event_text, lun_of, run_text};
 
 use device_server::DeviceServer;
 use logical_unit::Reply;
@@ -115,11 +115,21 @@ fn write_event(
     write_explained(
         text,
         explanations,
+        lun_of(event),
         cdb_of(event),
         reply.status,
         &reply.sense,
         reply.payload.bytes(),
     )
+}
+
+/// The logical unit of an event.
+fn lun_of(event: &Event) -> u8
+    ensures { result ≡ lun_of event.now }
+{
+    match event {
+        Event::Command { lun, .. } | Event::Loss { lun, .. } | Event::Reset { lun } => *lun,
+    }
 }
 
 /// The CDB of an event; a loss and a reset have none.

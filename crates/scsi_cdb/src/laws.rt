@@ -1,6 +1,7 @@
 ghost use Rattle.std.specs.Prelude.{◌≡◌, Ok, Err, [], ◌∷◌, pos, negsuc, true, false};
 ghost use Rattle.scsi_cdb.specs.Commands.{decoded};
 ghost use Rattle.scsi_cdb.specs.Encoding.{ReadsBack, encoded, padded};
+ghost use Rattle.scsi_cdb.specs.Kinds.{kind_at};
 ghost use Rattle.scsi_cdb.specs.declared.action.InServiceAction.TheVariants.{ReadKeys, ReadFullStatus};
 ghost use Rattle.permit_tables.specs.declared.service_action.OutServiceAction.TheVariants.{RegisterAndMove};
 ghost use Rattle.scsi_cdb.specs.declared.fault.CdbFault.TheVariants.{Opcode, ShortCdb, ServiceAction, Naca};
@@ -109,4 +110,11 @@ pub fn worked_rows_of_changers()
     ensures initialize_of_a_drive { decoded Drive (7 ∷ 0 ∷ 0 ∷ 0 ∷ 0 ∷ 0 ∷ []) ≡ Err Opcode }
     ensures status_of_a_drive { decoded Drive (0xB8 ∷ []) ≡ Err Opcode }
     ensures mode_select_of_a_changer { decoded Changer (0x15 ∷ 0 ∷ 0 ∷ 0 ∷ 0 ∷ 0 ∷ []) ≡ Err Opcode }
+{}
+
+/// Worked rows: the kinds of units by their numbers.
+pub fn worked_rows_of_kinds()
+    ensures changer { kind_at 0 ≡ Changer }
+    ensures first_drive { kind_at 1 ≡ Drive }
+    ensures last { kind_at 255 ≡ Drive }
 {}

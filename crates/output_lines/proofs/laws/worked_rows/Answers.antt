@@ -3,7 +3,7 @@ use Rattle.std.specs.Fmt.{char_count, digits, padded_integral}
 use Rattle.hex.specs.Hex.{encode_with}
 use Rattle.audit_log.specs.Lines.{line_of}
 use Rattle.scsi_cdb.specs.Commands.{command_of}
-use Rattle.explanations.specs.Contents.{request_of}
+use Rattle.explanations.specs.ElementWords.{elements_in, elements_text}
 use Rattle.explanations.specs.Explanation.{explanation}
 use Rattle.explanations.specs.Reservations.{generation_text, listed, registration_text}
 use Rattle.explanations.specs.Senses.{condition_with, key_with, mark_text, sense_text}
@@ -25,8 +25,9 @@ returns-clause-replies c = record {
 }
 
 pub returns-clause-explained : goal.returns-clause-explained
-unfolding answer_line explanation sense_text mark_text key_with condition_with request_of command_of generation_text listed registration_text cut encode_with digits padded_integral char_count count_text number_text
-returns-clause-explained c = record { off = refl; good = refl; sense = refl; told = refl }
+unfolding answer_line explanation sense_text mark_text key_with condition_with elements_text elements_in command_of generation_text listed
+    registration_text cut encode_with digits padded_integral char_count count_text number_text
+returns-clause-explained c = record { off = refl; good = refl; sense = refl; told = refl; changer = refl; drive = refl }
 
 pub returns-clause-records : goal.returns-clause-records
 unfolding line_of digits padded_integral char_count
