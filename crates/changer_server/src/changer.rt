@@ -1,20 +1,21 @@
 //! The changer.
 
 ghost use Rattle.std.specs.Prelude.{◌≡◌, false, IfOk, OnErr, take};
-ghost use Rattle.tape_medium.specs.Elements.{move_refusal};
+ghost use Rattle.tape_medium.specs.Elements.{element_at, move_refusal};
 ghost use Rattle.tape_medium.specs.Settling.{settles};
 ghost use Rattle.device_server.specs.Changer.{carried, changer_step};
+ghost use Rattle.device_server.specs.Failures.{is_data_transfer};
 ghost use Rattle.device_server.specs.Volumes.{is_move};
 
 use crate::faults::{move_condition, put_fault, take_fault};
 use crate::mode::mode_data;
-use device_server::{BadPlace, DeviceServer, Outcome, Payload, PutFault, TakeFault, field_fault};
+use device_server::{BadPlace, DeviceServer, Outcome, Payload, PutFault, TakeFault};
 use element_map::Elements;
 use scsi_cdb::{Kind, Request};
 use scsi_sense::Condition;
 use std::alloc::{AllocError, Global};
 use std::marker::Model;
-use tape_medium::{Volume, VolumeTag};
+use tape_medium::{FIRST_DATA_TRANSFER, Volume, VolumeTag};
 
 /// A medium changer. Volumes that lie in drives are the drives' own; of them it has the tags.
 #[derive(Drop)]
@@ -51,6 +52,13 @@ impl Changer {
         ensures { self.new ≡ settles self.old address objects }
     {
         self.elements.settle(address, objects);
+    }
+
+    /// Whether an address is that of a data transfer element, which is a drive's.
+    fn is_data_transfer(&self, address: u16) -> bool
+        ensures { result ≡ is_data_transfer (element_at self.now address) }
+    {
+        address >= FIRST_DATA_TRANSFER && address - FIRST_DATA_TRANSFER < self.elements.drives()
     }
 
     /// Carries out a command whose fields aren't refused.
@@ -157,16 +165,29 @@ impl DeviceServer for Changer {
         }
     }
 
+    fn leaves_to_drives(&self, request: &Request) -> bool {
+        let Request::MoveMedium {
+            medium_transport_element_address: transport,
+            source_element_address: source,
+            destination_element_address: destination,
+            invert: false,
+        } = request
+        else {
+            return false;
+        };
+        self.elements
+            .move_refusal(*transport, *source, *destination)
+            .is_none()
+            && (self.is_data_transfer(*source) || self.is_data_transfer(*destination))
+    }
+
     fn perform(
         &mut self,
         alloc: Global,
         request: &Request,
-        bytes: &[u8],
+        _bytes: &[u8],
     ) -> Result<Outcome, AllocError> {
-        match field_fault(Kind::Changer, request, bytes) {
-            Some(condition) => Ok(Outcome::check(alloc, condition)),
-            None => self.step(alloc, request),
-        }
+        self.step(alloc, request)
     }
 
     fn take_volume(&mut self, place: u16) -> Result<Volume, TakeFault> {

@@ -8,7 +8,7 @@ use Rattle.scsi_sense.specs.declared.condition.Condition.TheVariants.{InternalTa
 use Rattle.scsi_sense.specs.declared.sense.Sense.{Sense}
 use Rattle.tape_medium.specs.Elements.{Elements, Element, DataTransfer, element_at, move_refusal}
 use Rattle.device_server.specs.Drive.{DriveView}
-use Rattle.device_server.specs.View.{Drive, Changer, performed}
+use Rattle.device_server.specs.View.{DeviceView, Drive, Changer, performed}
 
 -- whether sense data tells of one
 abbrev pub is_failure : Option Sense → Bool
@@ -23,11 +23,18 @@ is_data_transfer at = false
 -- whether a command is a move that nothing refuses, but that isn't one for the changer alone
 abbrev pub is_for_drives : Elements → Request → Bool
 is_for_drives e (MoveMedium transport source destination invert) =
-    not invert && (is_none (move_refusal e transport source destination) && (is_data_transfer (element_at e source) || is_data_transfer (element_at e destination)))
+    not invert && (is_none (move_refusal e transport source destination) && (is_data_transfer (element_at e source) || is_data_transfer
+    (element_at e destination)))
 is_for_drives e request = false
+
+-- whether a device leaves a command to the drives, which no drive does
+abbrev pub leaves_to_drives : DeviceView → Request → Bool
+leaves_to_drives (Drive d) request = false
+leaves_to_drives (Changer e) request = is_for_drives e request
 
 abbrev pub DrivesNeverFail : Type 0
 DrivesNeverFail = (d : DriveView) (request : Request) (bytes : List ℕ) → is_failure (performed (Drive d) request bytes).1.sense ≡ false
 
 abbrev pub ChangersFailForDrives : Type 0
-ChangersFailForDrives = (e : Elements) (request : Request) (bytes : List ℕ) → is_failure (performed (Changer e) request bytes).1.sense ≡ is_for_drives e request
+ChangersFailForDrives = (e : Elements) (request : Request) (bytes : List ℕ) → is_failure (performed (Changer e) request bytes).1.sense ≡
+    is_for_drives e request

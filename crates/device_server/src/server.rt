@@ -9,9 +9,10 @@ use tape_medium::{Volume, VolumeTag};
 /// A drive has one place, 0, its bay. The places of a changer are its elements, by their addresses: storage and import/export elements
 /// hold volumes, data transfer elements have the tag of the volume in their drive.
 pub trait DeviceServer: Drop {
-    ghost use Rattle.std.specs.Prelude.{◌≡◌, false, Ok, Err, IfOk, OnOk, OnErr, IfErr};
+    ghost use Rattle.std.specs.Prelude.{◌≡◌, false, None, Ok, Err, IfOk, OnOk, OnErr, IfErr};
+    ghost use Rattle.device_server.specs.Failures.{leaves_to_drives};
     ghost use Rattle.device_server.specs.Volumes.{is_move};
-    ghost use Rattle.device_server.specs.View.{DeviceView, kind_of, drives_of, held_in, performed, taken, put, marked, reset_of};
+    ghost use Rattle.device_server.specs.View.{DeviceView, kind_of, drives_of, field_fault, held_in, performed, taken, put, marked, reset_of};
 
     ghost shown: { Self → DeviceView };
 
@@ -27,14 +28,20 @@ pub trait DeviceServer: Drop {
     fn held(&self, place: u16) -> Option<VolumeTag>
         ensures { result ≡ held_in (shown self.now) place };
 
-    /// Carries out a command, with the data sent with it. Fields that are refused change nothing, and neither does want of memory. An
-    /// allocation length has cut the data. A MOVE MEDIUM takes no memory.
+    /// Whether it leaves a command to the drives: a MOVE MEDIUM (SMC-3, "MOVE MEDIUM command") whose fields, map and marks refuse nothing, and
+    /// one of whose ends is a data transfer element of the changer. A changer that is asked to carry it out alone ends it by 44h/00h.
+    fn leaves_to_drives(&self, request: &Request) -> bool
+        ensures { result ≡ leaves_to_drives (shown self.now) request.now };
+
+    /// Carries out a command of which no field is refused, with the data sent with it. Want of memory changes nothing. An allocation length
+    /// has cut the data. A MOVE MEDIUM takes no memory.
     fn perform(
         &mut self,
         alloc: Global,
         request: &Request,
         bytes: &[u8],
     ) -> Result<Outcome, AllocError>
+        requires { field_fault (shown self.old) request.now bytes.now ≡ None }
         ensures ok { IfOk result (λ outcome. performed (shown self.old) request.now bytes.now ≡ (shown self.new, outcome)) }
         ensures err { OnErr result (shown self.new ≡ shown self.old) }
         ensures want { OnErr result (is_move request.now ≡ false) };

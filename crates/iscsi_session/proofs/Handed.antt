@@ -1,8 +1,9 @@
 -- What a session hands to its units.
 use Rattle.std.proofs.Common.{◌≡◌, ℕ, zero, suc, Bool, true, false, cond, MatchBool, List, [], ◌∷◌, ◌++◌, length, Option, Some, None, Result, Ok, Err}
 use Rattle.std.proofs.Common.{inl, inr, refl, sym, ap, subst, ◌∙◌, append_assoc, append-nil}
-use Rattle.std.proofs.lemmas.List.{map-append}
+use Rattle.std.proofs.lemmas.List.Concat.{flat_map-append}
 use Rattle.scsi_nexus.specs.declared.nexus.Nexus.{Nexus}
+use Rattle.judgement.specs.declared.reply.Reply.{Reply}
 use Rattle.logical_unit.specs.Answers as event
 use Rattle.logical_unit.specs.Answers.{DoneValue, EventValue}
 use Rattle.iscsi_pdu.specs.Luns.{unit_of}
@@ -30,9 +31,9 @@ use Rattle.iscsi_tasks.specs.declared.taken.TakenCommand.TheVariants as taken
 use Rattle.iscsi_tasks.specs.declared.taken.TakenData.{TakenData}
 use Rattle.iscsi_tasks.specs.declared.taken.TakenData.TheVariants as taken_data
 use Rattle.session.specs.Answering.{Calls}
-use Rattle.iscsi_session.specs.Executing.{Acts, Does, GoesOn, Outcome, Nothing, Execute, Fail, Ask, Reject, command_outcome, data_outcome}
-use Rattle.iscsi_session.specs.Executing.{next_outcome, outcome, unit_number}
-use Rattle.iscsi_session.specs.Handing.{Hands, asked_command, brought, brought_by, brought_in, commands_of, handed}
+use Rattle.iscsi_session.specs.Executing.{Acts, Does, GoesOn, Outcome, Nothing, Execute, Fail, Ask, Reject, Replies, command_outcome, data_outcome}
+use Rattle.iscsi_session.specs.Executing.{next_outcome, outcome}
+use Rattle.iscsi_session.specs.Handing.{Hands, asked_command, brought, brought_by, brought_in, call_for, commands_of, handed}
 use Rattle.iscsi_session.specs.Managing.{Manages, ManagesTasks, Resets, ResetsBelow, ResetsUnit, AbortsTask, AbortsTaskSet, unit_below}
 use Rattle.iscsi_session.specs.Saying.{Says, TakesTask, Works, behind_other, is_of_tasks, normal_world, without_units}
 use Rattle.iscsi_session.specs.Talking.{Came, Ending, Event, Silence, Talks, Told}
@@ -64,12 +65,14 @@ commands_append (d ∷ ds) es =
     ap (λ (xs : List (ℕ × EventValue)). asked_command d.lun d.asked ++ xs) (commands_append ds es)
     ∙ sym (append_assoc (asked_command d.lun d.asked) (commands_of ds) (commands_of es))
 
-calls_append : {S : Type 0} (notes : S → DoneValue → S → Type 0) (n : Nexus) (s : S) (ds es : List DoneValue) (t u : S) → Calls notes n s ds t
+calls_append : {S : Type 0} (notes : S → DoneValue → S → Type 0) (n : Nexus) (s : S) (ds es : List DoneValue) (t u : S) → Calls notes n s ds
+    t
     → Calls notes n t es u → Calls notes n s (ds ++ es) u
 calls_append {S} notes n s [] es t u one two = subst (λ (x : S). Calls notes n x es u) one two
 calls_append notes n s (d ∷ ds) es t u one two = (one.0, one.1, one.2, calls_append notes n one.0 ds es t u one.3 two)
 
-hands_none : {S : Type 0} (notes : S → DoneValue → S → Type 0) (n : Nexus) (k k' : TasksValue) (s t : S) → k' ≡ k → t ≡ s → Hands notes n k s [] k' t
+hands_none : {S : Type 0} (notes : S → DoneValue → S → Type 0) (n : Nexus) (k k' : TasksValue) (s t : S) → k' ≡ k → t ≡ s → Hands notes n k
+    s [] k' t
 hands_none notes n k k' s t same still = record { acts = []; calls = []; run_is = same; brought_is = refl; made = still; handed_is = refl }
 
 hands_then : {S : Type 0} (notes : S → DoneValue → S → Type 0) (n : Nexus) (k k1 k' : TasksValue) (s m t : S) (a b : List Act)
@@ -86,7 +89,7 @@ hands_then notes n k k1 k' s m t a b one two = record {
       commands_append one.calls two.calls ∙ ap (λ (xs : List (ℕ × EventValue)). xs ++ commands_of two.calls) one.handed_is
       ∙ ap (λ (xs : List (ℕ × EventValue)). handed (executed k one.acts) ++ xs)
       (two.handed_is ∙ ap (λ (x : TasksValue). handed (executed x two.acts)) one.run_is)
-      ∙ sym (map-append (λ (e : Executed). (unit_number e.command.lun, event.Command e.command.cdb e.bytes))
+      ∙ sym (flat_map-append (λ (e : Executed). call_for (unit_of e.command.lun) e.command.cdb e.bytes)
       (executed k one.acts) (executed (run k one.acts) two.acts))
       ∙ ap handed (sym (executed_append k one.acts two.acts));
 }
@@ -100,7 +103,8 @@ executes (Fail command fault) = []
 executes (Ask request) = []
 executes (Reject reason) = []
 
-command_executes : (c : ScsiCommand) (payload : List ℕ) (r : Result TakenCommand TasksFault) → at_once c payload r ≡ executes (command_outcome c payload r)
+command_executes : (c : ScsiCommand) (payload : List ℕ) (r : Result TakenCommand TasksFault) → at_once c payload r ≡ executes
+    (command_outcome c payload r)
 unfolding executes
 command_executes c payload (Ok taken.PassedOver) = refl
 command_executes c payload (Ok taken.Waits) = refl
@@ -131,22 +135,31 @@ act_executes k (Numbered immediate cmd_sn) = refl
 act_executes k (Aborted unit tag) = refl
 act_executes k (Dropped unit) = refl
 
-does_hands : {S : Type 0} (notes : S → DoneValue → S → Type 0) (n : Nexus) (s t : S) (k : TasksValue) (o : Outcome) (said : List TargetPduValue)
+replies_hand : {S : Type 0} (notes : S → DoneValue → S → Type 0) (n : Nexus) (s t : S) (unit : Option ℕ) (cdb bytes : List ℕ)
+    (reply : Reply)
+    → Replies notes n s unit cdb bytes reply t
+    → (calls : List DoneValue) × Calls notes n s calls t × (commands_of calls ≡ call_for unit cdb bytes ++ [])
+replies_hand notes n s t (Some unit) cdb bytes reply so = (
+  so.0 ∷ [],
+  (t, inl so.1.0, so.2, refl),
+  ap (λ (u : ℕ). asked_command u so.0.asked ++ []) so.1.1 ∙ ap (λ (e : EventValue). asked_command unit e ++ []) so.1.2,
+)
+replies_hand notes n s t None cdb bytes reply so = ([], so.1, refl)
+
+does_hands : {S : Type 0} (notes : S → DoneValue → S → Type 0) (n : Nexus) (s t : S) (k : TasksValue) (o : Outcome)
+    (said : List TargetPduValue)
     → Does notes n s k o said t
     → (calls : List DoneValue) × Calls notes n s calls t × (commands_of calls ≡ handed (executes o))
 unfolding executes
 does_hands notes n s t k Nothing said does = ([], does.1, refl)
-does_hands notes n s t k (Execute command bytes) said does = (
-  does.done ∷ [],
-  (t, inl does.is_answer.0, does.noted, refl),
-  ap (λ (u : ℕ). asked_command u does.done.asked ++ []) does.is_answer.1
-      ∙ ap (λ (e : EventValue). asked_command (unit_number command.lun) e ++ []) does.is_answer.2,
-)
+does_hands notes n s t k (Execute command bytes) said does =
+    replies_hand notes n s t (unit_of command.lun) command.cdb bytes does.reply does.replied
 does_hands notes n s t k (Fail command fault) said does = ([], does.3, refl)
 does_hands notes n s t k (Ask request) said does = ([], does.2, refl)
 does_hands notes n s t k (Reject reason) said does = ([], does.3, refl)
 
-acts_hands : {S : Type 0} (notes : S → DoneValue → S → Type 0) (n : Nexus) (k k' : TasksValue) (s t : S) (act : Act) (said : List TargetPduValue)
+acts_hands : {S : Type 0} (notes : S → DoneValue → S → Type 0) (n : Nexus) (k k' : TasksValue) (s t : S) (act : Act)
+    (said : List TargetPduValue)
     → Acts notes n k s act said k' t
     → Hands notes n k s (brought (act ∷ [])) k' t
 acts_hands notes n k k' s t act said so =
@@ -168,16 +181,19 @@ units_hand {S} notes n k s (unit ∷ units) =
     hands_then notes n k (without_units k units) (without_unit (without_units k units) unit) s s s [] [] (units_hand notes n k s units)
     (acts_hands notes n (without_units k units) (without_unit (without_units k units) unit) s s (Dropped unit) [] (refl, (refl, refl)))
 
-goes_hands : {S : Type 0} (notes : S → DoneValue → S → Type 0) (n : Nexus) (times : ℕ) (k k' : TasksValue) (s t : S) (said : List TargetPduValue)
+goes_hands : {S : Type 0} (notes : S → DoneValue → S → Type 0) (n : Nexus) (times : ℕ) (k k' : TasksValue) (s t : S)
+    (said : List TargetPduValue)
     → GoesOn notes n times k s said k' t → Hands notes n k s [] k' t
 unfolding GoesOn
 goes_hands notes n zero k k' s t said so = hands_none notes n k k' s t so.1 so.2
 goes_hands {S} notes n (suc times) k k' s t said so =
-    hands_then notes n k so.0 k' s so.1 t [] [] (goes_hands notes n times k so.0 s so.1 so.2 so.5) (acts_hands notes n so.0 k' so.1 t AskedNext so.3 so.6)
+    hands_then notes n k so.0 k' s so.1 t [] [] (goes_hands notes n times k so.0 s so.1 so.2 so.5)
+    (acts_hands notes n so.0 k' so.1 t AskedNext so.3 so.6)
 
 -- ---- task management
 
-number_hands : {S : Type 0} (notes : S → DoneValue → S → Type 0) (n : Nexus) (k k' : TasksValue) (s t : S) (immediate : Bool) (cmd_sn : SerialNumber)
+number_hands : {S : Type 0} (notes : S → DoneValue → S → Type 0) (n : Nexus) (k k' : TasksValue) (s t : S) (immediate : Bool)
+    (cmd_sn : SerialNumber)
     → k' ≡ stepped k (Numbered immediate cmd_sn) → t ≡ s → Hands notes n k s [] k' t
 number_hands notes n k k' s t immediate cmd_sn steps still =
     record { acts = Numbered immediate cmd_sn ∷ []; calls = []; run_is = steps; brought_is = refl; made = still; handed_is = refl }
@@ -187,12 +203,14 @@ abort_hands : {S : Type 0} (notes : S → DoneValue → S → Type 0) (n : Nexus
 abort_hands notes n k k' s t unit tag steps still =
     record { acts = Aborted unit tag ∷ []; calls = []; run_is = steps; brought_is = refl; made = still; handed_is = refl }
 
-drop_hands : {S : Type 0} (notes : S → DoneValue → S → Type 0) (n : Nexus) (k k' : TasksValue) (s t : S) (unit : ℕ) → k' ≡ stepped k (Dropped unit)
+drop_hands : {S : Type 0} (notes : S → DoneValue → S → Type 0) (n : Nexus) (k k' : TasksValue) (s t : S) (unit : ℕ) → k' ≡ stepped k
+    (Dropped unit)
     → t ≡ s → Hands notes n k s [] k' t
 drop_hands notes n k k' s t unit steps still =
     record { acts = Dropped unit ∷ []; calls = []; run_is = steps; brought_is = refl; made = still; handed_is = refl }
 
-reset_hands : {S : Type 0} (notes : S → DoneValue → S → Type 0) (n : Nexus) (k k' : TasksValue) (s t : S) (unit : ℕ) (result : TaskManagementResult)
+reset_hands : {S : Type 0} (notes : S → DoneValue → S → Type 0) (n : Nexus) (k k' : TasksValue) (s t : S) (unit : ℕ)
+    (result : TaskManagementResult)
     → k' ≡ stepped k (Dropped unit) → Resets notes unit s t result
     → Hands notes n k s [] k' t
 reset_hands notes n k k' s t unit result steps so = record {
@@ -208,7 +226,8 @@ below_hands : {S : Type 0} (notes : S → DoneValue → S → Type 0) (n : Nexus
     → ResetsBelow notes units k s k' t → Hands notes n k s [] k' t
 below_hands notes n zero k k' s t so = hands_none notes n k k' s t so.0 so.1
 below_hands {S} notes n (suc unit) k k' s t so =
-    hands_then notes n k so.0 k' s so.1 t [] [] (below_hands notes n unit k so.0 s so.1 so.3) (reset_hands notes n so.0 k' so.1 t unit so.2 so.4 so.5)
+    hands_then notes n k so.0 k' s so.1 t [] [] (below_hands notes n unit k so.0 s so.1 so.3)
+    (reset_hands notes n so.0 k' so.1 t unit so.2 so.4 so.5)
 
 aborts_task : {S : Type 0} (notes : S → DoneValue → S → Type 0) (n : Nexus) (k k' : TasksValue) (s t : S) (tag : ℕ) (o : Option ℕ)
     (result : TaskManagementResult) → AbortsTask k tag o k' result → t ≡ s → Hands notes n k s [] k' t
@@ -225,13 +244,16 @@ unit_hands : {S : Type 0} (notes : S → DoneValue → S → Type 0) (n : Nexus)
 unit_hands notes n k k' s t None result so = hands_none notes n k k' s t so.0 so.1
 unit_hands notes n k k' s t (Some unit) result so = reset_hands notes n k k' s t unit result so.0 so.1
 
-manages_hands : {S : Type 0} (notes : S → DoneValue → S → Type 0) (n : Nexus) (units : ℕ) (r : TaskManagementRequest) (k k' : TasksValue) (s t : S)
+manages_hands : {S : Type 0} (notes : S → DoneValue → S → Type 0) (n : Nexus) (units : ℕ) (r : TaskManagementRequest) (k k' : TasksValue)
+    (s t : S)
     (f : TaskManagementFunction) (result : TaskManagementResult)
     → Manages notes units r k s f k' t result → Hands notes n k s [] k' t
 manages_hands notes n units r k k' s t asked.AbortTask result so =
     aborts_task notes n k k' s t r.referenced_task_tag (unit_below units (unit_of r.lun)) result so.0 so.1
-manages_hands notes n units r k k' s t asked.AbortTaskSet result so = aborts_set notes n k k' s t (unit_below units (unit_of r.lun)) result so.0 so.1
-manages_hands notes n units r k k' s t asked.LogicalUnitReset result so = unit_hands notes n k k' s t (unit_below units (unit_of r.lun)) result so
+manages_hands notes n units r k k' s t asked.AbortTaskSet result so = aborts_set notes n k k' s t (unit_below units (unit_of r.lun)) result
+    so.0 so.1
+manages_hands notes n units r k k' s t asked.LogicalUnitReset result so = unit_hands notes n k k' s t (unit_below units (unit_of r.lun))
+    result so
 manages_hands notes n units r k k' s t asked.TargetWarmReset result so = below_hands notes n units k k' s t so
 manages_hands notes n units r k k' s t asked.TaskReassign result so = hands_none notes n k k' s t so.0 so.1
 manages_hands notes n units r k k' s t asked.ClearAca result so = hands_none notes n k k' s t so.0 so.1
@@ -247,7 +269,8 @@ by_test : {P Q R : Type 0} (b : Bool) → MatchBool b P Q → (b ≡ true → P 
 by_test true so f g = f refl so
 by_test false so f g = g refl so
 
-managed_by : {S : Type 0} (notes : S → DoneValue → S → Type 0) (count : S → ℕ) (n : Nexus) (r : TaskManagementRequest) (k k' : TasksValue) (s t : S)
+managed_by : {S : Type 0} (notes : S → DoneValue → S → Type 0) (count : S → ℕ) (n : Nexus) (r : TaskManagementRequest) (k k' : TasksValue)
+    (s t : S)
     (said : List TargetPduValue) → ManagesTasks notes count r k s said k' t
     → Hands notes n k s [] k' t
 managed_by {S} notes count n r k k' s t said so =
@@ -273,7 +296,8 @@ task_hands notes count n (sent.LoginRequest p) payload k k' s t said so = absurd
 task_hands notes count n (sent.SnackRequest p) payload k k' s t said so = absurd so
 task_hands notes count n (sent.Unknown p) payload k k' s t said so = absurd so
 
-works_hands : {S : Type 0} (notes : S → DoneValue → S → Type 0) (count : S → ℕ) (n : Nexus) (h : InitiatorHeader) (payload : List ℕ) (k k' : TasksValue)
+works_hands : {S : Type 0} (notes : S → DoneValue → S → Type 0) (count : S → ℕ) (n : Nexus) (h : InitiatorHeader) (payload : List ℕ)
+    (k k' : TasksValue)
     (s t : S) (said : List TargetPduValue) → Works notes count n h payload k s said k' t → Hands notes n k s (brought_by h payload) k' t
 works_hands {S} notes count n h payload k k' s t said so =
     subst (λ (xs : List Act). Hands notes n k s xs k' t) (append-nil (brought_by h payload))
@@ -281,12 +305,14 @@ works_hands {S} notes count n h payload k k' s t said so =
     (task_hands notes count n h payload k so.tasks s so.service so.first so.takes)
     (goes_hands notes n so.times so.tasks k' so.service t so.others so.goes_on))
 
-others_hand : {S : Type 0} (notes : S → DoneValue → S → Type 0) (n : Nexus) (h : InitiatorHeader) (payload : List ℕ) (k k' : TasksValue) (s t : S)
+others_hand : {S : Type 0} (notes : S → DoneValue → S → Type 0) (n : Nexus) (h : InitiatorHeader) (payload : List ℕ) (k k' : TasksValue)
+    (s t : S)
     → is_of_tasks h ≡ false → k' ≡ behind_other k h → t ≡ s
     → Hands notes n k s (brought_by h payload) k' t
 others_hand notes n (sent.NopOut p) payload k k' s t other steps still = number_hands notes n k k' s t p.immediate p.cmd_sn steps still
 others_hand notes n (sent.TextRequest p) payload k k' s t other steps still = number_hands notes n k k' s t p.immediate p.cmd_sn steps still
-others_hand notes n (sent.LogoutRequest p) payload k k' s t other steps still = number_hands notes n k k' s t p.immediate p.cmd_sn steps still
+others_hand notes n (sent.LogoutRequest p) payload k k' s t other steps still = number_hands notes n k k' s t p.immediate p.cmd_sn steps
+    still
 others_hand notes n (sent.Unknown p) payload k k' s t other steps still = number_hands notes n k k' s t p.immediate p.cmd_sn steps still
 others_hand notes n (sent.LoginRequest p) payload k k' s t other steps still = hands_none notes n k k' s t steps still
 others_hand notes n (sent.SnackRequest p) payload k k' s t other steps still = hands_none notes n k k' s t steps still
@@ -294,7 +320,8 @@ others_hand notes n (sent.ScsiCommand p) payload k k' s t other steps still = ab
 others_hand notes n (sent.DataOut p) payload k k' s t other steps still = absurd cc
 others_hand notes n (sent.TaskManagementRequest p) payload k k' s t other steps still = absurd cc
 
-says_hands : {S : Type 0} (notes : S → DoneValue → S → Type 0) (count : S → ℕ) (n : Nexus) (p : InitiatorPduValue) (k k' : TasksValue) (s t : S)
+says_hands : {S : Type 0} (notes : S → DoneValue → S → Type 0) (count : S → ℕ) (n : Nexus) (p : InitiatorPduValue) (k k' : TasksValue)
+    (s t : S)
     (said : List TargetPduValue) → Says (Works notes count n) p k s said k' t → Hands notes n k s (brought_by p.header p.payload) k' t
 says_hands {S} notes count n p k k' s t said so =
     by_test (is_of_tasks p.header) so (λ is got. works_hands notes count n p.header p.payload k k' s t said got)
@@ -313,7 +340,9 @@ talks_hands {S} notes count n resets ends (Ending seconds ∷ es) k k' s t said 
 talks_hands {S} notes count n resets ends (Told units ∷ es) k k' s t said so =
     hands_then notes n k so.0 k' s so.1 t [] (brought_in es)
     (hands_then notes n k (without_units k units) so.0 s s so.1 [] [] (units_hand notes n k s units)
-    (goes_hands notes n so.5.0 (without_units k units) so.0 s so.1 so.2 so.5.1)) (talks_hands notes count n resets ends es so.0 k' so.1 t so.3 so.6)
+    (goes_hands notes n so.5.0 (without_units k units) so.0 s so.1 so.2 so.5.1)) (talks_hands notes count n resets ends es so.0 k' so.1 t
+    so.3 so.6)
 talks_hands {S} notes count n resets ends (Came p ∷ es) k k' s t said so =
-    hands_then notes n k so.0 k' s so.1 t (brought_by p.header p.payload) (brought_in es) (says_hands notes count n p k so.0 s so.1 so.2 so.5.1)
+    hands_then notes n k so.0 k' s so.1 t (brought_by p.header p.payload) (brought_in es)
+    (says_hands notes count n p k so.0 s so.1 so.2 so.5.1)
     (talks_hands notes count n resets ends es so.0 k' so.1 t so.3 so.6)

@@ -1,9 +1,11 @@
 -- What comes of what happens to the tasks of a session. `notes s d t` says that a call with the answer d makes t of the service s.
-use Rattle.std.specs.Prelude.{◌≡◌, ℕ, zero, suc, min, Bool, true, false, List, [], ◌∷◌, ◌++◌, length, take, Option, Some, unwrap_or, Result, Ok, Err, OnOk, ◌⊎◌}
+use Rattle.std.specs.Prelude.{◌≡◌, ℕ, zero, suc, min, Bool, true, false, List, [], ◌∷◌, ◌++◌, length, take, Option, Some, None, Result, Ok, Err, OnOk, ◌⊎◌}
 use Rattle.scsi_nexus.specs.declared.nexus.Nexus.{Nexus}
 use Rattle.scsi_sense.specs.declared.sense.Sense.{Sense}
 use Rattle.scsi_sense.specs.declared.status.Status.{Status}
 use Rattle.scsi_sense.specs.declared.status.Status.TheVariants.{CheckCondition}
+use Rattle.judgement.specs.Replies.{AnswersAbsent}
+use Rattle.judgement.specs.declared.reply.Reply.{Reply}
 use Rattle.logical_unit.specs.Answers as event
 use Rattle.logical_unit.specs.Answers.{DoneValue, IsAnswer}
 use Rattle.iscsi_pdu.specs.Luns.{unit_of}
@@ -74,25 +76,28 @@ outcome k (Numbered immediate cmd_sn) = Nothing
 outcome k (Aborted unit tag) = Nothing
 outcome k (Dropped unit) = Nothing
 
--- 255 is no unit's
-abbrev pub unit_number : (lun : ℕ) → ℕ
-unit_number lun = unwrap_or (unit_of lun) 255
-
 -- what answers a command to which its unit has replied so
 abbrev pub answer_to : TasksValue → TransferLimits → SerialNumber → ScsiCommand → (handed_over : ℕ) → Status → Option Sense
     → (bytes : List ℕ) → List TargetPduValue
 answer_to k limits stat_sn command handed_over status sense bytes =
     command_answer limits (numbers k stat_sn) (answered_command command handed_over) status sense bytes
 
--- a command is handed to its unit with these data, once, and answered by what the unit has replied to that very call
-pub record Executes {S : Type 0} (notes : S → DoneValue → S → Type 0) (n : Nexus) (s : S) (k : TasksValue) (command : ScsiCommand) (bytes : List ℕ)
+-- a command is handed to the unit of its LUN with these data, once, and this is what the unit has replied to that very call; or its LUN is no
+-- unit's number, this is what a unit that doesn't exist replies, and nothing happens at the service
+abbrev pub Replies : {S : Type 0} → (S → DoneValue → S → Type 0) → Nexus → S → (unit : Option ℕ) → (cdb bytes : List ℕ) → Reply → S → Type 0
+Replies notes n s (Some unit) cdb bytes reply t =
+    (done : DoneValue) × IsAnswer done (Some n) unit (event.Command cdb bytes) × notes s done t × (reply ≡ done.reply)
+Replies notes n s None cdb bytes reply t = AnswersAbsent cdb reply × (t ≡ s)
+
+-- a command is executed with these data, and answered by that reply
+pub record Executes {S : Type 0} (notes : S → DoneValue → S → Type 0) (n : Nexus) (s : S) (k : TasksValue) (command : ScsiCommand)
+    (bytes : List ℕ)
     (said : List TargetPduValue) (t : S) : Type 0 where
-  pub done : DoneValue
+  pub reply : Reply
   pub limits : TransferLimits
   pub stat_sn : SerialNumber
-  pub is_answer : IsAnswer done (Some n) (unit_number command.lun) (event.Command command.cdb bytes)
-  pub noted : notes s done t
-  pub said_is : said ≡ answer_to k limits stat_sn command (min (length bytes) 0xFFFFFFFF) done.reply.status done.reply.sense done.reply.payload
+  pub replied : Replies notes n s (unit_of command.lun) command.cdb bytes reply t
+  pub said_is : said ≡ answer_to k limits stat_sn command (min (length bytes) 0xFFFFFFFF) reply.status reply.sense reply.payload
 
 -- ABORTED COMMAND, 0Bh, and why
 abbrev pub aborted : TaskFault → Sense
@@ -122,9 +127,11 @@ refusal k stat_sn reason rejected = rejection (numbers k stat_sn) reason rejecte
 abbrev pub Does : {S : Type 0} → (S → DoneValue → S → Type 0) → Nexus → S → TasksValue → Outcome → (said : List TargetPduValue) → S → Type 0
 Does notes n s k Nothing said t = (said ≡ []) × (t ≡ s)
 Does notes n s k (Execute command bytes) said t = Executes notes n s k command bytes said t
-Does notes n s k (Fail command fault) said t = (limits : TransferLimits) × (stat_sn : SerialNumber) × (said ≡ failure k limits stat_sn command fault) × (t ≡ s)
+Does notes n s k (Fail command fault) said t = (limits : TransferLimits) × (stat_sn : SerialNumber) ×
+    (said ≡ failure k limits stat_sn command fault) × (t ≡ s)
 Does notes n s k (Ask request) said t = (stat_sn : SerialNumber) × (said ≡ demand k stat_sn request) × (t ≡ s)
-Does notes n s k (Reject reason) said t = (stat_sn : SerialNumber) × (rejected : List ℕ) × (said ≡ refusal k stat_sn reason rejected) × (t ≡ s)
+Does notes n s k (Reject reason) said t = (stat_sn : SerialNumber) × (rejected : List ℕ) × (said ≡ refusal k stat_sn reason rejected) ×
+    (t ≡ s)
 
 -- what is said where a unit isn't concerned
 abbrev pub Tells : TasksValue → Outcome → (said : List TargetPduValue) → Type 0
@@ -135,7 +142,8 @@ Tells k (Fail command fault) said = ⊥
 Tells k (Ask request) said = ⊥
 
 -- something happens to the tasks, and what that comes to is done
-abbrev pub Acts : {S : Type 0} → (S → DoneValue → S → Type 0) → Nexus → TasksValue → S → Act → (said : List TargetPduValue) → TasksValue → S → Type 0
+abbrev pub Acts : {S : Type 0} → (S → DoneValue → S → Type 0) → Nexus → TasksValue → S → Act → (said : List TargetPduValue) → TasksValue → S
+    → Type 0
 Acts notes n k s act said k' t = (k' ≡ stepped k act) × Does notes n s k' (outcome k act) said t
 
 -- what is to be done next is done, so many times

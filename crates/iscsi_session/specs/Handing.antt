@@ -1,14 +1,15 @@
 -- What a session hands to its units, against what its tasks execute. `notes s d t` says that a call with the answer d makes t of the service s.
-use Rattle.std.specs.Prelude.{◌≡◌, ℕ, List, [], ◌∷◌, ◌++◌, map}
+use Rattle.std.specs.Prelude.{◌≡◌, ℕ, List, [], ◌∷◌, ◌++◌, Option, Some, None}
+use Rattle.std.specs.List.{flat_map}
 use Rattle.scsi_nexus.specs.declared.nexus.Nexus.{Nexus}
 use Rattle.logical_unit.specs.Answers as event
 use Rattle.logical_unit.specs.Answers.{DoneValue, EventValue}
+use Rattle.iscsi_pdu.specs.Luns.{unit_of}
 use Rattle.iscsi_pdu.specs.declared.initiator_header.InitiatorHeader.{InitiatorHeader}
 use Rattle.iscsi_pdu.specs.declared.initiator_header.InitiatorHeader.TheVariants as sent
 use Rattle.iscsi_tasks.specs.Runs.{Act, Numbered, Commanded, DataCame, AskedNext, Aborted, Dropped, Executed, executed, run}
 use Rattle.iscsi_tasks.specs.Values.{TasksValue}
 use Rattle.session.specs.Answering.{Calls}
-use Rattle.iscsi_session.specs.Executing.{unit_number}
 use Rattle.iscsi_session.specs.Talking.{Came, Ending, Event, Told, Silence}
 
 -- the commands and data among the acts
@@ -51,13 +52,19 @@ abbrev pub commands_of : List DoneValue → List (ℕ × EventValue)
 commands_of [] = []
 commands_of (d ∷ ds) = asked_command d.lun d.asked ++ commands_of ds
 
+-- the call by which a command is executed at a unit; none where its LUN is no unit's number
+abbrev pub call_for : (unit : Option ℕ) → (cdb bytes : List ℕ) → List (ℕ × EventValue)
+call_for (Some unit) cdb bytes = (unit, event.Command cdb bytes) ∷ []
+call_for None cdb bytes = []
+
 -- what commands that are executed are as calls
 abbrev pub handed : List Executed → List (ℕ × EventValue)
-handed es = map (λ e. (unit_number e.command.lun, event.Command e.command.cdb e.bytes)) es
+handed es = flat_map (λ e. call_for (unit_of e.command.lun) e.command.cdb e.bytes) es
 
 -- these commands and data, and no others, are brought to the tasks, in this order; and of the calls that are made the commands are those that the
--- tasks execute, in the same order, each once and with the data that they have for it
-pub record Hands {S : Type 0} (notes : S → DoneValue → S → Type 0) (n : Nexus) (k : TasksValue) (s : S) (brings : List Act) (k' : TasksValue)
+-- tasks execute and whose LUN is a unit's number, in the same order, each once and with the data that they have for it
+pub record Hands {S : Type 0} (notes : S → DoneValue → S → Type 0) (n : Nexus) (k : TasksValue) (s : S) (brings : List Act)
+    (k' : TasksValue)
     (t : S) : Type 0 where
   pub acts : List Act
   pub calls : List DoneValue

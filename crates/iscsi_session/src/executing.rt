@@ -1,5 +1,5 @@
 //! Commands: handed to their units, and answered.
-ghost use Rattle.std.specs.Prelude.{◌≡◌, ◌<◌, ◌^◌, ◌++◌, ℕ, List, length, IfErr, OnOk};
+ghost use Rattle.std.specs.Prelude.{◌≡◌, ◌<◌, ◌^◌, ◌++◌, ℕ, List, length, min, IfErr, OnOk};
 ghost use Rattle.iscsi_pdu.specs.Pdus.{TargetPduValue};
 ghost use Rattle.iscsi_answers.specs.Written.{bytes_of_all};
 ghost use Rattle.iscsi_tasks.specs.Next.{next_of};
@@ -15,18 +15,17 @@ use crate::requests::{BasicHeader, reject};
 use iscsi_answers::{AnsweredCommand, UnitAnswer, write_command_answer, write_ready_to_transfer};
 use iscsi_pdu::{DataOut, ScsiCommand, unit_of};
 use iscsi_tasks::{NextTask, TakenCommand, TakenData, TaskFault, TransferRequest};
+use judgement::{Reply, absent};
 use scsi_nexus::Nexus;
 use scsi_sense::{Sense, Status};
 use session::Service;
 use std::alloc::Global;
 
-/// A logical unit number that no unit has.
-const NO_UNIT: u8 = 255;
-
 /// The sense key of a command that ends unexecuted since its data aren't right (SPC-4, "Sense key and additional sense code definitions").
 const ABORTED_COMMAND: u8 = 0x0B;
 
-/// Hands a command to its unit with its data, and adds what answers it.
+/// Hands a command to its unit with its data, and adds what answers it. A command whose LUN is no unit's number is answered as a unit that
+/// doesn't exist answers it.
 fn execute<S: Service>(
     alloc: Global,
     service: &mut S,
@@ -41,9 +40,31 @@ fn execute<S: Service>(
         × Executes S.notes nexus service.old connection.old.tasks command.now bytes.now said service.new
         × Adds result connection.old.out.items connection.new.out.items said }
 {
-    let lun = unit_of(command.lun).unwrap_or(NO_UNIT);
-    let done = service.submit(alloc, nexus, lun, &command.cdb, bytes);
-    let reply = &done.receipt().reply;
+    match unit_of(command.lun) {
+        Some(lun) => {
+            let done = service.submit(alloc, nexus, lun, &command.cdb, bytes);
+            answer_executed(connection, command, bytes, &done.receipt().reply)
+        }
+        None => {
+            let reply = absent(alloc, &command.cdb);
+            answer_executed(connection, command, bytes, &reply)
+        }
+    }
+}
+
+/// Adds what answers a command to which a unit that got these data has replied.
+fn answer_executed(
+    connection: &mut Connection<'_>,
+    command: &ScsiCommand,
+    bytes: &[u8],
+    reply: &Reply,
+) -> Result<(), IscsiFault>
+    ensures fault { IfErr result IsLater }
+    ensures tasks { connection.new.tasks ≡ connection.old.tasks }
+    ensures answered { OnOk result (connection.new.out.items ≡ connection.old.out.items
+        ++ bytes_of_all (answer_to connection.old.tasks connection.old.limits connection.old.stat_sn command.now
+        (min (length bytes.now) 0xFFFFFFFF) reply.now.status reply.now.sense reply.now.payload)) }
+{
     let answer = UnitAnswer {
         status: reply.status,
         sense: reply.sense,

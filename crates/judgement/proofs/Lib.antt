@@ -1,3 +1,4 @@
 pub mod PreventerLaws
 pub mod Ways
 pub mod Carried
+pub mod Stands

@@ -3,10 +3,12 @@ pub mod UnitData
 pub mod Replies
 pub mod Rows
 pub mod Commands
+pub mod Received
 pub mod UnitStateView
 pub mod UnitState
 pub mod Readings
 pub mod Decisions
 pub mod JudgedUnit
 pub mod Judge
+pub mod Standing
 pub mod History

@@ -5,7 +5,7 @@ ghost use Rattle.judgement.specs.Replies.{absent_answer, AnswersAbsent};
 use crate::reply::Reply;
 use crate::unit_data::sense_data;
 use device_server::Payload;
-use scsi_cdb::{INQUIRY, REQUEST_SENSE};
+use scsi_cdb::{INQUIRY, REQUEST_SENSE, Request, inquiry_at, request_sense_at};
 use scsi_sense::Condition;
 use std::alloc::{AllocError, Global};
 
@@ -29,14 +29,26 @@ fn absent_reply(alloc: Global, cdb: &[u8]) -> Result<Reply, AllocError>
     if cdb.len() < 6 {
         return Ok(Reply::check(alloc, Condition::LogicalUnitNotSupported));
     }
-    if cdb[0] == INQUIRY && cdb[1] & 1 == 0 {
-        let payload = absent_inquiry(alloc)?;
-        let allocation_length = u16::from_be_bytes([cdb[3], cdb[4]]);
-        return Ok(Reply::good(payload.cut(usize::from(allocation_length))));
+    if cdb[0] == INQUIRY {
+        if let Request::Inquiry {
+            vital_product_data: false,
+            allocation_length,
+            ..
+        } = inquiry_at(cdb)
+        {
+            let payload = absent_inquiry(alloc)?;
+            return Ok(Reply::good(payload.cut(usize::from(allocation_length))));
+        }
     }
     if cdb[0] == REQUEST_SENSE {
-        let payload = sense_data(alloc, Condition::LogicalUnitNotSupported)?;
-        return Ok(Reply::good(payload.cut(usize::from(cdb[4]))));
+        if let Request::RequestSense {
+            allocation_length,
+            ..
+        } = request_sense_at(cdb)
+        {
+            let payload = sense_data(alloc, Condition::LogicalUnitNotSupported)?;
+            return Ok(Reply::good(payload.cut(usize::from(allocation_length))));
+        }
     }
     Ok(Reply::check(alloc, Condition::LogicalUnitNotSupported))
 }

@@ -1,12 +1,14 @@
 ghost use Rattle.std.specs.Prelude.{◌≡◌, true, IfOk, OnErr};
-ghost use Rattle.judgement.specs.Commands.{decoded_command, command_of, class_of_command, passes_over, act_of_decoded, is_reserve_out};
+ghost use Rattle.judgement.specs.Received.{command_in};
+ghost use Rattle.judgement.specs.Commands.{command_of, class_of_command, passes_over, act_of_decoded, is_reserve_out};
 
 use crate::conditions::condition_of_fault;
+use crate::received::ReceivedCommand;
 use crate::reserve_params::ReserveParams;
 use audit_log::Act;
 use permit_tables::Class;
 use pr_params::read_out;
-use scsi_cdb::{InServiceAction, Kind, Request, class, decode};
+use scsi_cdb::{InServiceAction, Request, class, class_of_prevent};
 use scsi_sense::Condition;
 use std::alloc::{AllocError, Global};
 
@@ -15,39 +17,51 @@ use std::alloc::{AllocError, Global};
 pub enum Command {
     /// PERSISTENT RESERVE OUT with its parameter list.
     ReserveOut(ReserveParams),
-    /// PERSISTENT RESERVE IN with its service action and ALLOCATION LENGTH.
-    ReserveIn(InServiceAction, u16),
-    /// INQUIRY with EVPD, PAGE CODE and ALLOCATION LENGTH.
-    Inquiry(bool, u8, u16),
-    /// REPORT LUNS with SELECT REPORT and ALLOCATION LENGTH.
-    ReportLuns(u8, u32),
-    /// REQUEST SENSE with DESC and ALLOCATION LENGTH.
-    RequestSense(bool, u8),
-    /// PREVENT ALLOW MEDIUM REMOVAL with PREVENT.
-    Prevent(u8),
+    /// PERSISTENT RESERVE IN.
+    ReserveIn {
+        service_action: InServiceAction,
+        allocation_length: u16,
+    },
+    Inquiry {
+        /// EVPD.
+        vital_product_data: bool,
+        page_code: u8,
+        allocation_length: u16,
+    },
+    ReportLuns {
+        select_report: u8,
+        allocation_length: u32,
+    },
+    RequestSense {
+        /// DESC.
+        descriptor_format: bool,
+        allocation_length: u8,
+    },
+    /// PREVENT ALLOW MEDIUM REMOVAL.
+    Prevent {
+        prevent: u8,
+    },
     /// A command that the device carries out.
     Device(Request),
 }
 
 impl Command {
-    /// The command that a CDB spells for a kind of unit, with the data sent with it, or what is
-    /// reported of bytes that spell none. PERSISTENT RESERVE OUT alone takes memory, for its list.
-    pub fn decode(
+    /// The command that a CDB spells with the data sent with it, or what is reported of bytes that spell none. PERSISTENT RESERVE OUT alone
+    /// takes memory, for its list.
+    pub fn of(
         alloc: Global,
-        kind: Kind,
-        cdb: &[u8],
-        bytes: &[u8],
+        received: &ReceivedCommand<'_>,
     ) -> Result<Result<Command, Condition>, AllocError>
-        ensures ok { IfOk result (λ it. it ≡ decoded_command kind cdb.now bytes.now) }
-        ensures want { OnErr result (is_reserve_out (decoded_command kind cdb.now bytes.now) ≡ true) }
+        ensures ok { IfOk result (λ it. it ≡ command_in received.now) }
+        ensures want { OnErr result (is_reserve_out (command_in received.now) ≡ true) }
     {
-        match decode(kind, cdb) {
-            Ok(request) => Command::of(alloc, request, bytes),
+        match received.request() {
+            Ok(request) => Command::of_request(alloc, request, received.bytes()),
             Err(fault) => Ok(Err(condition_of_fault(fault))),
         }
     }
 
-    fn of(
+    fn of_request(
         alloc: Global,
         request: Request,
         bytes: &[u8],
@@ -67,21 +81,34 @@ impl Command {
             Request::PersistentReserveIn {
                 service_action,
                 allocation_length,
-            } => Ok(Ok(Command::ReserveIn(service_action, allocation_length))),
+            } => Ok(Ok(Command::ReserveIn {
+                service_action,
+                allocation_length,
+            })),
             Request::Inquiry {
                 vital_product_data,
                 page_code,
                 allocation_length,
-            } => Ok(Ok(Command::Inquiry(vital_product_data, page_code, allocation_length))),
+            } => Ok(Ok(Command::Inquiry {
+                vital_product_data,
+                page_code,
+                allocation_length,
+            })),
             Request::ReportLuns {
                 select_report,
                 allocation_length,
-            } => Ok(Ok(Command::ReportLuns(select_report, allocation_length))),
+            } => Ok(Ok(Command::ReportLuns {
+                select_report,
+                allocation_length,
+            })),
             Request::RequestSense {
                 descriptor_format,
                 allocation_length,
-            } => Ok(Ok(Command::RequestSense(descriptor_format, allocation_length))),
-            Request::PreventAllowMediumRemoval { prevent } => Ok(Ok(Command::Prevent(prevent))),
+            } => Ok(Ok(Command::RequestSense {
+                descriptor_format,
+                allocation_length,
+            })),
+            Request::PreventAllowMediumRemoval { prevent } => Ok(Ok(Command::Prevent { prevent })),
             device_command => Ok(Ok(Command::Device(device_command))),
         }
     }
@@ -92,13 +119,11 @@ impl Command {
     {
         match self {
             Command::ReserveOut(list) => list.params().act.class(),
-            Command::ReserveIn(_, _) => Class::PersistentReserveIn,
-            Command::Inquiry(_, _, _) => Class::Inquiry,
-            Command::ReportLuns(_, _) => Class::ReportLuns,
-            Command::RequestSense(_, _) => Class::RequestSense,
-            Command::Prevent(prevent) => class(&Request::PreventAllowMediumRemoval {
-                prevent: *prevent,
-            }),
+            Command::ReserveIn { .. } => Class::PersistentReserveIn,
+            Command::Inquiry { .. } => Class::Inquiry,
+            Command::ReportLuns { .. } => Class::ReportLuns,
+            Command::RequestSense { .. } => Class::RequestSense,
+            Command::Prevent { prevent } => class_of_prevent(*prevent),
             Command::Device(request) => class(request),
         }
     }

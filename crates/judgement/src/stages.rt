@@ -1,40 +1,29 @@
-ghost use Rattle.std.specs.Prelude.{◌≡◌, ◌&&◌, true, false, None, is_none, OnErr, IfOk};
-ghost use Rattle.unit_attention.specs.Queues.{first_reset_of, first_other_of};
+ghost use Rattle.std.specs.Prelude.{◌≡◌, ◌&&◌, true, false, OnErr, IfOk};
 ghost use Rattle.pr_core.specs.declared.verdict.Verdict.TheVariants.{Allowed};
 ghost use Rattle.device_server.specs.View.{kind_of};
 ghost use Rattle.device_server.specs.Volumes.{is_move};
 ghost use Rattle.judgement.specs.UnitState.{has_room, after_contact};
 ghost use Rattle.pr_core.specs.Judge.{verdict};
-ghost use Rattle.pr_core.specs.State.{cell};
 ghost use Rattle.judgement.specs.Decisions.{at_stage};
 ghost use Rattle.judgement.specs.Replies.{data_reply};
 ghost use Rattle.judgement.specs.Readings.{verdict_of};
-ghost use Rattle.judgement.specs.Judge.{waiting, carried_out, reserves, unloads, performs, let_through, checked, commanded, judged_as, requests_sense, prevents, is_allowed_by, is_carried_out, asks_memory, takes_memory};
+ghost use Rattle.judgement.specs.Judge.{carried_out, reserves, unloads, performs, commanded, judged_as, requests_sense, prevents, is_carried_out, asks_memory, takes_memory};
 ghost use Rattle.device_server.specs.View.{DeviceView};
-ghost use Rattle.judgement.specs.Commands.{class_of_command};
 
-use crate::command::{Command, passes_over};
+use crate::command::Command;
 use crate::conditions::{condition_of_attention, condition_of_refusal};
 use crate::decision::Decision;
 use crate::reply::Reply;
+use crate::standing::{Standing, stands_before};
 use crate::unit_data::{inquiry, report_luns, sense_data};
 use crate::unit_state::UnitState;
 use audit_log::Stage;
 use device_server::{DeviceServer, Payload, field_fault};
-use permit_tables::{Cell, Class, OutParams};
-use pr_core::Verdict;
+use permit_tables::OutParams;
 use scsi_cdb::Request;
 use scsi_nexus::Nexus;
 use scsi_sense::Condition;
 use std::alloc::{AllocError, Global};
-use unit_attention::Kind;
-
-/// An attention that waits, unless the class passes over it.
-fn waiting(class: Class, pending: Option<Kind>) -> Option<Kind>
-    ensures { result ≡ waiting class pending }
-{
-    if passes_over(class) { None } else { pending }
-}
 
 /// A command by its own rules, where nothing stands before it. Want of memory changes nothing.
 fn carry_out<D: DeviceServer>(
@@ -53,26 +42,37 @@ fn carry_out<D: DeviceServer>(
 {
     match command {
         Command::ReserveOut(list) => Ok(reserve(alloc, kept, nexus, list.params())),
-        Command::ReserveIn(service_action, allocation_length) => {
+        Command::ReserveIn {
+            service_action,
+            allocation_length,
+        } => {
             let payload = kept.read_status(alloc, *service_action, *allocation_length)?;
             kept.make_contact(nexus);
             Ok((Decision::at_stage(Stage::Device), Reply::good(payload)))
         }
-        Command::Inquiry(vital_product_data, page_code, allocation_length) => {
+        Command::Inquiry {
+            vital_product_data,
+            page_code,
+            allocation_length,
+        } => {
             let kind = server.kind();
             let payload = inquiry(alloc, kind, kept.lun(), *vital_product_data, *page_code)?;
             kept.make_contact(nexus);
             Ok(answer(alloc, payload, usize::from(*allocation_length)))
         }
-        Command::ReportLuns(select_report, allocation_length) => {
+        Command::ReportLuns {
+            select_report,
+            allocation_length,
+        } => {
             let payload = report_luns(alloc, kept.units(), *select_report)?;
             kept.make_contact(nexus);
             Ok(answer(alloc, payload, *allocation_length as usize))
         }
-        Command::RequestSense(descriptor_format, allocation_length) => {
-            request_sense(alloc, kept, nexus, *descriptor_format, *allocation_length)
-        }
-        Command::Prevent(prevent) => Ok(prevent_or_allow(alloc, kept, nexus, *prevent)),
+        Command::RequestSense {
+            descriptor_format,
+            allocation_length,
+        } => request_sense(alloc, kept, nexus, *descriptor_format, *allocation_length),
+        Command::Prevent { prevent } => Ok(prevent_or_allow(alloc, kept, nexus, *prevent)),
         Command::Device(request) => perform(alloc, server, kept, nexus, request, bytes),
     }
 }
@@ -204,62 +204,7 @@ fn request_sense(
     }
 }
 
-/// A command that the reservation check let through: another attention, or the command itself.
-fn let_through<D: DeviceServer>(
-    alloc: Global,
-    server: &mut Box<D>,
-    kept: &mut UnitState,
-    nexus: Nexus,
-    command: &Command,
-    in_cell: Cell,
-    bytes: &[u8],
-) -> Result<(Decision, Reply), AllocError>
-    requires room { has_room kept.old nexus ≡ true }
-    requires known { in_cell ≡ cell kept.old.reservations nexus (class_of_command command.now) }
-    requires allowed { verdict_of kept.old.reservations nexus command.now ≡ Allowed }
-    ensures ok { IfOk result (λ it. let_through (record { device = D.shown server.old.value; kept = after_contact kept.old nexus }) nexus command.now bytes.now ≡ (record { device = D.shown server.new.value; kept = kept.new }, it.0, it.1)) }
-    ensures err { OnErr result ((D.shown server.new.value ≡ D.shown server.old.value) × (kept.new ≡ kept.old)) }
-    ensures want { OnErr result ((asks_memory command.now && is_none (waiting (class_of_command command.now) (first_other_of (after_contact kept.old nexus).slots nexus))) ≡ true) }
-{
-    match waiting(command.class(), kept.first_other(nexus)) {
-        Some(kind) => Ok((
-            Decision::let_in(in_cell, Stage::OtherAttention),
-            kept.report_attention(alloc, nexus, kind),
-        )),
-        None => {
-            let (decision, reply) = carry_out(alloc, server, kept, nexus, command, bytes)?;
-            Ok((decision.in_cell(in_cell), reply))
-        }
-    }
-}
-
-/// From the reservation check on: a conflict, another attention, or the command.
-fn check<D: DeviceServer>(
-    alloc: Global,
-    server: &mut Box<D>,
-    kept: &mut UnitState,
-    nexus: Nexus,
-    command: &Command,
-    bytes: &[u8],
-) -> Result<(Decision, Reply), AllocError>
-    requires { has_room kept.old nexus ≡ true }
-    ensures ok { IfOk result (λ it. checked (record { device = D.shown server.old.value; kept = after_contact kept.old nexus }) nexus command.now bytes.now ≡ (record { device = D.shown server.new.value; kept = kept.new }, it.0, it.1)) }
-    ensures err { OnErr result ((D.shown server.new.value ≡ D.shown server.old.value) × (kept.new ≡ kept.old)) }
-    ensures want { OnErr result ((asks_memory command.now && (is_allowed_by (verdict_of kept.old.reservations nexus command.now) && is_none (waiting (class_of_command command.now) (first_other_of (after_contact kept.old nexus).slots nexus)))) ≡ true) }
-{
-    let in_cell = kept.cell(nexus, command);
-    let rule = match kept.verdict(nexus, command, in_cell) {
-        Verdict::Allowed => {
-            return let_through(alloc, server, kept, nexus, command, in_cell, bytes);
-        }
-        Verdict::Denied(_) => None,
-        Verdict::Rule(rule) => Some(rule),
-    };
-    kept.make_contact(nexus);
-    Ok((Decision::in_conflict(in_cell, rule), Reply::conflict(alloc)))
-}
-
-/// A command that the bytes spell: an attention of ASC 29h, or the reservation check.
+/// A command that bytes spell: it ends by what stands before it, or is carried out by its own rules.
 fn judge_command<D: DeviceServer>(
     alloc: Global,
     server: &mut Box<D>,
@@ -273,12 +218,12 @@ fn judge_command<D: DeviceServer>(
     ensures err { OnErr result ((D.shown server.new.value ≡ D.shown server.old.value) × (kept.new ≡ kept.old)) }
     ensures want { OnErr result ((asks_memory command.now && is_carried_out (record { device = D.shown server.old.value; kept = after_contact kept.old nexus }) nexus command.now) ≡ true) }
 {
-    match waiting(command.class(), kept.first_reset(nexus)) {
-        Some(kind) => Ok((
-            Decision::at_stage(Stage::ResetAttention),
-            kept.report_attention(alloc, nexus, kind),
-        )),
-        None => check(alloc, server, kept, nexus, command, bytes),
+    match stands_before(alloc, kept, nexus, command) {
+        Standing::Ended(decision, reply) => Ok((decision, reply)),
+        Standing::LetThrough(in_cell) => {
+            let (decision, reply) = carry_out(alloc, server, kept, nexus, command, bytes)?;
+            Ok((decision.in_cell(in_cell), reply))
+        }
     }
 }
 

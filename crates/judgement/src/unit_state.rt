@@ -236,11 +236,11 @@ impl UnitState {
     {
         match command {
             Command::ReserveOut(list) => self.reservations.judge(nexus, list.params()),
-            Command::ReserveIn(_, _)
-            | Command::Inquiry(_, _, _)
-            | Command::ReportLuns(_, _)
-            | Command::RequestSense(_, _)
-            | Command::Prevent(_)
+            Command::ReserveIn { .. }
+            | Command::Inquiry { .. }
+            | Command::ReportLuns { .. }
+            | Command::RequestSense { .. }
+            | Command::Prevent { .. }
             | Command::Device(_) => {
                 if is_allowed(in_cell) {
                     Verdict::Allowed

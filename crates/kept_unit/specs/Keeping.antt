@@ -1,17 +1,12 @@
 -- A unit that is kept, beside the total of its book and the last record number that it had used when it was put there.
-use Rattle.std.specs.Prelude.{◌≡◌, ℕ, ◌+◌, ◌<◌, ◌^◌, ◌==◌, if◌then◌else◌}
-use Rattle.scsi_cdb.specs.declared.kind.Kind.{Kind}
-use Rattle.scsi_cdb.specs.declared.kind.Kind.TheVariants.{Drive, Changer}
+use Rattle.std.specs.Prelude.{◌≡◌, ℕ, ◌+◌, ◌<◌, ◌^◌}
+use Rattle.scsi_cdb.specs.Kinds.{kind_at}
 use Rattle.device_server.specs.View.{kind_of, drives_of}
 use Rattle.logical_unit.specs.UnitView.{UnitView, last_number}
 
 pub record KeptValue : Type 0 where
   pub unit : UnitView
   pub total : ℕ
-
--- the changer is logical unit 0, and the drives are the others
-abbrev pub kind_at : (lun : ℕ) → Kind
-kind_at lun = if lun == 0 then Changer else Drive
 
 -- the unit is that of the number, and the book's total is how many numbers it has used since
 pub record IsKept (lun : ℕ) (unit : UnitView) (total was since : ℕ) : Type 0 where

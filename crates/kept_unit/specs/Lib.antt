@@ -3,6 +3,5 @@ pub mod Ranges
 pub mod Listing
 pub mod SeatNotes
 pub mod Agreeing
-pub mod Rows
 pub mod RangeRows
 pub mod AgreementRows

@@ -2,7 +2,8 @@ ghost use Rattle.std.specs.Prelude.{◌≡◌, ◌≢◌, ◌+◌, ◌<◌, ◌+
 ghost use Rattle.scsi_cdb.specs.declared.kind.Kind.TheVariants.{Changer};
 ghost use Rattle.device_server.specs.View.{drives_of};
 ghost use Rattle.judgement.specs.Replies.{busy};
-ghost use Rattle.judgement.specs.Commands.{act_of};
+ghost use Rattle.judgement.specs.Commands.{act_of_decoded};
+ghost use Rattle.judgement.specs.Received.{command_in};
 ghost use Rattle.logical_unit.specs.Move.{MovesOne, MovesTwo, numbers_of};
 ghost use Rattle.logical_unit.specs.Route.{named};
 ghost use Rattle.logical_unit.specs.Answers as event;
@@ -11,8 +12,8 @@ ghost use Rattle.logical_unit.specs.ActKinds.{act_kind_of, act_kind_if};
 
 use crate::kept::{Kept, UnitLedger};
 use device_server::DeviceServer;
+use judgement::ReceivedCommand;
 use logical_unit::{Done, carry_out_move_one, carry_out_move_two};
-use scsi_nexus::Nexus;
 use std::alloc::Global;
 use std::sync::ledger::Share;
 
@@ -25,19 +26,18 @@ pub fn move_kept_one<'a, const LUN: u8, C: UnitLedger, L: UnitLedger, D: DeviceS
     drive: &mut Kept<LUN, L, D>,
     part: &mut Share<C>,
     drive_part: &mut Share<L>,
-    nexus: Nexus,
-    cdb: &'a [u8],
-    bytes: &'a [u8],
+    received: &ReceivedCommand<'a>,
 ) -> Done<'a>
+    requires kind { received.now.kind ≡ Changer }
     requires part { 0 < part.old.parts }
     requires drive_part { 0 < drive_part.old.parts }
     requires drive { 0 < LUN }
-    requires named { named (drives_of changer.old.unit.device) cdb.now ≡ LUN ∷ [] }
-    ensures answer { IsAnswer result (Some nexus) 0 (event.Command cdb.now bytes.now) }
-    ensures step { MovesOne changer.old.unit drive.old.unit nexus cdb.now bytes.now ((changer.new.unit, result.reply), drive.new.unit) }
+    requires named { named (drives_of changer.old.unit.device) received.now.cdb ≡ LUN ∷ [] }
+    ensures answer { IsAnswer result (Some received.now.nexus) 0 (event.Command received.now.cdb received.now.bytes) }
+    ensures step { MovesOne changer.old.unit drive.old.unit received.now.nexus received.now.cdb received.now.bytes ((changer.new.unit, result.reply), drive.new.unit) }
     ensures numbers { result.numbers ≡ numbers_of changer.old.unit changer.new.unit ++ numbers_of drive.old.unit drive.new.unit }
     ensures only { (k : ℕ) → k ≢ 0 → k ≢ LUN → count_at k result.numbers ≡ 0 }
-    ensures act { result.act ≡ act_kind_if result.numbers (act_kind_of (act_of Changer cdb.now bytes.now)) }
+    ensures act { result.act ≡ act_kind_if result.numbers (act_kind_of (act_of_decoded (command_in received.now))) }
     ensures unnumbered { result.numbers ≡ [] → result.reply ≡ busy }
     ensures book { changer.new.total ≡ changer.old.total + count_at 0 result.numbers }
     ensures drive_book { drive.new.total ≡ drive.old.total + count_at LUN result.numbers }
@@ -45,7 +45,7 @@ pub fn move_kept_one<'a, const LUN: u8, C: UnitLedger, L: UnitLedger, D: DeviceS
     ensures drive_part { drive_part.new.amount ≡ drive_part.old.amount + count_at LUN result.numbers }
     ensures parts { (part.new.parts ≡ part.old.parts) × (drive_part.new.parts ≡ drive_part.old.parts) }
 {
-    let done = carry_out_move_one(alloc, &mut changer.unit, &mut drive.unit, nexus, cdb, bytes);
+    let done = carry_out_move_one(alloc, &mut changer.unit, &mut drive.unit, received);
     changer.book.add(part, done.count_at(0));
     drive.book.add(drive_part, done.count_at(LUN));
     done
@@ -68,20 +68,19 @@ pub fn move_kept_two<
     part: &mut Share<C>,
     low_part: &mut Share<L>,
     high_part: &mut Share<H>,
-    nexus: Nexus,
-    cdb: &'a [u8],
-    bytes: &'a [u8],
+    received: &ReceivedCommand<'a>,
 ) -> Done<'a>
+    requires kind { received.now.kind ≡ Changer }
     requires part { 0 < part.old.parts }
     requires low_part { 0 < low_part.old.parts }
     requires high_part { 0 < high_part.old.parts }
     requires drives { (0 < LOW) × (LOW < HIGH) }
-    requires named { named (drives_of changer.old.unit.device) cdb.now ≡ LOW ∷ HIGH ∷ [] }
-    ensures answer { IsAnswer result (Some nexus) 0 (event.Command cdb.now bytes.now) }
-    ensures step { MovesTwo changer.old.unit (record { low = low.old.unit; high = high.old.unit }) nexus cdb.now bytes.now ((changer.new.unit, result.reply), record { low = low.new.unit; high = high.new.unit }) }
+    requires named { named (drives_of changer.old.unit.device) received.now.cdb ≡ LOW ∷ HIGH ∷ [] }
+    ensures answer { IsAnswer result (Some received.now.nexus) 0 (event.Command received.now.cdb received.now.bytes) }
+    ensures step { MovesTwo changer.old.unit (record { low = low.old.unit; high = high.old.unit }) received.now.nexus received.now.cdb received.now.bytes ((changer.new.unit, result.reply), record { low = low.new.unit; high = high.new.unit }) }
     ensures numbers { result.numbers ≡ numbers_of changer.old.unit changer.new.unit ++ numbers_of low.old.unit low.new.unit ++ numbers_of high.old.unit high.new.unit }
     ensures only { (k : ℕ) → k ≢ 0 → k ≢ LOW → k ≢ HIGH → count_at k result.numbers ≡ 0 }
-    ensures act { result.act ≡ act_kind_if result.numbers (act_kind_of (act_of Changer cdb.now bytes.now)) }
+    ensures act { result.act ≡ act_kind_if result.numbers (act_kind_of (act_of_decoded (command_in received.now))) }
     ensures unnumbered { result.numbers ≡ [] → result.reply ≡ busy }
     ensures book { changer.new.total ≡ changer.old.total + count_at 0 result.numbers }
     ensures low_book { low.new.total ≡ low.old.total + count_at LOW result.numbers }
@@ -96,9 +95,7 @@ pub fn move_kept_two<
         &mut changer.unit,
         &mut low.unit,
         &mut high.unit,
-        nexus,
-        cdb,
-        bytes,
+        received,
     );
     changer.book.add(part, done.count_at(0));
     low.book.add(low_part, done.count_at(LOW));

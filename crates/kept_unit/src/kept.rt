@@ -2,7 +2,8 @@ ghost use Rattle.std.specs.Prelude.{◌≡◌, ◌+◌, ◌<◌, ◌^◌, [], �
 ghost use Rattle.device_server.specs.View.{kind_of, drives_of};
 ghost use Rattle.device_server.specs.Settled.{SameButSettled};
 ghost use Rattle.judgement.specs.Replies.{busy};
-ghost use Rattle.judgement.specs.Commands.{act_of};
+ghost use Rattle.judgement.specs.Commands.{act_of_decoded};
+ghost use Rattle.judgement.specs.Received.{command_in};
 ghost use Rattle.judgement.specs.UnitState.{has_room};
 ghost use Rattle.logical_unit.specs.Legal.{IsTrail};
 ghost use Rattle.logical_unit.specs.Step.{Executes, IsLost, IsReset, drained};
@@ -12,13 +13,14 @@ ghost use Rattle.logical_unit.specs.Answers as event;
 ghost use Rattle.logical_unit.specs.Answers.{IsAnswer, count_at, own_number, OnlyAt};
 ghost use Rattle.logical_unit.specs.declared.act_kind.ActKind.TheVariants as kind;
 ghost use Rattle.logical_unit.specs.ActKinds.{act_kind_of, act_kind_if};
-ghost use Rattle.kept_unit.specs.Keeping.{kind_at};
+ghost use Rattle.scsi_cdb.specs.Kinds.{kind_at};
 ghost use Rattle.kept_unit.specs.SeatNotes.{notes_value};
 
 use crate::agree::agree;
 use crate::seat_notes::SeatNotes;
 use audit_log::Record;
 use device_server::{Attendant, DeviceServer};
+use judgement::ReceivedCommand;
 use logical_unit::{Done, LogicalUnit};
 use scsi_nexus::Nexus;
 use std::alloc::{AllocError, Global};
@@ -162,22 +164,21 @@ impl<const LUN: u8, L: UnitLedger, D: DeviceServer> Kept<LUN, L, D> {
         &mut self,
         alloc: Global,
         part: &mut Share<L>,
-        nexus: Nexus,
-        cdb: &'a [u8],
-        bytes: &'a [u8],
+        received: &ReceivedCommand<'a>,
     ) -> Done<'a>
-        requires { 0 < part.old.parts }
-        ensures answer { IsAnswer result (Some nexus) LUN (event.Command cdb.now bytes.now) }
-        ensures step { Executes self.old.unit nexus cdb.now bytes.now (self.new.unit, result.reply) }
+        requires parts { 0 < part.old.parts }
+        requires kind { received.now.kind ≡ kind_at LUN }
+        ensures answer { IsAnswer result (Some received.now.nexus) LUN (event.Command received.now.cdb received.now.bytes) }
+        ensures step { Executes self.old.unit received.now.nexus received.now.cdb received.now.bytes (self.new.unit, result.reply) }
         ensures numbers { result.numbers ≡ own_number LUN result.reply.number }
         ensures only { OnlyAt LUN result.numbers }
-        ensures act { result.act ≡ act_kind_if result.numbers (act_kind_of (act_of (kind_at LUN) cdb.now bytes.now)) }
+        ensures act { result.act ≡ act_kind_if result.numbers (act_kind_of (act_of_decoded (command_in received.now))) }
         ensures unnumbered { result.numbers ≡ [] → result.reply ≡ busy }
         ensures book { self.new.total ≡ self.old.total + count_at LUN result.numbers }
         ensures part { part.new.amount ≡ part.old.amount + count_at LUN result.numbers }
         ensures parts { part.new.parts ≡ part.old.parts }
     {
-        let done = self.unit.carry_out(alloc, nexus, cdb, bytes);
+        let done = self.unit.carry_out(alloc, received);
         self.book.add(part, done.count_at(LUN));
         done
     }

@@ -1,10 +1,3 @@
-ghost use Rattle.kept_unit.specs.Rows.{KindRows};
-
-/// Worked rows: the kinds of units.
-pub fn kind_rows()
-    ensures { KindRows }
-{}
-
 ghost use Rattle.kept_unit.specs.RangeRows.{RangeRows};
 
 /// Worked rows: the numbers of ranges, and what the tests of them say.

@@ -13,7 +13,7 @@ mod seat_notes;
 
 pub use carrying::{move_kept_one, move_kept_two};
 pub use kept::{Kept, UnitLedger};
-pub use laws::{agreement_rows, kind_rows, range_rows};
+pub use laws::{agreement_rows, range_rows};
 pub use number_range::NumberRange;
 pub use ranges::{add_ranges, listed_ranges, make_room};
 pub use seat_notes::SeatNotes;

@@ -75,6 +75,13 @@ impl DeviceServer for Device {
         }
     }
 
+    fn leaves_to_drives(&self, request: &Request) -> bool {
+        match self {
+            Device::Changer(changer) => changer.leaves_to_drives(request),
+            Device::Tape(drive) => drive.leaves_to_drives(request),
+        }
+    }
+
     fn perform(
         &mut self,
         alloc: Global,

@@ -86,7 +86,11 @@ module _ (u : JudgedUnit) (n : Nexus) (c : Command) (bytes : List ℕ) where
   ]
 
   abbrev pub by_other : Option Kind → JudgedUnit × Decision × Reply
-  by_other o = elim o [ Some kind ↦ tells u n kind (let_in (cell_of u n c) OtherAttention) | None ↦ at_cell (cell_of u n c) (carried_out u n c bytes) ]
+  by_other o = elim o [
+    | Some kind ↦ tells u n kind (let_in (cell_of u n c) OtherAttention)
+    | None ↦ at_cell (cell_of u n c)
+        (carried_out u n c bytes)
+  ]
 
   is_ready : (o : Option Kind) → is_left (by_reset o).2.sense ≡ true → o ≡ None
   is_ready (Some kind) l = absurd (attention_ends kind l)
@@ -121,7 +125,8 @@ module _ (u : JudgedUnit) (n : Nexus) (c : Command) (bytes : List ℕ) where
       record { goes_on = record { ready = ready; allowed = allowed; clear = clear }; by_rules = at_check ∙ through ∙ own }
 
 -- THE CHANGER'S STEP. What it leaves is refused by nothing of the map, and reported as 44h/00h with nothing changed
-left_alone : (e : Elements) (m : Result Elements MapFault) → is_left (moved_alone e m).1.sense ≡ true → moved_alone e m ≡ (e, refused InternalTargetFailure)
+left_alone : (e : Elements) (m : Result Elements MapFault) → is_left (moved_alone e m).1.sense ≡ true → moved_alone e m ≡
+    (e, refused InternalTargetFailure)
 left_alone e (Ok after) l = absurd cc
 left_alone e (Err fault) l = refl
 
@@ -135,7 +140,12 @@ left_by e s d None l = record { free = refl; same = left_alone e (moves e s d) l
 
 -- a unit's device as it carries out a move, with what is kept
 abbrev pub after_step : UnitStateView → Nexus → Cell → Elements × Outcome → JudgedUnit × Decision × Reply
-after_step k n at step = at_cell at (record { device = Changer step.0; kept = after_mode k n step.1.mode_changed }, at_device step.1.mode_changed, replied step.1)
+after_step k n at step = at_cell at (
+  record { device = Changer step.0; kept = after_mode k n step.1.mode_changed },
+  at_device
+      step.1.mode_changed,
+  replied step.1,
+)
 
 abbrev pub left_answer : Elements → UnitStateView → Cell → JudgedUnit × Decision × Reply
 left_answer e k at = (record { device = Changer e; kept = k }, in_cell at (at_device false), check InternalTargetFailure)
@@ -144,17 +154,23 @@ pub record IsLeftAt (e : Elements) (k : UnitStateView) (at : Cell) (t s d : ℕ)
   pub free : move_refusal e t s d ≡ None
   pub answer : x ≡ left_answer e k at
 
-by_field : (e : Elements) (k : UnitStateView) (n : Nexus) (at : Cell) (t s d : ℕ) (i : Bool) (bytes : List ℕ)
-    → is_left (at_cell at (carried_out (record { device = Changer e; kept = k }) n (Device (request.MoveMedium t s d i)) bytes)).2.sense ≡ true
-    → IsLeftAt e k at t s d (at_cell at (carried_out (record { device = Changer e; kept = k }) n (Device (request.MoveMedium t s d i)) bytes))
+pub by_field : (e : Elements) (k : UnitStateView) (n : Nexus) (at : Cell) (t s d : ℕ) (i : Bool) (bytes : List ℕ)
+    → is_left (at_cell at (carried_out (record { device = Changer e; kept = k }) n (Device (request.MoveMedium t s d i)) bytes)).2.sense ≡
+    true
+    → IsLeftAt e k at t s d (at_cell at (carried_out (record { device = Changer e; kept = k }) n (Device (request.MoveMedium t s d i))
+    bytes))
 by_field e k n at t s d true bytes l = absurd cc
 by_field e k n at t s d false bytes l =
     let by = left_by e s d (move_refusal e t s d) l in
     record { free = by.free; answer = ap (after_step k n at) by.same }
 
 -- THE UNIT. A sender that comes past stage 2 by a command that passes over nothing had contact before
-known : (k : UnitStateView) (n : Nexus) (o : Option (List Kind)) → slot_of k.slots n ≡ o → first_reset_of (contacted k.slots n) n ≡ None → after_contact k n ≡ k
-known k n (Some pending) h ready = ap (λ (o : Option (List Kind)). record k { slots = cond (is_some o) k.slots (put nexus_cmp n (PowerOn ∷ []) k.slots) }) h
+known : (k : UnitStateView) (n : Nexus) (o : Option (List Kind)) → slot_of k.slots n ≡ o → first_reset_of (contacted k.slots n) n ≡ None →
+    after_contact k n ≡ k
+known k n (Some pending) h ready = ap (λ (o : Option (List Kind)). record k {
+  slots = cond (is_some o) k.slots
+      (put nexus_cmp n (PowerOn ∷ []) k.slots);
+}) h
 known k n None h ready = let first = first_reset_new k.slots n h in absurd cc
 
 -- any whole answer may end a command that goes on
@@ -183,7 +199,11 @@ module _ (device : DeviceView) (k : UnitStateView) (n : Nexus) (t s d : ℕ) (i 
   -- what a record says, by what each stage tests
   module _ (e : Record) where
     abbrev pub says_other : Option Kind → Type 0
-    says_other o = elim o [ Some kind ↦ Says e (let_in (cell_of unit n move) OtherAttention) (check (condition_of_attention kind)) | None ↦ SaysItsOwn e (cell_of unit n move) ]
+    says_other o = elim o [
+      | Some kind ↦ Says e (let_in (cell_of unit n move) OtherAttention) (check (condition_of_attention kind))
+      | None ↦
+          SaysItsOwn e (cell_of unit n move)
+    ]
 
     abbrev pub says_verdict : Verdict → Type 0
     says_verdict v = elim v [
@@ -193,13 +213,18 @@ module _ (device : DeviceView) (k : UnitStateView) (n : Nexus) (t s d : ℕ) (i 
     ]
 
     abbrev pub says_reset : Option Kind → Type 0
-    says_reset o = elim o [ Some kind ↦ Says e (at_stage ResetAttention) (check (condition_of_attention kind)) | None ↦ IsChecked (after_contact k n) n None MoveMedium e ]
+    says_reset o = elim o [
+      | Some kind ↦ Says e (at_stage ResetAttention) (check (condition_of_attention kind))
+      | None ↦ IsChecked
+          (after_contact k n) n None MoveMedium e
+    ]
 
   commands : GoesOn unit n move → (m : ℕ) (status : Status) (sense : Option Sense) → IsWhole status sense
       → IsCommand (after_contact k n) n None MoveMedium (record_of m (Some n) (act.Command MoveMedium) found status sense)
   commands goes m status sense whole =
       let e = record_of m (Some n) (act.Command MoveMedium) found status sense in
-      let through : IsLetThrough (after_contact k n) n None MoveMedium e = subst (says_other e) (sym goes.clear) (own_says m n (cell_of unit n move) status sense refl whole) in
+      let through : IsLetThrough (after_contact k n) n None MoveMedium e = subst (says_other e) (sym goes.clear)
+      (own_says m n (cell_of unit n move) status sense refl whole) in
       let checks : IsChecked (after_contact k n) n None MoveMedium e = subst (says_verdict e) (sym goes.allowed) through in
       subst (says_reset e) (sym goes.ready) checks
 
@@ -210,7 +235,8 @@ module _ (device : DeviceView) (k : UnitStateView) (n : Nexus) (t s d : ℕ) (i 
   }
 
 -- what is left, with nothing changed
-pub record Opens (device : DeviceView) (k : UnitStateView) (n : Nexus) (cdb bytes : List ℕ) (r : Route) (a : Act) (after : JudgedUnit) (f : Decision) (x : JudgedUnit × Decision × Reply) : Type 0 where
+pub record Opens (device : DeviceView) (k : UnitStateView) (n : Nexus) (cdb bytes : List ℕ) (r : Route) (a : Act) (after : JudgedUnit)
+    (f : Decision) (x : JudgedUnit × Decision × Reply) : Type 0 where
   pub left : is_left x.2.sense ≡ true
   pub present : x.0 ≡ record { device = device; kept = k }
   pub decision : x.1 ≡ f
@@ -218,29 +244,41 @@ pub record Opens (device : DeviceView) (k : UnitStateView) (n : Nexus) (cdb byte
   pub awaits : AwaitsEnd k n a f
   pub ways : HasWays device r
 
-pub opens : (device : DeviceView) (k : UnitStateView) (n : Nexus) (cdb bytes : List ℕ) (r : Route) (s : Result Command Condition) (a : Act) (after : JudgedUnit) (f : Decision) (reply : Reply)
-    → kind_of device ≡ kind.Changer → DecodesTo (drives_of device) cdb r → has_room k n ≡ true → s ≡ decoded_command (kind_of device) cdb bytes → a ≡ act_of_decoded s
+pub opens : (device : DeviceView) (k : UnitStateView) (n : Nexus) (cdb bytes : List ℕ) (r : Route) (s : Result Command Condition) (a : Act)
+    (after : JudgedUnit) (f : Decision) (reply : Reply)
+    → kind_of device ≡ kind.Changer → DecodesTo (drives_of device) cdb r → has_room k n ≡ true → s ≡ decoded_command (kind_of device) cdb
+    bytes → a ≡ act_of_decoded s
     → judged_as (record { device = device; kept = after_contact k n }) n s bytes ≡ (after, f, reply) → is_left reply.sense ≡ true
-    → Opens device k n cdb bytes r a after f (judged_as (record { device = device; kept = after_contact k n }) n (decoded_command (kind_of device) cdb bytes) bytes)
+    → Opens device k n cdb bytes r a after f (judged_as (record { device = device; kept = after_contact k n }) n
+    (decoded_command (kind_of device) cdb bytes) bytes)
 opens (Drive v) k n cdb bytes r s a after f reply changer decodes room spelt asked judged l = absurd cc
 opens (Changer e) k n cdb bytes r s a after f reply changer decodes room spelt asked judged l =
     let u : JudgedUnit = record { device = Changer e; kept = after_contact k n } in
     let c : Command = Device (request.MoveMedium decodes.transport r.source r.destination decodes.invert) in
-    let is : decoded_command kind.Changer cdb bytes ≡ Ok c = ap (λ (o : Result Request CdbFault). elim o [ Ok q ↦ command_of q bytes | Err fault ↦ Err (condition_of_fault fault) ]) decodes.reads in
-    let judged_is : commanded u n c bytes ≡ (after, f, reply) = sym (ap (λ (x : Result Command Condition). judged_as u n x bytes) (spelt ∙ is)) ∙ judged in
-    let at_changer : judged_as u n (decoded_command kind.Changer cdb bytes) bytes ≡ commanded u n c bytes = ap (λ (x : Result Command Condition). judged_as u n x bytes) is in
-    let left_here : is_left (commanded u n c bytes).2.sense ≡ true = ap (λ (x : JudgedUnit × Decision × Reply). is_left x.2.sense) judged_is ∙ l in
+    let is : decoded_command kind.Changer cdb bytes ≡ Ok c = ap (λ (o : Result Request CdbFault). elim o
+    [ Ok q ↦ command_of q bytes | Err fault ↦ Err (condition_of_fault fault) ]) decodes.reads in
+    let judged_is : commanded u n c bytes ≡ (after, f, reply) = sym (ap (λ (x : Result Command Condition). judged_as u n x bytes)
+    (spelt ∙ is)) ∙ judged in
+    let at_changer : judged_as u n (decoded_command kind.Changer cdb bytes) bytes ≡ commanded u n c bytes = ap
+    (λ (x : Result Command Condition). judged_as u n x bytes) is in
+    let left_here : is_left (commanded u n c bytes).2.sense ≡ true = ap (λ (x : JudgedUnit × Decision × Reply). is_left x.2.sense) judged_is
+    ∙ l in
     let own = left_is_own u n c bytes left_here in
-    let by = by_field e (after_contact k n) n (cell_of u n c) decodes.transport r.source r.destination decodes.invert bytes (subst (λ (x : JudgedUnit × Decision × Reply). is_left x.2.sense ≡ true) own.by_rules left_here) in
+    let by = by_field e (after_contact k n) n (cell_of u n c) decodes.transport r.source r.destination decodes.invert bytes
+    (subst (λ (x : JudgedUnit × Decision × Reply). is_left x.2.sense ≡ true) own.by_rules left_here) in
     let answer : commanded u n c bytes ≡ left_answer e (after_contact k n) (cell_of u n c) = own.by_rules ∙ by.answer in
     let met_is : after_contact k n ≡ k = known k n (slot_of k.slots n) refl own.goes_on.ready in
-    let decision_is : in_cell (cell_of u n c) (at_device false) ≡ f = sym (ap (λ (x : JudgedUnit × Decision × Reply). x.1) answer) ∙ ap (λ (x : JudgedUnit × Decision × Reply). x.1) judged_is in
+    let decision_is : in_cell (cell_of u n c) (at_device false) ≡ f = sym (ap (λ (x : JudgedUnit × Decision × Reply). x.1) answer) ∙ ap
+    (λ (x : JudgedUnit × Decision × Reply). x.1) judged_is in
     let asked_is : act.Command MoveMedium ≡ a = sym (asked ∙ ap act_of_decoded (spelt ∙ is)) in
     record {
       left = ap (λ (x : JudgedUnit × Decision × Reply). is_left x.2.sense) at_changer ∙ left_here;
-      present = ap (λ (x : JudgedUnit × Decision × Reply). x.0) (at_changer ∙ answer) ∙ ap (λ (v : UnitStateView). record { device = Changer e; kept = v }) met_is;
+      present = ap (λ (x : JudgedUnit × Decision × Reply). x.0) (at_changer ∙ answer) ∙ ap
+          (λ (v : UnitStateView). record { device = Changer e; kept = v }) met_is;
       decision = ap (λ (x : JudgedUnit × Decision × Reply). x.1) (at_changer ∙ judged_is);
-      same = sym (ap (λ (x : JudgedUnit × Decision × Reply). x.0) judged_is) ∙ ap (λ (x : JudgedUnit × Decision × Reply). x.0) answer ∙ ap (λ (v : UnitStateView). record { device = Changer e; kept = v }) met_is;
-      awaits = subst (λ (x : Act). AwaitsEnd k n x f) asked_is (subst (λ (x : Decision). AwaitsEnd k n (act.Command MoveMedium) x) decision_is (awaits (Changer e) k n decodes.transport r.source r.destination decodes.invert own.goes_on room met_is));
+      same = sym (ap (λ (x : JudgedUnit × Decision × Reply). x.0) judged_is) ∙ ap (λ (x : JudgedUnit × Decision × Reply). x.0) answer ∙ ap
+          (λ (v : UnitStateView). record { device = Changer e; kept = v }) met_is;
+      awaits = subst (λ (x : Act). AwaitsEnd k n x f) asked_is (subst (λ (x : Decision). AwaitsEnd k n (act.Command MoveMedium) x)
+          decision_is (awaits (Changer e) k n decodes.transport r.source r.destination decodes.invert own.goes_on room met_is));
       ways = has_ways e decodes.transport r by.free decodes.from decodes.to;
     }

@@ -4,6 +4,7 @@ pub mod FieldFaults
 pub mod Legal
 pub mod FreeEnds
 pub mod LeftToDrives
+pub mod LeftUnasked
 pub mod NamedDrives
 pub mod Halves
 pub mod Moved

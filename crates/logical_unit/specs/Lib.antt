@@ -7,6 +7,7 @@ pub mod Medium
 pub mod Route
 pub mod Move
 pub mod MoveJudgement
+pub mod MoveFinding
 pub mod History
 pub mod ActKinds
 pub mod Answers

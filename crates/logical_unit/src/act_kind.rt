@@ -1,8 +1,7 @@
-ghost use Rattle.std.specs.Prelude.{◌≡◌, ◌≢◌, ◌∷◌, ◌++◌, [], List, None};
-ghost use Rattle.audit_log.specs.declared.record.Record.{Record};
-ghost use Rattle.logical_unit.specs.ActKinds.{act_kind_of, act_kind_if};
+ghost use Rattle.std.specs.Prelude.{◌≡◌};
+ghost use Rattle.logical_unit.specs.ActKinds.{act_kind_of};
 
-use audit_log::{Act, Record};
+use audit_log::Act;
 use permit_tables::Class;
 
 /// What an entry keeps of an act: its kind, and of a command the class. It takes no memory; the parameters of a PERSISTENT
@@ -31,19 +30,5 @@ pub fn act_kind_of(act: &Act) -> ActKind
         Act::Loss => ActKind::Loss,
         Act::Reset => ActKind::Reset,
         Act::MediumIn | Act::MediumOut => ActKind::Medium,
-    }
-}
-
-/// The kind of the act of the last record, which a call left that has numbers; without a number it left none.
-pub(crate) fn last_act_kind(records: &[Record], numbers: &[(u8, u64)]) -> Option<ActKind>
-    ensures none { numbers.now ≡ [] → result ≡ None }
-    ensures act { (before : List Record) (last : Record) → records.now ≡ before ++ last ∷ [] → result ≡ act_kind_if numbers.now (act_kind_of last.act) }
-{
-    if numbers.is_empty() {
-        return None;
-    }
-    match records.last() {
-        Some(last) => Some(act_kind_of(&last.act)),
-        None => None,
     }
 }

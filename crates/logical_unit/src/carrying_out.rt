@@ -1,7 +1,8 @@
 ghost use Rattle.std.specs.Prelude.{◌≡◌, [], ◌∷◌, ◌++◌, Some, None};
 ghost use Rattle.device_server.specs.View.{kind_of, drives_of};
 ghost use Rattle.judgement.specs.Replies.{busy};
-ghost use Rattle.judgement.specs.Commands.{act_of};
+ghost use Rattle.judgement.specs.Commands.{act_of_decoded};
+ghost use Rattle.judgement.specs.Received.{IsFor, command_in};
 ghost use Rattle.logical_unit.specs.ActKinds.{act_kind_of, act_kind_if};
 ghost use Rattle.logical_unit.specs.Answers as event;
 ghost use Rattle.logical_unit.specs.Answers.{IsAnswer, own_number};
@@ -10,14 +11,15 @@ ghost use Rattle.logical_unit.specs.Route.{named};
 ghost use Rattle.logical_unit.specs.Step.{Executes, IsLost, IsReset};
 ghost use Rattle.logical_unit.specs.VolumeAfter.{volume_after};
 
-use crate::act_kind::{ActKind, last_act_kind};
-use crate::done::{Done, EventKind, done_with};
+use crate::act_kind::ActKind;
+use crate::done::{Done, EventKind, asked_by, done_with};
 use crate::moves::{move_one, move_two};
 use crate::receipt::Receipt;
 use crate::route::route_of;
 use crate::unit::LogicalUnit;
 use device_server::DeviceServer;
-use scsi_cdb::Kind;
+use judgement::ReceivedCommand;
+use scsi_cdb::{Class, Kind};
 use scsi_nexus::Nexus;
 use std::alloc::Global;
 use tape_medium::VolumeTag;
@@ -29,14 +31,21 @@ fn recorded_kind(act: ActKind, numbers: &[(u8, u64)]) -> Option<ActKind>
     if numbers.is_empty() { None } else { Some(act) }
 }
 
+/// What the record of a MOVE MEDIUM says was asked.
+const MOVE: ActKind = ActKind::Command(Class::MoveMedium);
+
 /// The volume that a command was carried out on which was sent to a unit: at a drive the one in its bay, at a changer the one where
 /// a MOVE MEDIUM ends, in a drive by its mark.
-fn volume_after<D: DeviceServer>(unit: &LogicalUnit<D>, cdb: &[u8]) -> Option<VolumeTag>
-    ensures { result ≡ volume_after unit.now.unit.device cdb.now }
+fn volume_after<D: DeviceServer>(
+    unit: &LogicalUnit<D>,
+    received: &ReceivedCommand<'_>,
+) -> Option<VolumeTag>
+    requires { IsFor unit.now.unit.device received.now }
+    ensures { result ≡ volume_after unit.now.unit.device received.now.cdb }
 {
     match unit.kind() {
         Kind::Drive => unit.held(0),
-        Kind::Changer => match route_of(unit.drives(), cdb) {
+        Kind::Changer => match route_of(unit.drives(), received) {
             Some(route) => unit.held(route.destination),
             None => None,
         },
@@ -45,27 +54,27 @@ fn volume_after<D: DeviceServer>(unit: &LogicalUnit<D>, cdb: &[u8]) -> Option<Vo
 
 impl<D: DeviceServer> LogicalUnit<D> {
     /// One command, as `execute` does it, with its answer. Without a number it is BUSY, and nothing has changed.
-    pub fn carry_out<'a>(
-        &mut self,
-        alloc: Global,
-        nexus: Nexus,
-        cdb: &'a [u8],
-        bytes: &'a [u8],
-    ) -> Done<'a>
-        ensures answer { IsAnswer result (Some nexus) self.old.unit.kept.lun (event.Command cdb.now bytes.now) }
-        ensures step { Executes self.old.unit nexus cdb.now bytes.now (self.new.unit, result.reply) }
+    pub fn carry_out<'a>(&mut self, alloc: Global, received: &ReceivedCommand<'a>) -> Done<'a>
+        requires { IsFor self.old.unit.device received.now }
+        ensures answer { IsAnswer result (Some received.now.nexus) self.old.unit.kept.lun (event.Command received.now.cdb received.now.bytes) }
+        ensures step { Executes self.old.unit received.now.nexus received.now.cdb received.now.bytes (self.new.unit, result.reply) }
         ensures numbers { result.numbers ≡ own_number self.old.unit.kept.lun result.reply.number }
-        ensures act { result.act ≡ act_kind_if result.numbers (act_kind_of (act_of (kind_of self.old.unit.device) cdb.now bytes.now)) }
-        ensures volume { result.volume ≡ volume_after self.new.unit.device cdb.now }
+        ensures act { result.act ≡ act_kind_if result.numbers (act_kind_of (act_of_decoded (command_in received.now))) }
+        ensures volume { result.volume ≡ volume_after self.new.unit.device received.now.cdb }
         ensures unnumbered { result.numbers ≡ [] → result.reply ≡ busy }
     {
         let lun = self.lun();
-        let reply = self.execute(alloc, nexus, cdb, bytes);
+        let (reply, act) = self.answer(alloc, received);
         let receipt = Receipt::of(lun, reply);
-        let act = last_act_kind(self.records(), receipt.numbers.as_slice());
-        let volume = volume_after(self, cdb);
-        let asked = EventKind::Command { cdb, bytes };
-        done_with(Some(nexus), lun, asked, act, volume, receipt)
+        let volume = volume_after(self, received);
+        done_with(
+            Some(received.nexus()),
+            lun,
+            asked_by(received),
+            act,
+            volume,
+            receipt,
+        )
     }
 
     /// An I_T nexus loss, as `lose` does it, with its answer. Without a number it is BUSY with nothing changed, or the nexus
@@ -107,24 +116,29 @@ pub fn carry_out_move_one<'a, D: DeviceServer>(
     alloc: Global,
     changer: &mut LogicalUnit<D>,
     drive: &mut LogicalUnit<D>,
-    nexus: Nexus,
-    cdb: &'a [u8],
-    bytes: &'a [u8],
+    received: &ReceivedCommand<'a>,
 ) -> Done<'a>
-    requires named { named (drives_of changer.old.unit.device) cdb.now ≡ drive.old.unit.kept.lun ∷ [] }
-    ensures answer { IsAnswer result (Some nexus) changer.old.unit.kept.lun (event.Command cdb.now bytes.now) }
-    ensures step { MovesOne changer.old.unit drive.old.unit nexus cdb.now bytes.now ((changer.new.unit, result.reply), drive.new.unit) }
+    requires kind { IsFor changer.old.unit.device received.now }
+    requires named { named (drives_of changer.old.unit.device) received.now.cdb ≡ drive.old.unit.kept.lun ∷ [] }
+    ensures answer { IsAnswer result (Some received.now.nexus) changer.old.unit.kept.lun (event.Command received.now.cdb received.now.bytes) }
+    ensures step { MovesOne changer.old.unit drive.old.unit received.now.nexus received.now.cdb received.now.bytes ((changer.new.unit, result.reply), drive.new.unit) }
     ensures numbers { result.numbers ≡ numbers_of changer.old.unit changer.new.unit ++ numbers_of drive.old.unit drive.new.unit }
-    ensures act { result.act ≡ act_kind_if result.numbers (act_kind_of (act_of (kind_of changer.old.unit.device) cdb.now bytes.now)) }
-    ensures volume { result.volume ≡ volume_after changer.new.unit.device cdb.now }
+    ensures act { result.act ≡ act_kind_if result.numbers (act_kind_of (act_of_decoded (command_in received.now))) }
+    ensures volume { result.volume ≡ volume_after changer.new.unit.device received.now.cdb }
     ensures unnumbered { result.numbers ≡ [] → result.reply ≡ busy }
 {
     let lun = changer.lun();
-    let receipt = move_one(alloc, changer, drive, nexus, cdb, bytes);
-    let act = last_act_kind(changer.records(), receipt.numbers.as_slice());
-    let volume = volume_after(changer, cdb);
-    let asked = EventKind::Command { cdb, bytes };
-    done_with(Some(nexus), lun, asked, act, volume, receipt)
+    let receipt = move_one(alloc, changer, drive, received);
+    let act = recorded_kind(MOVE, receipt.numbers.as_slice());
+    let volume = volume_after(changer, received);
+    done_with(
+        Some(received.nexus()),
+        lun,
+        asked_by(received),
+        act,
+        volume,
+        receipt,
+    )
 }
 
 /// The same for one that names two drives, the lower first.
@@ -133,22 +147,27 @@ pub fn carry_out_move_two<'a, D: DeviceServer>(
     changer: &mut LogicalUnit<D>,
     low: &mut LogicalUnit<D>,
     high: &mut LogicalUnit<D>,
-    nexus: Nexus,
-    cdb: &'a [u8],
-    bytes: &'a [u8],
+    received: &ReceivedCommand<'a>,
 ) -> Done<'a>
-    requires named { named (drives_of changer.old.unit.device) cdb.now ≡ low.old.unit.kept.lun ∷ high.old.unit.kept.lun ∷ [] }
-    ensures answer { IsAnswer result (Some nexus) changer.old.unit.kept.lun (event.Command cdb.now bytes.now) }
-    ensures step { MovesTwo changer.old.unit (record { low = low.old.unit; high = high.old.unit }) nexus cdb.now bytes.now ((changer.new.unit, result.reply), record { low = low.new.unit; high = high.new.unit }) }
+    requires kind { IsFor changer.old.unit.device received.now }
+    requires named { named (drives_of changer.old.unit.device) received.now.cdb ≡ low.old.unit.kept.lun ∷ high.old.unit.kept.lun ∷ [] }
+    ensures answer { IsAnswer result (Some received.now.nexus) changer.old.unit.kept.lun (event.Command received.now.cdb received.now.bytes) }
+    ensures step { MovesTwo changer.old.unit (record { low = low.old.unit; high = high.old.unit }) received.now.nexus received.now.cdb received.now.bytes ((changer.new.unit, result.reply), record { low = low.new.unit; high = high.new.unit }) }
     ensures numbers { result.numbers ≡ numbers_of changer.old.unit changer.new.unit ++ numbers_of low.old.unit low.new.unit ++ numbers_of high.old.unit high.new.unit }
-    ensures act { result.act ≡ act_kind_if result.numbers (act_kind_of (act_of (kind_of changer.old.unit.device) cdb.now bytes.now)) }
-    ensures volume { result.volume ≡ volume_after changer.new.unit.device cdb.now }
+    ensures act { result.act ≡ act_kind_if result.numbers (act_kind_of (act_of_decoded (command_in received.now))) }
+    ensures volume { result.volume ≡ volume_after changer.new.unit.device received.now.cdb }
     ensures unnumbered { result.numbers ≡ [] → result.reply ≡ busy }
 {
     let lun = changer.lun();
-    let receipt = move_two(alloc, changer, low, high, nexus, cdb, bytes);
-    let act = last_act_kind(changer.records(), receipt.numbers.as_slice());
-    let volume = volume_after(changer, cdb);
-    let asked = EventKind::Command { cdb, bytes };
-    done_with(Some(nexus), lun, asked, act, volume, receipt)
+    let receipt = move_two(alloc, changer, low, high, received);
+    let act = recorded_kind(MOVE, receipt.numbers.as_slice());
+    let volume = volume_after(changer, received);
+    done_with(
+        Some(received.nexus()),
+        lun,
+        asked_by(received),
+        act,
+        volume,
+        receipt,
+    )
 }

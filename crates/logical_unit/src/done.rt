@@ -10,7 +10,7 @@ use crate::entry::Entry;
 use crate::numbers::Numbers;
 use crate::receipt::Receipt;
 use arrayvec::ArrayVec;
-use judgement::{Reply, absent};
+use judgement::{ReceivedCommand, Reply, absent};
 use scsi_nexus::Nexus;
 use scsi_sense::Condition;
 use std::alloc::Global;
@@ -26,6 +26,16 @@ pub enum EventKind<'a> {
     Reset,
     /// A command, by its CDB and the data sent with it.
     Command { cdb: &'a [u8], bytes: &'a [u8] },
+}
+
+/// What a command asks.
+pub(crate) fn asked_by<'a>(received: &ReceivedCommand<'a>) -> EventKind<'a>
+    ensures { event_value result ≡ event.Command received.now.cdb received.now.bytes }
+{
+    EventKind::Command {
+        cdb: received.cdb(),
+        bytes: received.bytes(),
+    }
 }
 
 /// A call with its answer. Only the calls of this crate make one: with a number, only a step of a unit does.
@@ -87,14 +97,14 @@ fn plain<'a>(nexus: Option<Nexus>, lun: u8, asked: EventKind<'a>, reply: Reply) 
 
 impl<'a> Done<'a> {
     /// The answer to a command at a logical unit that doesn't exist, or BUSY for want of memory.
-    pub fn absent(alloc: Global, nexus: Nexus, lun: u8, cdb: &'a [u8], bytes: &'a [u8]) -> Done<'a>
-        ensures answer { IsAnswer result (Some nexus) lun (event.Command cdb.now bytes.now) }
-        ensures reply { AnswersAbsent cdb.now result.reply }
+    pub fn absent(alloc: Global, lun: u8, received: &ReceivedCommand<'a>) -> Done<'a>
+        ensures answer { IsAnswer result (Some received.now.nexus) lun (event.Command received.now.cdb received.now.bytes) }
+        ensures reply { AnswersAbsent received.now.cdb result.reply }
         ensures none { LeavesNothing result }
         ensures volume { result.volume ≡ None }
     {
-        let reply = absent(alloc, cdb);
-        plain(Some(nexus), lun, EventKind::Command { cdb, bytes }, reply)
+        let reply = absent(alloc, received.cdb());
+        plain(Some(received.nexus()), lun, asked_by(received), reply)
     }
 
     /// The answer to the loss of a nexus at a logical unit that doesn't exist.

@@ -7,6 +7,7 @@ mod carrying_out;
 mod done;
 mod entry;
 mod medium_fault;
+mod move_finding;
 mod move_judgement;
 mod moves;
 mod numbers;

@@ -1,6 +1,7 @@
 ghost use Rattle.std.specs.Prelude.{◌≡◌, ◌≢◌, ◌⊎◌, ◌<◌, ◌+◌, [], ◌∷◌, ◌++◌, true, Ok, Err, IsOk, Some, None, IfOk, OnOk, IfErr, OnErr};
 ghost use Rattle.scsi_cdb.specs.declared.kind.Kind.TheVariants.{Changer};
 ghost use Rattle.device_server.specs.View.{kind_of, drives_of, held_in};
+ghost use Rattle.judgement.specs.Received.{IsFor};
 ghost use Rattle.logical_unit.specs.MoveJudgement.{DecodesTo, HasWays, StopsMove, AwaitsEnd, Finishes};
 ghost use Rattle.logical_unit.specs.Contents.{SameContents, MayNotChange};
 ghost use Rattle.logical_unit.specs.Medium.{taken_out, put_in};
@@ -15,8 +16,7 @@ use crate::route::{Route, route_of};
 use crate::unit::LogicalUnit;
 use audit_log::Act;
 use device_server::{DeviceServer, Payload};
-use judgement::{Decision, Reply};
-use scsi_nexus::Nexus;
+use judgement::{Decision, ReceivedCommand, Reply};
 use scsi_sense::Condition;
 use std::alloc::Global;
 use tape_medium::Volume;
@@ -197,16 +197,17 @@ fn carry_two<D: DeviceServer>(
 fn finish<D: DeviceServer>(
     alloc: Global,
     changer: &mut LogicalUnit<D>,
-    nexus: Nexus,
+    received: &ReceivedCommand<'_>,
     act: Act,
     decision: Decision,
     stop: Option<MoveStop>,
 ) -> Reply
-    requires awaits { AwaitsEnd changer.old.unit.kept nexus act decision }
+    requires awaits { AwaitsEnd changer.old.unit.kept received.now.nexus act decision }
     requires room { 0 < changer.old.room }
     requires number { HasNumber changer.old.unit }
-    ensures { Finishes changer.old changer.new nexus act decision stop result }
+    ensures { Finishes changer.old changer.new received.now.nexus act decision stop result }
 {
+    let nexus = received.nexus();
     match stop {
         None => changer.end(nexus, act, decision, Reply::good(Payload::none(alloc))),
         Some(MoveStop::Refused(condition)) => {
@@ -227,31 +228,30 @@ pub fn move_one<D: DeviceServer>(
     alloc: Global,
     changer: &mut LogicalUnit<D>,
     drive: &mut LogicalUnit<D>,
-    nexus: Nexus,
-    cdb: &[u8],
-    bytes: &[u8],
+    received: &ReceivedCommand<'_>,
 ) -> Receipt
-    requires named { named (drives_of changer.old.unit.device) cdb.now ≡ drive.old.unit.kept.lun ∷ [] }
-    ensures units { MovesOne changer.old.unit drive.old.unit nexus cdb.now bytes.now ((changer.new.unit, result.reply), drive.new.unit) }
-    ensures busy { OneIsBusyOnlyFor changer.old drive.old nexus cdb.now bytes.now result.reply }
+    requires kind { IsFor changer.old.unit.device received.now }
+    requires named { named (drives_of changer.old.unit.device) received.now.cdb ≡ drive.old.unit.kept.lun ∷ [] }
+    ensures units { MovesOne changer.old.unit drive.old.unit received.now.nexus received.now.cdb received.now.bytes ((changer.new.unit, result.reply), drive.new.unit) }
+    ensures busy { OneIsBusyOnlyFor changer.old drive.old received.now.nexus received.now.cdb received.now.bytes result.reply }
     ensures numbers { result.numbers.items ≡ numbers_of changer.old.unit changer.new.unit ++ numbers_of drive.old.unit drive.new.unit }
-    ensures outsider { MayNotChange changer.old.unit.kept.reservations nexus → SameContents changer.old.unit.device changer.new.unit.device }
-    ensures stays { MayNotChange changer.old.unit.kept.reservations nexus → drive.new.unit ≡ drive.old.unit }
+    ensures outsider { MayNotChange changer.old.unit.kept.reservations received.now.nexus → SameContents changer.old.unit.device changer.new.unit.device }
+    ensures stays { MayNotChange changer.old.unit.kept.reservations received.now.nexus → drive.new.unit ≡ drive.old.unit }
 {
     let lun = changer.lun();
     let drive_lun = drive.lun();
-    let route = decoded_route(changer, cdb);
-    let (act, decision) = match changer.begin(alloc, nexus, cdb, bytes, route) {
+    let route = route_in(changer, received);
+    let (act, decision) = match changer.begin(alloc, received, route) {
         MoveJudgement::Answered(reply) => return Receipt::of(lun, reply),
         MoveJudgement::Left(act, decision) => (act, decision),
     };
     match carry_one(changer, drive, route) {
         Ok(number) => {
-            let reply = finish(alloc, changer, nexus, act, decision, None);
+            let reply = finish(alloc, changer, received, act, decision, None);
             Receipt::of(lun, reply).with(drive_lun, number)
         }
         Err(stop) => {
-            let reply = finish(alloc, changer, nexus, act, decision, Some(stop));
+            let reply = finish(alloc, changer, received, act, decision, Some(stop));
             Receipt::of(lun, reply)
         }
     }
@@ -263,46 +263,46 @@ pub fn move_two<D: DeviceServer>(
     changer: &mut LogicalUnit<D>,
     low: &mut LogicalUnit<D>,
     high: &mut LogicalUnit<D>,
-    nexus: Nexus,
-    cdb: &[u8],
-    bytes: &[u8],
+    received: &ReceivedCommand<'_>,
 ) -> Receipt
-    requires named { named (drives_of changer.old.unit.device) cdb.now ≡ low.old.unit.kept.lun ∷ high.old.unit.kept.lun ∷ [] }
-    ensures units { MovesTwo changer.old.unit (record { low = low.old.unit; high = high.old.unit }) nexus cdb.now bytes.now ((changer.new.unit, result.reply), record { low = low.new.unit; high = high.new.unit }) }
-    ensures busy { TwoAreBusyOnlyFor changer.old low.old high.old nexus cdb.now bytes.now result.reply }
+    requires kind { IsFor changer.old.unit.device received.now }
+    requires named { named (drives_of changer.old.unit.device) received.now.cdb ≡ low.old.unit.kept.lun ∷ high.old.unit.kept.lun ∷ [] }
+    ensures units { MovesTwo changer.old.unit (record { low = low.old.unit; high = high.old.unit }) received.now.nexus received.now.cdb received.now.bytes ((changer.new.unit, result.reply), record { low = low.new.unit; high = high.new.unit }) }
+    ensures busy { TwoAreBusyOnlyFor changer.old low.old high.old received.now.nexus received.now.cdb received.now.bytes result.reply }
     ensures numbers { result.numbers.items ≡ numbers_of changer.old.unit changer.new.unit ++ numbers_of low.old.unit low.new.unit ++ numbers_of high.old.unit high.new.unit }
-    ensures outsider { MayNotChange changer.old.unit.kept.reservations nexus → SameContents changer.old.unit.device changer.new.unit.device }
-    ensures stay { MayNotChange changer.old.unit.kept.reservations nexus → (low.new.unit ≡ low.old.unit) × (high.new.unit ≡ high.old.unit) }
+    ensures outsider { MayNotChange changer.old.unit.kept.reservations received.now.nexus → SameContents changer.old.unit.device changer.new.unit.device }
+    ensures stay { MayNotChange changer.old.unit.kept.reservations received.now.nexus → (low.new.unit ≡ low.old.unit) × (high.new.unit ≡ high.old.unit) }
 {
     let lun = changer.lun();
     let low_lun = low.lun();
     let high_lun = high.lun();
-    let route = decoded_route(changer, cdb);
-    let (act, decision) = match changer.begin(alloc, nexus, cdb, bytes, route) {
+    let route = route_in(changer, received);
+    let (act, decision) = match changer.begin(alloc, received, route) {
         MoveJudgement::Answered(reply) => return Receipt::of(lun, reply),
         MoveJudgement::Left(act, decision) => (act, decision),
     };
     match carry_two(changer, low, high, route) {
         Ok(numbers) => {
-            let reply = finish(alloc, changer, nexus, act, decision, None);
+            let reply = finish(alloc, changer, received, act, decision, None);
             let receipt = Receipt::of(lun, reply).with(low_lun, numbers.0);
             receipt.with(high_lun, numbers.1)
         }
         Err(stop) => {
-            let reply = finish(alloc, changer, nexus, act, decision, Some(stop));
+            let reply = finish(alloc, changer, received, act, decision, Some(stop));
             Receipt::of(lun, reply)
         }
     }
 }
 
-/// The route that a CDB spells that names a drive.
-fn decoded_route<D: DeviceServer>(changer: &LogicalUnit<D>, cdb: &[u8]) -> Route
-    requires { named (drives_of changer.now.unit.device) cdb.now ≢ [] }
-    ensures decodes { DecodesTo (drives_of changer.now.unit.device) cdb.now result }
-    ensures route { route_of (drives_of changer.now.unit.device) cdb.now ≡ Some result }
+/// The route of a command that names a drive.
+fn route_in<D: DeviceServer>(changer: &LogicalUnit<D>, received: &ReceivedCommand<'_>) -> Route
+    requires kind { IsFor changer.now.unit.device received.now }
+    requires named { named (drives_of changer.now.unit.device) received.now.cdb ≢ [] }
+    ensures decodes { DecodesTo (drives_of changer.now.unit.device) received.now.cdb result }
+    ensures route { route_of (drives_of changer.now.unit.device) received.now.cdb ≡ Some result }
     ensures changer { kind_of changer.now.unit.device ≡ Changer }
 {
-    match route_of(changer.drives(), cdb) {
+    match route_of(changer.drives(), received) {
         Some(route) => route,
         None => unreachable!(),
     }

@@ -1,9 +1,11 @@
 ghost use Rattle.std.specs.Prelude.{◌≡◌, IfSome};
+ghost use Rattle.scsi_cdb.specs.declared.kind.Kind.TheVariants.{Changer};
 ghost use Rattle.logical_unit.specs.MoveJudgement.{DecodesTo};
 ghost use Rattle.logical_unit.specs.Route.{drive_at, route_of, named};
 
 use arrayvec::ArrayVec;
-use scsi_cdb::{Kind, Request, decode};
+use judgement::ReceivedCommand;
+use scsi_cdb::Request;
 use tape_medium::FIRST_DATA_TRANSFER;
 
 /// The ends of a MOVE MEDIUM by their element addresses, and the drives among them by logical unit number.
@@ -43,10 +45,11 @@ fn drive_at(drives: u16, address: u16) -> Option<u16>
     }
 }
 
-/// The route that a CDB spells, at a changer with so many drives; other commands have none.
-pub(crate) fn route_of(drives: u16, cdb: &[u8]) -> Option<Route>
-    ensures route { result ≡ route_of drives cdb.now }
-    ensures decodes { IfSome result (DecodesTo drives cdb.now) }
+/// The route of a command to a changer with so many drives; all but MOVE MEDIUM have none.
+pub(crate) fn route_of(drives: u16, received: &ReceivedCommand<'_>) -> Option<Route>
+    requires { received.now.kind ≡ Changer }
+    ensures route { result ≡ route_of drives received.now.cdb }
+    ensures decodes { IfSome result (DecodesTo drives received.now.cdb) }
 {
     let Ok(
         Request::MoveMedium {
@@ -54,7 +57,7 @@ pub(crate) fn route_of(drives: u16, cdb: &[u8]) -> Option<Route>
             destination_element_address: destination,
             ..
         },
-    ) = decode(Kind::Changer, cdb)
+    ) = received.request()
     else {
         return None;
     };
@@ -66,14 +69,14 @@ pub(crate) fn route_of(drives: u16, cdb: &[u8]) -> Option<Route>
     })
 }
 
-/// The logical unit numbers of the drives that a CDB names, rising, each once: one or two for a MOVE MEDIUM
-/// (SMC-3, "MOVE MEDIUM command") with a data transfer element among its ends, at a changer with so many drives;
-/// none for any other.
-pub fn named(drives: u8, cdb: &[u8]) -> ArrayVec<u8, 2>
-    ensures { result.items ≡ named drives cdb.now }
+/// The logical unit numbers of the drives that a command to a changer with so many drives names, rising, each once: one or two for a MOVE
+/// MEDIUM (SMC-3, "MOVE MEDIUM command") with a data transfer element among its ends; none for any other.
+pub fn named(drives: u8, received: &ReceivedCommand<'_>) -> ArrayVec<u8, 2>
+    requires { received.now.kind ≡ Changer }
+    ensures { result.items ≡ named drives received.now.cdb }
 {
     let mut luns = ArrayVec::new();
-    let Some(route) = route_of(u16::from(drives), cdb) else {
+    let Some(route) = route_of(u16::from(drives), received) else {
         return luns;
     };
     match (route.from, route.to) {

@@ -1,11 +1,13 @@
+use crate::act_kind::{ActKind, act_kind_of};
 use crate::audit::span_lines;
+use crate::move_finding::{MoveFinding, judge_move};
 use crate::move_judgement::MoveJudgement;
 use crate::route::Route;
 use audit_log::{Act, Record, Stage, Trail};
 use device_server::DeviceServer;
-use judgement::{Command, Decision, Reply, UnitState, act_of, judge};
+use judgement::{Command, Decision, ReceivedCommand, Reply, UnitState, act_of, judge};
 use scsi_nexus::Nexus;
-use scsi_sense::{Condition, Sense, Status};
+use scsi_sense::{Sense, Status};
 use std::alloc::{AllocError, Global};
 use std::marker::Model;
 
@@ -133,7 +135,9 @@ impl RecordedUnit {
 impl RecordedUnit {
     ghost use Rattle.std.specs.Prelude.{◌≡◌, ◌<◌, ◌+◌, ◌^◌, ℕ, true, false, [], ◌∷◌, ◌++◌, Some, None, IfOk, OnErr, length, vec_capacity};
     ghost use Rattle.device_server.specs.View.{DeviceView, kind_of};
-    ghost use Rattle.judgement.specs.Commands.{decoded_command};
+    ghost use Rattle.judgement.specs.Commands.{act_of_decoded};
+    ghost use Rattle.judgement.specs.Received.{IsFor, command_in};
+    ghost use Rattle.logical_unit.specs.ActKinds.{act_kind_of};
     ghost use Rattle.judgement.specs.Judge.{takes_memory};
     ghost use Rattle.unit_attention.specs.Queues.{has_slot};
     ghost use Rattle.audit_log.specs.declared.act.Act.TheVariants.{Loss, Reset, MediumIn, MediumOut};
@@ -148,58 +152,75 @@ impl RecordedUnit {
     ghost use Rattle.logical_unit.specs.MoveJudgement.{DecodesTo, Begins, StaysIf, IsLeftOpen, AwaitsEnd};
     ghost use Rattle.logical_unit.specs.Step.{record_of};
 
-    /// One command, with its record. Want of memory changes nothing.
+    /// One command, with its record, and the kind of the act that it says was asked. Want of memory changes nothing.
     pub(crate) fn answer<D: DeviceServer>(
         &mut self,
         alloc: Global,
         server: &mut Box<D>,
-        nexus: Nexus,
-        cdb: &[u8],
-        bytes: &[u8],
-    ) -> Result<Reply, AllocError>
-        requires slot { has_room self.old.kept nexus ≡ true }
+        received: &ReceivedCommand<'_>,
+    ) -> Result<(Reply, ActKind), AllocError>
+        requires kind { IsFor (D.shown server.old.value) received.now }
+        requires slot { has_room self.old.kept received.now.nexus ≡ true }
         requires room { 0 < self.old.room }
         requires number { last_in self.old + 1 < 2 ^ 64 }
-        ensures ok { IfOk result (λ reply. answered (unit_of (D.shown server.old.value) self.old) nexus cdb.now bytes.now ≡ (unit_of (D.shown server.new.value) self.new, reply)) }
+        ensures ok { IfOk result (λ it. answered (unit_of (D.shown server.old.value) self.old) received.now.nexus received.now.cdb received.now.bytes ≡ (unit_of (D.shown server.new.value) self.new, it.0)) }
+        ensures act { IfOk result (λ it. it.1 ≡ act_kind_of (act_of_decoded (command_in received.now))) }
         ensures err { OnErr result ((D.shown server.new.value ≡ D.shown server.old.value) × (self.new ≡ self.old)) }
-        ensures want { OnErr result (takes_memory (contacted_present (unit_of (D.shown server.old.value) self.old) nexus) nexus (decoded_command (kind_of (D.shown server.old.value)) cdb.now bytes.now) ≡ true) }
+        ensures want { OnErr result (takes_memory (contacted_present (unit_of (D.shown server.old.value) self.old) received.now.nexus) received.now.nexus (command_in received.now) ≡ true) }
     {
-        let decoded = Command::decode(alloc, server.kind(), cdb, bytes)?;
+        let nexus = received.nexus();
+        let decoded = Command::of(alloc, received)?;
         let act = act_of(alloc, &decoded)?;
-        let (decision, reply) = judge(alloc, server, &mut self.kept, nexus, &decoded, bytes)?;
+        let kind = act_kind_of(&act);
+        let (decision, reply) = judge(
+            alloc,
+            server,
+            &mut self.kept,
+            nexus,
+            &decoded,
+            received.bytes(),
+        )?;
         let trail = &mut self.trail;
         let number = note(trail, Some(nexus), act, decision, reply.status, reply.sense);
-        Ok(reply.numbered(number))
+        Ok((reply.numbered(number), kind))
     }
 
     /// Begins a MOVE MEDIUM at a changer: judged, it is answered with its record, or left to the drives with
-    /// nothing changed. Want of memory changes nothing.
+    /// nothing changed and without the device being asked. Want of memory changes nothing.
     pub(crate) fn begin<D: DeviceServer>(
         &mut self,
         alloc: Global,
         server: &mut Box<D>,
-        nexus: Nexus,
-        cdb: &[u8],
-        bytes: &[u8],
+        received: &ReceivedCommand<'_>,
         route: Route,
     ) -> Result<MoveJudgement, AllocError>
-        requires kind { kind_of (D.shown server.old.value) ≡ Changer }
-        requires route { DecodesTo (drives_of (D.shown server.old.value)) cdb.now route }
-        requires slot { has_room self.old.kept nexus ≡ true }
+        requires changer { kind_of (D.shown server.old.value) ≡ Changer }
+        requires kind { IsFor (D.shown server.old.value) received.now }
+        requires route { DecodesTo (drives_of (D.shown server.old.value)) received.now.cdb route }
+        requires slot { has_room self.old.kept received.now.nexus ≡ true }
         requires room { 0 < self.old.room }
         requires number { last_in self.old + 1 < 2 ^ 64 }
-        ensures begins { IfOk result (Begins (unit_of (D.shown server.old.value) self.old) (unit_of (D.shown server.new.value) self.new) nexus cdb.now bytes.now route) }
+        ensures begins { IfOk result (Begins (unit_of (D.shown server.old.value) self.old) (unit_of (D.shown server.new.value) self.new) received.now.nexus received.now.cdb received.now.bytes route) }
         ensures stays { IfOk result (StaysIf self.old self.new) }
         ensures device { IfOk result (λ begun. IsLeftOpen begun → D.shown server.new.value ≡ D.shown server.old.value) }
         ensures err { OnErr result ((D.shown server.new.value ≡ D.shown server.old.value) × (self.new ≡ self.old)) }
-        ensures want { OnErr result (takes_memory (contacted_present (unit_of (D.shown server.old.value) self.old) nexus) nexus (decoded_command (kind_of (D.shown server.old.value)) cdb.now bytes.now) ≡ true) }
+        ensures want { OnErr result (takes_memory (contacted_present (unit_of (D.shown server.old.value) self.old) received.now.nexus) received.now.nexus (command_in received.now) ≡ true) }
     {
-        let decoded = Command::decode(alloc, server.kind(), cdb, bytes)?;
+        let nexus = received.nexus();
+        let decoded = Command::of(alloc, received)?;
         let act = act_of(alloc, &decoded)?;
-        let (decision, reply) = judge(alloc, server, &mut self.kept, nexus, &decoded, bytes)?;
-        if is_left(reply.sense) {
-            return Ok(MoveJudgement::Left(act, decision));
-        }
+        let found = judge_move(
+            alloc,
+            server,
+            &mut self.kept,
+            nexus,
+            &decoded,
+            received.bytes(),
+        )?;
+        let (decision, reply) = match found {
+            MoveFinding::Left(decision) => return Ok(MoveJudgement::Left(act, decision)),
+            MoveFinding::Ended(decision, reply) => (decision, reply),
+        };
         let trail = &mut self.trail;
         let number = note(trail, Some(nexus), act, decision, reply.status, reply.sense);
         Ok(MoveJudgement::Answered(reply.numbered(number)))
@@ -291,18 +312,6 @@ impl RecordedUnit {
 ghost use Rattle.std.specs.Prelude.{◌≡◌, ◌<◌, ◌+◌, ◌^◌, [], ◌∷◌, ◌++◌};
 ghost use Rattle.audit_log.specs.TrailView.{last_of};
 ghost use Rattle.logical_unit.specs.Step.{record_of, event_of};
-ghost use Rattle.logical_unit.specs.Move.{is_left};
-
-/// Whether the changer leaves its command to the drives: its device carries no move of theirs out, which it reports as a failure of its
-/// own.
-fn is_left(sense: Option<Sense>) -> bool
-    ensures { result ≡ is_left sense }
-{
-    match sense {
-        Some(sense) => sense.has_codes_of(Condition::InternalTargetFailure),
-        None => false,
-    }
-}
 
 /// Adds the record of an event, in room that was made before, and answers its number.
 fn note(

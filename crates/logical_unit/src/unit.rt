@@ -1,10 +1,11 @@
+use crate::act_kind::ActKind;
 use crate::medium_fault::MediumFault;
 use crate::move_judgement::MoveJudgement;
 use crate::route::Route;
 use crate::state::RecordedUnit;
 use audit_log::{Act, Record};
 use device_server::{Attendant, DeviceServer, Payload};
-use judgement::{Decision, Reply};
+use judgement::{Decision, ReceivedCommand, Reply};
 use scsi_cdb::Kind;
 use scsi_nexus::Nexus;
 use scsi_sense::Condition;
@@ -164,29 +165,50 @@ impl<D: DeviceServer> LogicalUnit<D> {
     ghost use Rattle.logical_unit.specs.Medium.{taken_out, put_in, IsRefusal};
     ghost use Rattle.logical_unit.specs.Contents.{SameContents, MayNotChange};
     ghost use Rattle.logical_unit.specs.Legal.{IsTrail};
+    ghost use Rattle.judgement.specs.Commands.{act_of_decoded};
+    ghost use Rattle.judgement.specs.Received.{IsFor, command_in};
+    ghost use Rattle.logical_unit.specs.ActKinds.{act_kind_of, act_kind_if};
+    ghost use Rattle.logical_unit.specs.Answers.{own_number};
 
     /// One command, from its CDB and the data sent with it. BUSY leaves the unit as it was; any other
     /// answer leaves one record. A command to whose sender an attention is told, a conflict and bytes
     /// that spell no command are BUSY only where there is no slot, no number or no room for the record;
     /// PERSISTENT RESERVE OUT, and a command that comes to its own rules and takes memory there, also for want
     /// of memory. A sender to whom the permission table closes the changing classes leaves what is in the unit.
-    pub fn execute(&mut self, alloc: Global, nexus: Nexus, cdb: &[u8], bytes: &[u8]) -> Reply
-        ensures unit { Executes self.old.unit nexus cdb.now bytes.now (self.new.unit, result) }
-        ensures busy { IsBusyOnlyFor self.old nexus cdb.now bytes.now result }
-        ensures outsider { MayNotChange self.old.unit.kept.reservations nexus → SameContents self.old.unit.device self.new.unit.device }
+    pub fn execute(&mut self, alloc: Global, received: &ReceivedCommand<'_>) -> Reply
+        requires { IsFor self.old.unit.device received.now }
+        ensures unit { Executes self.old.unit received.now.nexus received.now.cdb received.now.bytes (self.new.unit, result) }
+        ensures busy { IsBusyOnlyFor self.old received.now.nexus received.now.cdb received.now.bytes result }
+        ensures outsider { MayNotChange self.old.unit.kept.reservations received.now.nexus → SameContents self.old.unit.device self.new.unit.device }
+    {
+        let (reply, _) = self.answer(alloc, received);
+        reply
+    }
+
+    /// The same, with the kind of the act that its record says was asked; BUSY leaves none.
+    pub(crate) fn answer(
+        &mut self,
+        alloc: Global,
+        received: &ReceivedCommand<'_>,
+    ) -> (Reply, Option<ActKind>)
+        requires { IsFor self.old.unit.device received.now }
+        ensures unit { Executes self.old.unit received.now.nexus received.now.cdb received.now.bytes (self.new.unit, result.0) }
+        ensures busy { IsBusyOnlyFor self.old received.now.nexus received.now.cdb received.now.bytes result.0 }
+        ensures act { result.1 ≡ act_kind_if (own_number self.old.unit.kept.lun result.0.number) (act_kind_of (act_of_decoded (command_in received.now))) }
+        ensures outsider { MayNotChange self.old.unit.kept.reservations received.now.nexus → SameContents self.old.unit.device self.new.unit.device }
     {
         let server = &mut self.server;
         let state = &mut *self.state;
-        if !state.has_room(nexus) {
-            return Reply::busy(alloc);
+        if !state.has_room(received.nexus()) {
+            return (Reply::busy(alloc), None);
         }
         if !state.reserve() {
-            return Reply::busy(alloc);
+            return (Reply::busy(alloc), None);
         }
-        let Ok(reply) = state.answer(alloc, server, nexus, cdb, bytes) else {
-            return Reply::busy(alloc);
+        let Ok((reply, act)) = state.answer(alloc, server, received) else {
+            return (Reply::busy(alloc), None);
         };
-        reply
+        (reply, Some(act))
     }
 
     /// An I_T nexus loss at this unit (SAM-5, "I_T nexus loss"). `None` where the nexus has no slot,
@@ -335,6 +357,7 @@ impl<D: DeviceServer> LogicalUnit<D> {
     ghost use Rattle.judgement.specs.Replies.{IsWhole};
     ghost use Rattle.judgement.specs.JudgedUnit.{JudgedUnit};
     ghost use Rattle.logical_unit.specs.MoveJudgement.{DecodesTo, BeginsAt, AwaitsEnd};
+    ghost use Rattle.judgement.specs.Received.{IsFor};
     ghost use Rattle.logical_unit.specs.Medium.{taken_out, put_in};
     ghost use Rattle.logical_unit.specs.Move.{given, noting};
     ghost use Rattle.logical_unit.specs.Step.{HasNumber, LacksRecord, recorded};
@@ -355,23 +378,22 @@ impl<D: DeviceServer> LogicalUnit<D> {
     pub(crate) fn begin(
         &mut self,
         alloc: Global,
-        nexus: Nexus,
-        cdb: &[u8],
-        bytes: &[u8],
+        received: &ReceivedCommand<'_>,
         route: Route,
     ) -> MoveJudgement
-        requires kind { kind_of self.old.unit.device ≡ Changer }
-        requires route { DecodesTo (drives_of self.old.unit.device) cdb.now route }
-        ensures { BeginsAt self.old self.new nexus cdb.now bytes.now route result }
+        requires changer { kind_of self.old.unit.device ≡ Changer }
+        requires kind { IsFor self.old.unit.device received.now }
+        requires route { DecodesTo (drives_of self.old.unit.device) received.now.cdb route }
+        ensures { BeginsAt self.old self.new received.now.nexus received.now.cdb received.now.bytes route result }
     {
-        if !self.state.has_room(nexus) {
+        if !self.state.has_room(received.nexus()) {
             return MoveJudgement::Answered(Reply::busy(alloc));
         }
         if !self.state.reserve() {
             return MoveJudgement::Answered(Reply::busy(alloc));
         }
         let server = &mut self.server;
-        let Ok(begun) = self.state.begin(alloc, server, nexus, cdb, bytes, route) else {
+        let Ok(begun) = self.state.begin(alloc, server, received, route) else {
             return MoveJudgement::Answered(Reply::busy(alloc));
         };
         begun

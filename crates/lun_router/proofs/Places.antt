@@ -6,7 +6,7 @@ use Rattle.std.specs.Option.{ForSome, option_map}
 use Rattle.scsi_cdb.specs.declared.kind.Kind.TheVariants as kind
 use Rattle.device_server.specs.View.{DeviceView, Drive, Changer, kind_of, drives_of}
 use Rattle.logical_unit.specs.UnitView.{UnitView, UnitWithRoom}
-use Rattle.kept_unit.specs.Keeping.{kind_at}
+use Rattle.scsi_cdb.specs.Kinds.{kind_at}
 use Rattle.target_core.specs.Faults.{fault_of}
 use Rattle.target_core.proofs.Ordered.{ordered, has_drives, drive_of}
 use Rattle.unit_locks.specs.Units.{IsAt}
@@ -61,7 +61,8 @@ behind (u ∷ us) k = let one : k + 1 ≡ suc k = omega arith in ap (slice_get (
 abbrev pub units_in : Option UnitWithRoom → Option UnitView
 units_in o = option_map (λ (u : UnitWithRoom). u.unit) o
 
-pub placed_some : (us : List UnitView) (k : ℕ) (o : Option UnitWithRoom) → fault_of us ≡ None → units_in o ≡ slice_get us k → ForSome o (λ u. IsAt k u.unit)
+pub placed_some : (us : List UnitView) (k : ℕ) (o : Option UnitWithRoom) → fault_of us ≡ None → units_in o ≡ slice_get us k → ForSome o
+    (λ u. IsAt k u.unit)
 placed_some us k o whole is = λ (u : UnitWithRoom) (has : o ≡ Some u). placed us k u.unit whole (sym is ∙ ap units_in has)
 
 pub is_there : (us : List UnitView) (k : ℕ) (o : Option UnitWithRoom) → units_in o ≡ slice_get us k → is_some o ≡ nat_lt k (length us)
@@ -78,7 +79,8 @@ pub record AreBehind (us one two three four : List UnitView) : Type 0 where
 step : (us rest : List UnitView) (k : ℕ) → rest ≡ drop 1 us → slice_get rest k ≡ slice_get us (k + 1)
 step us rest k is = ap (λ (l : List UnitView). slice_get l k) is ∙ behind us k
 
-pub one_by_one : (us one two three four : List UnitView) → one ≡ drop 1 us → two ≡ drop 1 one → three ≡ drop 1 two → four ≡ drop 1 three → AreBehind us one two three four
+pub one_by_one : (us one two three four : List UnitView) → one ≡ drop 1 us → two ≡ drop 1 one → three ≡ drop 1 two → four ≡ drop 1 three →
+    AreBehind us one two three four
 one_by_one us one two three four a b c d = record {
   first = step us one 0 a;
   second = step one two 0 b ∙ step us one 1 a;

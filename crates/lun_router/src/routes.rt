@@ -5,7 +5,7 @@ ghost use Rattle.logical_unit.specs.declared.act_kind.ActKind.TheVariants as kin
 ghost use Rattle.logical_unit.specs.Answers as event;
 ghost use Rattle.logical_unit.specs.Answers.{IsAnswer};
 ghost use Rattle.logical_unit.specs.ActKinds.{act_kind_of, act_kind_if};
-ghost use Rattle.kept_unit.specs.Keeping.{kind_at};
+ghost use Rattle.scsi_cdb.specs.Kinds.{kind_at};
 ghost use Rattle.unit_locks.specs.Answering.{AnswersAsAbsent, LeavesNoneFor, LosesNoneFor, RefusesAsAbsent, IsSomeTrail};
 ghost use Rattle.lun_router.specs.Seats.{Notes};
 
@@ -13,12 +13,14 @@ use crate::library::Library;
 use crate::seat::Seat;
 use audit_log::Record;
 use device_server::{Attendant, DeviceServer};
+use judgement::ReceivedCommand;
 use kept_unit::UnitLedger;
 use logical_unit::{Done, EventKind};
+use scsi_cdb::kind_at;
 use scsi_nexus::Nexus;
 use std::alloc::Global;
 use std::sync::Wait;
-use unit_locks::{Gate, RawCommand};
+use unit_locks::Gate;
 
 impl<
     L0: UnitLedger,
@@ -52,8 +54,8 @@ impl<
         if !entries.make_room() {
             return Done::busy(alloc, Some(nexus), lun, EventKind::Command { cdb, bytes });
         }
-        let raw = RawCommand { nexus, cdb, bytes };
-        let done = self.locks.step(rt, alloc, parts, lun, raw);
+        let received = ReceivedCommand::new(nexus, kind_at(lun), cdb, bytes);
+        let done = self.locks.step(rt, alloc, parts, lun, &received);
         entries.push_reserved(done.entry());
         done
     }

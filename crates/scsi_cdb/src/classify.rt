@@ -1,5 +1,6 @@
 ghost use Rattle.std.specs.Prelude.{◌≡◌};
 ghost use Rattle.scsi_cdb.specs.Classes.{class_of};
+ghost use Rattle.scsi_cdb.specs.declared.request.Request.TheVariants.{PreventAllowMediumRemoval};
 
 use crate::request::Request;
 use permit_tables::Class;
@@ -23,8 +24,7 @@ pub fn class(request: &Request) -> Class
         Request::Erase => Class::Erase,
         Request::ModeSense { .. } => Class::ModeSense,
         Request::LoadUnload { .. } => Class::LoadUnload,
-        Request::PreventAllowMediumRemoval { prevent: 0 } => Class::AllowRemoval,
-        Request::PreventAllowMediumRemoval { .. } => Class::PreventRemoval,
+        Request::PreventAllowMediumRemoval { prevent } => class_of_prevent(*prevent),
         Request::Locate { .. } => Class::Locate,
         Request::ReadPosition => Class::ReadPosition,
         Request::PersistentReserveIn { .. } => Class::PersistentReserveIn,
@@ -36,5 +36,16 @@ pub fn class(request: &Request) -> Class
             ..
         } => Class::ReadElementStatusCurdata,
         Request::ReadElementStatus { .. } => Class::ReadElementStatus,
+    }
+}
+
+/// The class of PREVENT ALLOW MEDIUM REMOVAL by its field PREVENT.
+pub fn class_of_prevent(prevent: u8) -> Class
+    ensures { result ≡ class_of (PreventAllowMediumRemoval prevent) }
+{
+    if prevent == 0 {
+        Class::AllowRemoval
+    } else {
+        Class::PreventRemoval
     }
 }

@@ -16,12 +16,16 @@ mod request;
 mod stream;
 
 pub use action::InServiceAction;
-pub use classify::class;
+pub use classify::{class, class_of_prevent};
 pub use decoding::decode;
 pub use encoding::encode;
 pub use fault::CdbFault;
-pub use kind::Kind;
-pub use laws::{request_reads_back, worked_rows, worked_rows_of_changers, worked_rows_of_drives};
+pub use kind::{Kind, kind_at};
+pub use laws::{
+    request_reads_back, worked_rows, worked_rows_of_changers, worked_rows_of_drives,
+    worked_rows_of_kinds,
+};
 pub use layout::{CDB_LENGTH, INQUIRY, REQUEST_SENSE};
 pub use permit_tables::{Class, OutServiceAction};
+pub use primary::{inquiry_at, request_sense_at};
 pub use request::Request;

@@ -12,6 +12,7 @@ use crate::layout::*;
 use crate::request::Request;
 use permit_tables::OutServiceAction;
 
+/// The fields of a REQUEST SENSE (SPC-4, "REQUEST SENSE command").
 pub fn request_sense_at(cdb: &[u8]) -> Request
     ensures value { result ≡ RequestSense (bit cdb.now 1 0) (byte cdb.now 4) }
     ensures fits { Fits result }
@@ -22,6 +23,7 @@ pub fn request_sense_at(cdb: &[u8]) -> Request
     }
 }
 
+/// The fields of an INQUIRY (SPC-4, "INQUIRY command").
 pub fn inquiry_at(cdb: &[u8]) -> Request
     requires { 6 ≤ length cdb.now }
     ensures value { result ≡ Inquiry (bit cdb.now 1 0) (byte cdb.now 2) (two_bytes cdb.now 3) }

@@ -27,7 +27,7 @@ pub struct Sense {
 
 impl Sense {
     ghost use Rattle.scsi_sense.specs.FixedSense.{fixed_sense, decoded_sense};
-    ghost use Rattle.scsi_sense.specs.Conditions.{reports, sense_for, has_codes_of, IsConditionOf};
+    ghost use Rattle.scsi_sense.specs.Conditions.{reports, sense_for, IsConditionOf};
     ghost use Rattle.scsi_sense.specs.declared.condition.Condition.TheVariants.{NoAdditionalSenseInformation};
 
     /// The sense data of a condition, with VALID, FILEMARK, EOM and ILI off and INFORMATION 0.
@@ -115,14 +115,6 @@ impl Sense {
             (VOLUME_OVERFLOW, 0x00, 0x02) => Some(Condition::EndOfMediumDetected),
             _ => None,
         }
-    }
-
-    /// Whether it has the sense key, the additional sense code and its qualifier of the condition. The other fields play no part.
-    pub fn has_codes_of(&self, condition: Condition) -> bool
-        ensures { result ≡ has_codes_of self.now condition }
-    {
-        let other = Sense::of(condition);
-        self.key == other.key && self.asc == other.asc && self.ascq == other.ascq
     }
 
     /// The 18 bytes. Of the key only the low four bits are written, and INFORMATION only with

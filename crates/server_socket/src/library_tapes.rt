@@ -1,5 +1,5 @@
 ghost use Rattle.std.specs.Prelude.{◌≡◌, ◌<◌};
-ghost use Rattle.kept_unit.specs.Keeping.{kind_at};
+ghost use Rattle.scsi_cdb.specs.Kinds.{kind_at};
 
 use device_server::Attendant;
 use kept_unit::UnitLedger;

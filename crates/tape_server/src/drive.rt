@@ -11,7 +11,7 @@ use crate::mode::{block_length_after, mode_data};
 use crate::positioning::{locate, position_data, space};
 use crate::reading::{read_block, read_blocks};
 use crate::writing::{erase, write_block, write_blocks, write_filemarks};
-use device_server::{BadPlace, DeviceServer, Outcome, Payload, PutFault, TakeFault, field_fault};
+use device_server::{BadPlace, DeviceServer, Outcome, Payload, PutFault, TakeFault};
 use scsi_cdb::{Kind, Request};
 use scsi_sense::Condition;
 use std::alloc::{AllocError, Global};
@@ -227,16 +227,17 @@ impl DeviceServer for TapeDrive {
         }
     }
 
+    fn leaves_to_drives(&self, _request: &Request) -> bool {
+        false
+    }
+
     fn perform(
         &mut self,
         alloc: Global,
         request: &Request,
         bytes: &[u8],
     ) -> Result<Outcome, AllocError> {
-        match field_fault(Kind::Drive, request, bytes) {
-            Some(condition) => Ok(Outcome::check(alloc, condition)),
-            None => self.step(alloc, request, bytes),
-        }
+        self.step(alloc, request, bytes)
     }
 
     fn take_volume(&mut self, place: u16) -> Result<Volume, TakeFault> {

@@ -1,7 +1,9 @@
 ghost use Rattle.std.specs.Prelude.{◌≡◌, ◌<◌, ◌≤◌, [], ◌∷◌, length, slice_get, Some, None};
 ghost use Rattle.std.specs.Global.{Vec};
 ghost use Rattle.std.specs.Option.{option_map};
+ghost use Rattle.scsi_cdb.specs.declared.kind.Kind.TheVariants.{Changer};
 ghost use Rattle.audit_log.specs.declared.record.Record.{Record};
+ghost use Rattle.logical_unit.specs.Step.{Executes, IsBusyOnlyFor};
 ghost use Rattle.logical_unit.specs.UnitView.{units_of};
 ghost use Rattle.target_core.specs.Faults.{fault_of};
 ghost use Rattle.target_core.specs.Run.{NamesAt, Commands, LosesAt, ResetsAt, Drains};
@@ -11,7 +13,9 @@ use crate::event::Event;
 use crate::order::{CoreFault, fault_of};
 use audit_log::Record;
 use device_server::DeviceServer;
+use judgement::ReceivedCommand;
 use logical_unit::{LogicalUnit, Reply, absent, move_one, move_two, named};
+use scsi_cdb::Kind;
 use scsi_nexus::Nexus;
 use scsi_sense::Condition;
 use std::alloc::{AllocError, Global};
@@ -44,6 +48,21 @@ impl<D: DeviceServer> Model for TargetCore<D> {
     ghost invariant = { λ t. fault_of (units_of t.units.items) ≡ None };
 }
 
+/// A command to a unit alone.
+fn execute_at<D: DeviceServer>(
+    alloc: Global,
+    unit: &mut LogicalUnit<D>,
+    nexus: Nexus,
+    cdb: &[u8],
+    bytes: &[u8],
+) -> Reply
+    ensures unit { Executes unit.old.unit nexus cdb.now bytes.now (unit.new.unit, result) }
+    ensures busy { IsBusyOnlyFor unit.old nexus cdb.now bytes.now result }
+{
+    let received = ReceivedCommand::new(nexus, unit.kind(), cdb, bytes);
+    unit.execute(alloc, &received)
+}
+
 /// A command to one of the drives.
 fn command_at<D: DeviceServer>(
     alloc: Global,
@@ -58,7 +77,7 @@ fn command_at<D: DeviceServer>(
     ensures step { Commands (units_of units.old) lun nexus cdb.now bytes.now (units_of units.new, result) }
     ensures busy { CommandIsBusyOnlyFor units.old lun nexus cdb.now bytes.now result }
 {
-    units[lun].execute(alloc, nexus, cdb, bytes)
+    execute_at(alloc, &mut units[lun], nexus, cdb, bytes)
 }
 
 /// A MOVE MEDIUM at the changer that names one of the drives.
@@ -67,18 +86,17 @@ fn move_at<D: DeviceServer>(
     changer: &mut LogicalUnit<D>,
     drives: &mut [LogicalUnit<D>],
     lun: usize,
-    nexus: Nexus,
-    cdb: &[u8],
-    bytes: &[u8],
+    received: &ReceivedCommand<'_>,
 ) -> Reply
+    requires kind { received.now.kind ≡ Changer }
     requires ordered { fault_of (units_of (changer.old ∷ drives.old)) ≡ None }
     requires place { 1 ≤ lun }
     requires within { lun ≤ length drives.old }
-    requires named { NamesAt (units_of (changer.old ∷ drives.old)) cdb.now (lun ∷ []) }
-    ensures step { Commands (units_of (changer.old ∷ drives.old)) 0 nexus cdb.now bytes.now (units_of (changer.new ∷ drives.new), result) }
-    ensures busy { CommandIsBusyOnlyFor (changer.old ∷ drives.old) 0 nexus cdb.now bytes.now result }
+    requires named { NamesAt (units_of (changer.old ∷ drives.old)) received.now.cdb (lun ∷ []) }
+    ensures step { Commands (units_of (changer.old ∷ drives.old)) 0 received.now.nexus received.now.cdb received.now.bytes (units_of (changer.new ∷ drives.new), result) }
+    ensures busy { CommandIsBusyOnlyFor (changer.old ∷ drives.old) 0 received.now.nexus received.now.cdb received.now.bytes result }
 {
-    move_one(alloc, changer, &mut drives[lun - 1], nexus, cdb, bytes).reply
+    move_one(alloc, changer, &mut drives[lun - 1], received).reply
 }
 
 /// A MOVE MEDIUM at the changer that names two.
@@ -88,29 +106,19 @@ fn move_between<D: DeviceServer>(
     drives: &mut [LogicalUnit<D>],
     low: usize,
     high: usize,
-    nexus: Nexus,
-    cdb: &[u8],
-    bytes: &[u8],
+    received: &ReceivedCommand<'_>,
 ) -> Reply
+    requires kind { received.now.kind ≡ Changer }
     requires ordered { fault_of (units_of (changer.old ∷ drives.old)) ≡ None }
     requires place { 1 ≤ low }
     requires rising { low < high }
     requires within { high ≤ length drives.old }
-    requires named { NamesAt (units_of (changer.old ∷ drives.old)) cdb.now (low ∷ high ∷ []) }
-    ensures step { Commands (units_of (changer.old ∷ drives.old)) 0 nexus cdb.now bytes.now (units_of (changer.new ∷ drives.new), result) }
-    ensures busy { CommandIsBusyOnlyFor (changer.old ∷ drives.old) 0 nexus cdb.now bytes.now result }
+    requires named { NamesAt (units_of (changer.old ∷ drives.old)) received.now.cdb (low ∷ high ∷ []) }
+    ensures step { Commands (units_of (changer.old ∷ drives.old)) 0 received.now.nexus received.now.cdb received.now.bytes (units_of (changer.new ∷ drives.new), result) }
+    ensures busy { CommandIsBusyOnlyFor (changer.old ∷ drives.old) 0 received.now.nexus received.now.cdb received.now.bytes result }
 {
     let (lower, upper) = drives.split_at_mut(high - 1);
-    move_two(
-        alloc,
-        changer,
-        &mut lower[low - 1],
-        &mut upper[0],
-        nexus,
-        cdb,
-        bytes,
-    )
-    .reply
+    move_two(alloc, changer, &mut lower[low - 1], &mut upper[0], received).reply
 }
 
 /// A command to the changer, alone or with the drives that it names.
@@ -118,21 +126,20 @@ fn command_with_drives<D: DeviceServer>(
     alloc: Global,
     changer: &mut LogicalUnit<D>,
     drives: &mut [LogicalUnit<D>],
-    nexus: Nexus,
-    cdb: &[u8],
-    bytes: &[u8],
+    received: &ReceivedCommand<'_>,
 ) -> Reply
-    requires { fault_of (units_of (changer.old ∷ drives.old)) ≡ None }
-    ensures step { Commands (units_of (changer.old ∷ drives.old)) 0 nexus cdb.now bytes.now (units_of (changer.new ∷ drives.new), result) }
-    ensures busy { CommandIsBusyOnlyFor (changer.old ∷ drives.old) 0 nexus cdb.now bytes.now result }
+    requires kind { received.now.kind ≡ Changer }
+    requires ordered { fault_of (units_of (changer.old ∷ drives.old)) ≡ None }
+    ensures step { Commands (units_of (changer.old ∷ drives.old)) 0 received.now.nexus received.now.cdb received.now.bytes (units_of (changer.new ∷ drives.new), result) }
+    ensures busy { CommandIsBusyOnlyFor (changer.old ∷ drives.old) 0 received.now.nexus received.now.cdb received.now.bytes result }
 {
-    let luns = named(drives.len() as u8, cdb);
+    let luns = named(drives.len() as u8, received);
     match luns.as_slice() {
-        [] => changer.execute(alloc, nexus, cdb, bytes),
-        [lun] => move_at(alloc, changer, drives, usize::from(*lun), nexus, cdb, bytes),
+        [] => changer.execute(alloc, received),
+        [lun] => move_at(alloc, changer, drives, usize::from(*lun), received),
         [low, high, ..] => {
             let (low, high) = (usize::from(*low), usize::from(*high));
-            move_between(alloc, changer, drives, low, high, nexus, cdb, bytes)
+            move_between(alloc, changer, drives, low, high, received)
         }
     }
 }
@@ -149,8 +156,9 @@ fn command_to_changer<D: DeviceServer>(
     ensures step { Commands (units_of units.old) 0 nexus cdb.now bytes.now (units_of units.new, result) }
     ensures busy { CommandIsBusyOnlyFor units.old 0 nexus cdb.now bytes.now result }
 {
+    let received = ReceivedCommand::new(nexus, Kind::Changer, cdb, bytes);
     let (first, drives) = units.split_at_mut(1);
-    command_with_drives(alloc, &mut first[0], drives, nexus, cdb, bytes)
+    command_with_drives(alloc, &mut first[0], drives, &received)
 }
 
 /// A command to a unit, or to none.

@@ -2,7 +2,7 @@
 use Rattle.std.specs.Prelude.{◌≡◌, ℕ, ◌≤◌, ◌<◌, ◌^◌, nat_lt, Option, is_some}
 use Rattle.device_server.specs.View.{kind_of, drives_of}
 use Rattle.logical_unit.specs.UnitView.{UnitView}
-use Rattle.kept_unit.specs.Keeping.{kind_at}
+use Rattle.scsi_cdb.specs.Kinds.{kind_at}
 
 -- how many units there are
 pub record LocksValue : Type 0 where

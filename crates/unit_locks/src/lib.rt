@@ -9,7 +9,6 @@ mod locked;
 mod locks;
 mod moves;
 mod opening;
-mod raw_command;
 mod routes;
 mod seat_shares;
 
@@ -18,5 +17,4 @@ pub use closing::{Histories, TakenUnits};
 pub use gate::{Gate, Pass};
 pub use locked::CachePadding;
 pub use opening::{Blanks, UnitsByLun};
-pub use raw_command::RawCommand;
 pub use seat_shares::{AllShares, SeatShares};

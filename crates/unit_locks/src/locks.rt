@@ -6,21 +6,22 @@ ghost use Rattle.scsi_sense.specs.declared.condition.Condition.TheVariants.{Logi
 ghost use Rattle.device_server.specs.Attending.{WasAsked};
 ghost use Rattle.device_server.specs.View.{drives_of};
 ghost use Rattle.judgement.specs.Replies.{AnswersAbsent, busy, check};
-ghost use Rattle.judgement.specs.Commands.{act_of};
+ghost use Rattle.judgement.specs.Commands.{act_of_decoded};
+ghost use Rattle.judgement.specs.Received.{command_in};
 ghost use Rattle.logical_unit.specs.Route.{named};
 ghost use Rattle.logical_unit.specs.Step.{event_reply};
 ghost use Rattle.logical_unit.specs.declared.act_kind.ActKind.TheVariants as kind;
 ghost use Rattle.logical_unit.specs.Answers as event;
 ghost use Rattle.logical_unit.specs.Answers.{IsAnswer, count_at, OnlyAt};
 ghost use Rattle.logical_unit.specs.ActKinds.{act_kind_of, act_kind_if};
-ghost use Rattle.kept_unit.specs.Keeping.{kind_at};
+ghost use Rattle.scsi_cdb.specs.Kinds.{kind_at};
 ghost use Rattle.unit_locks.specs.Answering.{IsSomeTrail};
 
 use crate::gate::Gate;
 use crate::locked::Locked;
-use crate::raw_command::RawCommand;
 use audit_log::Record;
 use device_server::{Attendant, DeviceServer};
+use judgement::ReceivedCommand;
 use kept_unit::{Kept, UnitLedger, move_kept_one, move_kept_two};
 use logical_unit::Done;
 use scsi_nexus::Nexus;
@@ -35,19 +36,20 @@ pub(crate) fn step_at<'a, const LUN: u8, L: UnitLedger, D: DeviceServer, G: Gate
     gate: &G,
     lock: &Locked<LUN, L, D>,
     part: &mut Share<L>,
-    raw: RawCommand<'a>,
+    received: &ReceivedCommand<'a>,
 ) -> Done<'a>
-    requires { part.old.parts ≡ 1 }
-    ensures answer { IsAnswer result (Some raw.entry.nexus) LUN (event.Command raw.entry.cdb.now raw.entry.bytes.now) }
-    ensures act { result.act ≡ act_kind_if result.numbers (act_kind_of (act_of (kind_at LUN) raw.entry.cdb.now raw.entry.bytes.now)) }
+    requires kind { received.now.kind ≡ kind_at LUN }
+    requires parts { part.old.parts ≡ 1 }
+    ensures answer { IsAnswer result (Some received.now.nexus) LUN (event.Command received.now.cdb received.now.bytes) }
+    ensures act { result.act ≡ act_kind_if result.numbers (act_kind_of (act_of_decoded (command_in received.now))) }
     ensures only { OnlyAt LUN result.numbers }
     ensures unnumbered { result.numbers ≡ [] → result.reply ≡ busy }
     ensures part { part.new.amount ≡ part.old.amount + count_at LUN result.numbers }
     ensures parts { part.new.parts ≡ 1 }
 {
     let mut kept = lock.mutex().lock(rt);
-    gate.inside(LUN, raw.nexus);
-    kept.step(alloc, part, raw.nexus, raw.cdb, raw.bytes)
+    gate.inside(LUN, received.nexus());
+    kept.step(alloc, part, received)
 }
 
 /// The same where the unit may be absent.
@@ -57,20 +59,21 @@ pub(crate) fn step_if_there<'a, const LUN: u8, L: UnitLedger, D: DeviceServer, G
     gate: &G,
     lock: &Option<Locked<LUN, L, D>>,
     part: &mut Share<L>,
-    raw: RawCommand<'a>,
+    received: &ReceivedCommand<'a>,
 ) -> Done<'a>
-    requires { part.old.parts ≡ 1 }
-    ensures answer { IsAnswer result (Some raw.entry.nexus) LUN (event.Command raw.entry.cdb.now raw.entry.bytes.now) }
-    ensures act { result.act ≡ act_kind_if result.numbers (act_kind_of (act_of (kind_at LUN) raw.entry.cdb.now raw.entry.bytes.now)) }
+    requires kind { received.now.kind ≡ kind_at LUN }
+    requires parts { part.old.parts ≡ 1 }
+    ensures answer { IsAnswer result (Some received.now.nexus) LUN (event.Command received.now.cdb received.now.bytes) }
+    ensures act { result.act ≡ act_kind_if result.numbers (act_kind_of (act_of_decoded (command_in received.now))) }
     ensures only { OnlyAt LUN result.numbers }
     ensures there { IsSome lock.now → result.numbers ≡ [] → result.reply ≡ busy }
-    ensures absent { IsNone lock.now → AnswersAbsent raw.entry.cdb.now result.reply }
+    ensures absent { IsNone lock.now → AnswersAbsent received.now.cdb result.reply }
     ensures part { part.new.amount ≡ part.old.amount + count_at LUN result.numbers }
     ensures parts { part.new.parts ≡ 1 }
 {
     match lock {
-        Some(lock) => step_at(rt, alloc, gate, lock, part, raw),
-        None => Done::absent(alloc, raw.nexus, LUN, raw.cdb, raw.bytes),
+        Some(lock) => step_at(rt, alloc, gate, lock, part, received),
+        None => Done::absent(alloc, LUN, received),
     }
 }
 
@@ -262,36 +265,27 @@ pub(crate) fn move_with_one<
     lock: Option<&Locked<LUN, L, D>>,
     part: &mut Share<C>,
     drive_part: &mut Share<L>,
-    raw: RawCommand<'a>,
+    received: &ReceivedCommand<'a>,
 ) -> Done<'a>
+    requires kind { received.now.kind ≡ Changer }
     requires part { part.old.parts ≡ 1 }
     requires drive_part { drive_part.old.parts ≡ 1 }
     requires drive { 0 < LUN }
-    requires named { named (drives_of changer.old.unit.device) raw.cdb.now ≡ LUN ∷ [] }
-    ensures answer { IsAnswer result (Some raw.entry.nexus) 0 (event.Command raw.entry.cdb.now raw.entry.bytes.now) }
-    ensures act { result.act ≡ act_kind_if result.numbers (act_kind_of (act_of Changer raw.entry.cdb.now raw.entry.bytes.now)) }
+    requires named { named (drives_of changer.old.unit.device) received.now.cdb ≡ LUN ∷ [] }
+    ensures answer { IsAnswer result (Some received.now.nexus) 0 (event.Command received.now.cdb received.now.bytes) }
+    ensures act { result.act ≡ act_kind_if result.numbers (act_kind_of (act_of_decoded (command_in received.now))) }
     ensures only { (k : ℕ) → k ≢ 0 → k ≢ LUN → count_at k result.numbers ≡ 0 }
     ensures unnumbered { result.numbers ≡ [] → result.reply ≡ busy }
     ensures part { part.new.amount ≡ part.old.amount + count_at 0 result.numbers }
     ensures drive_part { drive_part.new.amount ≡ drive_part.old.amount + count_at LUN result.numbers }
     ensures parts { (part.new.parts ≡ 1) × (drive_part.new.parts ≡ 1) }
 {
-    let RawCommand { nexus, cdb, bytes } = raw;
     match lock {
         Some(lock) => {
             let mut drive = lock.mutex().lock(rt);
-            move_kept_one(
-                alloc,
-                changer,
-                &mut *drive,
-                part,
-                drive_part,
-                nexus,
-                cdb,
-                bytes,
-            )
+            move_kept_one(alloc, changer, &mut *drive, part, drive_part, received)
         }
-        None => changer.step(alloc, part, nexus, cdb, bytes),
+        None => changer.step(alloc, part, received),
     }
 }
 
@@ -314,15 +308,16 @@ pub(crate) fn move_with_two<
     part: &mut Share<C>,
     low_part: &mut Share<L>,
     high_part: &mut Share<H>,
-    raw: RawCommand<'a>,
+    received: &ReceivedCommand<'a>,
 ) -> Done<'a>
+    requires kind { received.now.kind ≡ Changer }
     requires part { part.old.parts ≡ 1 }
     requires low_part { low_part.old.parts ≡ 1 }
     requires high_part { high_part.old.parts ≡ 1 }
     requires drives { (0 < LOW) × (LOW < HIGH) }
-    requires named { named (drives_of changer.old.unit.device) raw.cdb.now ≡ LOW ∷ HIGH ∷ [] }
-    ensures answer { IsAnswer result (Some raw.entry.nexus) 0 (event.Command raw.entry.cdb.now raw.entry.bytes.now) }
-    ensures act { result.act ≡ act_kind_if result.numbers (act_kind_of (act_of Changer raw.entry.cdb.now raw.entry.bytes.now)) }
+    requires named { named (drives_of changer.old.unit.device) received.now.cdb ≡ LOW ∷ HIGH ∷ [] }
+    ensures answer { IsAnswer result (Some received.now.nexus) 0 (event.Command received.now.cdb received.now.bytes) }
+    ensures act { result.act ≡ act_kind_if result.numbers (act_kind_of (act_of_decoded (command_in received.now))) }
     ensures only { (k : ℕ) → k ≢ 0 → k ≢ LOW → k ≢ HIGH → count_at k result.numbers ≡ 0 }
     ensures unnumbered { result.numbers ≡ [] → result.reply ≡ busy }
     ensures part { part.new.amount ≡ part.old.amount + count_at 0 result.numbers }
@@ -330,13 +325,12 @@ pub(crate) fn move_with_two<
     ensures high_part { high_part.new.amount ≡ high_part.old.amount + count_at HIGH result.numbers }
     ensures parts { (part.new.parts ≡ 1) × (low_part.new.parts ≡ 1) × (high_part.new.parts ≡ 1) }
 {
-    let RawCommand { nexus, cdb, bytes } = raw;
     let (Some(low), Some(high)) = (low, high) else {
-        return changer.step(alloc, part, nexus, cdb, bytes);
+        return changer.step(alloc, part, received);
     };
     let mut low = low.mutex().lock(rt);
     let mut high = high.mutex().lock(rt);
     move_kept_two(
-        alloc, changer, &mut *low, &mut *high, part, low_part, high_part, nexus, cdb, bytes,
+        alloc, changer, &mut *low, &mut *high, part, low_part, high_part, received,
     )
 }

@@ -2,7 +2,8 @@ ghost use Rattle.std.specs.Prelude.{◌≡◌, [], ◌∷◌, Some};
 ghost use Rattle.scsi_cdb.specs.declared.kind.Kind.TheVariants.{Changer};
 ghost use Rattle.device_server.specs.View.{drives_of};
 ghost use Rattle.judgement.specs.Replies.{busy};
-ghost use Rattle.judgement.specs.Commands.{act_of};
+ghost use Rattle.judgement.specs.Commands.{act_of_decoded};
+ghost use Rattle.judgement.specs.Received.{command_in};
 ghost use Rattle.logical_unit.specs.Route.{named};
 ghost use Rattle.logical_unit.specs.Answers as event;
 ghost use Rattle.logical_unit.specs.Answers.{IsAnswer};
@@ -12,9 +13,9 @@ ghost use Rattle.unit_locks.specs.Shares.{Rise};
 use crate::all_locks::UnitLocks;
 use crate::gate::Gate;
 use crate::locks::{move_with_one, move_with_two};
-use crate::raw_command::RawCommand;
 use crate::seat_shares::SeatShares;
 use device_server::DeviceServer;
+use judgement::ReceivedCommand;
 use kept_unit::{Kept, UnitLedger};
 use logical_unit::{Done, named};
 use std::alloc::Global;
@@ -37,11 +38,12 @@ impl<
         changer: &mut Kept<0, L0, D>,
         parts: &mut SeatShares<L0, L1, L2, L3, L4>,
         drive: u8,
-        raw: RawCommand<'a>,
+        received: &ReceivedCommand<'a>,
     ) -> Done<'a>
-        requires { named (drives_of changer.old.unit.device) raw.cdb.now ≡ drive ∷ [] }
-        ensures answer { IsAnswer result (Some raw.entry.nexus) 0 (event.Command raw.entry.cdb.now raw.entry.bytes.now) }
-        ensures act { result.act ≡ act_kind_if result.numbers (act_kind_of (act_of Changer raw.entry.cdb.now raw.entry.bytes.now)) }
+        requires kind { received.now.kind ≡ Changer }
+        requires named { named (drives_of changer.old.unit.device) received.now.cdb ≡ drive ∷ [] }
+        ensures answer { IsAnswer result (Some received.now.nexus) 0 (event.Command received.now.cdb received.now.bytes) }
+        ensures act { result.act ≡ act_kind_if result.numbers (act_kind_of (act_of_decoded (command_in received.now))) }
         ensures unnumbered { result.numbers ≡ [] → result.reply ≡ busy }
         ensures rise { Rise parts.old result.numbers parts.new }
     {
@@ -49,24 +51,24 @@ impl<
             1 => {
                 let lock = Some(&self.first);
                 let SeatShares { zero, one, .. } = parts;
-                move_with_one(rt, alloc, changer, lock, zero, one, raw)
+                move_with_one(rt, alloc, changer, lock, zero, one, received)
             }
             2 => {
                 let lock = self.second.as_ref();
                 let SeatShares { zero, two, .. } = parts;
-                move_with_one(rt, alloc, changer, lock, zero, two, raw)
+                move_with_one(rt, alloc, changer, lock, zero, two, received)
             }
             3 => {
                 let lock = self.third.as_ref();
                 let SeatShares { zero, three, .. } = parts;
-                move_with_one(rt, alloc, changer, lock, zero, three, raw)
+                move_with_one(rt, alloc, changer, lock, zero, three, received)
             }
             4 => {
                 let lock = self.fourth.as_ref();
                 let SeatShares { zero, four, .. } = parts;
-                move_with_one(rt, alloc, changer, lock, zero, four, raw)
+                move_with_one(rt, alloc, changer, lock, zero, four, received)
             }
-            _ => changer.step(alloc, &mut parts.zero, raw.nexus, raw.cdb, raw.bytes),
+            _ => changer.step(alloc, &mut parts.zero, received),
         }
     }
 
@@ -79,11 +81,12 @@ impl<
         parts: &mut SeatShares<L0, L1, L2, L3, L4>,
         low: u8,
         high: u8,
-        raw: RawCommand<'a>,
+        received: &ReceivedCommand<'a>,
     ) -> Done<'a>
-        requires { named (drives_of changer.old.unit.device) raw.cdb.now ≡ low ∷ high ∷ [] }
-        ensures answer { IsAnswer result (Some raw.entry.nexus) 0 (event.Command raw.entry.cdb.now raw.entry.bytes.now) }
-        ensures act { result.act ≡ act_kind_if result.numbers (act_kind_of (act_of Changer raw.entry.cdb.now raw.entry.bytes.now)) }
+        requires kind { received.now.kind ≡ Changer }
+        requires named { named (drives_of changer.old.unit.device) received.now.cdb ≡ low ∷ high ∷ [] }
+        ensures answer { IsAnswer result (Some received.now.nexus) 0 (event.Command received.now.cdb received.now.bytes) }
+        ensures act { result.act ≡ act_kind_if result.numbers (act_kind_of (act_of_decoded (command_in received.now))) }
         ensures unnumbered { result.numbers ≡ [] → result.reply ≡ busy }
         ensures rise { Rise parts.old result.numbers parts.new }
     {
@@ -94,29 +97,35 @@ impl<
         match (low, high) {
             (1, 2) => {
                 let (zero, one, two) = (&mut parts.zero, &mut parts.one, &mut parts.two);
-                move_with_two(rt, alloc, changer, first, second, zero, one, two, raw)
+                move_with_two(rt, alloc, changer, first, second, zero, one, two, received)
             }
             (1, 3) => {
                 let (zero, one, three) = (&mut parts.zero, &mut parts.one, &mut parts.three);
-                move_with_two(rt, alloc, changer, first, third, zero, one, three, raw)
+                move_with_two(rt, alloc, changer, first, third, zero, one, three, received)
             }
             (1, 4) => {
                 let (zero, one, four) = (&mut parts.zero, &mut parts.one, &mut parts.four);
-                move_with_two(rt, alloc, changer, first, fourth, zero, one, four, raw)
+                move_with_two(rt, alloc, changer, first, fourth, zero, one, four, received)
             }
             (2, 3) => {
                 let (zero, two, three) = (&mut parts.zero, &mut parts.two, &mut parts.three);
-                move_with_two(rt, alloc, changer, second, third, zero, two, three, raw)
+                move_with_two(
+                    rt, alloc, changer, second, third, zero, two, three, received,
+                )
             }
             (2, 4) => {
                 let (zero, two, four) = (&mut parts.zero, &mut parts.two, &mut parts.four);
-                move_with_two(rt, alloc, changer, second, fourth, zero, two, four, raw)
+                move_with_two(
+                    rt, alloc, changer, second, fourth, zero, two, four, received,
+                )
             }
             (3, 4) => {
                 let (zero, three, four) = (&mut parts.zero, &mut parts.three, &mut parts.four);
-                move_with_two(rt, alloc, changer, third, fourth, zero, three, four, raw)
+                move_with_two(
+                    rt, alloc, changer, third, fourth, zero, three, four, received,
+                )
             }
-            _ => changer.step(alloc, &mut parts.zero, raw.nexus, raw.cdb, raw.bytes),
+            _ => changer.step(alloc, &mut parts.zero, received),
         }
     }
 
@@ -126,20 +135,21 @@ impl<
         rt: &R,
         alloc: Global,
         parts: &mut SeatShares<L0, L1, L2, L3, L4>,
-        raw: RawCommand<'a>,
+        received: &ReceivedCommand<'a>,
     ) -> Done<'a>
-        ensures answer { IsAnswer result (Some raw.entry.nexus) 0 (event.Command raw.entry.cdb.now raw.entry.bytes.now) }
-        ensures act { result.act ≡ act_kind_if result.numbers (act_kind_of (act_of Changer raw.entry.cdb.now raw.entry.bytes.now)) }
+        requires kind { received.now.kind ≡ Changer }
+        ensures answer { IsAnswer result (Some received.now.nexus) 0 (event.Command received.now.cdb received.now.bytes) }
+        ensures act { result.act ≡ act_kind_if result.numbers (act_kind_of (act_of_decoded (command_in received.now))) }
         ensures unnumbered { result.numbers ≡ [] → result.reply ≡ busy }
         ensures rise { Rise parts.old result.numbers parts.new }
     {
         let mut changer = self.changer.mutex().lock(rt);
-        self.gate.inside(0, raw.nexus);
-        let names = named(changer.drives(), raw.cdb);
+        self.gate.inside(0, received.nexus());
+        let names = named(changer.drives(), received);
         match names.as_slice() {
-            [drive] => self.move_one(rt, alloc, &mut *changer, parts, *drive, raw),
-            [low, high] => self.move_two(rt, alloc, &mut *changer, parts, *low, *high, raw),
-            _ => changer.step(alloc, &mut parts.zero, raw.nexus, raw.cdb, raw.bytes),
+            [drive] => self.move_one(rt, alloc, &mut *changer, parts, *drive, received),
+            [low, high] => self.move_two(rt, alloc, &mut *changer, parts, *low, *high, received),
+            _ => changer.step(alloc, &mut parts.zero, received),
         }
     }
 }

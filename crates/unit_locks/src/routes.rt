@@ -1,11 +1,12 @@
 ghost use Rattle.std.specs.Prelude.{◌≡◌, ◌<◌, ◌≤◌, [], true, false, Some, None, IsTrue, ◌↔◌};
 ghost use Rattle.device_server.specs.Attending.{WasAsked};
-ghost use Rattle.judgement.specs.Commands.{act_of};
+ghost use Rattle.judgement.specs.Commands.{act_of_decoded};
+ghost use Rattle.judgement.specs.Received.{command_in};
 ghost use Rattle.logical_unit.specs.declared.act_kind.ActKind.TheVariants as kind;
 ghost use Rattle.logical_unit.specs.Answers as event;
 ghost use Rattle.logical_unit.specs.Answers.{IsAnswer};
 ghost use Rattle.logical_unit.specs.ActKinds.{act_kind_of, act_kind_if};
-ghost use Rattle.kept_unit.specs.Keeping.{kind_at};
+ghost use Rattle.scsi_cdb.specs.Kinds.{kind_at};
 ghost use Rattle.unit_locks.specs.Answering.{AnswersAsAbsent, LeavesNoneFor, LosesNoneFor, RefusesAsAbsent, IsSomeTrail};
 ghost use Rattle.unit_locks.specs.Shares.{Rise};
 
@@ -15,10 +16,10 @@ use crate::locks::{
     attend_at, attend_if_there, drain_at, drain_if_there, has_room_at, has_room_if_there, lose_at,
     lose_if_there, reset_at, reset_if_there, step_at, step_if_there,
 };
-use crate::raw_command::RawCommand;
 use crate::seat_shares::SeatShares;
 use audit_log::Record;
 use device_server::{Attendant, DeviceServer};
+use judgement::ReceivedCommand;
 use kept_unit::UnitLedger;
 use logical_unit::Done;
 use scsi_nexus::Nexus;
@@ -42,22 +43,23 @@ impl<
         alloc: Global,
         parts: &mut SeatShares<L0, L1, L2, L3, L4>,
         lun: u8,
-        raw: RawCommand<'a>,
+        received: &ReceivedCommand<'a>,
     ) -> Done<'a>
-        ensures answer { IsAnswer result (Some raw.entry.nexus) lun (event.Command raw.entry.cdb.now raw.entry.bytes.now) }
-        ensures act { result.act ≡ act_kind_if result.numbers (act_kind_of (act_of (kind_at lun) raw.entry.cdb.now raw.entry.bytes.now)) }
-        ensures absent { AnswersAsAbsent self.now.units lun raw.entry.cdb.now result.reply }
+        requires kind { received.now.kind ≡ kind_at lun }
+        ensures answer { IsAnswer result (Some received.now.nexus) lun (event.Command received.now.cdb received.now.bytes) }
+        ensures act { result.act ≡ act_kind_if result.numbers (act_kind_of (act_of_decoded (command_in received.now))) }
+        ensures absent { AnswersAsAbsent self.now.units lun received.now.cdb result.reply }
         ensures unnumbered { LeavesNoneFor self.now.units lun result.numbers result.reply }
         ensures rise { Rise parts.old result.numbers parts.new }
     {
         let gate = &self.gate;
         match lun {
-            0 => self.step_changer(rt, alloc, parts, raw),
-            1 => step_at(rt, alloc, gate, &self.first, &mut parts.one, raw),
-            2 => step_if_there(rt, alloc, gate, &self.second, &mut parts.two, raw),
-            3 => step_if_there(rt, alloc, gate, &self.third, &mut parts.three, raw),
-            4 => step_if_there(rt, alloc, gate, &self.fourth, &mut parts.four, raw),
-            _ => Done::absent(alloc, raw.nexus, lun, raw.cdb, raw.bytes),
+            0 => self.step_changer(rt, alloc, parts, received),
+            1 => step_at(rt, alloc, gate, &self.first, &mut parts.one, received),
+            2 => step_if_there(rt, alloc, gate, &self.second, &mut parts.two, received),
+            3 => step_if_there(rt, alloc, gate, &self.third, &mut parts.three, received),
+            4 => step_if_there(rt, alloc, gate, &self.fourth, &mut parts.four, received),
+            _ => Done::absent(alloc, lun, received),
         }
     }
 

@@ -3,7 +3,7 @@
 ghost use Rattle.device_server.specs.Attending.{WasAsked};
 ghost use Rattle.device_server.specs.Settled.{SameButSettled};
 
-use device_server::{Attendant, DeviceServer};
+use device_server::{Attendant, DeviceServer, field_fault};
 use kept_media::{InventoryStore, VolumeImage};
 use library_device::Device;
 use library_inventory::Inventory;
@@ -70,7 +70,8 @@ impl Units {
             return false;
         };
         let mut device = drive.lock(rt);
-        device.perform(alloc, request, bytes).is_ok()
+        field_fault(device.kind(), request, bytes).is_none()
+            && device.perform(alloc, request, bytes).is_ok()
     }
 
     /// Each volume is moved to where the other is.

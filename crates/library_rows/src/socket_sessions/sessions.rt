@@ -1,7 +1,9 @@
 //! What no socket shows of a session: that reads are counted, and keys of the directory.
 
 use super::assert_same;
+use judgement::ReceivedCommand;
 use logical_unit::{Done, EventKind};
+use scsi_cdb::Kind;
 use scsi_nexus::Nexus;
 use session::{Directory, Service, SessionFault, serve};
 use std::alloc::Global;
@@ -35,7 +37,8 @@ impl Service for Empty {
         cdb: &'a [u8],
         bytes: &'a [u8],
     ) -> Done<'a> {
-        Done::absent(alloc, nexus, lun, cdb, bytes)
+        let received = ReceivedCommand::new(nexus, Kind::Drive, cdb, bytes);
+        Done::absent(alloc, lun, &received)
     }
 
     fn reset(&mut self, alloc: Global, lun: u8) -> Done<'static> {

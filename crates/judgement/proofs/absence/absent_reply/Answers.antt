@@ -2,9 +2,6 @@ use Rattle.std.proofs.Common.{arith}
 use Rattle.std.proofs.lemmas.Grind.{common_steps}
 use Rattle.judgement.proofs.absence.absent_reply.Goals as goal
 
-pub returns-then-cdb-eq0-clause-answer : goal.returns-then-cdb-eq0-clause-answer
-returns-then-cdb-eq0-clause-answer c = grind (arith, common_steps)
-
 pub returns-clause-answer : goal.returns-clause-answer
 returns-clause-answer c = grind (arith, common_steps)
 

@@ -1,8 +1,9 @@
 use Rattle.std.proofs.Common.{rules}
+use Rattle.judgement.proofs.Stands.{takes_where_carried}
 use Rattle.judgement.proofs.stages.judge_command.Goals as goal
 
-pub returns-in-Some-clause-ok : goal.returns-in-Some-clause-ok
-returns-in-Some-clause-ok g c = search rules fits 100
-
-pub returns-in-None-clause-ok : goal.returns-in-None-clause-ok
-returns-in-None-clause-ok g c = search rules
+pub returns-in_err-decision-in-LetThrough-clause-want : goal.returns-in_err-decision-in-LetThrough-clause-want
+returns-in_err-decision-in-LetThrough-clause-want g c =
+    let carried = takes_where_carried c.args.kept.now c.stands_before.new.kept c.args.nexus c.args.command.now c.in-LetThrough.in_cell
+    (g.D.DeviceServer.shown c.args.server.now.value) (search rules) c.in-LetThrough.ensures in
+    search rules

@@ -1,8 +1,5 @@
 use Rattle.std.proofs.Common.{◌≡◌, ◌+◌, ◌∷◌, [], ℕ, sym, ap, ◌∙◌, subst}
-use Rattle.scsi_cdb.specs.declared.kind.Kind.{Kind}
 use Rattle.device_server.specs.View.{drives_of}
-use Rattle.judgement.specs.Commands.{act_of}
-use Rattle.logical_unit.specs.ActKinds.{act_kind_of, act_kind_if}
 use Rattle.logical_unit.specs.Route.{named}
 use Rattle.logical_unit.specs.UnitView.{last_number}
 use Rattle.kept_unit.specs.Keeping.{KeptValue}
@@ -12,22 +9,29 @@ use Rattle.kept_unit.proofs.carrying.move_kept_one.Goals as goal
 
 pub invariant_of-changer : goal.invariant_of-changer
 invariant_of-changer g c =
-    let names = subst (λ (v : KeptValue). named (drives_of v.unit.device) c.args.cdb.now ≡ g.row.LUN ∷ []) (sym c.changer.view_is) c.requires.named in
-    let m = one_move c.changer.inside.unit.unit c.drive.inside.unit.unit c.carry_out_move_one-done.new.changer.unit c.carry_out_move_one-done.new.drive.unit g.row.LUN c.args.nexus c.args.cdb.now c.args.bytes.now c.carry_out_move_one-done.result.reply c.carry_out_move_one-done.result.numbers names c.carry_out_move_one-done.ensures.step c.carry_out_move_one-done.ensures.numbers c.changer.invariant.place c.drive.invariant.place c.requires.drive in
-    same_kept 0 c.changer.inside.unit.unit c.carry_out_move_one-done.new.changer.unit c.count_at.result _ _ _ _ m.changer c.changer.invariant
+    let names = subst (λ (v : KeptValue). named (drives_of v.unit.device) c.args.received.now.cdb ≡ g.row.LUN ∷ []) (sym c.changer.view_is)
+    c.requires.named in
+    let m = one_move c.changer.inside.unit.unit c.drive.inside.unit.unit c.carry_out_move_one-done.new.changer.unit
+    c.carry_out_move_one-done.new.drive.unit g.row.LUN c.args.received.now.nexus c.args.received.now.cdb c.args.received.now.bytes
+    c.carry_out_move_one-done.result.reply c.carry_out_move_one-done.result.numbers names c.carry_out_move_one-done.ensures.step
+    c.carry_out_move_one-done.ensures.numbers c.changer.invariant.place c.drive.invariant.place c.requires.drive in
+    same_kept 0 c.changer.inside.unit.unit c.carry_out_move_one-done.new.changer.unit c.count_at.result _ _ _ _ m.changer
+    c.changer.invariant
     (m.counts.changer ∙ ap (λ (k : ℕ). last_number c.changer.inside.unit.unit + k) (sym c.count_at.ensures)) c.add.ensures.total
 
 pub invariant_of-drive : goal.invariant_of-drive
 invariant_of-drive g c =
-    let names = subst (λ (v : KeptValue). named (drives_of v.unit.device) c.args.cdb.now ≡ g.row.LUN ∷ []) (sym c.changer.view_is) c.requires.named in
-    let m = one_move c.changer.inside.unit.unit c.drive.inside.unit.unit c.carry_out_move_one-done.new.changer.unit c.carry_out_move_one-done.new.drive.unit g.row.LUN c.args.nexus c.args.cdb.now c.args.bytes.now c.carry_out_move_one-done.result.reply c.carry_out_move_one-done.result.numbers names c.carry_out_move_one-done.ensures.step c.carry_out_move_one-done.ensures.numbers c.changer.invariant.place c.drive.invariant.place c.requires.drive in
-    same_kept g.row.LUN c.drive.inside.unit.unit c.carry_out_move_one-done.new.drive.unit c.count_at-2.result _ _ _ _ m.drive c.drive.invariant
+    let names = subst (λ (v : KeptValue). named (drives_of v.unit.device) c.args.received.now.cdb ≡ g.row.LUN ∷ []) (sym c.changer.view_is)
+    c.requires.named in
+    let m = one_move c.changer.inside.unit.unit c.drive.inside.unit.unit c.carry_out_move_one-done.new.changer.unit
+    c.carry_out_move_one-done.new.drive.unit g.row.LUN c.args.received.now.nexus c.args.received.now.cdb c.args.received.now.bytes
+    c.carry_out_move_one-done.result.reply c.carry_out_move_one-done.result.numbers names c.carry_out_move_one-done.ensures.step
+    c.carry_out_move_one-done.ensures.numbers c.changer.invariant.place c.drive.invariant.place c.requires.drive in
+    same_kept g.row.LUN c.drive.inside.unit.unit c.carry_out_move_one-done.new.drive.unit c.count_at-2.result _ _ _ _ m.drive
+    c.drive.invariant
     (m.counts.drive ∙ ap (λ (k : ℕ). last_number c.drive.inside.unit.unit + k) (sym c.count_at-2.ensures)) c.add-2.ensures.total
 
 pub returns-clause-step : goal.returns-clause-step
 returns-clause-step g c =
-    rw (← ap (λ (v : KeptValue). v.unit) c.changer.view_is, ← ap (λ (v : KeptValue). v.unit) c.drive.view_is) c.carry_out_move_one-done.ensures.step
-
-pub returns-clause-act : goal.returns-clause-act
-returns-clause-act g c =
-    c.carry_out_move_one-done.ensures.act ∙ ap (λ (kind : Kind). act_kind_if c.carry_out_move_one-done.result.numbers (act_kind_of (act_of kind c.args.cdb.now c.args.bytes.now))) c.changer.invariant.kind
+    rw (← ap (λ (v : KeptValue). v.unit) c.changer.view_is, ← ap (λ (v : KeptValue). v.unit) c.drive.view_is)
+    c.carry_out_move_one-done.ensures.step

@@ -1,8 +1,5 @@
 use Rattle.std.proofs.Common.{◌≡◌, ◌+◌, ◌∷◌, [], ℕ, sym, ap, ◌∙◌, subst, rules}
-use Rattle.scsi_cdb.specs.declared.kind.Kind.{Kind}
 use Rattle.device_server.specs.View.{drives_of}
-use Rattle.judgement.specs.Commands.{act_of}
-use Rattle.logical_unit.specs.ActKinds.{act_kind_of, act_kind_if}
 use Rattle.logical_unit.specs.Route.{named}
 use Rattle.logical_unit.specs.UnitView.{last_number}
 use Rattle.kept_unit.specs.Keeping.{KeptValue}
@@ -12,38 +9,64 @@ use Rattle.kept_unit.proofs.carrying.move_kept_two.Goals as goal
 
 pub invariant_of-changer : goal.invariant_of-changer
 invariant_of-changer g c =
-    let names = subst (λ (v : KeptValue). named (drives_of v.unit.device) c.args.cdb.now ≡ g.row.LOW ∷ g.row.HIGH ∷ []) (sym c.changer.view_is) c.requires.named in
-    let m = two_move c.changer.inside.unit.unit c.carry_out_move_two-done.new.changer.unit (record { low = c.low.inside.unit.unit; high = c.high.inside.unit.unit }) (record { low = c.carry_out_move_two-done.new.low.unit; high = c.carry_out_move_two-done.new.high.unit }) g.row.LOW g.row.HIGH c.args.nexus c.args.cdb.now c.args.bytes.now c.carry_out_move_two-done.result.reply c.carry_out_move_two-done.result.numbers names c.carry_out_move_two-done.ensures.step c.carry_out_move_two-done.ensures.numbers c.changer.invariant.place c.low.invariant.place c.high.invariant.place c.requires.drives.0 c.requires.drives.1 in
-    same_kept 0 c.changer.inside.unit.unit c.carry_out_move_two-done.new.changer.unit c.count_at.result _ _ _ _ m.changer c.changer.invariant
+    let names = subst (λ (v : KeptValue). named (drives_of v.unit.device) c.args.received.now.cdb ≡ g.row.LOW ∷ g.row.HIGH ∷ [])
+    (sym c.changer.view_is) c.requires.named in
+    let m = two_move c.changer.inside.unit.unit c.carry_out_move_two-done.new.changer.unit
+    (record { low = c.low.inside.unit.unit; high = c.high.inside.unit.unit })
+    (record { low = c.carry_out_move_two-done.new.low.unit; high = c.carry_out_move_two-done.new.high.unit }) g.row.LOW g.row.HIGH
+    c.args.received.now.nexus c.args.received.now.cdb c.args.received.now.bytes c.carry_out_move_two-done.result.reply
+    c.carry_out_move_two-done.result.numbers names c.carry_out_move_two-done.ensures.step c.carry_out_move_two-done.ensures.numbers
+    c.changer.invariant.place c.low.invariant.place c.high.invariant.place c.requires.drives.0 c.requires.drives.1 in
+    same_kept 0 c.changer.inside.unit.unit c.carry_out_move_two-done.new.changer.unit c.count_at.result _ _ _ _ m.changer
+    c.changer.invariant
     (m.counts.changer ∙ ap (λ (k : ℕ). last_number c.changer.inside.unit.unit + k) (sym c.count_at.ensures)) c.add.ensures.total
 
 pub invariant_of-low : goal.invariant_of-low
 invariant_of-low g c =
-    let names = subst (λ (v : KeptValue). named (drives_of v.unit.device) c.args.cdb.now ≡ g.row.LOW ∷ g.row.HIGH ∷ []) (sym c.changer.view_is) c.requires.named in
-    let m = two_move c.changer.inside.unit.unit c.carry_out_move_two-done.new.changer.unit (record { low = c.low.inside.unit.unit; high = c.high.inside.unit.unit }) (record { low = c.carry_out_move_two-done.new.low.unit; high = c.carry_out_move_two-done.new.high.unit }) g.row.LOW g.row.HIGH c.args.nexus c.args.cdb.now c.args.bytes.now c.carry_out_move_two-done.result.reply c.carry_out_move_two-done.result.numbers names c.carry_out_move_two-done.ensures.step c.carry_out_move_two-done.ensures.numbers c.changer.invariant.place c.low.invariant.place c.high.invariant.place c.requires.drives.0 c.requires.drives.1 in
+    let names = subst (λ (v : KeptValue). named (drives_of v.unit.device) c.args.received.now.cdb ≡ g.row.LOW ∷ g.row.HIGH ∷ [])
+    (sym c.changer.view_is) c.requires.named in
+    let m = two_move c.changer.inside.unit.unit c.carry_out_move_two-done.new.changer.unit
+    (record { low = c.low.inside.unit.unit; high = c.high.inside.unit.unit })
+    (record { low = c.carry_out_move_two-done.new.low.unit; high = c.carry_out_move_two-done.new.high.unit }) g.row.LOW g.row.HIGH
+    c.args.received.now.nexus c.args.received.now.cdb c.args.received.now.bytes c.carry_out_move_two-done.result.reply
+    c.carry_out_move_two-done.result.numbers names c.carry_out_move_two-done.ensures.step c.carry_out_move_two-done.ensures.numbers
+    c.changer.invariant.place c.low.invariant.place c.high.invariant.place c.requires.drives.0 c.requires.drives.1 in
     same_kept g.row.LOW c.low.inside.unit.unit c.carry_out_move_two-done.new.low.unit c.count_at-2.result _ _ _ _ m.low c.low.invariant
     (m.counts.low ∙ ap (λ (k : ℕ). last_number c.low.inside.unit.unit + k) (sym c.count_at-2.ensures)) c.add-2.ensures.total
 
 pub invariant_of-high : goal.invariant_of-high
 invariant_of-high g c =
-    let names = subst (λ (v : KeptValue). named (drives_of v.unit.device) c.args.cdb.now ≡ g.row.LOW ∷ g.row.HIGH ∷ []) (sym c.changer.view_is) c.requires.named in
-    let m = two_move c.changer.inside.unit.unit c.carry_out_move_two-done.new.changer.unit (record { low = c.low.inside.unit.unit; high = c.high.inside.unit.unit }) (record { low = c.carry_out_move_two-done.new.low.unit; high = c.carry_out_move_two-done.new.high.unit }) g.row.LOW g.row.HIGH c.args.nexus c.args.cdb.now c.args.bytes.now c.carry_out_move_two-done.result.reply c.carry_out_move_two-done.result.numbers names c.carry_out_move_two-done.ensures.step c.carry_out_move_two-done.ensures.numbers c.changer.invariant.place c.low.invariant.place c.high.invariant.place c.requires.drives.0 c.requires.drives.1 in
+    let names = subst (λ (v : KeptValue). named (drives_of v.unit.device) c.args.received.now.cdb ≡ g.row.LOW ∷ g.row.HIGH ∷ [])
+    (sym c.changer.view_is) c.requires.named in
+    let m = two_move c.changer.inside.unit.unit c.carry_out_move_two-done.new.changer.unit
+    (record { low = c.low.inside.unit.unit; high = c.high.inside.unit.unit })
+    (record { low = c.carry_out_move_two-done.new.low.unit; high = c.carry_out_move_two-done.new.high.unit }) g.row.LOW g.row.HIGH
+    c.args.received.now.nexus c.args.received.now.cdb c.args.received.now.bytes c.carry_out_move_two-done.result.reply
+    c.carry_out_move_two-done.result.numbers names c.carry_out_move_two-done.ensures.step c.carry_out_move_two-done.ensures.numbers
+    c.changer.invariant.place c.low.invariant.place c.high.invariant.place c.requires.drives.0 c.requires.drives.1 in
     same_kept g.row.HIGH c.high.inside.unit.unit c.carry_out_move_two-done.new.high.unit c.count_at-3.result _ _ _ _ m.high c.high.invariant
     (m.counts.high ∙ ap (λ (k : ℕ). last_number c.high.inside.unit.unit + k) (sym c.count_at-3.ensures)) c.add-3.ensures.total
 
 pub returns-clause-step : goal.returns-clause-step
 returns-clause-step g c =
-    rw (← ap (λ (v : KeptValue). v.unit) c.changer.view_is, ← ap (λ (v : KeptValue). v.unit) c.low.view_is, ← ap (λ (v : KeptValue). v.unit) c.high.view_is) c.carry_out_move_two-done.ensures.step
+    rw (
+      ← ap (λ (v : KeptValue). v.unit) c.changer.view_is,
+      ← ap (λ (v : KeptValue). v.unit) c.low.view_is,
+      ← ap (λ (v : KeptValue). v.unit)
+          c.high.view_is,
+    ) c.carry_out_move_two-done.ensures.step
 
 pub returns-clause-only : goal.returns-clause-only
 returns-clause-only g c =
-    let names = subst (λ (v : KeptValue). named (drives_of v.unit.device) c.args.cdb.now ≡ g.row.LOW ∷ g.row.HIGH ∷ []) (sym c.changer.view_is) c.requires.named in
-    let m = two_move c.changer.inside.unit.unit c.carry_out_move_two-done.new.changer.unit (record { low = c.low.inside.unit.unit; high = c.high.inside.unit.unit }) (record { low = c.carry_out_move_two-done.new.low.unit; high = c.carry_out_move_two-done.new.high.unit }) g.row.LOW g.row.HIGH c.args.nexus c.args.cdb.now c.args.bytes.now c.carry_out_move_two-done.result.reply c.carry_out_move_two-done.result.numbers names c.carry_out_move_two-done.ensures.step c.carry_out_move_two-done.ensures.numbers c.changer.invariant.place c.low.invariant.place c.high.invariant.place c.requires.drives.0 c.requires.drives.1 in
+    let names = subst (λ (v : KeptValue). named (drives_of v.unit.device) c.args.received.now.cdb ≡ g.row.LOW ∷ g.row.HIGH ∷ [])
+    (sym c.changer.view_is) c.requires.named in
+    let m = two_move c.changer.inside.unit.unit c.carry_out_move_two-done.new.changer.unit
+    (record { low = c.low.inside.unit.unit; high = c.high.inside.unit.unit })
+    (record { low = c.carry_out_move_two-done.new.low.unit; high = c.carry_out_move_two-done.new.high.unit }) g.row.LOW g.row.HIGH
+    c.args.received.now.nexus c.args.received.now.cdb c.args.received.now.bytes c.carry_out_move_two-done.result.reply
+    c.carry_out_move_two-done.result.numbers names c.carry_out_move_two-done.ensures.step c.carry_out_move_two-done.ensures.numbers
+    c.changer.invariant.place c.low.invariant.place c.high.invariant.place c.requires.drives.0 c.requires.drives.1 in
     m.counts.only
-
-pub returns-clause-act : goal.returns-clause-act
-returns-clause-act g c =
-    c.carry_out_move_two-done.ensures.act ∙ ap (λ (kind : Kind). act_kind_if c.carry_out_move_two-done.result.numbers (act_kind_of (act_of kind c.args.cdb.now c.args.bytes.now))) c.changer.invariant.kind
 
 pub returns-clause-high_book : goal.returns-clause-high_book
 returns-clause-high_book g c = search rules fits 100

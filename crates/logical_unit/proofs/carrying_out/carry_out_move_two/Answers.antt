@@ -1,28 +1,53 @@
-use Rattle.std.proofs.Common.{◌∷◌, [], ℕ, List, sym, ap, ◌∙◌}
-use Rattle.audit_log.specs.declared.record.Record.{Record}
+use Rattle.std.proofs.Common.{◌≡◌, ◌∷◌, [], ℕ, List, sym, ap, ◌∙◌}
+use Rattle.scsi_cdb.specs.declared.kind.Kind.{Kind}
+use Rattle.permit_tables.specs.declared.classes.Class.TheVariants as class
+use Rattle.audit_log.specs.declared.act.Act.{Act}
+use Rattle.audit_log.specs.declared.act.Act.TheVariants as act
+use Rattle.logical_unit.specs.declared.act_kind.ActKind.TheVariants as kind
 use Rattle.device_server.specs.View.{kind_of}
 use Rattle.judgement.specs.Commands.{act_of}
 use Rattle.logical_unit.specs.ActKinds.{act_kind_of, act_kind_if}
-use Rattle.logical_unit.proofs.Carried.{recorded_kind, two_settled, two_told}
+use Rattle.logical_unit.proofs.Carried.{two_settled, two_told}
+use Rattle.logical_unit.proofs.NamedDrives.{move_asked}
+use Rattle.logical_unit.proofs.SameUnits.{two_same}
 use Rattle.logical_unit.proofs.carrying_out.carry_out_move_two.Goals as goal
+
+pub volume_after-volume-requires : goal.volume_after-volume-requires
+volume_after-volume-requires g c =
+    let same = two_same c.args.changer.now.unit c.move_two-receipt.new.changer.unit
+    (record { low = c.args.low.now.unit; high = c.args.high.now.unit }) (record
+    { low = c.move_two-receipt.new.low.unit; high = c.move_two-receipt.new.high.unit }) c.args.received.now.nexus
+    c.args.received.now.cdb c.args.received.now.bytes c.move_two-receipt.result.reply c.args.low.now.unit.kept.lun
+    (c.args.high.now.unit.kept.lun ∷ []) c.requires.named c.move_two-receipt.ensures.units in
+    c.requires.kind ∙ sym same.0.device.kind
 
 pub returns-clause-act : goal.returns-clause-act
 returns-clause-act g c =
-    let told = two_told c.args.changer.now.unit c.move_two-receipt.new.changer.unit (record { low = c.args.low.now.unit; high = c.args.high.now.unit }) (record { low = c.move_two-receipt.new.low.unit; high = c.move_two-receipt.new.high.unit }) (act_of (kind_of c.args.changer.now.unit.device) c.args.cdb.now c.args.bytes.now) c.move_two-receipt.result.reply c.move_two-receipt.result.numbers.items
-    (two_settled c.args.changer.now.unit c.move_two-receipt.new.changer.unit (record { low = c.args.low.now.unit; high = c.args.high.now.unit }) (record { low = c.move_two-receipt.new.low.unit; high = c.move_two-receipt.new.high.unit }) c.args.nexus c.args.cdb.now c.args.bytes.now c.move_two-receipt.result.reply c.args.low.now.unit.kept.lun (c.args.high.now.unit.kept.lun ∷ []) c.requires.named c.move_two-receipt.ensures.units) c.move_two-receipt.ensures.numbers in
-    let asked = act_of (kind_of c.args.changer.now.unit.device) c.args.cdb.now c.args.bytes.now in
-    let value = c.as_slice.ensures.value in
-    let items = c.move_two-receipt.result.numbers.items in
-    c.done_with.ensures.act
-    ∙ recorded_kind items c.args.changer.now.unit c.move_two-receipt.new.changer.unit asked c.move_two-receipt.result.reply c.records.result.now c.last_act_kind-act.result told.told c.records.ensures.records
-    (λ none. c.last_act_kind-act.ensures.none (value ∙ none))
-    (λ (before : List Record) (last : Record) is. c.last_act_kind-act.ensures.act before last is ∙ ap (λ (ns : List (ℕ × ℕ)). act_kind_if ns (act_kind_of last.act)) value)
-    ∙ ap (λ (ns : List (ℕ × ℕ)). act_kind_if ns (act_kind_of asked)) (sym c.done_with.ensures.numbers)
+    let asked = act_of c.args.received.now.kind c.args.received.now.cdb c.args.received.now.bytes in
+    let moves : asked ≡ act.Command class.MoveMedium
+    = ap (λ (k : Kind). act_of k c.args.received.now.cdb c.args.received.now.bytes) c.requires.kind
+    ∙ move_asked c.args.changer.now.unit.device c.args.received.now.cdb c.args.received.now.bytes c.args.low.now.unit.kept.lun
+    (c.args.high.now.unit.kept.lun ∷ []) c.requires.named in
+    c.done_with.ensures.act ∙ c.recorded_kind-act.ensures
+    ∙ ap (λ (ns : List (ℕ × ℕ)). act_kind_if ns (kind.Command class.MoveMedium)) (c.as_slice.ensures.value ∙ sym
+    c.done_with.ensures.numbers)
+    ∙ ap (λ (a : Act). act_kind_if c.done_with.result.numbers (act_kind_of a)) (sym moves)
 
 pub returns-clause-unnumbered : goal.returns-clause-unnumbered
 returns-clause-unnumbered g c = λ none.
-    (let told = two_told c.args.changer.now.unit c.move_two-receipt.new.changer.unit (record { low = c.args.low.now.unit; high = c.args.high.now.unit }) (record { low = c.move_two-receipt.new.low.unit; high = c.move_two-receipt.new.high.unit }) (act_of (kind_of c.args.changer.now.unit.device) c.args.cdb.now c.args.bytes.now) c.move_two-receipt.result.reply c.move_two-receipt.result.numbers.items
-    (two_settled c.args.changer.now.unit c.move_two-receipt.new.changer.unit (record { low = c.args.low.now.unit; high = c.args.high.now.unit }) (record { low = c.move_two-receipt.new.low.unit; high = c.move_two-receipt.new.high.unit }) c.args.nexus c.args.cdb.now c.args.bytes.now c.move_two-receipt.result.reply c.args.low.now.unit.kept.lun (c.args.high.now.unit.kept.lun ∷ []) c.requires.named c.move_two-receipt.ensures.units) c.move_two-receipt.ensures.numbers in
+    (let told = two_told c.args.changer.now.unit c.move_two-receipt.new.changer.unit
+    (record { low = c.args.low.now.unit; high = c.args.high.now.unit }) (record
+    { low = c.move_two-receipt.new.low.unit; high = c.move_two-receipt.new.high.unit })
+    (act_of (kind_of c.args.changer.now.unit.device) c.args.received.now.cdb c.args.received.now.bytes) c.move_two-receipt.result.reply
+    c.move_two-receipt.result.numbers.items
+    (two_settled c.args.changer.now.unit c.move_two-receipt.new.changer.unit (record
+    { low = c.args.low.now.unit; high = c.args.high.now.unit }) (record {
+      low = c.move_two-receipt.new.low.unit;
+      high =
+          c.move_two-receipt.new.high.unit;
+    }) c.args.received.now.nexus c.args.received.now.cdb c.args.received.now.bytes
+    c.move_two-receipt.result.reply c.args.low.now.unit.kept.lun (c.args.high.now.unit.kept.lun ∷ []) c.requires.named
+    c.move_two-receipt.ensures.units) c.move_two-receipt.ensures.numbers in
     c.done_with.ensures.reply ∙ told.unnumbered (sym c.done_with.ensures.numbers ∙ none))
 
 pub returns-clause-step : goal.returns-clause-step

@@ -3,14 +3,37 @@ use Rattle.judgement.specs.UnitState.{has_room}
 use Rattle.logical_unit.specs.UnitView.{RecordedUnitView}
 use Rattle.logical_unit.proofs.DeviceCommands.{IsPlainIf, decoded_plain}
 use Rattle.logical_unit.proofs.Legal.{answered_stands}
+use Rattle.logical_unit.proofs.Executed.{answered_alike}
 use Rattle.logical_unit.proofs.state.RecordedUnit.answer.Goals as goal
 
 pub invariant_of-self-2 : goal.invariant_of-self-2
 invariant_of-self-2 g c =
-    let plain = subst IsPlainIf (sym c.in_ok-decoded.ensures.ok) (decoded_plain c.kind.result c.args.cdb.now c.args.bytes.now) in
-    let room = subst (λ (v : RecordedUnitView). has_room v.kept c.args.nexus ≡ true) (sym c.self.view_is) c.requires.slot in
+    let plain = subst IsPlainIf (sym c.in_ok-decoded.ensures.ok) (decoded_plain c.args.received.now.kind c.args.received.now.cdb
+    c.args.received.now.bytes) in
+    let slot = subst (λ (v : RecordedUnitView). has_room v.kept c.args.received.now.nexus ≡ true) (sym c.self.view_is) c.requires.slot in
+    let room : has_room c.self.inside.kept c.nexus-nexus.result ≡ true = subst (λ n. has_room c.self.inside.kept n ≡ true)
+    (sym c.nexus-nexus.ensures) slot in
     rw c.note-number.ensures.records
-    (answered_stands c.self.inside.base c.self.inside.kept c.judge.new.kept c.self.inside.trail.records _ _ c.args.nexus c.in_ok-decoded.decoded c.args.bytes.now _ c.in_ok-act.act c.in_ok-decision.decision c.in_ok-decision.reply c.self.invariant room plain c.in_ok-act.ensures.ok c.in_ok-decision.ensures.ok)
+    (answered_stands c.self.inside.base c.self.inside.kept c.judge.new.kept c.self.inside.trail.records _ _ c.nexus-nexus.result
+    c.in_ok-decoded.decoded c.bytes.result.now _ c.in_ok-act.act c.in_ok-decision.decision c.in_ok-decision.reply c.self.invariant room
+    plain c.in_ok-act.ensures.ok c.in_ok-decision.ensures.ok)
 
 pub returns-clause-ok : goal.returns-clause-ok
-returns-clause-ok g c = search rules fits 100
+returns-clause-ok g c =
+    answered_alike (g.D.DeviceServer.shown c.args.server.now.value)
+    (record {
+      kept = c.self.inside.kept;
+      base = record { kept = c.self.inside.base; last = c.self.inside.trail.base };
+      records =
+          c.self.inside.trail.records;
+      room = c.self.inside.trail.room;
+    }) _
+    c.nexus-nexus.result c.args.received.now.nexus c.args.received.now.cdb c.bytes.result.now c.args.received.now.bytes
+    c.args.received.now.kind c.in_ok-decoded.decoded c.in_ok-act.act (
+      record { device = g.D.DeviceServer.shown c.judge.new.server.value; kept = c.judge.new.kept },
+      c.in_ok-decision.decision,
+      c.in_ok-decision.reply,
+    ) _
+    c.self.view_is c.nexus-nexus.ensures c.bytes.ensures c.requires.kind c.in_ok-decoded.ensures.ok c.in_ok-act.ensures.ok
+    c.in_ok-decision.ensures.ok
+    (search rules fits 100)
