@@ -19,7 +19,8 @@ pub(crate) enum Purpose {
     Answer,
     /// The end of the library: the same, and for the last time.
     End,
-    /// What is to be copied behind: so many parts of a volume are at once, and brought to the disk only where that couldn't be written.
+    /// What is to be copied behind: so many parts of a volume are at once. They are brought to the disk where they are much or have waited, or
+    /// where the volume couldn't be written.
     Behind,
 }
 
@@ -30,6 +31,14 @@ pub(crate) enum Depth {
     Image,
     /// And to the disk.
     Disk,
+}
+
+/// What was copied of a volume.
+#[derive(Clone, Copy)]
+struct Copied {
+    extent: Extent,
+    /// So many bytes were written to its image.
+    bytes: u64,
 }
 
 /// So many parts of a volume are copied behind before others have their turn.
@@ -105,19 +114,29 @@ impl<'a, S: ImageStore + Drop, R: Wait, T: TapeSource<Device>, H: KeepListener> 
     /// be written is brought to the disk too, since else nobody knows whether the disk takes it.
     fn copy_image(&self, image: &VolumeImage<S>, at: VolumePlace) -> bool {
         let mut in_use = image.in_use.lock(self.rt);
-        let depth = match self.purpose {
-            Purpose::Behind if !image.watch.is_failing() => Depth::Image,
-            Purpose::Behind | Purpose::Answer | Purpose::End => Depth::Disk,
-        };
+        let depth = self.depth_of(image);
         let copied = self.bring_on(&mut in_use, at, depth);
-        in_use.note(copied);
-        if let Some(change) = image.watch.note(copied) {
+        match (copied, depth) {
+            (Ok(copied), Depth::Image) => image.note_copied(self.rt, copied.bytes),
+            (Ok(_), Depth::Disk) => image.note_synced(self.rt),
+            (Err(_), _) => self.behind.stick(self.rt, at.lun),
+        }
+        let extent = copied.map(|copied| copied.extent);
+        in_use.note(extent);
+        if let Some(change) = image.watch.note(extent) {
             self.tell(at.tag, change);
         }
-        if copied.is_err() {
-            self.behind.stick(self.rt, at.lun);
+        extent.is_ok()
+    }
+
+    /// How far a copy of a volume goes.
+    fn depth_of(&self, image: &VolumeImage<S>) -> Depth {
+        match self.purpose {
+            Purpose::Behind if !image.watch.is_failing() && !image.is_sync_due(self.rt) => {
+                Depth::Image
+            }
+            Purpose::Behind | Purpose::Answer | Purpose::End => Depth::Disk,
         }
-        copied.is_ok()
     }
 
     /// Copies a volume into its image, in a new file where the disk has failed again.
@@ -126,7 +145,7 @@ impl<'a, S: ImageStore + Drop, R: Wait, T: TapeSource<Device>, H: KeepListener> 
         in_use: &mut ImageInUse<S>,
         at: VolumePlace,
         depth: Depth,
-    ) -> Result<Extent, KeepFault> {
+    ) -> Result<Copied, KeepFault> {
         match in_use.way(matches!(self.purpose, Purpose::End)) {
             Way::InPlace => self.keep(&mut in_use.kept, at, depth),
             Way::Anew => self.keep_anew(in_use, at),
@@ -136,13 +155,13 @@ impl<'a, S: ImageStore + Drop, R: Wait, T: TapeSource<Device>, H: KeepListener> 
 
     /// Copies all of the volume at a place into a new file, brings that to the disk, and has it take the place of the one that couldn't be
     /// written.
-    fn keep_anew(&self, in_use: &mut ImageInUse<S>, at: VolumePlace) -> Result<Extent, KeepFault> {
+    fn keep_anew(&self, in_use: &mut ImageInUse<S>, at: VolumePlace) -> Result<Copied, KeepFault> {
         let mut kept = in_use.kept.renewed(self.alloc).map_err(fault_of_store)?;
         in_use.give_up();
-        let extent = self.copy(&mut kept, at, None).map_err(fault_of_flush)?;
+        let copied = self.copy(&mut kept, at, None).map_err(fault_of_flush)?;
         kept.sync_anew().map_err(fault_of_store)?;
         in_use.replace(kept);
-        Ok(extent)
+        Ok(copied)
     }
 
     /// Copies the volume at a place into its image, and brings that to the disk if it is to be there. How much of the volume it has then.
@@ -151,17 +170,17 @@ impl<'a, S: ImageStore + Drop, R: Wait, T: TapeSource<Device>, H: KeepListener> 
         kept: &mut KeptImage<S>,
         at: VolumePlace,
         depth: Depth,
-    ) -> Result<Extent, KeepFault> {
+    ) -> Result<Copied, KeepFault> {
         let most_parts = match self.purpose {
             Purpose::Answer | Purpose::End => None,
             Purpose::Behind => Some(MOST_PARTS),
         };
-        let extent = self.copy(kept, at, most_parts).map_err(fault_of_flush)?;
+        let copied = self.copy(kept, at, most_parts).map_err(fault_of_flush)?;
         match depth {
             Depth::Image => {}
             Depth::Disk => kept.sync().map_err(fault_of_store)?,
         }
-        Ok(extent)
+        Ok(copied)
     }
 
     /// Copies what a volume has by now, wherever it is moved meanwhile; behind what hosts write only so many parts at once, so that the volumes
@@ -172,11 +191,12 @@ impl<'a, S: ImageStore + Drop, R: Wait, T: TapeSource<Device>, H: KeepListener> 
         kept: &mut KeptImage<S>,
         at: VolumePlace,
         most_parts: Option<u8>,
-    ) -> Result<Extent, FlushFault> {
+    ) -> Result<Copied, FlushFault> {
         let mut part = TapePart::new(self.alloc)?;
         let mut at = at;
         let mut wanted = u32::MAX;
         let mut parts = 0u8;
+        let mut bytes = 0u64;
         for _look in self.rt.forever() {
             let before = self.behind.at(self.rt, at.lun);
             let Some(taken) = self.take_part(kept, at, &mut part) else {
@@ -186,18 +206,21 @@ impl<'a, S: ImageStore + Drop, R: Wait, T: TapeSource<Device>, H: KeepListener> 
             let range = taken?;
             if !kept.is_unchanged(range) {
                 kept.write_part(range, &part)?;
+                bytes = bytes.saturating_add(part.size() as u64);
             }
             self.note_copied(at.lun, range, &part, before);
             wanted = wanted.min(range.count);
             parts = parts.saturating_add(1);
             if range.end >= wanted {
-                return Ok(Extent::All);
+                break;
             }
             if most_parts.is_some_and(|most| parts >= most) {
-                return Ok(Extent::Part);
+                let extent = Extent::Part;
+                return Ok(Copied { extent, bytes });
             }
         }
-        Ok(Extent::All)
+        let extent = Extent::All;
+        Ok(Copied { extent, bytes })
     }
 
     /// Notes what isn't behind any more: the part, or where the volume has no more, all that was behind before it was taken.

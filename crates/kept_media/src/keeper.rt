@@ -11,7 +11,7 @@ use library_device::Device;
 use library_inventory::{AddFault, LibrarySize};
 use std::alloc::Global;
 use std::sync::{Mutex, Wait};
-use std::time::Clock;
+use std::time::{Clock, Instant};
 use tape_flush::ImageStore;
 use tape_keeper::{
     GoodCommand, KeepChange, KeepEvent, KeepFault, KeepListener, KeptThing, TapeKeeper, TapeSource,
@@ -188,8 +188,9 @@ impl<S: ImageStore + Drop, N: InventoryStore + Drop> TapeKeeper<Device> for Medi
             return;
         }
         let copying = self.copying(rt, alloc, source, listener, Purpose::Behind);
+        let now = Instant::now(rt).ok();
         for image in &self.images {
-            if image.watch.is_failing() {
+            if image.watch.is_failing() || image.has_waited(rt, now) {
                 // What still can't be kept is tried again the next time.
                 let _ = copying.copy_from_anywhere(image.tag);
             }

@@ -1,5 +1,6 @@
 use crate::watch::{Extent, Watch};
-use std::sync::Mutex;
+use std::sync::{Mutex, Wait};
+use std::time::{Duration, Instant};
 use tape_flush::{ImageStore, KeptImage};
 use tape_keeper::KeepFault;
 use tape_medium::{Volume, VolumeTag};
@@ -9,6 +10,12 @@ const MOST_IN_PLACE: u32 = 2;
 
 /// Once in so many tries at the latest a tape is written to a new file again.
 const AT_THE_LATEST: u32 = 128;
+
+/// So many bytes that were copied behind are brought to the disk at once.
+const MANY_UNSYNCED: u64 = 64 * 1024 * 1024;
+
+/// Fewer are when they have waited for so many milliseconds.
+const UNSYNCED_AT_MOST: u64 = 1000;
 
 /// How an image is to be brought on.
 #[derive(Clone, Copy)]
@@ -68,6 +75,15 @@ impl<S: ImageStore + Drop> ImageInUse<S> {
     }
 }
 
+/// What was copied into an image behind and isn't brought to the disk yet.
+#[derive(Clone, Copy, Default)]
+struct Unsynced {
+    bytes: u64,
+    /// When they were seen the first time.
+    seen: Option<Instant>,
+    has_waited: bool,
+}
+
 /// The image of the volume with a tag.
 #[derive(Drop)]
 pub struct VolumeImage<S: ImageStore + Drop> {
@@ -76,6 +92,7 @@ pub struct VolumeImage<S: ImageStore + Drop> {
     pub(crate) is_protected: bool,
     pub(crate) in_use: Mutex<ImageInUse<S>>,
     pub(crate) watch: Watch,
+    unsynced: Mutex<Unsynced>,
 }
 
 impl<S: ImageStore + Drop> VolumeImage<S> {
@@ -90,7 +107,42 @@ impl<S: ImageStore + Drop> VolumeImage<S> {
                 is_given_up: false,
             }),
             watch: Watch::new(),
+            unsynced: Mutex::new(Unsynced::default()),
         }
+    }
+
+    /// Notes that so many bytes more were copied into it, and not brought to the disk.
+    pub(crate) fn note_copied<R: Wait>(&self, rt: &R, bytes: u64) {
+        let mut unsynced = self.unsynced.lock(rt);
+        unsynced.bytes = unsynced.bytes.saturating_add(bytes);
+    }
+
+    /// Notes that all of it was brought to the disk.
+    pub(crate) fn note_synced<R: Wait>(&self, rt: &R) {
+        *self.unsynced.lock(rt) = Unsynced::default();
+    }
+
+    /// Whether what was copied behind is to be brought to the disk: it is much, or has waited.
+    pub(crate) fn is_sync_due<R: Wait>(&self, rt: &R) -> bool {
+        let unsynced = self.unsynced.lock(rt);
+        unsynced.bytes >= MANY_UNSYNCED || unsynced.has_waited
+    }
+
+    /// Whether what was copied behind has waited, as is seen now. Where no clock says when that is, it has.
+    pub(crate) fn has_waited<R: Wait>(&self, rt: &R, now: Option<Instant>) -> bool {
+        let mut unsynced = self.unsynced.lock(rt);
+        if unsynced.bytes == 0 {
+            return false;
+        }
+        unsynced.has_waited = match (unsynced.seen, now) {
+            (Some(seen), Some(now)) => {
+                now.duration_since(seen) >= Duration::from_millis(UNSYNCED_AT_MOST)
+            }
+            (None, Some(_)) => false,
+            (_, None) => true,
+        };
+        unsynced.seen = unsynced.seen.or(now);
+        unsynced.has_waited
     }
 
     /// The image of a tag among some.

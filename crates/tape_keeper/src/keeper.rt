@@ -56,7 +56,8 @@ pub trait TapeKeeper<D: DeviceServer> {
         lun: u8,
     );
 
-    /// Tries again to keep what couldn't be kept, a volume wherever it is; but for a while after the last time.
+    /// Tries again to keep what couldn't be kept, a volume wherever it is, and brings to the disk what was copied a while ago; but nothing for a
+    /// while after the last time.
     fn retry<R: Clock + Wait, T: TapeSource<D>, H: KeepListener>(
         &self,
         rt: &R,

@@ -1,4 +1,4 @@
-//! Volumes that are moved before they are kept, one whose file is full, and one whose file fails for good.
+//! Volumes that are moved before they are kept, one whose file is full, one whose file fails for good, and when one is brought to the disk.
 
 use super::units::{BLOCK, BLOCK_AND_MARK, NoStore, Units, WRITE_HI, WRITE_MARK, image_in};
 use crate::comparing::{assert_list, assert_same};
@@ -7,8 +7,10 @@ use library_inventory::LibrarySize;
 use permit_tables::Class;
 use std::alloc::Global;
 use std::process::Abort;
-use std::sync::atomic::{AtomicBool, Ordering};
+use std::sync::atomic::{AtomicBool, AtomicU32, Ordering};
 use std::sync::{Mutex, Wait};
+use std::thread;
+use std::time::Duration;
 use tape_flush::{ImageStore, StoreFault};
 use tape_keeper::{GoodCommand, KeepChange, KeepEvent, KeepListener, TapeKeeper};
 use tape_medium::VolumeTag;
@@ -29,6 +31,8 @@ struct MemoryFile {
     bytes: Mutex<Vec<u8>>,
     is_full: AtomicBool,
     fails: AtomicBool,
+    /// How often it was brought to the disk.
+    syncs: AtomicU32,
     new_bytes: Mutex<Vec<u8>>,
     new_fails: AtomicBool,
 }
@@ -39,6 +43,7 @@ impl MemoryFile {
             bytes: Mutex::new(Vec::new(alloc)),
             is_full: AtomicBool::new(false),
             fails: AtomicBool::new(false),
+            syncs: AtomicU32::new(0),
             new_bytes: Mutex::new(Vec::new(alloc)),
             new_fails: AtomicBool::new(false),
         }
@@ -100,6 +105,7 @@ impl<'a, R: Wait> ImageStore for SharedFile<'a, R> {
         if self.fails() {
             Err(StoreFault::Failed)
         } else {
+            self.file.syncs.fetch_add(1, Ordering::SeqCst);
             Ok(())
         }
     }
@@ -180,6 +186,44 @@ fn moved(tag: VolumeTag) -> GoodCommand {
         volume: Some(tag),
         length: 0,
     }
+}
+
+/// A WRITE of "hi" to the volume in the drive.
+fn written(tag: VolumeTag) -> GoodCommand {
+    GoodCommand {
+        lun: 1,
+        class: Class::Write,
+        volume: Some(tag),
+        length: 2,
+    }
+}
+
+/// What was copied behind is brought to the disk once, when it has waited for more than a second.
+#[test]
+fn what_was_copied_behind_is_brought_to_the_disk(rt: HostRuntime) {
+    let alloc = rt.alloc();
+    let (a, b) = (MemoryFile::new(alloc), MemoryFile::new(alloc));
+    let keeper = keeper(&rt, alloc, &a, &b);
+    let units = Units::new(alloc, A, B);
+    let told = Told {
+        rt: &rt,
+        letters: Mutex::new(Vec::new(alloc)),
+    };
+    let is_written = units.performs(&rt, alloc, 1, &WRITE_HI, b"hi")
+        && keeper.keep(&rt, alloc, &units, &told, written(B));
+    keeper.write_behind(&rt, alloc, &units, &told, 1);
+    assert_same(&rt, is_written, true, "a block is written on B");
+    assert_list(&rt, &b.bytes.lock(&rt), BLOCK, "B is in its file");
+    let before = b.syncs.load(Ordering::SeqCst);
+    let mut syncs = [0u32; 4];
+    for count in &mut syncs {
+        keeper.retry(&rt, alloc, &units, &told);
+        *count = b.syncs.load(Ordering::SeqCst).saturating_sub(before);
+        thread::sleep(&rt, Duration::from_millis(700));
+    }
+    assert_same(&rt, syncs, [0, 0, 1, 1], "and on the disk, once");
+    let others = (a.syncs.load(Ordering::SeqCst), b.bytes.lock(&rt).len());
+    assert_same(&rt, others, (0, BLOCK.len()), "A isn't, and B is as before");
 }
 
 /// Two moves put another volume into the drive between a filemark and its keeping.
