@@ -1,5 +1,5 @@
 """The order of commands by CmdSN, and its circle. The number that is expected first is 1 where nothing else is said."""
-from portal_pdus import CHANGER, NONE, data_out, good, nop_in, nop_out, ready, wanted, write
+from portal_pdus import CHANGER, NONE, data_out, good, nop_in, nop_out, ready, rejected, wanted, write
 from portal_scenes import TEST, WRITE, Scene, Table, begins, gets, sends, under
 
 SCENES = [
@@ -49,11 +49,24 @@ SCENES = [
                 wanted(1, (3, 2, 32)), good(1, (3, 33, 33)), *(good(number, (number + 2, 33, number + 32)) for number in range(2, 33)))],
             drive=[WRITE, *[TEST] * 31], tape=b"abcd")),
     *under(
-        "one more command that waits ends the session",
+        "a command that comes while the window is closed is passed over, and its number is still expected",
         Scene("33 commands", [
             *begins(),
-            sends(write(1, 1), *(ready(number, number) for number in range(2, 34))),
-            gets(wanted(1, (3, 2, 32)))], ended="too many commands wait", tape=b"")),
+            sends(write(1, 1), *(ready(number, number) for number in range(2, 34)), data_out(1, b"abcd")),
+            gets(
+                wanted(1, (3, 2, 32)), good(1, (3, 33, 33)), *(good(number, (number + 2, 33, number + 32)) for number in range(2, 33))),
+            sends(ready(33, 33)),
+            gets(good(33, (35, 34, 65)))],
+            drive=[WRITE, *[TEST] * 32], tape=b"abcd")),
+    *under(
+        "so many commands for immediate delivery wait, and one more is rejected",
+        Scene("33 immediate commands", [
+            *begins(),
+            sends(write(1, 1), *(ready(number, 2, now=True) for number in range(2, 35)), data_out(1, b"abcd")),
+            gets(
+                wanted(1, (3, 2, 32)), rejected(6, (3, 2, 32), ready(34, 2, now=True)), good(1, (4, 2, 33)),
+                *(good(number, (number + 3, 2, 33)) for number in range(2, 34)))],
+            drive=[WRITE, *[TEST] * 32], tape=b"abcd")),
 ]
 
 TABLES = [Table("the order of commands", SCENES)]

@@ -73,17 +73,17 @@ plain_one out out' p e plain = (p ∷ [], plain, said_one out out' p e)
 
 -- ---- acts
 
-pub next_does : {S : Type 0} (notes : S → DoneValue → S → Type 0) (n : Nexus) (k : TasksValue) (s t : S) (next is : NextTask) (said : List TargetPduValue)
-    → next ≡ is → Does notes n s k (next_outcome is) said t → Does notes n s k (next_outcome next) said t
-next_does notes n k s t next is said same does = subst (λ (x : NextTask). Does notes n s k (next_outcome x) said t) (sym same) does
+pub next_does : {S : Type 0} (notes : S → DoneValue → S → Type 0) (n : Nexus) (k k' : TasksValue) (s t : S) (next is : NextTask)
+    (said : List TargetPduValue)
+    → next ≡ is → Does notes n s k (next_outcome is) said k' t → Does notes n s k (next_outcome next) said k' t
+next_does notes n k k' s t next is said same does = subst (λ (x : NextTask). Does notes n s k (next_outcome x) said k' t) (sym same) does
 
-pub next_acts : {S : Type 0} (notes : S → DoneValue → S → Type 0) (n : Nexus) (k k1 k' : TasksValue) (s t : S) (next : NextTask) (said : List TargetPduValue)
-    → next ≡ next_of k → k1 ≡ after_next k → k' ≡ k1 → Does notes n s k1 (next_outcome next) said t → Acts notes n k s AskedNext said k' t
-next_acts {S} notes n k k1 k' s t next said is left same does = (
-  same ∙ left,
-  subst (λ (x : TasksValue). Does notes n s x (next_outcome (next_of k)) said t) (sym same)
-      (subst (λ (x : NextTask). Does notes n s k1 (next_outcome x) said t) is does),
-)
+pub next_acts : {S : Type 0} (notes : S → DoneValue → S → Type 0) (n : Nexus) (k k1 k' : TasksValue) (s t : S) (next : NextTask)
+    (said : List TargetPduValue)
+    → next ≡ next_of k → k1 ≡ after_next k → Does notes n s k1 (next_outcome next) said k' t → Acts notes n k s AskedNext said k' t
+next_acts {S} notes n k k1 k' s t next said is left does =
+    subst (λ (x : TasksValue). Does notes n s x (next_outcome (next_of k)) said k' t) left
+    (subst (λ (x : NextTask). Does notes n s k1 (next_outcome x) said k' t) is does)
 
 command_is : (r : Result TakenCommand TasksFault) (v : TakenCommand) (asked : Result TakenCommand TasksFault) → r ≡ Ok v
     → (r ≢ Err NoMemory → r ≡ asked) → asked ≡ Ok v
@@ -92,14 +92,13 @@ command_is r v asked is told = sym (told (λ e. absurd cc)) ∙ is
 -- a command that was taken so
 pub command_acts : {S : Type 0} (notes : S → DoneValue → S → Type 0) (n : Nexus) (k k1 k' : TasksValue) (s t : S) (c : ScsiCommand) (payload : List ℕ)
     (r : Result TakenCommand TasksFault) (v : TakenCommand)
-    (said : List TargetPduValue) → r ≡ Ok v → (r ≢ Err NoMemory → r ≡ command_answer k c payload) → k1 ≡ after_command k c payload r → k' ≡ k1
-    → Does notes n s k1 (command_outcome c payload (Ok v)) said t → Acts notes n k s (Commanded c payload) said k' t
-command_acts {S} notes n k k1 k' s t c payload r v said is told after same does =
-    let e : command_answer k c payload ≡ Ok v = command_is r v (command_answer k c payload) is told in (
-      same ∙ after ∙ ap (after_command k c payload) (is ∙ sym e),
-      subst (λ (x : TasksValue). Does notes n s x (command_outcome c payload (command_answer k c payload)) said t) (sym same)
-          (subst (λ (a : Result TakenCommand TasksFault). Does notes n s k1 (command_outcome c payload a) said t) (sym e) does),
-    )
+    (said : List TargetPduValue) → r ≡ Ok v → (r ≢ Err NoMemory → r ≡ command_answer k c payload) → k1 ≡ after_command k c payload r
+    → Does notes n s k1 (command_outcome c payload (Ok v)) said k' t → Acts notes n k s (Commanded c payload) said k' t
+command_acts {S} notes n k k1 k' s t c payload r v said is told after does =
+    let e : command_answer k c payload ≡ Ok v = command_is r v (command_answer k c payload) is told in
+    subst (λ (x : TasksValue). Does notes n s x (command_outcome c payload (command_answer k c payload)) said k' t)
+    (after ∙ ap (after_command k c payload) (is ∙ sym e))
+    (subst (λ (a : Result TakenCommand TasksFault). Does notes n s k1 (command_outcome c payload a) said k' t) (sym e) does)
 
 -- and was rejected
 pub command_rejected : {S : Type 0} (notes : S → DoneValue → S → Type 0) (n : Nexus) (k k1 k' : TasksValue) (s : S) (c : ScsiCommand)
@@ -108,8 +107,8 @@ pub command_rejected : {S : Type 0} (notes : S → DoneValue → S → Type 0) (
     → (r ≢ Err NoMemory → r ≡ command_answer k c payload) → k1 ≡ after_command k c payload r → k' ≡ k1
     → Acts notes n k s (Commanded c payload) (refusal k1 stat_sn reason rejected) k' s
 command_rejected {S} notes n k k1 k' s c payload r v reason stat_sn rejected is as_ told after same =
-    command_acts notes n k k1 k' s s c payload r (taken.Rejected reason) (refusal k1 stat_sn reason rejected) (cc) told after same
-    (stat_sn, rejected, refl, refl)
+    command_acts notes n k k1 k' s s c payload r (taken.Rejected reason) (refusal k1 stat_sn reason rejected) (cc) told after
+    (stat_sn, rejected, refl, same, refl)
 
 data_is : (r : Result TakenData TasksFault) (v : TakenData) (asked : Result TakenData TasksFault) → r ≡ Ok v → (r ≢ Err NoMemory → r ≡ asked) → asked ≡ Ok v
 data_is r v asked is told = sym (told (λ e. absurd cc)) ∙ is
@@ -137,18 +136,31 @@ pub data_rejected : (k k1 k' : TasksValue) (d : DataOut) (payload : List ℕ) (r
 data_rejected k k1 k' d payload r v reason stat_sn rejected is as_ told same =
     data_tells k k1 k' d payload r (taken_data.Rejected reason) (refusal k1 stat_sn reason rejected) (cc) told same (stat_sn, rejected, refl)
 
-told_does : {S : Type 0} (notes : S → DoneValue → S → Type 0) (n : Nexus) (s t : S) (k : TasksValue) (o : Outcome) (said : List TargetPduValue)
-    → t ≡ s → Tells k o said → Does notes n s k o said t
-told_does notes n s t k Nothing said same tells = (tells, same)
-told_does notes n s t k (Reject reason) said same tells = (tells.0, tells.1, tells.2, same)
-told_does notes n s t k (Execute command bytes) said same tells = absurd tells
-told_does notes n s t k (Fail command fault) said same tells = absurd tells
-told_does notes n s t k (Ask request) said same tells = absurd tells
+told_does : {S : Type 0} (notes : S → DoneValue → S → Type 0) (n : Nexus) (s t : S) (k k' : TasksValue) (o : Outcome)
+    (said : List TargetPduValue)
+    → t ≡ s → k' ≡ k → Tells k o said → Does notes n s k o said k' t
+told_does notes n s t k k' Nothing said same still tells = (tells, still, same)
+told_does notes n s t k k' (Reject reason) said same still tells = (tells.0, tells.1, tells.2, still, same)
+told_does notes n s t k k' (Execute command bytes) said same still tells = absurd tells
+told_does notes n s t k k' (Fail command fault) said same still tells = absurd tells
+told_does notes n s t k k' (Ask request) said same still tells = absurd tells
 
 pub told_acts : {S : Type 0} (notes : S → DoneValue → S → Type 0) (n : Nexus) (k k' : TasksValue) (s t : S) (act : Act) (said : List TargetPduValue)
     → t ≡ s → k' ≡ stepped k act
     → Tells k' (outcome k act) said → Acts notes n k s act said k' t
-told_acts notes n k k' s t act said same steps tells = (steps, told_does notes n s t k' (outcome k act) said same tells)
+told_acts notes n k k' s t act said same steps tells =
+    told_does notes n s t (stepped k act) k' (outcome k act) said same steps (subst (λ (x : TasksValue). Tells x
+    (outcome k act) said) steps tells)
+
+-- what is done leaves those that wait
+pub does_waiting : {S : Type 0} (notes : S → DoneValue → S → Type 0) (n : Nexus) (s t : S) (k k' : TasksValue) (o : Outcome)
+    (said : List TargetPduValue)
+    → Does notes n s k o said k' t → k'.waiting ≡ k.waiting
+does_waiting notes n s t k k' Nothing said does = ap (λ (x : TasksValue). x.waiting) does.1
+does_waiting notes n s t k k' (Execute command bytes) said does = ap (λ (x : TasksValue). x.waiting) does.answered
+does_waiting notes n s t k k' (Fail command fault) said does = ap (λ (x : TasksValue). x.waiting) does.2
+does_waiting notes n s t k k' (Ask request) said does = ap (λ (x : TasksValue). x.waiting) does.2
+does_waiting notes n s t k k' (Reject reason) said does = ap (λ (x : TasksValue). x.waiting) does.3
 
 -- ---- what is to be done next, one after another
 
@@ -194,7 +206,7 @@ first_asked : (k : TasksValue) (t u : TaskValue) (ts : List TaskValue) → k.wai
 first_asked k t u ts e one = subst (λ (ws : List TaskValue). left_to_do (u ∷ drop 1 ws) < length ts * 2 + 2) (sym e) (omega (arith, one))
 
 turn_falls : (k : TasksValue) (t : TaskValue) (ts : List TaskValue) (b : Bool) → k.waiting ≡ t ∷ ts
-    → left_to_do (cond b (without_first k) (with_first_asked k t)).waiting < length ts * 2 + 2
+    → left_to_do (cond b (without_first k t) (with_first_asked k t)).waiting < length ts * 2 + 2
 turn_falls k t ts true e = omega (arith, first_goes k t ts e)
 turn_falls k t ts false e = first_asked k t (asked k.parameters k.limit k.next_tag t) ts e refl
 
@@ -210,10 +222,11 @@ tasks_fall : (k : TasksValue) (ws : List TaskValue) → k.waiting ≡ ws → is_
 tasks_fall k [] e goes = absurd cc
 tasks_fall k (t ∷ ts) e goes = task_falls k t ts t.awaiting e goes
 
-pub falls : (k k1 k' : TasksValue) (next : NextTask) → next ≡ next_of k → k1 ≡ after_next k → k' ≡ k1 → is_idle next ≡ false
+pub falls : (k k1 k' : TasksValue) (next : NextTask) → next ≡ next_of k → k1 ≡ after_next k → k'.waiting ≡ k1.waiting → is_idle next ≡ false
     → left_to_do k'.waiting < left_to_do k.waiting
 falls k k1 k' next is left same goes =
-    subst (λ (x : TasksValue). left_to_do x.waiting < left_to_do k.waiting) (sym (same ∙ left)) (tasks_fall k k.waiting refl (ap is_idle (sym is) ∙ goes))
+    subst (λ (ws : List TaskValue). left_to_do ws < left_to_do k.waiting) (sym (same
+    ∙ ap (λ (x : TasksValue). x.waiting) left)) (tasks_fall k k.waiting refl (ap is_idle (sym is) ∙ goes))
 
 -- ---- where nothing is to be done all stays
 

@@ -4,7 +4,6 @@ use Rattle.std.proofs.Common.{inl, inr, refl, sym, ap, subst, ◌∙◌, append_
 use Rattle.std.proofs.lemmas.List.Concat.{flat_map-append}
 use Rattle.scsi_nexus.specs.declared.nexus.Nexus.{Nexus}
 use Rattle.judgement.specs.declared.reply.Reply.{Reply}
-use Rattle.logical_unit.specs.Answers as event
 use Rattle.logical_unit.specs.Answers.{DoneValue, EventValue}
 use Rattle.iscsi_pdu.specs.Luns.{unit_of}
 use Rattle.iscsi_pdu.specs.Pdus.{InitiatorPduValue, TargetPduValue}
@@ -20,7 +19,8 @@ use Rattle.iscsi_tasks.specs.Aborts.{without_unit}
 use Rattle.iscsi_tasks.specs.Commands.{command_answer, counted, is_taken}
 use Rattle.iscsi_tasks.specs.DataOuts.{data_answer}
 use Rattle.iscsi_tasks.specs.Next.{next_of}
-use Rattle.iscsi_tasks.specs.Runs.{Act, Numbered, Commanded, DataCame, AskedNext, Aborted, Dropped, Executed, at_once, executed, executed_by}
+use Rattle.iscsi_tasks.specs.Runs.{Act, Numbered, Commanded, DataCame, AskedNext, Aborted, Dropped, Answered, Held, Settled, Executed}
+use Rattle.iscsi_tasks.specs.Runs.{at_once, executed, executed_by}
 use Rattle.iscsi_tasks.specs.Runs.{found_next, run, stepped}
 use Rattle.iscsi_tasks.specs.Values.{TasksValue}
 use Rattle.iscsi_tasks.specs.declared.fault.TasksFault.{TasksFault}
@@ -58,6 +58,9 @@ brought_append (Numbered immediate cmd_sn ∷ xs) ys = brought_append xs ys
 brought_append (AskedNext ∷ xs) ys = brought_append xs ys
 brought_append (Aborted unit tag ∷ xs) ys = brought_append xs ys
 brought_append (Dropped unit ∷ xs) ys = brought_append xs ys
+brought_append (Answered ∷ xs) ys = brought_append xs ys
+brought_append (Held reply ticket ∷ xs) ys = brought_append xs ys
+brought_append (Settled ticket outcome ∷ xs) ys = brought_append xs ys
 
 commands_append : (ds es : List DoneValue) → commands_of (ds ++ es) ≡ commands_of ds ++ commands_of es
 commands_append [] es = refl
@@ -134,6 +137,9 @@ act_executes k AskedNext = next_executes (next_of k)
 act_executes k (Numbered immediate cmd_sn) = refl
 act_executes k (Aborted unit tag) = refl
 act_executes k (Dropped unit) = refl
+act_executes k Answered = refl
+act_executes k (Held reply ticket) = refl
+act_executes k (Settled ticket by) = refl
 
 replies_hand : {S : Type 0} (notes : S → DoneValue → S → Type 0) (n : Nexus) (s t : S) (unit : Option ℕ) (cdb bytes : List ℕ)
     (reply : Reply)
@@ -146,30 +152,69 @@ replies_hand notes n s t (Some unit) cdb bytes reply so = (
 )
 replies_hand notes n s t None cdb bytes reply so = ([], so.1, refl)
 
-does_hands : {S : Type 0} (notes : S → DoneValue → S → Type 0) (n : Nexus) (s t : S) (k : TasksValue) (o : Outcome)
+-- a command that is answered is in hand no longer
+answering : Outcome → List Act
+answering Nothing = []
+answering (Execute command bytes) = Answered ∷ []
+answering (Fail command fault) = Answered ∷ []
+answering (Ask request) = []
+answering (Reject reason) = []
+
+answering_brings : (o : Outcome) → brought (answering o) ≡ []
+unfolding answering
+answering_brings Nothing = refl
+answering_brings (Execute command bytes) = refl
+answering_brings (Fail command fault) = refl
+answering_brings (Ask request) = refl
+answering_brings (Reject reason) = refl
+
+answering_executes : (k : TasksValue) (o : Outcome) → executed k (answering o) ≡ []
+unfolding answering
+answering_executes k Nothing = refl
+answering_executes k (Execute command bytes) = refl
+answering_executes k (Fail command fault) = refl
+answering_executes k (Ask request) = refl
+answering_executes k (Reject reason) = refl
+
+does_run : {S : Type 0} (notes : S → DoneValue → S → Type 0) (n : Nexus) (s t : S) (k k' : TasksValue) (o : Outcome)
     (said : List TargetPduValue)
-    → Does notes n s k o said t
+    → Does notes n s k o said k' t → k' ≡ run k (answering o)
+unfolding answering
+does_run notes n s t k k' Nothing said does = does.1
+does_run notes n s t k k' (Execute command bytes) said does = does.answered
+does_run notes n s t k k' (Fail command fault) said does = does.2
+does_run notes n s t k k' (Ask request) said does = does.2
+does_run notes n s t k k' (Reject reason) said does = does.3
+
+does_hands : {S : Type 0} (notes : S → DoneValue → S → Type 0) (n : Nexus) (s t : S) (k k' : TasksValue) (o : Outcome)
+    (said : List TargetPduValue)
+    → Does notes n s k o said k' t
     → (calls : List DoneValue) × Calls notes n s calls t × (commands_of calls ≡ handed (executes o))
 unfolding executes
-does_hands notes n s t k Nothing said does = ([], does.1, refl)
-does_hands notes n s t k (Execute command bytes) said does =
+does_hands notes n s t k k' Nothing said does = ([], does.2, refl)
+does_hands notes n s t k k' (Execute command bytes) said does =
     replies_hand notes n s t (unit_of command.lun) command.cdb bytes does.reply does.replied
-does_hands notes n s t k (Fail command fault) said does = ([], does.3, refl)
-does_hands notes n s t k (Ask request) said does = ([], does.2, refl)
-does_hands notes n s t k (Reject reason) said does = ([], does.3, refl)
+does_hands notes n s t k k' (Fail command fault) said does = ([], does.4, refl)
+does_hands notes n s t k k' (Ask request) said does = ([], does.3, refl)
+does_hands notes n s t k k' (Reject reason) said does = ([], does.4, refl)
 
 acts_hands : {S : Type 0} (notes : S → DoneValue → S → Type 0) (n : Nexus) (k k' : TasksValue) (s t : S) (act : Act)
     (said : List TargetPduValue)
     → Acts notes n k s act said k' t
     → Hands notes n k s (brought (act ∷ [])) k' t
 acts_hands notes n k k' s t act said so =
-    let did = does_hands notes n s t k' (outcome k act) said so.1 in record {
-      acts = act ∷ [];
+    let o = outcome k act in
+    let did = does_hands notes n s t (stepped k act) k' o said so in record {
+      acts = act ∷ answering o;
       calls = did.0;
-      run_is = so.0;
-      brought_is = refl;
+      run_is = does_run notes n s t (stepped k act) k' o said so;
+      brought_is =
+          brought_append (act ∷ []) (answering o) ∙ ap (λ (l : List Act). brought (act ∷ []) ++ l) (answering_brings o)
+          ∙ append-nil (brought (act ∷ []));
       made = did.1;
-      handed_is = did.2 ∙ ap handed (sym (act_executes k act)) ∙ ap handed (sym (append-nil (executed_by k act)));
+      handed_is =
+          did.2 ∙ ap handed (sym (act_executes k act)) ∙ ap handed (sym (append-nil (executed_by k act)))
+          ∙ ap (λ (es : List Executed). handed (executed_by k act ++ es)) (sym (answering_executes (stepped k act) o));
     }
 
 -- ---- what is to be done next
@@ -179,7 +224,7 @@ units_hand : {S : Type 0} (notes : S → DoneValue → S → Type 0) (n : Nexus)
 units_hand notes n k s [] = hands_none notes n k k s s refl refl
 units_hand {S} notes n k s (unit ∷ units) =
     hands_then notes n k (without_units k units) (without_unit (without_units k units) unit) s s s [] [] (units_hand notes n k s units)
-    (acts_hands notes n (without_units k units) (without_unit (without_units k units) unit) s s (Dropped unit) [] (refl, (refl, refl)))
+    (acts_hands notes n (without_units k units) (without_unit (without_units k units) unit) s s (Dropped unit) [] (refl, refl, refl))
 
 goes_hands : {S : Type 0} (notes : S → DoneValue → S → Type 0) (n : Nexus) (times : ℕ) (k k' : TasksValue) (s t : S)
     (said : List TargetPduValue)

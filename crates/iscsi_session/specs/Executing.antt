@@ -18,7 +18,7 @@ use Rattle.iscsi_tasks.specs.Values.{TasksValue}
 use Rattle.iscsi_tasks.specs.Commands as tasks
 use Rattle.iscsi_tasks.specs.DataOuts.{data_answer}
 use Rattle.iscsi_tasks.specs.Next.{next_of, ready_to_transfer}
-use Rattle.iscsi_tasks.specs.Runs.{Act, Numbered, Commanded, DataCame, AskedNext, Aborted, Dropped, stepped}
+use Rattle.iscsi_tasks.specs.Runs.{Act, Numbered, Commanded, DataCame, AskedNext, Aborted, Dropped, Answered, Held, Settled, stepped}
 use Rattle.iscsi_tasks.specs.Windows.{max_cmd_sn}
 use Rattle.iscsi_tasks.specs.Writes.{additional_sense}
 use Rattle.iscsi_tasks.specs.declared.fault.TaskFault.{TaskFault}
@@ -75,6 +75,9 @@ outcome k AskedNext = next_outcome (next_of k)
 outcome k (Numbered immediate cmd_sn) = Nothing
 outcome k (Aborted unit tag) = Nothing
 outcome k (Dropped unit) = Nothing
+outcome k Answered = Nothing
+outcome k (Held reply ticket) = Nothing
+outcome k (Settled ticket by) = Nothing
 
 -- what answers a command to which its unit has replied so
 abbrev pub answer_to : TasksValue → TransferLimits → SerialNumber → ScsiCommand → (handed_over : ℕ) → Status → Option Sense
@@ -89,15 +92,15 @@ Replies notes n s (Some unit) cdb bytes reply t =
     (done : DoneValue) × IsAnswer done (Some n) unit (event.Command cdb bytes) × notes s done t × (reply ≡ done.reply)
 Replies notes n s None cdb bytes reply t = AnswersAbsent cdb reply × (t ≡ s)
 
--- a command is executed with these data, and answered by that reply
+-- a command is executed with these data, and answered by that reply, with the numbers of the tasks behind it
 pub record Executes {S : Type 0} (notes : S → DoneValue → S → Type 0) (n : Nexus) (s : S) (k : TasksValue) (command : ScsiCommand)
-    (bytes : List ℕ)
-    (said : List TargetPduValue) (t : S) : Type 0 where
+    (bytes : List ℕ) (said : List TargetPduValue) (k' : TasksValue) (t : S) : Type 0 where
   pub reply : Reply
   pub limits : TransferLimits
   pub stat_sn : SerialNumber
   pub replied : Replies notes n s (unit_of command.lun) command.cdb bytes reply t
-  pub said_is : said ≡ answer_to k limits stat_sn command (min (length bytes) 0xFFFFFFFF) reply.status reply.sense reply.payload
+  pub answered : k' ≡ stepped k Answered
+  pub said_is : said ≡ answer_to k' limits stat_sn command (min (length bytes) 0xFFFFFFFF) reply.status reply.sense reply.payload
 
 -- ABORTED COMMAND, 0Bh, and why
 abbrev pub aborted : TaskFault → Sense
@@ -123,15 +126,16 @@ demand k stat_sn request = pdu (header.ReadyToTransfer (ready_to_transfer reques
 abbrev pub refusal : TasksValue → SerialNumber → RejectReason → (rejected : List ℕ) → List TargetPduValue
 refusal k stat_sn reason rejected = rejection (numbers k stat_sn) reason rejected ∷ []
 
--- what is to be done is done, and these PDUs are what is said
-abbrev pub Does : {S : Type 0} → (S → DoneValue → S → Type 0) → Nexus → S → TasksValue → Outcome → (said : List TargetPduValue) → S → Type 0
-Does notes n s k Nothing said t = (said ≡ []) × (t ≡ s)
-Does notes n s k (Execute command bytes) said t = Executes notes n s k command bytes said t
-Does notes n s k (Fail command fault) said t = (limits : TransferLimits) × (stat_sn : SerialNumber) ×
-    (said ≡ failure k limits stat_sn command fault) × (t ≡ s)
-Does notes n s k (Ask request) said t = (stat_sn : SerialNumber) × (said ≡ demand k stat_sn request) × (t ≡ s)
-Does notes n s k (Reject reason) said t = (stat_sn : SerialNumber) × (rejected : List ℕ) × (said ≡ refusal k stat_sn reason rejected) ×
-    (t ≡ s)
+-- what is to be done is done, and these PDUs are what is said; a command that is answered is in hand no longer
+abbrev pub Does : {S : Type 0} → (S → DoneValue → S → Type 0) → Nexus → S → TasksValue → Outcome → (said : List TargetPduValue) → TasksValue
+    → S → Type 0
+Does notes n s k Nothing said k' t = (said ≡ []) × (k' ≡ k) × (t ≡ s)
+Does notes n s k (Execute command bytes) said k' t = Executes notes n s k command bytes said k' t
+Does notes n s k (Fail command fault) said k' t = (limits : TransferLimits) × (stat_sn : SerialNumber) × (k' ≡ stepped k Answered)
+    × (said ≡ failure k' limits stat_sn command fault) × (t ≡ s)
+Does notes n s k (Ask request) said k' t = (stat_sn : SerialNumber) × (said ≡ demand k stat_sn request) × (k' ≡ k) × (t ≡ s)
+Does notes n s k (Reject reason) said k' t = (stat_sn : SerialNumber) × (rejected : List ℕ) × (said ≡ refusal k stat_sn reason rejected)
+    × (k' ≡ k) × (t ≡ s)
 
 -- what is said where a unit isn't concerned
 abbrev pub Tells : TasksValue → Outcome → (said : List TargetPduValue) → Type 0
@@ -144,7 +148,7 @@ Tells k (Ask request) said = ⊥
 -- something happens to the tasks, and what that comes to is done
 abbrev pub Acts : {S : Type 0} → (S → DoneValue → S → Type 0) → Nexus → TasksValue → S → Act → (said : List TargetPduValue) → TasksValue → S
     → Type 0
-Acts notes n k s act said k' t = (k' ≡ stepped k act) × Does notes n s k' (outcome k act) said t
+Acts notes n k s act said k' t = Does notes n s (stepped k act) (outcome k act) said k' t
 
 -- what is to be done next is done, so many times
 unfoldable pub GoesOn : {S : Type 0} → (S → DoneValue → S → Type 0) → Nexus → (times : ℕ) → TasksValue → S

@@ -1,12 +1,11 @@
 -- What ends a connection early that is in full feature.
 use Rattle.iscsi_session.specs.declared.fault.IscsiFault.{IscsiFault}
-use Rattle.iscsi_session.specs.declared.fault.IscsiFault.TheVariants.{Refused, BadPdu, TooManyWaiting, TooMuchData, Silent, Read, Write, NoMemory}
+use Rattle.iscsi_session.specs.declared.fault.IscsiFault.TheVariants.{Refused, BadPdu, TooMuchData, Silent, Read, Write, NoMemory}
 
 -- anything but a refusal
 abbrev pub IsLater : IscsiFault → Type 0
 IsLater (Refused status) = ⊥
 IsLater (BadPdu fault) = Unit {0}
-IsLater TooManyWaiting = Unit {0}
 IsLater TooMuchData = Unit {0}
 IsLater Silent = Unit {0}
 IsLater Read = Unit {0}

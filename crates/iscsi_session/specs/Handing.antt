@@ -7,7 +7,8 @@ use Rattle.logical_unit.specs.Answers.{DoneValue, EventValue}
 use Rattle.iscsi_pdu.specs.Luns.{unit_of}
 use Rattle.iscsi_pdu.specs.declared.initiator_header.InitiatorHeader.{InitiatorHeader}
 use Rattle.iscsi_pdu.specs.declared.initiator_header.InitiatorHeader.TheVariants as sent
-use Rattle.iscsi_tasks.specs.Runs.{Act, Numbered, Commanded, DataCame, AskedNext, Aborted, Dropped, Executed, executed, run}
+use Rattle.iscsi_tasks.specs.Runs.{Act, Numbered, Commanded, DataCame, AskedNext, Aborted, Dropped, Answered, Held, Settled, Executed}
+use Rattle.iscsi_tasks.specs.Runs.{executed, run}
 use Rattle.iscsi_tasks.specs.Values.{TasksValue}
 use Rattle.session.specs.Answering.{Calls}
 use Rattle.iscsi_session.specs.Talking.{Came, Ending, Event, Told, Silence}
@@ -21,6 +22,9 @@ brought (Numbered immediate cmd_sn ∷ acts) = brought acts
 brought (AskedNext ∷ acts) = brought acts
 brought (Aborted unit tag ∷ acts) = brought acts
 brought (Dropped unit ∷ acts) = brought acts
+brought (Answered ∷ acts) = brought acts
+brought (Held reply ticket ∷ acts) = brought acts
+brought (Settled ticket outcome ∷ acts) = brought acts
 
 -- and among PDUs
 abbrev pub brought_by : InitiatorHeader → (payload : List ℕ) → List Act

@@ -1,15 +1,20 @@
 -- Values of worked rows.
-use Rattle.std.specs.Prelude.{ℕ, true, false, List, [], ◌∷◌}
+use Rattle.std.specs.Prelude.{ℕ, true, false, List, [], ◌∷◌, replicate}
 use Rattle.iscsi_pdu.specs.Pdus.{InitiatorPduValue}
 use Rattle.iscsi_pdu.specs.declared.initiator_header.InitiatorHeader.{InitiatorHeader}
 use Rattle.iscsi_pdu.specs.declared.initiator_header.InitiatorHeader.TheVariants as sent
 use Rattle.iscsi_tasks.specs.Rows.{bursts, data_out, sn, write}
+use Rattle.iscsi_tasks.specs.Commands.{begun_task}
 use Rattle.iscsi_tasks.specs.Runs.{Act, AskedNext, Commanded, DataCame}
 use Rattle.iscsi_tasks.specs.Values.{TasksValue, begun_tasks}
 
 -- tasks that expect such a number first; immediate data are agreed, and unsolicited Data-Out too
 abbrev pub expecting : (number : ℕ) → TasksValue
 expecting number = begun_tasks (bursts true false) 131053 (sn number)
+
+-- with so many writes that wait for their data; the command that is expected has number 1
+abbrev pub waiting : (count : ℕ) → TasksValue
+waiting count = record (expecting 1) { waiting = replicate count (begun_task (bursts true false) (write 4 true) []) }
 
 abbrev pub pdu : InitiatorHeader → (payload : List ℕ) → InitiatorPduValue
 pdu header payload = record { header = header; extended_cdb = []; payload = payload }

@@ -3,7 +3,7 @@ ghost use Rattle.std.specs.Prelude.{◌≡◌, ◌<◌, ◌^◌, ◌++◌, ℕ, 
 ghost use Rattle.iscsi_pdu.specs.Pdus.{TargetPduValue};
 ghost use Rattle.iscsi_answers.specs.Written.{bytes_of_all};
 ghost use Rattle.iscsi_tasks.specs.Next.{next_of};
-ghost use Rattle.iscsi_tasks.specs.Runs.{Commanded, DataCame, stepped};
+ghost use Rattle.iscsi_tasks.specs.Runs.{Answered, Commanded, DataCame, stepped};
 ghost use Rattle.iscsi_tasks.specs.declared.next_task.NextTask.TheVariants.{Idle};
 ghost use Rattle.iscsi_session.specs.Faults.{IsLater};
 ghost use Rattle.iscsi_session.specs.Executing.{Acts, Adds, Does, Executes, GoesOn, OrElse, Tells};
@@ -35,9 +35,8 @@ fn execute<S: Service>(
     bytes: &[u8],
 ) -> Result<(), IscsiFault>
     ensures fault { IfErr result IsLater }
-    ensures tasks { connection.new.tasks ≡ connection.old.tasks }
     ensures executed { (said : List TargetPduValue)
-        × Executes S.notes nexus service.old connection.old.tasks command.now bytes.now said service.new
+        × Executes S.notes nexus service.old connection.old.tasks command.now bytes.now said connection.new.tasks service.new
         × Adds result connection.old.out.items connection.new.out.items said }
 {
     match unit_of(command.lun) {
@@ -60,9 +59,9 @@ fn answer_executed(
     reply: &Reply,
 ) -> Result<(), IscsiFault>
     ensures fault { IfErr result IsLater }
-    ensures tasks { connection.new.tasks ≡ connection.old.tasks }
+    ensures tasks { connection.new.tasks ≡ stepped connection.old.tasks Answered }
     ensures answered { OnOk result (connection.new.out.items ≡ connection.old.out.items
-        ++ bytes_of_all (answer_to connection.old.tasks connection.old.limits connection.old.stat_sn command.now
+        ++ bytes_of_all (answer_to connection.new.tasks connection.old.limits connection.old.stat_sn command.now
         (min (length bytes.now) 0xFFFFFFFF) reply.now.status reply.now.sense reply.now.payload)) }
 {
     let answer = UnitAnswer {
@@ -74,7 +73,8 @@ fn answer_executed(
     answer_command(connection, command, handed_over, &answer)
 }
 
-/// Adds what answers a command of whose data so many bytes were handed over.
+/// Adds what answers the command in hand, of whose data so many bytes were handed over. The answer has the numbers of the tasks without
+/// it: it counts in the window no longer.
 fn answer_command(
     connection: &mut Connection<'_>,
     command: &ScsiCommand,
@@ -83,11 +83,12 @@ fn answer_command(
 ) -> Result<(), IscsiFault>
     requires { length answer.now.data.now < 2 ^ 32 }
     ensures fault { IfErr result IsLater }
-    ensures tasks { connection.new.tasks ≡ connection.old.tasks }
+    ensures tasks { connection.new.tasks ≡ stepped connection.old.tasks Answered }
     ensures answered { OnOk result (connection.new.out.items ≡ connection.old.out.items
-        ++ bytes_of_all (answer_to connection.old.tasks connection.old.limits connection.old.stat_sn command.now handed_over
+        ++ bytes_of_all (answer_to connection.new.tasks connection.old.limits connection.old.stat_sn command.now handed_over
         answer.now.status answer.now.sense answer.now.data.now)) }
 {
+    connection.tasks.answered();
     let answered = AnsweredCommand::of(command, handed_over);
     let numbers = connection.numbers();
     write_command_answer(
@@ -108,9 +109,9 @@ fn fail(
     fault: TaskFault,
 ) -> Result<(), IscsiFault>
     ensures fault { IfErr result IsLater }
-    ensures tasks { connection.new.tasks ≡ connection.old.tasks }
+    ensures tasks { connection.new.tasks ≡ stepped connection.old.tasks Answered }
     ensures failed { OnOk result (connection.new.out.items ≡ connection.old.out.items
-        ++ bytes_of_all (failure connection.old.tasks connection.old.limits connection.old.stat_sn command.now fault)) }
+        ++ bytes_of_all (failure connection.new.tasks connection.old.limits connection.old.stat_sn command.now fault)) }
 {
     let (asc, ascq) = fault.additional_sense();
     let sense = Sense {
@@ -149,9 +150,8 @@ fn do_next<S: Service>(
     next: NextTask,
 ) -> Result<(), IscsiFault>
     ensures fault { IfErr result IsLater }
-    ensures tasks { connection.new.tasks ≡ connection.old.tasks }
     ensures done { (said : List TargetPduValue)
-        × Does S.notes nexus service.old connection.old.tasks (next_outcome next) said service.new
+        × Does S.notes nexus service.old connection.old.tasks (next_outcome next) said connection.new.tasks service.new
         × Adds result connection.old.out.items connection.new.out.items said }
 {
     match next {

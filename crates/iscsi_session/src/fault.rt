@@ -25,9 +25,6 @@ pub enum IscsiFault {
     Refused(LoginStatus),
     #[error("bad PDU")]
     BadPdu(PduFault),
-    /// More commands wait than the window lets in.
-    #[error("too many commands wait")]
-    TooManyWaiting,
     /// The commands that wait hold more data than there is room for.
     #[error("too much data waits")]
     TooMuchData,
@@ -75,7 +72,6 @@ impl From<TasksFault> for IscsiFault {
 
     fn from(fault: TasksFault) -> IscsiFault {
         match fault {
-            TasksFault::TooManyWaiting => IscsiFault::TooManyWaiting,
             TasksFault::TooMuchData => IscsiFault::TooMuchData,
             TasksFault::NoMemory => IscsiFault::NoMemory,
         }

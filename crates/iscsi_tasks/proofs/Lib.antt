@@ -4,3 +4,4 @@ pub mod Order
 pub mod Pieces
 pub mod Bounds
 pub mod Window
+pub mod HeldRuns

@@ -6,7 +6,7 @@ use Rattle.std.proofs.lemmas.List.{append-nil, map-append}
 use Rattle.std.proofs.lemmas.Bool.{eqb-true}
 use Rattle.iscsi_pdu.specs.declared.scsi_command.ScsiCommand.{ScsiCommand}
 use Rattle.iscsi_pdu.specs.declared.data_out.DataOut.{DataOut}
-use Rattle.iscsi_pdu.specs.declared.reject_reason.RejectReason.TheVariants.{TaskInProgress}
+use Rattle.iscsi_pdu.specs.declared.reject_reason.RejectReason.TheVariants.{TaskInProgress, TooManyImmediateCommands}
 use Rattle.iscsi_tasks.specs.declared.awaiting.Awaiting.{Awaiting}
 use Rattle.iscsi_tasks.specs.declared.awaiting.Awaiting.TheVariants as awaits
 use Rattle.iscsi_tasks.specs.declared.sequence.DataSequence.{DataSequence}
@@ -19,11 +19,14 @@ use Rattle.iscsi_tasks.specs.declared.next_task.NextTask.{NextTask}
 use Rattle.iscsi_tasks.specs.declared.next_task.NextTask.TheVariants as found
 use Rattle.iscsi_tasks.specs.Values.{TaskValue, TasksValue}
 use Rattle.iscsi_tasks.specs.Writes.{data_fault}
-use Rattle.iscsi_tasks.specs.Commands.{has_tag, is_taken, counted, after_command, command_answer, begun_task, is_waiting, remembered, room_for, waits_if}
+use Rattle.iscsi_tasks.specs.Commands.{has_tag, is_taken, counted, after_command, command_answer, begun_task, is_waiting, room_for}
+use Rattle.iscsi_tasks.specs.Commands.{waits_if}
 use Rattle.iscsi_tasks.specs.DataOuts.{unless_data_fault, task_at, task_after, tasks_after, data_answer, after_data}
 use Rattle.iscsi_tasks.specs.Next.{is_whole, next_at, left_at, next_for, left_for, handed, request, without_first, with_first_asked}
-use Rattle.iscsi_tasks.specs.Aborts.{is_at, is_named, is_waiting_at, without_task}
-use Rattle.iscsi_tasks.specs.Runs.{Act, Numbered, Commanded, DataCame, AskedNext, Aborted, Dropped, stepped, run, Executed, executed, executed_by, at_once, found_next, commands, handed_next, handed_at_once, handed_by, handed_out, taken_if, taken_by, taken_in, EndsNone, IsPartOf}
+use Rattle.iscsi_tasks.specs.Aborts.{is_at, is_named, is_waiting_at, without_named, without_task}
+use Rattle.iscsi_tasks.specs.Runs.{Act, Numbered, Commanded, DataCame, AskedNext, Aborted, Dropped, Answered, Held, Settled, stepped, run}
+use Rattle.iscsi_tasks.specs.Runs.{Executed, executed, executed_by, at_once, found_next, commands, handed_next, handed_at_once, handed_by}
+use Rattle.iscsi_tasks.specs.Runs.{handed_out, taken_if, taken_by, taken_in, EndsNone, IsPartOf}
 use Rattle.iscsi_tasks.proofs.Parts.{whole, part_start, part_both, part_join, part_filter}
 
 -- what is handed out, and then what still waits, is what waited and then what was taken
@@ -60,19 +63,23 @@ no_tasks : (ts : List TaskValue) → (length ts == 0) ≡ true → ts ≡ []
 no_tasks [] e = refl
 no_tasks (t ∷ ts) e = absurd (omega (arith, eqb-true (length (t ∷ ts)) 0 e))
 
-only_alone : (over again alone whole : Bool) (m n : ℕ) (room : Result (Unit {0}) TasksFault)
-    → cond over (Ok taken.PassedOver) (cond again (Ok (taken.Rejected TaskInProgress)) (cond (alone && whole) (Ok (taken.Execute m)) (waits_if room))) ≡ Ok (taken.Execute n)
+only_alone : (over again crowded alone whole : Bool) (m n : ℕ) (room : Result (Unit {0}) TasksFault)
+    → cond over (Ok taken.PassedOver) (cond again (Ok (taken.Rejected TaskInProgress)) (cond crowded (Ok
+    (taken.Rejected TooManyImmediateCommands))
+    (cond (alone && whole) (Ok (taken.Execute m)) (waits_if room)))) ≡ Ok (taken.Execute n)
     → alone ≡ true
-only_alone true again alone whole m n room e = absurd cc
-only_alone false true alone whole m n room e = absurd cc
-only_alone false false true whole m n room e = refl
-only_alone false false false whole m n (Ok room) e = absurd cc
-only_alone false false false whole m n (Err fault) e = absurd cc
+only_alone true again crowded alone whole m n room e = absurd cc
+only_alone false true crowded alone whole m n room e = absurd cc
+only_alone false false true alone whole m n room e = absurd cc
+only_alone false false false true whole m n room e = refl
+only_alone false false false false whole m n (Ok room) e = absurd cc
+only_alone false false false false whole m n (Err fault) e = absurd cc
 
 -- it is executed at once only where none waits
 at_once_alone : (s : TasksValue) (c : ScsiCommand) (payload : List ℕ) (n : ℕ) → command_answer s c payload ≡ Ok (taken.Execute n) → s.waiting ≡ []
 at_once_alone s c payload n e =
-    no_tasks s.waiting (only_alone _ _ (length s.waiting == 0) _ _ n (room_for s.waiting (length (begun_task s.parameters c payload).bytes)) e)
+    no_tasks s.waiting (only_alone _ _ _ (length s.waiting == 0) _ _ n (room_for s.waiting (length
+    (begun_task s.parameters c payload).bytes)) e)
 
 commanded_keeps : (s : TasksValue) (c : ScsiCommand) (payload : List ℕ) (r : Result TakenCommand TasksFault)
     → ((n : ℕ) → r ≡ Ok (taken.Execute n) → s.waiting ≡ [])
@@ -121,7 +128,7 @@ first_keeps s t ts e = ap (λ (xs : List TaskValue). t.command ∷ commands (dro
 
 turn_keeps : (s : TasksValue) (t : TaskValue) (ts : List TaskValue) (b : Bool) → s.waiting ≡ t ∷ ts
     → Keeps (handed_next (cond b (found.Execute (handed s.limit t)) (found.Ask (request s.parameters s.limit s.next_tag t))))
-    (commands (cond b (without_first s) (with_first_asked s t)).waiting) (t.command ∷ commands ts) []
+    (commands (cond b (without_first s t) (with_first_asked s t)).waiting) (t.command ∷ commands ts) []
 turn_keeps s t ts true e = first_keeps s t ts e
 turn_keeps s t ts false e = first_keeps s t ts e
 
@@ -140,7 +147,7 @@ next_keeps s (t ∷ ts) e = at_keeps s t ts t.awaiting e
 -- ---- aborts
 
 aborted_part : (s : TasksValue) (unit tag : ℕ) (b : Bool)
-    → IsPartOf (commands (cond b (record s { waiting = filter (λ t. not (is_named unit tag t)) s.waiting; passed_over = remembered s.passed_over tag }) s).waiting) (commands s.waiting)
+    → IsPartOf (commands (cond b (without_named s unit tag) s).waiting) (commands s.waiting)
 aborted_part s unit tag true = part_filter (λ (t : TaskValue). t.command) (λ (t : TaskValue). not (is_named unit tag t)) s.waiting
 aborted_part s unit tag false = whole (commands s.waiting)
 
@@ -153,6 +160,9 @@ step_keeps s (DataCame d payload) none = same _ _ (data_orders s d payload (data
 step_keeps s AskedNext none = next_keeps s s.waiting refl
 step_keeps s (Aborted unit tag) none = absurd none
 step_keeps s (Dropped unit) none = absurd none
+step_keeps s Answered none = same _ _ refl
+step_keeps s (Held reply ticket) none = same _ _ refl
+step_keeps s (Settled ticket outcome) none = same _ _ refl
 
 step_kept : (s : TasksValue) (act : Act) → EndsNone act → Orders (handed_by s act) (commands (stepped s act).waiting) (commands s.waiting) (taken_by s act)
 step_kept s act none = kept_order (handed_by s act) (commands (stepped s act).waiting) (commands s.waiting) (taken_by s act) (step_keeps s act none)
@@ -164,6 +174,9 @@ step_orders s (Numbered immediate cmd_sn) = step_kept s (Numbered immediate cmd_
 step_orders s (Commanded c payload) = step_kept s (Commanded c payload) tt
 step_orders s (DataCame d payload) = step_kept s (DataCame d payload) tt
 step_orders s AskedNext = step_kept s AskedNext tt
+step_orders s Answered = step_kept s Answered tt
+step_orders s (Held reply ticket) = step_kept s (Held reply ticket) tt
+step_orders s (Settled ticket outcome) = step_kept s (Settled ticket outcome) tt
 
 -- where nothing is aborted nothing is lost
 pub all_kept : (s : TasksValue) (acts : List Act) → AllByRecursion EndsNone acts
@@ -209,6 +222,9 @@ executed_step s (DataCame d payload) = tt
 executed_step s AskedNext = executed_next (next_for s (slice_get s.waiting 0))
 executed_step s (Aborted unit tag) = tt
 executed_step s (Dropped unit) = tt
+executed_step s Answered = tt
+executed_step s (Held reply ticket) = tt
+executed_step s (Settled ticket outcome) = tt
 
 pub all_executed : (s : TasksValue) (acts : List Act) → IsPartOf (map (λ e. e.command) (executed s acts)) (handed_out s acts)
 all_executed s [] = tt
@@ -222,7 +238,7 @@ all_executed s (act ∷ acts) =
 
 abort_waits : (s : TasksValue) (unit tag : ℕ) → is_waiting_at s unit tag ≡ true → (without_task s unit tag).waiting ≡ filter (λ t. not (is_named unit tag t)) s.waiting
 abort_waits s unit tag e =
-    ap (λ (b : Bool). (cond b (record s { waiting = filter (λ t. not (is_named unit tag t)) s.waiting; passed_over = remembered s.passed_over tag }) s).waiting) e
+    ap (λ (b : Bool). (cond b (without_named s unit tag) s).waiting) e
 
 pub after_abort : (s : TasksValue) (unit tag : ℕ) (acts : List Act) → is_waiting_at s unit tag ≡ true
     → IsPartOf (handed_out (without_task s unit tag) acts) (commands (filter (λ t. not (is_named unit tag t)) s.waiting) ++ taken_in (without_task s unit tag) acts)

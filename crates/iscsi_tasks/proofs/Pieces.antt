@@ -7,7 +7,7 @@ use Rattle.std.proofs.lemmas.Bool.{eqb-true, eq-eqb, leb-true}
 use Rattle.iscsi_pdu.specs.declared.serial_number.SerialNumber.{SerialNumber}
 use Rattle.iscsi_pdu.specs.declared.scsi_command.ScsiCommand.{ScsiCommand}
 use Rattle.iscsi_pdu.specs.declared.data_out.DataOut.{DataOut}
-use Rattle.iscsi_pdu.specs.declared.reject_reason.RejectReason.TheVariants.{TaskInProgress}
+use Rattle.iscsi_pdu.specs.declared.reject_reason.RejectReason.TheVariants.{TaskInProgress, TooManyImmediateCommands}
 use Rattle.iscsi_keys.specs.declared.parameters.SessionParameters.{SessionParameters}
 use Rattle.iscsi_tasks.specs.declared.awaiting.Awaiting.{Awaiting}
 use Rattle.iscsi_tasks.specs.declared.awaiting.Awaiting.TheVariants as awaits
@@ -21,11 +21,14 @@ use Rattle.iscsi_tasks.specs.declared.taken.TakenData.{TakenData}
 use Rattle.iscsi_tasks.specs.declared.next_task.NextTask.TheVariants as found
 use Rattle.iscsi_tasks.specs.Values.{TaskValue, TasksValue, begun_tasks}
 use Rattle.iscsi_tasks.specs.Writes.{wanted, first_awaited, data_fault}
-use Rattle.iscsi_tasks.specs.Commands.{has_tag, is_taken, counted, after_command, command_answer, begun_task, unless_failed, is_waiting, is_whole_at, remembered, room_for, waits_if}
+use Rattle.iscsi_tasks.specs.Commands.{has_tag, is_taken, counted, after_command, command_answer, begun_task, unless_failed, is_waiting}
+use Rattle.iscsi_tasks.specs.Commands.{is_whole_at, room_for, waits_if}
 use Rattle.iscsi_tasks.specs.DataOuts.{unless_data_fault, task_at, task_after, tasks_after, data_answer, after_data}
 use Rattle.iscsi_tasks.specs.Next.{is_whole, next_at, left_at, next_for, left_for, handed, request, without_first, with_first_asked}
-use Rattle.iscsi_tasks.specs.Aborts.{is_at, is_named, is_waiting_at}
-use Rattle.iscsi_tasks.specs.Runs.{Act, Numbered, Commanded, DataCame, AskedNext, Aborted, Dropped, stepped, Executed, executed, executed_by, at_once, found_next, Piece, piece_if, pieces_of, Continue, together, IsMadeOf, IsPartOf}
+use Rattle.iscsi_tasks.specs.Aborts.{is_at, is_named, is_waiting_at, without_named}
+use Rattle.iscsi_tasks.specs.Runs.{Act, Numbered, Commanded, DataCame, AskedNext, Aborted, Dropped, Answered, Held, Settled, stepped}
+use Rattle.iscsi_tasks.specs.Runs.{Executed, executed, executed_by, at_once, found_next, Piece, piece_if, pieces_of, Continue, together}
+use Rattle.iscsi_tasks.specs.Runs.{IsMadeOf, IsPartOf}
 use Rattle.iscsi_tasks.proofs.Parts.{part_behind, part_late, part_more, whole}
 use Rattle.iscsi_tasks.proofs.Order.{count_waits}
 
@@ -54,6 +57,9 @@ pieces_of-append tag (Numbered immediate cmd_sn ∷ h) g = pieces_of-append tag 
 pieces_of-append tag (AskedNext ∷ h) g = pieces_of-append tag h g
 pieces_of-append tag (Aborted unit aborted ∷ h) g = pieces_of-append tag h g
 pieces_of-append tag (Dropped unit ∷ h) g = pieces_of-append tag h g
+pieces_of-append tag (Answered ∷ h) g = pieces_of-append tag h g
+pieces_of-append tag (Held reply ticket ∷ h) g = pieces_of-append tag h g
+pieces_of-append tag (Settled ticket outcome ∷ h) g = pieces_of-append tag h g
 
 later : (tag : ℕ) (ps : List Piece) (h g : List Act) → IsPartOf ps (pieces_of tag h) → IsPartOf ps (pieces_of tag (h ++ g))
 later tag ps h g p =
@@ -202,7 +208,7 @@ after_data_has h s d payload (Err fault) has = all_keep h _ s.waiting has
 -- ---- what is next, and aborts
 
 turn_has : (h : List Act) (s : TasksValue) (t : TaskValue) (ts : List TaskValue) (b : Bool) → s.waiting ≡ t ∷ ts → AllHaveData h (t ∷ ts)
-    → AllHaveData (h ++ AskedNext ∷ []) (cond b (without_first s) (with_first_asked s t)).waiting
+    → AllHaveData (h ++ AskedNext ∷ []) (cond b (without_first s t) (with_first_asked s t)).waiting
 turn_has h s t ts true e has = subst (AllHaveData (h ++ AskedNext ∷ [])) (ap (drop 1) (sym e)) (all_keep h _ ts has.1)
 turn_has h s t ts false e has =
     (keeps h _ t _ refl refl has.0, subst (AllHaveData (h ++ AskedNext ∷ [])) (ap (drop 1) (sym e)) (all_keep h _ ts has.1))
@@ -227,7 +233,7 @@ filter_has h test [] has = tt
 filter_has h test (t ∷ ts) has = filtered_has h t (filter test ts) (test t) has.0 (filter_has h test ts has.1)
 
 aborted_has : (h : List Act) (s : TasksValue) (unit tag : ℕ) (b : Bool) → AllHaveData h s.waiting
-    → AllHaveData h (cond b (record s { waiting = filter (λ t. not (is_named unit tag t)) s.waiting; passed_over = remembered s.passed_over tag }) s).waiting
+    → AllHaveData h (cond b (without_named s unit tag) s).waiting
 aborted_has h s unit tag true has = filter_has h (λ (t : TaskValue). not (is_named unit tag t)) s.waiting has
 aborted_has h s unit tag false has = has
 
@@ -241,6 +247,9 @@ step_has h s (Commanded c payload) has = commanded_has h s c payload (command_an
 step_has h s (DataCame d payload) has = after_data_has h s d payload (data_answer s d (length payload)) has
 step_has h s AskedNext has = next_has h s s.waiting refl has
 step_has h s (Aborted unit tag) has = aborted_has _ s unit tag (is_waiting_at s unit tag) (all_keep h _ s.waiting has)
+step_has h s Answered has = all_keep h _ s.waiting has
+step_has h s (Held reply ticket) has = all_keep h _ s.waiting has
+step_has h s (Settled ticket outcome) has = all_keep h _ s.waiting has
 step_has h s (Dropped unit) has = filter_has _ (λ (t : TaskValue). not (is_at unit t)) s.waiting (all_keep h _ s.waiting has)
 
 -- ---- what is executed
@@ -254,16 +263,19 @@ made_later limit h g e made = record {
   whole = made.whole;
 }
 
-only_whole : (over again alone all : Bool) (m n : ℕ) (room : Result (Unit {0}) TasksFault)
-    → cond over (Ok taken.PassedOver) (cond again (Ok (taken.Rejected TaskInProgress)) (cond (alone && all) (Ok (taken.Execute m)) (waits_if room))) ≡ Ok (taken.Execute n)
+only_whole : (over again crowded alone all : Bool) (m n : ℕ) (room : Result (Unit {0}) TasksFault)
+    → cond over (Ok taken.PassedOver) (cond again (Ok (taken.Rejected TaskInProgress)) (cond crowded (Ok
+    (taken.Rejected TooManyImmediateCommands))
+    (cond (alone && all) (Ok (taken.Execute m)) (waits_if room)))) ≡ Ok (taken.Execute n)
     → (m ≡ n) × (all ≡ true)
-only_whole true again alone all m n room e = absurd cc
-only_whole false true alone all m n room e = absurd cc
-only_whole false false true true m n room e = (cc, refl)
-only_whole false false true false m n (Ok room) e = absurd cc
-only_whole false false true false m n (Err fault) e = absurd cc
-only_whole false false false all m n (Ok room) e = absurd cc
-only_whole false false false all m n (Err fault) e = absurd cc
+only_whole true again crowded alone all m n room e = absurd cc
+only_whole false true crowded alone all m n room e = absurd cc
+only_whole false false true alone all m n room e = absurd cc
+only_whole false false false true true m n room e = (cc, refl)
+only_whole false false false true false m n (Ok room) e = absurd cc
+only_whole false false false true false m n (Err fault) e = absurd cc
+only_whole false false false false all m n (Ok room) e = absurd cc
+only_whole false false false false all m n (Err fault) e = absurd cc
 
 whole_at : (w count : ℕ) (a : Awaiting) → is_whole_at w count a ≡ true → w ≤ count
 whole_at w count awaits.Turn e = leb-true w count e
@@ -275,7 +287,8 @@ at_once_facts : (s : TasksValue) (c : ScsiCommand) (payload : List ℕ) (n : ℕ
     → (n ≡ wanted s.limit c) × (n ≤ length payload)
 at_once_facts s c payload n e =
     let w = wanted s.limit c in
-    let facts = only_whole _ _ (length s.waiting == 0) (is_whole_at w (length payload) (first_awaited s.parameters c (length payload))) w n
+    let facts = only_whole _ _ _ (length s.waiting == 0) (is_whole_at w (length payload) (first_awaited s.parameters c
+    (length payload))) w n
     (room_for s.waiting (length (begun_task s.parameters c payload).bytes)) e in
     let enough : w ≤ length payload = whole_at w (length payload) (first_awaited s.parameters c (length payload)) facts.1 in
     (sym facts.0, subst (λ k. k ≤ length payload) facts.0 enough)
@@ -332,6 +345,9 @@ step_made h s (DataCame d payload) has = tt
 step_made h s AskedNext has = next_made h s s.waiting has
 step_made h s (Aborted unit tag) has = tt
 step_made h s (Dropped unit) has = tt
+step_made h s Answered has = tt
+step_made h s (Held reply ticket) has = tt
+step_made h s (Settled ticket outcome) has = tt
 
 -- ---- the limit stays
 
@@ -355,7 +371,7 @@ data_limit s d payload (Ok answer) = either_limit (is_waiting s d.initiator_task
 data_limit s d payload (Err fault) = refl
 
 left_limit : (s : TasksValue) (t : TaskValue) (a : Awaiting) → (left_at s t a).limit ≡ s.limit
-left_limit s t awaits.Turn = either_limit (is_whole s.limit t) s (without_first s) (with_first_asked s t) refl refl
+left_limit s t awaits.Turn = either_limit (is_whole s.limit t) s (without_first s t) (with_first_asked s t) refl refl
 left_limit s t (awaits.Data sequence) = refl
 left_limit s t (awaits.Failing fault) = refl
 left_limit s t (awaits.Failed fault) = refl
@@ -370,8 +386,11 @@ limit_stays s (Commanded c payload) = command_limit s c payload (command_answer 
 limit_stays s (DataCame d payload) = data_limit s d payload (data_answer s d (length payload))
 limit_stays s AskedNext = next_limit s (slice_get s.waiting 0)
 limit_stays s (Aborted unit tag) =
-    either_limit (is_waiting_at s unit tag) s (record s { waiting = filter (λ t. not (is_named unit tag t)) s.waiting; passed_over = remembered s.passed_over tag }) s refl refl
+    either_limit (is_waiting_at s unit tag) s (without_named s unit tag) s refl refl
 limit_stays s (Dropped unit) = refl
+limit_stays s Answered = refl
+limit_stays s (Held reply ticket) = refl
+limit_stays s (Settled ticket outcome) = refl
 
 -- ---- runs
 

@@ -1,9 +1,11 @@
--- Tasks that end without having been executed (RFC 7143, "Task Management Function Request").
-use Rattle.std.specs.Prelude.{ℕ, ◌==◌, Bool, false, not, ◌&&◌, List, [], ◌∷◌, filter, Option, Some, None, if◌then◌else◌}
+-- Tasks that end without having been answered (RFC 7143, "Task Management Function Request").
+use Rattle.std.specs.Prelude.{ℕ, ◌==◌, Bool, false, not, ◌&&◌, ◌||◌, List, [], ◌∷◌, filter, Option, Some, None, if◌then◌else◌}
 use Rattle.std.specs.List.{list_any}
 use Rattle.iscsi_pdu.specs.Luns.{unit_of}
 use Rattle.iscsi_tasks.specs.Values.{TaskValue, TasksValue}
+use Rattle.iscsi_tasks.specs.declared.held_reply.HeldReply.{HeldReply}
 use Rattle.iscsi_tasks.specs.Commands.{has_tag, remembered}
+use Rattle.iscsi_tasks.specs.Holding.{is_reply_to}
 
 abbrev pub tag_of : TaskValue → ℕ
 tag_of t = t.command.initiator_task_tag
@@ -19,13 +21,26 @@ is_at unit t = is_unit unit (unit_of t.command.lun)
 abbrev pub is_named : (unit tag : ℕ) → TaskValue → Bool
 is_named unit tag t = has_tag tag t && is_at unit t
 
-abbrev pub is_waiting_at : TasksValue → (unit tag : ℕ) → Bool
-is_waiting_at s unit tag = list_any (is_named unit tag) s.waiting
+abbrev pub is_reply_at : (unit : ℕ) → HeldReply → Bool
+is_reply_at unit r = is_unit unit (unit_of r.command.lun)
 
--- its Data-Out that are under way are passed over
+abbrev pub is_reply_named : (unit tag : ℕ) → HeldReply → Bool
+is_reply_named unit tag r = is_reply_to tag r && is_reply_at unit r
+
+-- it waits, or its reply is held
+abbrev pub is_waiting_at : TasksValue → (unit tag : ℕ) → Bool
+is_waiting_at s unit tag = list_any (is_named unit tag) s.waiting || list_any (is_reply_named unit tag) s.replies
+
+-- its Data-Out that are under way are passed over, and its reply is never sent
+abbrev pub without_named : TasksValue → (unit tag : ℕ) → TasksValue
+without_named s unit tag = record s {
+  waiting = filter (λ t. not (is_named unit tag t)) s.waiting;
+  replies = filter (λ r. not (is_reply_named unit tag r)) s.replies;
+  passed_over = remembered s.passed_over tag;
+}
+
 abbrev pub without_task : TasksValue → (unit tag : ℕ) → TasksValue
-without_task s unit tag =
-    if is_waiting_at s unit tag then record s { waiting = filter (λ t. not (is_named unit tag t)) s.waiting; passed_over = remembered s.passed_over tag } else s
+without_task s unit tag = if is_waiting_at s unit tag then without_named s unit tag else s
 
 -- the tags of those at the unit
 abbrev pub remembered_at : (unit : ℕ) → (tags : List ℕ) → List TaskValue → List ℕ
@@ -35,5 +50,6 @@ remembered_at unit tags (t ∷ ts) = remembered_at unit (if is_at unit t then re
 abbrev pub without_unit : TasksValue → (unit : ℕ) → TasksValue
 without_unit s unit = record s {
   waiting = filter (λ t. not (is_at unit t)) s.waiting;
+  replies = filter (λ r. not (is_reply_at unit r)) s.replies;
   passed_over = remembered_at unit s.passed_over s.waiting;
 }

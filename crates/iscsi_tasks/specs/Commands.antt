@@ -1,23 +1,30 @@
 -- SCSI Commands, as they come (RFC 7143, "Command Numbering and Acknowledging", "SCSI Command").
-use Rattle.std.specs.Prelude.{ℕ, ◌+◌, ◌≤◌, ◌==◌, nat_lt, nat_le, Bool, false, not, ◌&&◌, ◌||◌, List, [], ◌∷◌, ◌++◌, length, drop, position, is_some, Result, Ok, Err, if◌then◌else◌}
+use Rattle.std.specs.Prelude.{ℕ, ◌+◌, ◌≤◌, ◌==◌, nat_lt, nat_le, Bool, true, false, not, ◌&&◌, ◌||◌, List, [], ◌∷◌, ◌++◌, length, drop}
+use Rattle.std.specs.Prelude.{position, is_some, Some, Result, Ok, Err, if◌then◌else◌}
 use Rattle.iscsi_pdu.specs.SerialNumbers.{next}
 use Rattle.iscsi_pdu.specs.declared.serial_number.SerialNumber.{SerialNumber}
 use Rattle.iscsi_pdu.specs.declared.scsi_command.ScsiCommand.{ScsiCommand}
-use Rattle.iscsi_pdu.specs.declared.reject_reason.RejectReason.TheVariants.{TaskInProgress}
+use Rattle.iscsi_pdu.specs.declared.reject_reason.RejectReason.TheVariants.{TaskInProgress, TooManyImmediateCommands}
 use Rattle.iscsi_keys.specs.declared.parameters.SessionParameters.{SessionParameters}
 use Rattle.iscsi_tasks.specs.declared.awaiting.Awaiting.{Awaiting}
 use Rattle.iscsi_tasks.specs.declared.awaiting.Awaiting.TheVariants.{Turn, Data, Failing, Failed}
 use Rattle.iscsi_tasks.specs.declared.taken.TakenCommand.{TakenCommand}
 use Rattle.iscsi_tasks.specs.declared.taken.TakenCommand.TheVariants.{PassedOver, Rejected, Execute, Waits}
 use Rattle.iscsi_tasks.specs.declared.fault.TasksFault.{TasksFault}
-use Rattle.iscsi_tasks.specs.declared.fault.TasksFault.TheVariants.{TooManyWaiting, TooMuchData}
-use Rattle.iscsi_tasks.specs.Limits.{most_waiting, most_held}
+use Rattle.iscsi_tasks.specs.declared.fault.TasksFault.TheVariants.{TooMuchData}
+use Rattle.iscsi_tasks.specs.Limits.{most_under_way, most_waiting, most_held}
 use Rattle.iscsi_tasks.specs.Values.{TaskValue, TasksValue, held}
 use Rattle.iscsi_tasks.specs.Writes.{wanted, first_awaited}
+use Rattle.iscsi_tasks.specs.Windows.{pending, under_way}
+use Rattle.iscsi_tasks.specs.Holding.{is_held}
 
--- a PDU with a CmdSN is taken if it is for immediate delivery, or the one that is expected
+-- the window is open: MaxCmdSN isn't before ExpCmdSN
+abbrev pub is_open : TasksValue → Bool
+is_open s = nat_lt (pending s) most_under_way
+
+-- a PDU with a CmdSN is taken if it is for immediate delivery, or the one that is expected while the window is open
 abbrev pub is_taken : TasksValue → (immediate : Bool) → (cmd_sn : SerialNumber) → Bool
-is_taken s immediate cmd_sn = immediate || (cmd_sn.number == s.exp_cmd_sn.number)
+is_taken s immediate cmd_sn = immediate || ((cmd_sn.number == s.exp_cmd_sn.number) && is_open s)
 
 -- immediate delivery uses no number up
 abbrev pub counted : TasksValue → (immediate : Bool) → TasksValue
@@ -28,6 +35,14 @@ has_tag tag t = t.command.initiator_task_tag == tag
 
 abbrev pub is_waiting : TasksValue → (tag : ℕ) → Bool
 is_waiting s tag = is_some (position (has_tag tag) s.waiting)
+
+-- the tag is that of a command that waits, or whose reply is held
+abbrev pub is_in_use : TasksValue → (tag : ℕ) → Bool
+is_in_use s tag = is_waiting s tag || is_held s tag
+
+-- as many commands for immediate delivery are under way as may
+abbrev pub is_crowded : TasksValue → (immediate : Bool) → Bool
+is_crowded s immediate = immediate && nat_le most_under_way (under_way true s)
 
 -- a task that has failed keeps no data
 abbrev pub unless_failed : Awaiting → (payload : List ℕ) → List ℕ
@@ -61,12 +76,10 @@ pub record IsBounded (waiting : List TaskValue) : Type 0 where
   pub few : length waiting ≤ most_waiting
   pub little : held waiting ≤ most_held
 
--- whether one more may wait, with so many bytes of data
+-- whether one more may wait with so many bytes of data
 abbrev pub room_for : List TaskValue → (count : ℕ) → Result (Unit {0}) TasksFault
 room_for waiting count =
-    if nat_le most_waiting (length waiting) then Err TooManyWaiting
-    else if nat_le (held waiting + count) most_held then Ok tt
-    else Err TooMuchData
+    if nat_le (held waiting + count) most_held then Ok tt else Err TooMuchData
 
 abbrev pub waits_if : Result (Unit {0}) TasksFault → Result TakenCommand TasksFault
 waits_if (Ok room) = Ok Waits
@@ -75,7 +88,8 @@ waits_if (Err fault) = Err fault
 abbrev pub command_answer : TasksValue → ScsiCommand → (payload : List ℕ) → Result TakenCommand TasksFault
 command_answer s c payload =
     if not (is_taken s c.immediate c.cmd_sn) then Ok PassedOver
-    else if is_waiting s c.initiator_task_tag then Ok (Rejected TaskInProgress)
+    else if is_in_use s c.initiator_task_tag then Ok (Rejected TaskInProgress)
+    else if is_crowded s c.immediate then Ok (Rejected TooManyImmediateCommands)
     else if is_at_once s c (length payload) then Ok (Execute (wanted s.limit c))
     else waits_if (room_for s.waiting (length (begun_task s.parameters c payload).bytes))
 
@@ -86,7 +100,7 @@ remembered tags tag = if nat_lt (length tags) 64 then tags ++ tag ∷ [] else dr
 abbrev pub after_command : TasksValue → ScsiCommand → (payload : List ℕ) → Result TakenCommand TasksFault → TasksValue
 after_command s c payload (Ok PassedOver) = record s { passed_over = remembered s.passed_over c.initiator_task_tag }
 after_command s c payload (Ok (Rejected reason)) = counted s c.immediate
-after_command s c payload (Ok (Execute count)) = counted s c.immediate
+after_command s c payload (Ok (Execute count)) = record (counted s c.immediate) { in_hand = Some c }
 after_command s c payload (Ok Waits) = record (counted s c.immediate) { waiting = s.waiting ++ begun_task s.parameters c payload ∷ [] }
 after_command s c payload (Err fault) = s
 

@@ -2,9 +2,11 @@ pub mod Limits
 pub mod Values
 pub mod Writes
 pub mod Windows
+pub mod Holding
 pub mod Commands
 pub mod DataOuts
 pub mod Next
 pub mod Aborts
 pub mod Runs
+pub mod HeldRuns
 pub mod Rows

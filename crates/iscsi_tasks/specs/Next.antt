@@ -58,8 +58,9 @@ next_for s (Some t) = next_at s t t.awaiting
 abbrev pub next_of : TasksValue → NextTask
 next_of s = next_for s (slice_get s.waiting 0)
 
-abbrev pub without_first : TasksValue → TasksValue
-without_first s = record s { waiting = drop 1 s.waiting }
+-- it is in hand from then on
+abbrev pub without_first : TasksValue → TaskValue → TasksValue
+without_first s t = record s { waiting = drop 1 s.waiting; in_hand = Some t.command }
 
 abbrev pub with_first_asked : TasksValue → TaskValue → TasksValue
 with_first_asked s t =
@@ -67,10 +68,10 @@ with_first_asked s t =
 
 -- a command that is handed out waits no longer
 abbrev pub left_at : TasksValue → TaskValue → Awaiting → TasksValue
-left_at s t Turn = if is_whole s.limit t then without_first s else with_first_asked s t
+left_at s t Turn = if is_whole s.limit t then without_first s t else with_first_asked s t
 left_at s t (Data sequence) = s
 left_at s t (Failing fault) = s
-left_at s t (Failed fault) = without_first s
+left_at s t (Failed fault) = without_first s t
 
 abbrev pub left_for : TasksValue → Option TaskValue → TasksValue
 left_for s None = s

@@ -1,11 +1,16 @@
 -- Values of worked rows.
-use Rattle.std.specs.Prelude.{ℕ, Bool, true, false, replicate}
+use Rattle.std.specs.Prelude.{ℕ, Bool, true, false, List, [], Some, None, replicate}
 use Rattle.iscsi_pdu.specs.declared.serial_number.SerialNumber.{SerialNumber}
 use Rattle.iscsi_pdu.specs.declared.task_attribute.TaskAttribute.TheVariants.{Simple}
 use Rattle.iscsi_pdu.specs.declared.scsi_command.ScsiCommand.{ScsiCommand}
 use Rattle.iscsi_pdu.specs.declared.data_out.DataOut.{DataOut}
 use Rattle.iscsi_keys.specs.declared.parameters.SessionParameters.{SessionParameters}
+use Rattle.scsi_sense.specs.declared.status.Status.TheVariants.{Good}
 use Rattle.iscsi_tasks.specs.declared.sequence.DataSequence.{DataSequence}
+use Rattle.iscsi_tasks.specs.declared.held_reply.UnitReply.{UnitReply}
+use Rattle.iscsi_tasks.specs.declared.held_reply.HeldReply.{HeldReply}
+use Rattle.iscsi_tasks.specs.Values.{TasksValue, begun_tasks}
+use Rattle.iscsi_tasks.specs.Commands.{begun_task}
 
 abbrev pub sn : ℕ → SerialNumber
 sn n = record { number = n }
@@ -51,3 +56,30 @@ data_out tag number offset is_final = record {
 -- what an R2T with tag 5 has asked for, up to the eighth byte, behind its first Data-Out
 abbrev pub begun : DataSequence
 begun = record { target_transfer_tag = 5; end = 8; data_sn = sn 1 }
+
+-- the same under another tag, or for immediate delivery
+abbrev pub tagged : (tag : ℕ) → ScsiCommand → ScsiCommand
+tagged tag c = record c { initiator_task_tag = tag }
+
+abbrev pub urgent : ScsiCommand → ScsiCommand
+urgent c = record c { immediate = true }
+
+-- the next number is 1, and so many commands wait for their data
+abbrev pub alone : TasksValue
+alone = begun_tasks (bursts true false) 12 (sn 1)
+
+abbrev pub behind : ScsiCommand → (count : ℕ) → TasksValue
+behind c count = record alone { waiting = replicate count (begun_task (bursts true false) c []) }
+
+-- with a command in hand, or with replies that are held
+abbrev pub handing : ScsiCommand → TasksValue
+handing c = record alone { in_hand = Some c }
+
+abbrev pub good : UnitReply
+good = record { handed_over = 4; status = Good; sense = None }
+
+abbrev pub reply_to : ScsiCommand → (volume number : ℕ) → HeldReply
+reply_to c volume number = record { command = c; reply = good; ticket = record { volume = volume; number = number } }
+
+abbrev pub holding : List HeldReply → TasksValue
+holding replies = record alone { replies = replies }

@@ -1,5 +1,5 @@
 -- The tasks of a session from its first PDU on, and what comes out.
-use Rattle.std.specs.Prelude.{◌≡◌, ◌⊎◌, ℕ, ◌+◌, ◌==◌, Bool, List, [], ◌∷◌, ◌++◌, length, take, map, Result, Ok, if◌then◌else◌}
+use Rattle.std.specs.Prelude.{◌≡◌, ◌⊎◌, ℕ, ◌+◌, ◌==◌, Bool, List, [], ◌∷◌, ◌++◌, length, take, map, None, Result, Ok, if◌then◌else◌}
 use Rattle.iscsi_pdu.specs.declared.serial_number.SerialNumber.{SerialNumber}
 use Rattle.iscsi_pdu.specs.declared.scsi_command.ScsiCommand.{ScsiCommand}
 use Rattle.iscsi_pdu.specs.declared.data_out.DataOut.{DataOut}
@@ -8,14 +8,19 @@ use Rattle.iscsi_tasks.specs.declared.taken.TakenCommand.TheVariants as taken
 use Rattle.iscsi_tasks.specs.declared.fault.TasksFault.{TasksFault}
 use Rattle.iscsi_tasks.specs.declared.next_task.NextTask.{NextTask}
 use Rattle.iscsi_tasks.specs.declared.next_task.NextTask.TheVariants as found
+use Rattle.iscsi_tasks.specs.declared.held_reply.Ticket.{Ticket}
+use Rattle.iscsi_tasks.specs.declared.held_reply.Outcome.{Outcome}
+use Rattle.iscsi_tasks.specs.declared.held_reply.UnitReply.{UnitReply}
 use Rattle.iscsi_tasks.specs.Values.{TaskValue, TasksValue}
 use Rattle.iscsi_tasks.specs.Writes.{wanted}
 use Rattle.iscsi_tasks.specs.Commands.{is_taken, counted, command_answer, after_command}
 use Rattle.iscsi_tasks.specs.DataOuts.{data_answer, after_data}
 use Rattle.iscsi_tasks.specs.Next.{next_of, after_next}
 use Rattle.iscsi_tasks.specs.Aborts.{without_task, without_unit}
+use Rattle.iscsi_tasks.specs.Holding.{with_held, without_due}
 
--- what happens to the tasks
+-- what happens to the tasks: a PDU with a number comes, or a command, or data; what is next is asked for; a task or the tasks of a unit are
+-- dropped; the command in hand is answered, or its reply is held; and the volume of a ticket is settled as far as the ticket, by an outcome
 pub data Act : Type 0 where
   Numbered : (immediate : Bool) → (cmd_sn : SerialNumber) → Act
   Commanded : ScsiCommand → (payload : List ℕ) → Act
@@ -23,6 +28,9 @@ pub data Act : Type 0 where
   AskedNext : Act
   Aborted : (unit tag : ℕ) → Act
   Dropped : (unit : ℕ) → Act
+  Answered : Act
+  Held : UnitReply → Ticket → Act
+  Settled : Ticket → Outcome → Act
 
 abbrev pub stepped : TasksValue → Act → TasksValue
 stepped s (Numbered immediate cmd_sn) = if is_taken s immediate cmd_sn then counted s immediate else s
@@ -31,6 +39,9 @@ stepped s (DataCame d payload) = after_data s d payload (data_answer s d (length
 stepped s AskedNext = after_next s
 stepped s (Aborted unit tag) = without_task s unit tag
 stepped s (Dropped unit) = without_unit s unit
+stepped s Answered = record s { in_hand = None }
+stepped s (Held reply ticket) = with_held s reply ticket
+stepped s (Settled ticket outcome) = without_due s ticket
 
 abbrev pub run : TasksValue → List Act → TasksValue
 run s [] = s
@@ -124,6 +135,9 @@ pieces_of tag (Numbered immediate cmd_sn ∷ acts) = pieces_of tag acts
 pieces_of tag (AskedNext ∷ acts) = pieces_of tag acts
 pieces_of tag (Aborted unit aborted ∷ acts) = pieces_of tag acts
 pieces_of tag (Dropped unit ∷ acts) = pieces_of tag acts
+pieces_of tag (Answered ∷ acts) = pieces_of tag acts
+pieces_of tag (Held reply ticket ∷ acts) = pieces_of tag acts
+pieces_of tag (Settled ticket outcome ∷ acts) = pieces_of tag acts
 
 -- each begins where the one before ends
 abbrev pub Continue : (from : ℕ) → List Piece → Type 0

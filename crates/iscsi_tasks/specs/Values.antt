@@ -1,9 +1,10 @@
 -- What contracts see of the tasks of a session.
-use Rattle.std.specs.Prelude.{ℕ, List, [], length, sum_by}
+use Rattle.std.specs.Prelude.{ℕ, List, [], Option, None, length, sum_by}
 use Rattle.iscsi_pdu.specs.declared.scsi_command.ScsiCommand.{ScsiCommand}
 use Rattle.iscsi_pdu.specs.declared.serial_number.SerialNumber.{SerialNumber}
 use Rattle.iscsi_keys.specs.declared.parameters.SessionParameters.{SessionParameters}
 use Rattle.iscsi_tasks.specs.declared.awaiting.Awaiting.{Awaiting}
+use Rattle.iscsi_tasks.specs.declared.held_reply.HeldReply.{HeldReply}
 
 -- a command that waits: its data so far, and the R2TSN of its next R2T
 pub record TaskValue : Type 0 where
@@ -13,7 +14,9 @@ pub record TaskValue : Type 0 where
   pub r2t_sn : SerialNumber
 
 -- what the session goes by; the most data that a unit takes of a command; the commands that wait, in the order in which they are
--- executed; tags of commands that were passed over or aborted; and the target transfer tag of the next R2T
+-- executed; tags of commands that were passed over or aborted; the target transfer tag of the next R2T; the command in hand, which is handed
+-- out to be executed or answered as failed, and isn't answered yet; and the replies that are held, in the order in which their commands
+-- were executed
 pub record TasksValue : Type 0 where
   pub parameters : SessionParameters
   pub limit : ℕ
@@ -21,6 +24,8 @@ pub record TasksValue : Type 0 where
   pub waiting : List TaskValue
   pub passed_over : List ℕ
   pub next_tag : ℕ
+  pub in_hand : Option ScsiCommand
+  pub replies : List HeldReply
 
 -- before the first PDU
 abbrev pub begun_tasks : SessionParameters → (limit : ℕ) → SerialNumber → TasksValue
@@ -31,6 +36,8 @@ begun_tasks parameters limit exp_cmd_sn = record {
   waiting = [];
   passed_over = [];
   next_tag = 0;
+  in_hand = None;
+  replies = [];
 }
 
 -- how many bytes of data they hold

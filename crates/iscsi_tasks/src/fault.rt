@@ -32,9 +32,6 @@ impl TaskFault {
 /// Why a session can't go on.
 #[derive(Clone, Copy, Debug, Error)]
 pub enum TasksFault {
-    /// As many commands wait as may.
-    #[error("too many commands wait")]
-    TooManyWaiting,
     /// The commands that wait would hold more data than they may.
     #[error("waiting commands have too much data")]
     TooMuchData,

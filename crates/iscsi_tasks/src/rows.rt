@@ -1,13 +1,20 @@
-ghost use Rattle.std.specs.Prelude.{◌≡◌, true, false, Some, None};
+ghost use Rattle.std.specs.Prelude.{◌≡◌, true, false, [], ◌∷◌, Some, None, Ok};
+ghost use Rattle.iscsi_pdu.specs.declared.reject_reason.RejectReason.TheVariants.{TaskInProgress, TooManyImmediateCommands};
 ghost use Rattle.iscsi_tasks.specs.declared.awaiting.Awaiting.TheVariants.{Turn, Data, Failing, Failed};
 ghost use Rattle.iscsi_tasks.specs.declared.fault.TaskFault.TheVariants.{UnexpectedUnsolicitedData, IncorrectAmountOfData, DataOffsetError};
+ghost use Rattle.iscsi_tasks.specs.declared.taken.TakenCommand.TheVariants.{PassedOver, Rejected, Execute};
+ghost use Rattle.iscsi_tasks.specs.declared.held_reply.Outcome.TheVariants.{Kept, Lost};
+ghost use Rattle.iscsi_tasks.specs.declared.held_reply.Response.TheVariants.{Replied, TargetFailure};
 ghost use Rattle.iscsi_tasks.specs.Limits.{most_held};
 ghost use Rattle.iscsi_tasks.specs.Values.{begun_tasks};
 ghost use Rattle.iscsi_tasks.specs.Writes.{wanted, first_awaited, data_fault};
 ghost use Rattle.iscsi_tasks.specs.Windows.{max_cmd_sn};
-ghost use Rattle.iscsi_tasks.specs.Commands.{is_taken, counted};
+ghost use Rattle.iscsi_tasks.specs.Commands.{is_taken, counted, command_answer};
+ghost use Rattle.iscsi_tasks.specs.Aborts.{is_waiting_at, without_task, without_unit};
+ghost use Rattle.iscsi_tasks.specs.Holding.{answers_due, with_held, without_due};
 ghost use Rattle.iscsi_tasks.specs.Next.{tag_after};
-ghost use Rattle.iscsi_tasks.specs.Rows.{sn, bursts, write, data_out, begun};
+ghost use Rattle.iscsi_tasks.specs.Rows.{sn, bursts, write, data_out, begun, tagged, urgent, alone, behind, handing, good, reply_to};
+ghost use Rattle.iscsi_tasks.specs.Rows.{holding};
 
 /// Worked rows: what writes wait for, and what is wrong with Data-Out.
 pub fn data_rows()
@@ -35,4 +42,44 @@ pub fn number_rows()
     ensures half_the_circle_away { is_taken (begun_tasks (bursts true false) 12 (sn 5)) false (sn 0x80000005) ≡ false }
     ensures tag { tag_after 0xFFFFFFFD ≡ 0xFFFFFFFE }
     ensures tag_round { tag_after 0xFFFFFFFE ≡ 0 }
+{}
+
+/// Worked rows: the command window. What an initiator may send ahead is MaxCmdSN - ExpCmdSN + 1 (RFC 7143, "Command Numbering and
+/// Acknowledging"): 32 at first, one less for each command that isn't answered, and nothing while MaxCmdSN is one below ExpCmdSN.
+pub fn window_rows()
+    ensures at_first { max_cmd_sn alone ≡ sn 32 }
+    ensures in_hand { max_cmd_sn (handing (write 4 true)) ≡ sn 31 }
+    ensures in_hand_immediate { max_cmd_sn (handing (urgent (write 4 true))) ≡ sn 32 }
+    ensures held { max_cmd_sn (holding (reply_to (write 4 true) 7 1 ∷ reply_to (tagged 2 (write 4 true)) 7 2 ∷ [])) ≡ sn 30 }
+    ensures held_immediate { max_cmd_sn (holding (reply_to (urgent (write 4 true)) 7 1 ∷ [])) ≡ sn 32 }
+    ensures one_left { max_cmd_sn (behind (write 4 true) 31) ≡ sn 1 }
+    ensures closed { max_cmd_sn (behind (write 4 true) 32) ≡ sn 0 }
+    ensures last { is_taken (behind (write 4 true) 31) false (sn 1) ≡ true }
+    ensures beyond { is_taken (behind (write 4 true) 32) false (sn 1) ≡ false }
+    ensures beyond_immediate { is_taken (behind (write 4 true) 32) true (sn 1) ≡ true }
+    ensures passed_over { command_answer (behind (write 4 true) 32) (tagged 2 (write 4 true)) [] ≡ Ok PassedOver }
+    ensures crowded { command_answer (behind (urgent (write 4 true)) 32) (tagged 2 (urgent (write 4 true))) []
+        ≡ Ok (Rejected TooManyImmediateCommands) }
+    ensures in_use { command_answer (holding (reply_to (write 4 true) 7 1 ∷ [])) (write 0 true) [] ≡ Ok (Rejected TaskInProgress) }
+    ensures another_tag { command_answer (holding (reply_to (write 4 true) 7 1 ∷ [])) (tagged 2 (write 0 true)) [] ≡ Ok (Execute 0) }
+{}
+
+/// Worked rows: replies that are held, of the volumes 7 and 8. A reply with LUN 0 is of unit 0.
+pub fn holding_rows()
+    ensures holds { with_held (handing (write 4 true)) good (record { volume = 7; number = 1 })
+        ≡ holding (reply_to (write 4 true) 7 1 ∷ []) }
+    ensures kept { answers_due (record { volume = 7; number = 2 }) Kept
+        (reply_to (write 4 true) 7 2 ∷ reply_to (write 4 true) 8 1 ∷ reply_to (write 4 true) 7 3 ∷ [])
+        ≡ record { command = write 4 true; response = Replied good } ∷ [] }
+    ensures lost { answers_due (record { volume = 8; number = 9 }) Lost (reply_to (write 4 true) 7 2 ∷ reply_to (write 4 true) 8 1 ∷ [])
+        ≡ record { command = write 4 true; response = TargetFailure } ∷ [] }
+    ensures stay { without_due (holding (reply_to (write 4 true) 7 2 ∷ reply_to (write 4 true) 8 1 ∷ []))
+        (record { volume = 8; number = 9 })
+        ≡ holding (reply_to (write 4 true) 7 2 ∷ []) }
+    ensures there { is_waiting_at (holding (reply_to (write 4 true) 7 1 ∷ [])) 0 1 ≡ true }
+    ensures not_there { is_waiting_at (holding (reply_to (write 4 true) 7 1 ∷ [])) 1 1 ≡ false }
+    ensures aborted { (without_task (holding (reply_to (write 4 true) 7 1 ∷ reply_to (tagged 2 (write 4 true)) 7 2 ∷ [])) 0 1).replies
+        ≡ reply_to (tagged 2 (write 4 true)) 7 2 ∷ [] }
+    ensures reset { (without_unit (holding (reply_to (write 4 true) 7 1 ∷ [])) 0).replies ≡ [] }
+    ensures another_unit { without_unit (holding (reply_to (write 4 true) 7 1 ∷ [])) 1 ≡ holding (reply_to (write 4 true) 7 1 ∷ []) }
 {}

@@ -1,16 +1,20 @@
 use crate::awaiting::Awaiting;
 use crate::fault::TasksFault;
+use crate::held_reply::{DueAnswer, HeldReply, Outcome, Ticket, UnitReply};
+use crate::holding::*;
 use crate::next_task::NextTask;
 use crate::passed_over::PassedOver;
 use crate::taken::{TakenCommand, TakenData};
 use crate::task::{Task, wanted};
 use crate::waiting::*;
+use arrayvec::ArrayVec;
 use iscsi_keys::{SessionParameters, TARGET_MAX_RECV_DATA_SEGMENT_LENGTH};
 use iscsi_pdu::{DataOut, RESERVED_TAG, RejectReason, ScsiCommand, SerialNumber};
 use std::alloc::Global;
 use std::marker::Model;
 
-/// How many commands wait at most, and how many an initiator may send ahead while none waits.
+/// How many commands that have used a number up wait, are in hand or have their replies held at most, and how many for immediate delivery;
+/// and how many an initiator may send ahead while there is none.
 pub const WINDOW: u32 = 32;
 
 /// The most bytes of data that a session holds, in its buffers and its commands: 4 MiB.
@@ -23,7 +27,7 @@ pub const MOST_HELD: usize = SESSION_DATA - 3 * TARGET_MAX_RECV_DATA_SEGMENT_LEN
 /// How many serial numbers there are.
 const NUMBERS: u64 = 0x1_0000_0000;
 
-/// How far MaxCmdSN is ahead of ExpCmdSN while nothing waits, once round the circle.
+/// How far MaxCmdSN is ahead of ExpCmdSN while nothing is pending, once round the circle.
 const AHEAD: u64 = NUMBERS + WINDOW as u64 - 1;
 
 /// The tasks of a session in full feature, and the numbers by which commands are ordered. It takes PDUs and says what is to be
@@ -36,26 +40,50 @@ pub struct Tasks {
     waiting: Vec<Task>,
     passed_over: PassedOver,
     next_tag: u32,
+    /// The command that is handed out and isn't answered yet.
+    in_hand: Option<ScsiCommand>,
+    replies: ArrayVec<HeldReply, MOST_REPLIES>,
 }
 
 impl Model for Tasks {
-    ghost use Rattle.std.specs.Prelude.{◌≤◌, length};
-    ghost use Rattle.iscsi_tasks.specs.Limits.{most_waiting};
     ghost use Rattle.iscsi_tasks.specs.Values.{TasksValue, held};
+    ghost use Rattle.iscsi_tasks.specs.Windows.{IsInWindow};
 
     ghost Value = { TasksValue };
 
-    ghost view = { λ t. record { parameters = t.parameters; limit = t.limit; exp_cmd_sn = t.exp_cmd_sn; waiting = t.waiting.items; passed_over = t.passed_over; next_tag = t.next_tag } };
+    ghost view = { λ t. record {
+      parameters = t.parameters;
+      limit = t.limit;
+      exp_cmd_sn = t.exp_cmd_sn;
+      waiting = t.waiting.items;
+      passed_over = t.passed_over;
+      next_tag = t.next_tag;
+      in_hand = t.in_hand;
+      replies = t.replies.items;
+    } };
 
-    ghost invariant = { λ t. length t.waiting.items ≤ most_waiting };
+    ghost invariant = { λ t. IsInWindow (record {
+      parameters = t.parameters;
+      limit = t.limit;
+      exp_cmd_sn = t.exp_cmd_sn;
+      waiting = t.waiting.items;
+      passed_over = t.passed_over;
+      next_tag = t.next_tag;
+      in_hand = t.in_hand;
+      replies = t.replies.items;
+    }) };
 }
 
 impl Tasks {
-    ghost use Rattle.std.specs.Prelude.{◌≡◌, ◌≢◌, length, Err, IfOk, if◌then◌else◌};
+    ghost use Rattle.std.specs.Prelude.{◌≡◌, ◌≢◌, ◌≤◌, true, is_some, length, Err, IfOk, if◌then◌else◌};
     ghost use Rattle.iscsi_tasks.specs.declared.fault.TasksFault.TheVariants.{NoMemory};
     ghost use Rattle.iscsi_tasks.specs.Values.{begun_tasks};
-    ghost use Rattle.iscsi_tasks.specs.Windows.{max_cmd_sn};
-    ghost use Rattle.iscsi_tasks.specs.Commands.{is_taken, counted, is_at_once, command_answer, after_command, IsWithin};
+    ghost use Rattle.iscsi_tasks.specs.Limits.{most_under_way};
+    ghost use Rattle.iscsi_tasks.specs.Windows.{max_cmd_sn, under_way};
+    ghost use Rattle.iscsi_tasks.specs.Holding.{answers_due};
+    ghost use Rattle.iscsi_tasks.specs.Runs.{Answered, Held, Settled, stepped};
+    ghost use Rattle.iscsi_tasks.specs.Commands.{is_taken, is_in_use, is_crowded, counted, is_at_once, command_answer, after_command};
+    ghost use Rattle.iscsi_tasks.specs.Commands.{IsWithin};
     ghost use Rattle.iscsi_tasks.specs.DataOuts.{data_answer, after_data};
     ghost use Rattle.iscsi_tasks.specs.Next.{next_of, after_next};
     ghost use Rattle.iscsi_tasks.specs.Aborts.{is_waiting_at, without_task, without_unit};
@@ -76,6 +104,8 @@ impl Tasks {
             waiting: Vec::new(alloc),
             passed_over: PassedOver::new(),
             next_tag: 0,
+            in_hand: None,
+            replies: ArrayVec::new(),
         }
     }
 
@@ -86,15 +116,29 @@ impl Tasks {
         self.exp_cmd_sn
     }
 
-    /// The greatest number that an initiator may send: 31 above ExpCmdSN, less the numbered commands that wait.
+    /// The greatest number that an initiator may send: 31 above ExpCmdSN, less the commands that have used a number up and aren't
+    /// answered yet.
     pub fn max_cmd_sn(&self) -> SerialNumber
         ensures { result ≡ max_cmd_sn self.now }
     {
-        let numbered = numbered(self.waiting.as_slice());
-        let number = u64::from(self.exp_cmd_sn.number) + AHEAD - u64::from(numbered);
+        let number = u64::from(self.exp_cmd_sn.number) + AHEAD - u64::from(self.under_way(false));
         SerialNumber {
             number: (number % NUMBERS) as u32,
         }
+    }
+
+    /// How many commands for immediate delivery wait, are in hand or have their replies held, or how many that have used a number up.
+    fn under_way(&self, immediate: bool) -> u32
+        ensures count { result ≡ under_way immediate self.now }
+        ensures most { result ≤ most_under_way }
+    {
+        let in_hand = match self.in_hand {
+            Some(command) => u32::from(is_of(&command, immediate)),
+            None => 0,
+        };
+        waiting_of(self.waiting.as_slice(), immediate)
+            + in_hand
+            + held_of(self.replies.as_slice(), immediate)
     }
 
     /// Whether a PDU that has a CmdSN is taken, or passed over. A SCSI Command goes through `take_command`.
@@ -102,14 +146,24 @@ impl Tasks {
         ensures taken { result ≡ is_taken self.old immediate cmd_sn }
         ensures state { self.new ≡ (if result then counted self.old immediate else self.old) }
     {
+        if !self.is_taken(immediate, cmd_sn) {
+            return false;
+        }
+        self.count(immediate);
+        true
+    }
+
+    /// Whether a PDU with the number is the one that is expected while the window is open, or is for immediate delivery.
+    fn is_taken(&self, immediate: bool, cmd_sn: SerialNumber) -> bool
+        ensures { result ≡ is_taken self.now immediate cmd_sn }
+    {
         if immediate {
             return true;
         }
         if cmd_sn.number != self.exp_cmd_sn.number {
             return false;
         }
-        self.count(false);
-        true
+        self.under_way(false) < WINDOW
     }
 
     /// Uses a number up, but for immediate delivery.
@@ -131,16 +185,21 @@ impl Tasks {
         ensures state { self.new ≡ after_command self.old command.now payload.now result }
         ensures within { IfOk result (IsWithin (length payload.now)) }
     {
-        if !command.immediate && command.cmd_sn.number != self.exp_cmd_sn.number {
+        if !self.is_taken(command.immediate, command.cmd_sn) {
             self.passed_over.remember(command.initiator_task_tag);
             return Ok(TakenCommand::PassedOver);
         }
-        if is_waiting(self.waiting.as_slice(), command.initiator_task_tag) {
+        if self.is_in_use(command.initiator_task_tag) {
             self.count(command.immediate);
             return Ok(TakenCommand::Rejected(RejectReason::TaskInProgress));
         }
+        if self.is_crowded(command.immediate) {
+            self.count(command.immediate);
+            return Ok(TakenCommand::Rejected(RejectReason::TooManyImmediateCommands));
+        }
         if self.is_at_once(command, payload.len()) {
             self.count(command.immediate);
+            self.in_hand = Some(*command);
             let count = wanted(command, self.limit) as usize;
             return Ok(TakenCommand::Execute(count));
         }
@@ -148,6 +207,20 @@ impl Tasks {
         add(&mut self.waiting, task)?;
         self.count(command.immediate);
         Ok(TakenCommand::Waits)
+    }
+
+    /// Whether a command with the tag waits, or its reply is held.
+    fn is_in_use(&self, tag: u32) -> bool
+        ensures { result ≡ is_in_use self.now tag }
+    {
+        is_waiting(self.waiting.as_slice(), tag) || is_held(self.replies.as_slice(), tag)
+    }
+
+    /// Whether a command is for immediate delivery, and as many of those are under way as may.
+    fn is_crowded(&self, immediate: bool) -> bool
+        ensures { result ≡ is_crowded self.now immediate }
+    {
+        immediate && self.under_way(true) >= WINDOW
     }
 
     /// Whether nothing waits before the command, and all of its data came with it.
@@ -195,6 +268,7 @@ impl Tasks {
             Awaiting::Turn => {
                 if task.is_whole(self.limit) {
                     let mut task = self.waiting.remove(0);
+                    self.in_hand = Some(task.command());
                     task.hand(self.limit);
                     NextTask::Execute(task)
                 } else {
@@ -205,29 +279,72 @@ impl Tasks {
                 }
             }
             Awaiting::Data(_) | Awaiting::Failing(_) => NextTask::Idle,
-            Awaiting::Failed(fault) => NextTask::Fail(self.waiting.remove(0), fault),
+            Awaiting::Failed(fault) => {
+                let task = self.waiting.remove(0);
+                self.in_hand = Some(task.command());
+                NextTask::Fail(task, fault)
+            }
         }
     }
 
-    /// Lets the command with the tag at a unit go unexecuted, if it waits. Its Data-Out that are under way are passed over.
+    /// The command in hand is answered.
+    pub fn answered(&mut self)
+        ensures { self.new ≡ stepped self.old Answered }
+    {
+        self.in_hand = None;
+    }
+
+    /// Holds the reply to the command in hand, behind the others.
+    pub fn hold(&mut self, reply: UnitReply, ticket: Ticket)
+        requires { is_some self.old.in_hand ≡ true }
+        ensures { self.new ≡ stepped self.old (Held reply ticket) }
+    {
+        if let Some(command) = self.in_hand {
+            self.replies.push(HeldReply {
+                command,
+                reply,
+                ticket,
+            });
+        }
+        self.in_hand = None;
+    }
+
+    /// Lets the replies go that wait for no more than what is settled, and says how their commands are answered, in the order in which
+    /// they were executed.
+    pub fn settle(&mut self, settled: Ticket, outcome: Outcome) -> ArrayVec<DueAnswer, MOST_REPLIES>
+        ensures answers { result.items ≡ answers_due settled outcome self.old.replies }
+        ensures state { self.new ≡ stepped self.old (Settled settled outcome) }
+    {
+        let answers = answers_due(self.replies.as_slice(), settled, outcome);
+        drop_due(&mut self.replies, settled);
+        answers
+    }
+
+    /// Lets the command with the tag at a unit go unexecuted, if it waits, and unanswered, if its reply is held. Its Data-Out that are
+    /// under way are passed over.
     pub fn abort_task(&mut self, unit: u8, initiator_task_tag: u32) -> bool
         ensures found { result ≡ is_waiting_at self.old unit initiator_task_tag }
         ensures state { self.new ≡ without_task self.old unit initiator_task_tag }
     {
-        if !is_waiting_at(self.waiting.as_slice(), unit, initiator_task_tag) {
+        if !is_waiting_at(self.waiting.as_slice(), unit, initiator_task_tag)
+            && !is_held_at(self.replies.as_slice(), unit, initiator_task_tag)
+        {
             return false;
         }
         self.passed_over.remember(initiator_task_tag);
         drop_named(&mut self.waiting, unit, initiator_task_tag);
+        drop_reply_named(&mut self.replies, unit, initiator_task_tag);
         true
     }
 
-    /// Lets the commands at a unit go unexecuted. Their Data-Out that are under way are passed over.
+    /// Lets the commands at a unit go unexecuted, and those whose replies are held unanswered. Their Data-Out that are under way are
+    /// passed over.
     pub fn drop_unit(&mut self, unit: u8)
         ensures { self.new ≡ without_unit self.old unit }
     {
         remember_at(&mut self.passed_over, self.waiting.as_slice(), unit);
         drop_at(&mut self.waiting, unit);
+        drop_replies_at(&mut self.replies, unit);
     }
 }
 

@@ -1,10 +1,11 @@
 //! The tasks that wait, as a list.
-ghost use Rattle.std.specs.Prelude.{◌≡◌, ◌≢◌, ◌≤◌, ◌+◌, ◌++◌, ◌∷◌, [], nat_le, not, is_some, filter, length, vec_len, position, Some, Err, IfOk, OnOk, OnErr};
+ghost use Rattle.std.specs.Prelude.{◌≡◌, ◌≢◌, ◌≤◌, ◌+◌, ◌++◌, ◌∷◌, [], nat_le, not, is_some, filter, length, position, Some, Err, IfOk};
+ghost use Rattle.std.specs.Prelude.{OnOk, OnErr};
 ghost use Rattle.std.specs.List.{list_any};
 ghost use Rattle.iscsi_tasks.specs.declared.fault.TasksFault.TheVariants.{NoMemory};
 ghost use Rattle.iscsi_tasks.specs.Limits.{most_waiting, most_held};
 ghost use Rattle.iscsi_tasks.specs.Values.{held};
-ghost use Rattle.iscsi_tasks.specs.Windows.{numbered};
+ghost use Rattle.iscsi_tasks.specs.Windows.{is_of, waiting_of};
 ghost use Rattle.iscsi_tasks.specs.Commands.{has_tag, room_for};
 ghost use Rattle.iscsi_tasks.specs.DataOuts.{answer_among, tasks_after};
 ghost use Rattle.iscsi_tasks.specs.Aborts.{is_at, is_named, remembered_at};
@@ -13,19 +14,30 @@ use crate::fault::TasksFault;
 use crate::passed_over::PassedOver;
 use crate::taken::TakenData;
 use crate::task::Task;
-use crate::tasks::{MOST_HELD, WINDOW};
-use iscsi_pdu::DataOut;
+use crate::tasks::MOST_HELD;
+use iscsi_pdu::{DataOut, ScsiCommand};
 use std::alloc::AllocError;
 
-/// How many of them aren't immediate.
-pub(crate) fn numbered(waiting: &[Task]) -> u32
+/// Whether a command is one for immediate delivery, or one that has used a number up.
+pub(crate) fn is_of(command: &ScsiCommand, immediate: bool) -> bool
+    ensures { result ≡ is_of immediate command.now }
+{
+    if immediate {
+        command.immediate
+    } else {
+        !command.immediate
+    }
+}
+
+/// How many are for immediate delivery, or have used a number up.
+pub(crate) fn waiting_of(waiting: &[Task], immediate: bool) -> u32
     requires { length waiting.now ≤ most_waiting }
-    ensures count { result ≡ numbered waiting.now }
+    ensures count { result ≡ waiting_of immediate waiting.now }
     ensures most { result ≤ most_waiting }
 {
     let mut count = 0;
     for task in waiting {
-        if !task.command().immediate {
+        if is_of(&task.command(), immediate) {
             count += 1;
         }
     }
@@ -68,9 +80,6 @@ pub(crate) fn add(waiting: &mut Vec<Task>, task: Task) -> Result<(), TasksFault>
     ensures ok { OnOk result (waiting.new.items ≡ waiting.old.items ++ task ∷ []) }
     ensures err { OnErr result (waiting.new.items ≡ waiting.old.items) }
 {
-    if waiting.len() >= WINDOW as usize {
-        return Err(TasksFault::TooManyWaiting);
-    }
     if !has_room(waiting.as_slice(), task.data().len()) {
         return Err(TasksFault::TooMuchData);
     }
@@ -89,7 +98,6 @@ pub(crate) fn take_at(
     ensures answer { IfOk result (λ taken. taken ≡ answer_among waiting.old.items data_out.now (length payload.now)) }
     ensures ok { OnOk result (waiting.new.items ≡ tasks_after waiting.old.items data_out.now payload.now) }
     ensures err { OnErr result (waiting.new.items ≡ waiting.old.items) }
-    ensures len { vec_len waiting.new ≡ vec_len waiting.old }
 {
     let task = &mut waiting[place];
     task.take(data_out, payload)
@@ -104,16 +112,14 @@ pub(crate) fn is_waiting_at(waiting: &[Task], unit: u8, tag: u32) -> bool
 
 /// Drops the task at a unit that has the tag.
 pub(crate) fn drop_named(waiting: &mut Vec<Task>, unit: u8, tag: u32)
-    ensures left { waiting.new.items ≡ filter (λ t. not (is_named unit tag t)) waiting.old.items }
-    ensures most { vec_len waiting.new ≤ vec_len waiting.old }
+    ensures { waiting.new.items ≡ filter (λ t. not (is_named unit tag t)) waiting.old.items }
 {
     waiting.retain(|task| !task.is_named(unit, tag));
 }
 
 /// Drops the tasks at a unit.
 pub(crate) fn drop_at(waiting: &mut Vec<Task>, unit: u8)
-    ensures left { waiting.new.items ≡ filter (λ t. not (is_at unit t)) waiting.old.items }
-    ensures most { vec_len waiting.new ≤ vec_len waiting.old }
+    ensures { waiting.new.items ≡ filter (λ t. not (is_at unit t)) waiting.old.items }
 {
     waiting.retain(|task| !task.is_at(unit));
 }

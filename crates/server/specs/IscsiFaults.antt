@@ -30,7 +30,6 @@ refusal_words status.Reserved = codes "login refused"
 abbrev pub iscsi_words : IscsiFault → List ℕ
 iscsi_words (iscsi.Refused status) = refusal_words status
 iscsi_words (iscsi.BadPdu fault) = codes "bad PDU"
-iscsi_words iscsi.TooManyWaiting = codes "too many commands wait"
 iscsi_words iscsi.TooMuchData = codes "too much data waits"
 iscsi_words iscsi.Silent = codes "nothing came in time"
 iscsi_words iscsi.Read = codes "a read failed"

@@ -11,7 +11,6 @@ pub(crate) fn iscsi_words(fault: IscsiFault) -> &'static str
     match fault {
         IscsiFault::Refused(status) => refusal_words(status),
         IscsiFault::BadPdu(_) => "bad PDU",
-        IscsiFault::TooManyWaiting => "too many commands wait",
         IscsiFault::TooMuchData => "too much data waits",
         IscsiFault::Silent => "nothing came in time",
         IscsiFault::Read => "a read failed",

@@ -22,6 +22,7 @@ returns-in-Some-clause-executed g c = (
     replied =
         found_so g.S.Service.notes _ _ _ _ _ _ _ _ _ c.unit_of.ensures c.in-Some.is
         (c.submit-done.result, (cc, cc, cc), c.submit-done.ensures.notes, refl);
+    answered = c.answer_executed.ensures.tasks;
     said_is = cc;
   },
   c.answer_executed.ensures.answered,
@@ -35,6 +36,7 @@ returns-in-None-clause-executed g c = (
     limits = c.args.connection.now.limits;
     stat_sn = c.args.connection.now.stat_sn;
     replied = found_so g.S.Service.notes _ _ _ _ _ _ _ _ _ c.unit_of.ensures c.in-None.is (c.absent-reply.ensures, refl);
+    answered = c.answer_executed-in-None.ensures.tasks;
     said_is = cc;
   },
   c.answer_executed-in-None.ensures.answered,

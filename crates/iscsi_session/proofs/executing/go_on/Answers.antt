@@ -1,5 +1,5 @@
 use Rattle.std.proofs.Common.{◌+◌, ◌++◌, [], append-nil, rules, sym}
-use Rattle.iscsi_session.proofs.Acted.{falls, goes_more, goes_none, next_acts, said_more}
+use Rattle.iscsi_session.proofs.Acted.{does_waiting, falls, goes_more, goes_none, next_acts, said_more}
 use Rattle.iscsi_session.proofs.executing.go_on.Goals as goal
 
 pub steps-init : goal.steps-init
@@ -9,7 +9,7 @@ steps-init g c =
 pub steps-smaller : goal.steps-smaller
 steps-smaller g c =
     falls c.steps.connection.tasks c.next-next.new.self c.do_next.new.connection.tasks c.next-next.result c.next-next.ensures.next
-    c.next-next.ensures.state c.do_next.ensures.tasks cc
+    c.next-next.ensures.state (does_waiting g.S.Service.notes c.args.nexus _ _ _ _ _ _ c.do_next.ensures.done.1) cc
 
 pub steps-preserved : goal.steps-preserved
 steps-preserved g c =
@@ -19,7 +19,7 @@ steps-preserved g c =
       so.1 ++ done.0,
       goes_more g.S.Service.notes c.args.nexus so.0 _ c.steps.connection.tasks _ _ c.steps.service _ so.1 done.0 so.2
           (next_acts g.S.Service.notes c.args.nexus c.steps.connection.tasks c.next-next.new.self _ c.steps.service _ c.next-next.result done.0
-          c.next-next.ensures.next c.next-next.ensures.state c.do_next.ensures.tasks done.1),
+          c.next-next.ensures.next c.next-next.ensures.state done.1),
       said_more so.1 done.0 _ _ _ so.3 done.2,
     )
 
@@ -31,6 +31,6 @@ returns-in_err-do_next-clause-gone g c =
       so.1 ++ done.0,
       goes_more g.S.Service.notes c.args.nexus so.0 _ c.steps.connection.tasks _ _ c.steps.service _ so.1 done.0 so.2
           (next_acts g.S.Service.notes c.args.nexus c.steps.connection.tasks c.next-next.new.self _ c.steps.service _ c.next-next.result done.0
-          c.next-next.ensures.next c.next-next.ensures.state c.do_next.ensures.tasks done.1),
+          c.next-next.ensures.next c.next-next.ensures.state done.1),
       search rules,
     )

@@ -11,7 +11,7 @@ asked_first s t a ts tag is turn short next =
     let v : TasksValue = record s { waiting = t ∷ ts } in
     ap (λ (u : TaskValue). record s { waiting = u ∷ ts; next_tag = tag }) is
     ∙ ap (λ (n : ℕ). record s { waiting = asked s.parameters s.limit s.next_tag t ∷ ts; next_tag = n }) next
-    ∙ ap (λ (b : Bool). if b then without_first v else with_first_asked v t) short
+    ∙ ap (λ (b : Bool). if b then without_first v t else with_first_asked v t) short
     ∙ ap (left_at v t) turn
 
 asked_there : (s : TasksValue) (t u a : TaskValue) (ts : List TaskValue) (tag : ℕ) → Some t ≡ slice_get ts 0 → u ≡ get_or ts 0 u → a ≡ asked s.parameters s.limit s.next_tag u
@@ -30,7 +30,17 @@ returns-in-Failed-clause-state c = search rules
 pub returns-else-is_whole-clause-state : goal.returns-else-is_whole-clause-state
 returns-else-is_whole-clause-state c =
     let own = c.self.inside in
-    let s : TasksValue = record { parameters = own.parameters; limit = own.limit; exp_cmd_sn = own.exp_cmd_sn; waiting = own.waiting.items; passed_over = own.passed_over; next_tag = own.next_tag } in
+    let s : TasksValue = record {
+      parameters = own.parameters;
+      limit = own.limit;
+      exp_cmd_sn = own.exp_cmd_sn;
+      waiting =
+          own.waiting.items;
+      passed_over = own.passed_over;
+      next_tag = own.next_tag;
+      in_hand = own.in_hand;
+      replies = own.replies.items;
+    } in
     asked_there s c.in-Some.task.now c.index_mut-task.result.now c.ask-request.new.self own.waiting.items c.tag_after-self-inside.result
     (c.in-Some.ensures.value ∙ ap (λ (ts : List TaskValue). slice_get ts 0) c.deref.ensures.value) c.index_mut-task.ensures.value c.ask-request.ensures.state c.in-Turn.ensures
     (sym c.if-is_whole.false ∙ c.is_whole.ensures) c.tag_after-self-inside.ensures

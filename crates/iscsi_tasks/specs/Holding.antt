@@ -1,0 +1,54 @@
+-- Replies that are held until it is settled whether what their commands left is on the disk (profile).
+use Rattle.std.specs.Prelude.{ℕ, ◌==◌, nat_le, Bool, not, ◌&&◌, List, [], ◌∷◌, ◌++◌, map, filter, Option, Some, None}
+use Rattle.std.specs.List.{list_any}
+use Rattle.iscsi_pdu.specs.declared.scsi_command.ScsiCommand.{ScsiCommand}
+use Rattle.iscsi_tasks.specs.declared.held_reply.Ticket.{Ticket}
+use Rattle.iscsi_tasks.specs.declared.held_reply.Outcome.{Outcome}
+use Rattle.iscsi_tasks.specs.declared.held_reply.Outcome.TheVariants.{Kept, Lost}
+use Rattle.iscsi_tasks.specs.declared.held_reply.UnitReply.{UnitReply}
+use Rattle.iscsi_tasks.specs.declared.held_reply.HeldReply.{HeldReply}
+use Rattle.iscsi_tasks.specs.declared.held_reply.Response.{Response}
+use Rattle.iscsi_tasks.specs.declared.held_reply.Response.TheVariants.{Replied, TargetFailure}
+use Rattle.iscsi_tasks.specs.declared.held_reply.DueAnswer.{DueAnswer}
+use Rattle.iscsi_tasks.specs.Values.{TasksValue}
+
+-- it waits for the volume, and no further than it is settled
+abbrev pub is_due : (settled : Ticket) → HeldReply → Bool
+is_due settled r = (r.ticket.volume == settled.volume) && nat_le r.ticket.number settled.number
+
+-- what leaves, and what stays, in the order in which they came
+abbrev pub due : (settled : Ticket) → List HeldReply → List HeldReply
+due settled replies = filter (is_due settled) replies
+
+abbrev pub not_due : (settled : Ticket) → List HeldReply → List HeldReply
+not_due settled replies = filter (λ r. not (is_due settled r)) replies
+
+-- target failure exactly where it could not be kept
+abbrev pub response_by : Outcome → UnitReply → Response
+response_by Kept reply = Replied reply
+response_by Lost reply = TargetFailure
+
+abbrev pub answer_by : Outcome → HeldReply → DueAnswer
+answer_by outcome r = record { command = r.command; response = response_by outcome r.reply }
+
+abbrev pub answers_due : (settled : Ticket) → Outcome → List HeldReply → List DueAnswer
+answers_due settled outcome replies = map (answer_by outcome) (due settled replies)
+
+-- the reply to the command in hand
+abbrev pub held_for : UnitReply → Ticket → Option ScsiCommand → List HeldReply
+held_for reply ticket None = []
+held_for reply ticket (Some c) = record { command = c; reply = reply; ticket = ticket } ∷ []
+
+-- it is held, and its command is in hand no longer
+abbrev pub with_held : TasksValue → UnitReply → Ticket → TasksValue
+with_held s reply ticket = record s { in_hand = None; replies = s.replies ++ held_for reply ticket s.in_hand }
+
+abbrev pub without_due : TasksValue → (settled : Ticket) → TasksValue
+without_due s settled = record s { replies = not_due settled s.replies }
+
+-- the reply to the command with the tag
+abbrev pub is_reply_to : (tag : ℕ) → HeldReply → Bool
+is_reply_to tag r = r.command.initiator_task_tag == tag
+
+abbrev pub is_held : TasksValue → (tag : ℕ) → Bool
+is_held s tag = list_any (is_reply_to tag) s.replies
