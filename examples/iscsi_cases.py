@@ -13,6 +13,9 @@ OURS, THEIRS, LEFT, NOWHERE = 1, 2, 3, 9
 CASES = []
 GOES_ON, ENDS = "goes on", "ends"
 
+# Reject, too many immediate commands.
+TOO_MANY_IMMEDIATE = 0x06
+
 
 def goes_on(case):
     CASES.append((case, GOES_ON))
@@ -284,6 +287,19 @@ def sends_immediate_commands_alone(session):
         session.check(len(session.outcome(tag).data) == 36, "no INQUIRY data")
 
 
+@goes_on
+def lets_immediate_commands_wait(session):
+    """32 wait behind a write that waits for its data, and the others are rejected."""
+    write = session.command(THEIRS, write_of(512), WRITES, 512, b"x" * 100, False)
+    tags = [session.command(CHANGER, READY, is_immediate=True) for _ in range(64)]
+    for _ in tags[32:]:
+        answer = session.receive()
+        session.check(answer.opcode == REJECT and answer.head[2] == TOO_MANY_IMMEDIATE, "no Reject")
+    session.data_out(write, 100, b"x" * 412)
+    for tag in (write, *tags[:32]):
+        session.outcome(tag)
+
+
 # And what ends a session.
 
 @ends
@@ -298,13 +314,6 @@ def sends_a_segment_that_is_too_long(session):
     made = bytearray(pdu(NOP_OUT | IMMEDIATE, FINAL, session.next_tag(), session.fields(NONE, True)))
     made[5:8] = b"\xff\xff\xff"
     session.send(bytes(made) + bytes(100_000))
-
-
-@ends
-def lets_immediate_commands_wait(session):
-    session.command(THEIRS, write_of(512), WRITES, 512, b"x" * 100, False)
-    for _ in range(64):
-        session.command(CHANGER, READY, is_immediate=True)
 
 
 @ends
