@@ -7,6 +7,9 @@ use Rattle.iscsi_pdu.specs.declared.target_header.TargetHeader.TheVariants as he
 use Rattle.iscsi_pdu.specs.declared.task_management_result.TaskManagementResult.{TaskManagementResult}
 use Rattle.iscsi_pdu.specs.declared.logout.LogoutResult.{LogoutResult}
 use Rattle.iscsi_pdu.specs.declared.reject_reason.RejectReason.{RejectReason}
+use Rattle.iscsi_pdu.specs.declared.residual.Residual.TheVariants.{Exact}
+use Rattle.iscsi_pdu.specs.declared.scsi_status.ScsiStatus.TheVariants.{Good}
+use Rattle.iscsi_pdu.specs.declared.service_response.ServiceResponse.TheVariants.{TargetFailure}
 use Rattle.iscsi_answers.specs.declared.sequence.SequenceNumbers.{SequenceNumbers}
 
 abbrev pub pdu : TargetHeader → (payload : List ℕ) → TargetPduValue
@@ -47,6 +50,20 @@ leave_request n seconds = pdu (header.AsyncMessage (record {
   parameter_1 = 0;
   parameter_2 = 0;
   parameter_3 = seconds;
+})) []
+
+-- to a command that was carried out, of which something can't be kept (RFC 7143, "SCSI Response"): there is no status then and no residual, and
+-- the fields for them are 0
+abbrev pub target_failure : SequenceNumbers → (tag : ℕ) → TargetPduValue
+target_failure n tag = pdu (header.ScsiResponse (record {
+  response = TargetFailure;
+  status = Good;
+  initiator_task_tag = tag;
+  stat_sn = n.stat_sn;
+  exp_cmd_sn = n.exp_cmd_sn;
+  max_cmd_sn = n.max_cmd_sn;
+  exp_data_sn = record { number = 0 };
+  residual = Exact;
 })) []
 
 abbrev pub task_management_answer : SequenceNumbers → (tag : ℕ) → TaskManagementResult → TargetPduValue

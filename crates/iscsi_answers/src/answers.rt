@@ -1,7 +1,7 @@
 //! Answers of one PDU.
 ghost use Rattle.std.specs.Prelude.{◌≡◌, ◌<◌, ◌+◌, ◌^◌, ◌++◌, ◌≤◌, [], length, take, OnOk};
 ghost use Rattle.iscsi_answers.specs.Written.{bytes_of};
-ghost use Rattle.iscsi_answers.specs.Single.{pdu, nop_answer, ping, leave_request, task_management_answer, logout_answer, rejection, text_answer};
+ghost use Rattle.iscsi_answers.specs.Single.{pdu, nop_answer, ping, leave_request, target_failure, task_management_answer, logout_answer, rejection, text_answer};
 ghost use Rattle.iscsi_pdu.specs.declared.target_header.TargetHeader.TheVariants as header;
 
 use crate::limits::TransferLimits;
@@ -9,8 +9,8 @@ use crate::sequence::SequenceNumbers;
 use crate::writing::write_pdu;
 use iscsi_pdu::{
     AsyncEvent, AsyncMessage, LogoutResponse, LogoutResult, NopIn, RESERVED_TAG, ReadyToTransfer,
-    Reject, RejectReason, TargetHeader, TargetPdu, TaskManagementResponse, TaskManagementResult,
-    TextResponse,
+    Reject, RejectReason, Residual, ScsiResponse, ScsiStatus, SerialNumber, ServiceResponse,
+    TargetHeader, TargetPdu, TaskManagementResponse, TaskManagementResult, TextResponse,
 };
 use std::alloc::AllocError;
 
@@ -83,6 +83,35 @@ pub fn write_leave_request(
         parameter_1: 0,
         parameter_2: 0,
         parameter_3: seconds,
+    });
+    write_pdu(
+        out,
+        &TargetPdu {
+            header,
+            payload: &[],
+        },
+    )
+}
+
+/// Adds the answer to a command that was carried out, where what it left can't be kept: target failure (RFC 7143, "SCSI Response"). It takes
+/// up a StatSN.
+pub fn write_target_failure(
+    out: &mut Vec<u8>,
+    numbers: SequenceNumbers,
+    initiator_task_tag: u32,
+) -> Result<(), AllocError>
+    ensures { OnOk result (out.new.items ≡ out.old.items ++ bytes_of (target_failure numbers initiator_task_tag)) }
+{
+    let header = TargetHeader::ScsiResponse(ScsiResponse {
+        response: ServiceResponse::TargetFailure,
+        // There is none, and its field is 0.
+        status: ScsiStatus::Good,
+        initiator_task_tag,
+        stat_sn: numbers.stat_sn,
+        exp_cmd_sn: numbers.exp_cmd_sn,
+        max_cmd_sn: numbers.max_cmd_sn,
+        exp_data_sn: SerialNumber { number: 0 },
+        residual: Residual::Exact,
     });
     write_pdu(
         out,

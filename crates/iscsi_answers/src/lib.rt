@@ -16,7 +16,8 @@ mod writing;
 
 pub use answers::{
     TextTags, write_leave_request, write_logout_response, write_nop_in, write_ping,
-    write_ready_to_transfer, write_reject, write_task_management_response, write_text_response,
+    write_ready_to_transfer, write_reject, write_target_failure, write_task_management_response,
+    write_text_response,
 };
 pub use command_answer::{AnsweredCommand, UnitAnswer, write_command_answer};
 pub use laws::{data_are_whole, residual_balances, residual_rows, segments_are_short};

@@ -15,8 +15,8 @@ use Rattle.iscsi_tasks.specs.declared.taken.TakenCommand.{TakenCommand}
 use Rattle.iscsi_tasks.specs.declared.taken.TakenCommand.TheVariants as taken
 use Rattle.iscsi_tasks.specs.declared.taken.TakenData.{TakenData}
 use Rattle.iscsi_tasks.specs.declared.next_task.NextTask.TheVariants as found
-use Rattle.iscsi_tasks.specs.declared.held_reply.Ticket.{Ticket}
-use Rattle.iscsi_tasks.specs.declared.held_reply.Outcome.{Outcome}
+use Rattle.tickets.specs.declared.ticket.Ticket.{Ticket}
+use Rattle.tickets.specs.declared.ticket.Outcome.{Outcome}
 use Rattle.iscsi_tasks.specs.declared.held_reply.UnitReply.{UnitReply}
 use Rattle.iscsi_tasks.specs.declared.held_reply.HeldReply.{HeldReply}
 use Rattle.iscsi_tasks.specs.declared.held_reply.DueAnswer.{DueAnswer}

@@ -18,7 +18,7 @@ use Rattle.iscsi_tasks.specs.declared.fault.TasksFault.{TasksFault}
 use Rattle.iscsi_tasks.specs.declared.taken.TakenCommand.{TakenCommand}
 use Rattle.iscsi_tasks.specs.declared.taken.TakenCommand.TheVariants as taken
 use Rattle.iscsi_tasks.specs.declared.taken.TakenData.{TakenData}
-use Rattle.iscsi_tasks.specs.declared.held_reply.Ticket.{Ticket}
+use Rattle.tickets.specs.declared.ticket.Ticket.{Ticket}
 use Rattle.iscsi_tasks.specs.declared.held_reply.UnitReply.{UnitReply}
 use Rattle.iscsi_tasks.specs.declared.held_reply.HeldReply.{HeldReply}
 use Rattle.iscsi_tasks.specs.Limits.{most_under_way, most_waiting}

@@ -1,8 +1,8 @@
 -- What becomes of the replies that a session holds.
 use Rattle.std.specs.Prelude.{◌≡◌, ◌⊎◌, true, List, [], ◌∷◌, ◌++◌, map, filter, Option, Some, None, if◌then◌else◌}
 use Rattle.iscsi_pdu.specs.declared.scsi_command.ScsiCommand.{ScsiCommand}
-use Rattle.iscsi_tasks.specs.declared.held_reply.Ticket.{Ticket}
-use Rattle.iscsi_tasks.specs.declared.held_reply.Outcome.{Outcome}
+use Rattle.tickets.specs.declared.ticket.Ticket.{Ticket}
+use Rattle.tickets.specs.declared.ticket.Outcome.{Outcome}
 use Rattle.iscsi_tasks.specs.declared.held_reply.HeldReply.{HeldReply}
 use Rattle.iscsi_tasks.specs.declared.held_reply.DueAnswer.{DueAnswer}
 use Rattle.iscsi_tasks.specs.Values.{TasksValue}

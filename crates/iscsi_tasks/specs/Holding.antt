@@ -1,10 +1,10 @@
 -- Replies that are held until it is settled whether what their commands left is on the disk (profile).
-use Rattle.std.specs.Prelude.{ℕ, ◌==◌, nat_le, Bool, not, ◌&&◌, List, [], ◌∷◌, ◌++◌, map, filter, Option, Some, None}
+use Rattle.std.specs.Prelude.{ℕ, ◌==◌, nat_le, Bool, not, ◌&&◌, List, [], ◌∷◌, ◌++◌, length, map, filter, Option, Some, None}
 use Rattle.std.specs.List.{list_any}
 use Rattle.iscsi_pdu.specs.declared.scsi_command.ScsiCommand.{ScsiCommand}
-use Rattle.iscsi_tasks.specs.declared.held_reply.Ticket.{Ticket}
-use Rattle.iscsi_tasks.specs.declared.held_reply.Outcome.{Outcome}
-use Rattle.iscsi_tasks.specs.declared.held_reply.Outcome.TheVariants.{Kept, Lost}
+use Rattle.tickets.specs.declared.ticket.Ticket.{Ticket}
+use Rattle.tickets.specs.declared.ticket.Outcome.{Outcome}
+use Rattle.tickets.specs.declared.ticket.Outcome.TheVariants.{Kept, Lost}
 use Rattle.iscsi_tasks.specs.declared.held_reply.UnitReply.{UnitReply}
 use Rattle.iscsi_tasks.specs.declared.held_reply.HeldReply.{HeldReply}
 use Rattle.iscsi_tasks.specs.declared.held_reply.Response.{Response}
@@ -14,7 +14,7 @@ use Rattle.iscsi_tasks.specs.Values.{TasksValue}
 
 -- it waits for the volume, and no further than it is settled
 abbrev pub is_due : (settled : Ticket) → HeldReply → Bool
-is_due settled r = (r.ticket.volume == settled.volume) && nat_le r.ticket.number settled.number
+is_due settled r = (r.ticket.thing == settled.thing) && nat_le r.ticket.number settled.number
 
 -- what leaves, and what stays, in the order in which they came
 abbrev pub due : (settled : Ticket) → List HeldReply → List HeldReply
@@ -45,6 +45,9 @@ with_held s reply ticket = record s { in_hand = None; replies = s.replies ++ hel
 
 abbrev pub without_due : TasksValue → (settled : Ticket) → TasksValue
 without_due s settled = record s { replies = not_due settled s.replies }
+
+abbrev pub holds_none : TasksValue → Bool
+holds_none s = length s.replies == 0
 
 -- the reply to the command with the tag
 abbrev pub is_reply_to : (tag : ℕ) → HeldReply → Bool

@@ -64,10 +64,11 @@ tagged tag c = record c { initiator_task_tag = tag }
 abbrev pub urgent : ScsiCommand → ScsiCommand
 urgent c = record c { immediate = true }
 
--- the next number is 1, and so many commands wait for their data
+-- no command is under way, and the next number is 1
 abbrev pub alone : TasksValue
 alone = begun_tasks (bursts true false) 12 (sn 1)
 
+-- so many commands wait for their data
 abbrev pub behind : ScsiCommand → (count : ℕ) → TasksValue
 behind c count = record alone { waiting = replicate count (begun_task (bursts true false) c []) }
 
@@ -78,8 +79,8 @@ handing c = record alone { in_hand = Some c }
 abbrev pub good : UnitReply
 good = record { handed_over = 4; status = Good; sense = None }
 
-abbrev pub reply_to : ScsiCommand → (volume number : ℕ) → HeldReply
-reply_to c volume number = record { command = c; reply = good; ticket = record { volume = volume; number = number } }
+abbrev pub reply_to : ScsiCommand → (thing number : ℕ) → HeldReply
+reply_to c thing number = record { command = c; reply = good; ticket = record { thing = thing; number = number } }
 
 abbrev pub holding : List HeldReply → TasksValue
 holding replies = record alone { replies = replies }

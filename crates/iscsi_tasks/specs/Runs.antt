@@ -8,8 +8,8 @@ use Rattle.iscsi_tasks.specs.declared.taken.TakenCommand.TheVariants as taken
 use Rattle.iscsi_tasks.specs.declared.fault.TasksFault.{TasksFault}
 use Rattle.iscsi_tasks.specs.declared.next_task.NextTask.{NextTask}
 use Rattle.iscsi_tasks.specs.declared.next_task.NextTask.TheVariants as found
-use Rattle.iscsi_tasks.specs.declared.held_reply.Ticket.{Ticket}
-use Rattle.iscsi_tasks.specs.declared.held_reply.Outcome.{Outcome}
+use Rattle.tickets.specs.declared.ticket.Ticket.{Ticket}
+use Rattle.tickets.specs.declared.ticket.Outcome.{Outcome}
 use Rattle.iscsi_tasks.specs.declared.held_reply.UnitReply.{UnitReply}
 use Rattle.iscsi_tasks.specs.Values.{TaskValue, TasksValue}
 use Rattle.iscsi_tasks.specs.Writes.{wanted}

@@ -14,9 +14,9 @@ pub record TaskValue : Type 0 where
   pub r2t_sn : SerialNumber
 
 -- what the session goes by; the most data that a unit takes of a command; the commands that wait, in the order in which they are
--- executed; tags of commands that were passed over or aborted; the target transfer tag of the next R2T; the command in hand, which is handed
--- out to be executed or answered as failed, and isn't answered yet; and the replies that are held, in the order in which their commands
--- were executed
+-- executed; tags of commands that were passed over or aborted; the target transfer tag of the next R2T; the command in hand, which is
+-- handed out to be executed or answered as failed, and isn't answered yet; and the replies that are held, in the order in which their
+-- commands were executed
 pub record TasksValue : Type 0 where
   pub parameters : SessionParameters
   pub limit : ℕ

@@ -1,25 +1,9 @@
 use iscsi_pdu::{ScsiCommand, SerialNumber, TaskAttribute, unit_of};
 use scsi_sense::{Sense, Status};
+use tickets::{Outcome, Ticket};
 
-/// How far a volume has to be on the disk.
-#[derive(Clone, Copy, Default)]
-pub struct Ticket {
-    /// The number of the volume where volumes are kept.
-    pub volume: u32,
-    /// The number of what is to be on the disk, among all that is kept of the volume.
-    pub number: u64,
-}
-
-/// What becomes of a volume, as far as a ticket.
-#[derive(Clone, Copy)]
-pub enum Outcome {
-    /// It is on the disk.
-    Kept,
-    /// It could not be kept.
-    Lost,
-}
-
-/// What a unit has replied to a command that it has carried out. It has no data: a command whose reply may have to wait sends none.
+/// What a unit has replied to a command that it has carried out. It has no data: a command that changes a tape or moves a volume has none to
+/// send.
 #[derive(Clone, Copy)]
 pub struct UnitReply {
     /// How many bytes of the command's data the unit got.
@@ -62,7 +46,7 @@ impl HeldReply {
     pub(crate) fn is_due(&self, settled: Ticket) -> bool
         ensures { result ≡ is_due settled self.now }
     {
-        self.ticket.volume == settled.volume && self.ticket.number <= settled.number
+        self.ticket.thing == settled.thing && self.ticket.number <= settled.number
     }
 
     /// Whether the LUN of its command names the unit.

@@ -1,14 +1,15 @@
 //! The replies that are held, as a list.
-ghost use Rattle.std.specs.Prelude.{◌≡◌, ◌≤◌, not, filter, length};
+ghost use Rattle.std.specs.Prelude.{◌≡◌, ◌≤◌, not, map, filter, length};
 ghost use Rattle.std.specs.List.{list_any};
 ghost use Rattle.iscsi_tasks.specs.Aborts.{is_reply_at, is_reply_named};
 ghost use Rattle.iscsi_tasks.specs.Holding.{answers_due, is_reply_to, not_due};
 ghost use Rattle.iscsi_tasks.specs.Limits.{most_waiting};
 ghost use Rattle.iscsi_tasks.specs.Windows.{held_of};
 
-use crate::held_reply::{DueAnswer, HeldReply, Outcome, Ticket};
+use crate::held_reply::{DueAnswer, HeldReply};
 use crate::waiting::is_of;
 use arrayvec::ArrayVec;
+use tickets::{Outcome, Ticket};
 
 /// How many replies are held at most: of 32 commands with numbers, and of 32 for immediate delivery.
 pub const MOST_REPLIES: usize = 64;
@@ -44,6 +45,18 @@ pub(crate) fn is_held_at(replies: &[HeldReply], unit: u8, tag: u32) -> bool
     replies.iter().any(|reply| reply.is_named(unit, tag))
 }
 
+/// What they wait for.
+pub(crate) fn tickets_of(replies: &[HeldReply]) -> ArrayVec<Ticket, MOST_REPLIES>
+    requires { length replies.now ≤ most_waiting }
+    ensures { result.items ≡ map (λ r. r.ticket) replies.now }
+{
+    let mut tickets = ArrayVec::new();
+    for reply in replies {
+        tickets.push(reply.ticket);
+    }
+    tickets
+}
+
 /// The answers to those that wait for no more than what is settled.
 pub(crate) fn answers_due(
     replies: &[HeldReply],
@@ -62,7 +75,7 @@ pub(crate) fn answers_due(
     answers
 }
 
-/// Lets those go that wait for no more than what is settled.
+/// Removes those that wait for no more than what is settled.
 pub(crate) fn drop_due(replies: &mut ArrayVec<HeldReply, MOST_REPLIES>, settled: Ticket)
     ensures { replies.new.items ≡ not_due settled replies.old.items }
 {

@@ -17,7 +17,7 @@ mod tasks;
 mod waiting;
 
 pub use fault::{TaskFault, TasksFault};
-pub use held_reply::{DueAnswer, HeldReply, Outcome, Response, Ticket, UnitReply};
+pub use held_reply::{DueAnswer, HeldReply, Response, UnitReply};
 pub use holding::MOST_REPLIES;
 pub use laws::{
     aborted_is_gone, commands_in_order, data_are_its_own, dropped_is_gone, held_are_handed_out,

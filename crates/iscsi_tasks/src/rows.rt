@@ -3,7 +3,7 @@ ghost use Rattle.iscsi_pdu.specs.declared.reject_reason.RejectReason.TheVariants
 ghost use Rattle.iscsi_tasks.specs.declared.awaiting.Awaiting.TheVariants.{Turn, Data, Failing, Failed};
 ghost use Rattle.iscsi_tasks.specs.declared.fault.TaskFault.TheVariants.{UnexpectedUnsolicitedData, IncorrectAmountOfData, DataOffsetError};
 ghost use Rattle.iscsi_tasks.specs.declared.taken.TakenCommand.TheVariants.{PassedOver, Rejected, Execute};
-ghost use Rattle.iscsi_tasks.specs.declared.held_reply.Outcome.TheVariants.{Kept, Lost};
+ghost use Rattle.tickets.specs.declared.ticket.Outcome.TheVariants.{Kept, Lost};
 ghost use Rattle.iscsi_tasks.specs.declared.held_reply.Response.TheVariants.{Replied, TargetFailure};
 ghost use Rattle.iscsi_tasks.specs.Limits.{most_held};
 ghost use Rattle.iscsi_tasks.specs.Values.{begun_tasks};
@@ -66,15 +66,15 @@ pub fn window_rows()
 
 /// Worked rows: replies that are held, of the volumes 7 and 8. A reply with LUN 0 is of unit 0.
 pub fn holding_rows()
-    ensures holds { with_held (handing (write 4 true)) good (record { volume = 7; number = 1 })
+    ensures holds { with_held (handing (write 4 true)) good (record { thing = 7; number = 1 })
         ≡ holding (reply_to (write 4 true) 7 1 ∷ []) }
-    ensures kept { answers_due (record { volume = 7; number = 2 }) Kept
+    ensures kept { answers_due (record { thing = 7; number = 2 }) Kept
         (reply_to (write 4 true) 7 2 ∷ reply_to (write 4 true) 8 1 ∷ reply_to (write 4 true) 7 3 ∷ [])
         ≡ record { command = write 4 true; response = Replied good } ∷ [] }
-    ensures lost { answers_due (record { volume = 8; number = 9 }) Lost (reply_to (write 4 true) 7 2 ∷ reply_to (write 4 true) 8 1 ∷ [])
+    ensures lost { answers_due (record { thing = 8; number = 9 }) Lost (reply_to (write 4 true) 7 2 ∷ reply_to (write 4 true) 8 1 ∷ [])
         ≡ record { command = write 4 true; response = TargetFailure } ∷ [] }
     ensures stay { without_due (holding (reply_to (write 4 true) 7 2 ∷ reply_to (write 4 true) 8 1 ∷ []))
-        (record { volume = 8; number = 9 })
+        (record { thing = 8; number = 9 })
         ≡ holding (reply_to (write 4 true) 7 2 ∷ []) }
     ensures there { is_waiting_at (holding (reply_to (write 4 true) 7 1 ∷ [])) 0 1 ≡ true }
     ensures not_there { is_waiting_at (holding (reply_to (write 4 true) 7 1 ∷ [])) 1 1 ≡ false }

@@ -1,6 +1,6 @@
 use crate::awaiting::Awaiting;
 use crate::fault::TasksFault;
-use crate::held_reply::{DueAnswer, HeldReply, Outcome, Ticket, UnitReply};
+use crate::held_reply::{DueAnswer, HeldReply, UnitReply};
 use crate::holding::*;
 use crate::next_task::NextTask;
 use crate::passed_over::PassedOver;
@@ -12,6 +12,7 @@ use iscsi_keys::{SessionParameters, TARGET_MAX_RECV_DATA_SEGMENT_LENGTH};
 use iscsi_pdu::{DataOut, RESERVED_TAG, RejectReason, ScsiCommand, SerialNumber};
 use std::alloc::Global;
 use std::marker::Model;
+use tickets::{Outcome, Ticket};
 
 /// How many commands that have used a number up wait, are in hand or have their replies held at most, and how many for immediate delivery;
 /// and how many an initiator may send ahead while there is none.
@@ -75,12 +76,12 @@ impl Model for Tasks {
 }
 
 impl Tasks {
-    ghost use Rattle.std.specs.Prelude.{◌≡◌, ◌≢◌, ◌≤◌, true, is_some, length, Err, IfOk, if◌then◌else◌};
+    ghost use Rattle.std.specs.Prelude.{◌≡◌, ◌≢◌, ◌≤◌, true, is_some, length, map, Err, IfOk, if◌then◌else◌};
     ghost use Rattle.iscsi_tasks.specs.declared.fault.TasksFault.TheVariants.{NoMemory};
     ghost use Rattle.iscsi_tasks.specs.Values.{begun_tasks};
     ghost use Rattle.iscsi_tasks.specs.Limits.{most_under_way};
     ghost use Rattle.iscsi_tasks.specs.Windows.{max_cmd_sn, under_way};
-    ghost use Rattle.iscsi_tasks.specs.Holding.{answers_due};
+    ghost use Rattle.iscsi_tasks.specs.Holding.{answers_due, holds_none};
     ghost use Rattle.iscsi_tasks.specs.Runs.{Answered, Held, Settled, stepped};
     ghost use Rattle.iscsi_tasks.specs.Commands.{is_taken, is_in_use, is_crowded, counted, is_at_once, command_answer, after_command};
     ghost use Rattle.iscsi_tasks.specs.Commands.{IsWithin};
@@ -309,7 +310,21 @@ impl Tasks {
         self.in_hand = None;
     }
 
-    /// Lets the replies go that wait for no more than what is settled, and says how their commands are answered, in the order in which
+    /// Whether no reply is held.
+    pub fn holds_none(&self) -> bool
+        ensures { result ≡ holds_none self.now }
+    {
+        self.replies.is_empty()
+    }
+
+    /// What the replies that are held wait for, in the order in which their commands were executed.
+    pub fn tickets(&self) -> ArrayVec<Ticket, MOST_REPLIES>
+        ensures { result.items ≡ map (λ r. r.ticket) self.now.replies }
+    {
+        tickets_of(self.replies.as_slice())
+    }
+
+    /// Removes the replies that wait for no more than what is settled, and says how their commands are answered, in the order in which
     /// they were executed.
     pub fn settle(&mut self, settled: Ticket, outcome: Outcome) -> ArrayVec<DueAnswer, MOST_REPLIES>
         ensures answers { result.items ≡ answers_due settled outcome self.old.replies }
