@@ -1,5 +1,5 @@
 -- What comes of what happens to the tasks.
-use Rattle.std.proofs.Common.{◌≡◌, ◌≢◌, ℕ, ◌+◌, ◌*◌, ◌<◌, ◌≤◌, suc, Bool, true, false, MatchBool, cond, inl, ◌⊎◌, IsErr, List, [], ◌∷◌, ◌++◌, length}
+use Rattle.std.proofs.Common.{min, ◌≡◌, ◌≢◌, ℕ, ◌+◌, ◌*◌, ◌<◌, ◌≤◌, suc, Bool, true, false, MatchBool, cond, inl, ◌⊎◌, IsErr, List, [], ◌∷◌, ◌++◌, length}
 use Rattle.std.proofs.Common.{drop, Option, Some, None, Result, Ok, Err, refl, sym, ap, subst, ◌∙◌, append_assoc, append-nil, arith}
 use Rattle.std.specs.Prelude.{slice_get}
 use Rattle.std.proofs.lemmas.Grind.{flat_map-append}
@@ -27,7 +27,9 @@ use Rattle.iscsi_tasks.specs.DataOuts.{data_answer, after_data}
 use Rattle.iscsi_tasks.specs.Next.{asked, is_whole, next_of, after_next, next_for, left_for, next_at, left_at, handed, request, without_first, with_first_asked}
 use Rattle.iscsi_tasks.specs.Runs.{Act, Commanded, DataCame, AskedNext, stepped}
 use Rattle.iscsi_session.specs.Saying.{AddsPlain, IsOfNoCommand}
-use Rattle.iscsi_session.specs.Executing.{Acts, Adds, Does, GoesOn, OrElse, Outcome, Nothing, Execute, Fail, Ask, Reject, Tells, refusal}
+use Rattle.judgement.specs.declared.reply.Reply.{Reply}
+use Rattle.tickets.specs.declared.ticket.Ticket.{Ticket}
+use Rattle.iscsi_session.specs.Executing.{Acts, Adds, AnswersOrHolds, Does, GoesOn, OrElse, Outcome, Nothing, Execute, Fail, Ask, Reject, Tells, refusal}
 use Rattle.iscsi_session.specs.Executing.{command_outcome, data_outcome, is_idle, next_outcome, outcome}
 
 -- ---- bytes
@@ -73,41 +75,41 @@ plain_one out out' p e plain = (p ∷ [], plain, said_one out out' p e)
 
 -- ---- acts
 
-pub next_does : {S : Type 0} (notes : S → DoneValue → S → Type 0) (n : Nexus) (k k' : TasksValue) (s t : S) (next is : NextTask)
+pub next_does : {S : Type 0} (notes : S → DoneValue → S → Type 0) (waits : DoneValue → Option Ticket → Type 0) (n : Nexus) (k k' : TasksValue) (s t : S) (next is : NextTask)
     (said : List TargetPduValue)
-    → next ≡ is → Does notes n s k (next_outcome is) said k' t → Does notes n s k (next_outcome next) said k' t
-next_does notes n k k' s t next is said same does = subst (λ (x : NextTask). Does notes n s k (next_outcome x) said k' t) (sym same) does
+    → next ≡ is → Does notes waits n s k (next_outcome is) said k' t → Does notes waits n s k (next_outcome next) said k' t
+next_does notes waits n k k' s t next is said same does = subst (λ (x : NextTask). Does notes waits n s k (next_outcome x) said k' t) (sym same) does
 
-pub next_acts : {S : Type 0} (notes : S → DoneValue → S → Type 0) (n : Nexus) (k k1 k' : TasksValue) (s t : S) (next : NextTask)
+pub next_acts : {S : Type 0} (notes : S → DoneValue → S → Type 0) (waits : DoneValue → Option Ticket → Type 0) (n : Nexus) (k k1 k' : TasksValue) (s t : S) (next : NextTask)
     (said : List TargetPduValue)
-    → next ≡ next_of k → k1 ≡ after_next k → Does notes n s k1 (next_outcome next) said k' t → Acts notes n k s AskedNext said k' t
-next_acts {S} notes n k k1 k' s t next said is left does =
-    subst (λ (x : TasksValue). Does notes n s x (next_outcome (next_of k)) said k' t) left
-    (subst (λ (x : NextTask). Does notes n s k1 (next_outcome x) said k' t) is does)
+    → next ≡ next_of k → k1 ≡ after_next k → Does notes waits n s k1 (next_outcome next) said k' t → Acts notes waits n k s AskedNext said k' t
+next_acts {S} notes waits n k k1 k' s t next said is left does =
+    subst (λ (x : TasksValue). Does notes waits n s x (next_outcome (next_of k)) said k' t) left
+    (subst (λ (x : NextTask). Does notes waits n s k1 (next_outcome x) said k' t) is does)
 
 command_is : (r : Result TakenCommand TasksFault) (v : TakenCommand) (asked : Result TakenCommand TasksFault) → r ≡ Ok v
     → (r ≢ Err NoMemory → r ≡ asked) → asked ≡ Ok v
 command_is r v asked is told = sym (told (λ e. absurd cc)) ∙ is
 
 -- a command that was taken so
-pub command_acts : {S : Type 0} (notes : S → DoneValue → S → Type 0) (n : Nexus) (k k1 k' : TasksValue) (s t : S) (c : ScsiCommand) (payload : List ℕ)
+pub command_acts : {S : Type 0} (notes : S → DoneValue → S → Type 0) (waits : DoneValue → Option Ticket → Type 0) (n : Nexus) (k k1 k' : TasksValue) (s t : S) (c : ScsiCommand) (payload : List ℕ)
     (r : Result TakenCommand TasksFault) (v : TakenCommand)
     (said : List TargetPduValue) → r ≡ Ok v → (r ≢ Err NoMemory → r ≡ command_answer k c payload) → k1 ≡ after_command k c payload r
-    → Does notes n s k1 (command_outcome c payload (Ok v)) said k' t → Acts notes n k s (Commanded c payload) said k' t
-command_acts {S} notes n k k1 k' s t c payload r v said is told after does =
+    → Does notes waits n s k1 (command_outcome c payload (Ok v)) said k' t → Acts notes waits n k s (Commanded c payload) said k' t
+command_acts {S} notes waits n k k1 k' s t c payload r v said is told after does =
     let e : command_answer k c payload ≡ Ok v = command_is r v (command_answer k c payload) is told in
-    subst (λ (x : TasksValue). Does notes n s x (command_outcome c payload (command_answer k c payload)) said k' t)
+    subst (λ (x : TasksValue). Does notes waits n s x (command_outcome c payload (command_answer k c payload)) said k' t)
     (after ∙ ap (after_command k c payload) (is ∙ sym e))
-    (subst (λ (a : Result TakenCommand TasksFault). Does notes n s k1 (command_outcome c payload a) said k' t) (sym e) does)
+    (subst (λ (a : Result TakenCommand TasksFault). Does notes waits n s k1 (command_outcome c payload a) said k' t) (sym e) does)
 
 -- and was rejected
-pub command_rejected : {S : Type 0} (notes : S → DoneValue → S → Type 0) (n : Nexus) (k k1 k' : TasksValue) (s : S) (c : ScsiCommand)
+pub command_rejected : {S : Type 0} (notes : S → DoneValue → S → Type 0) (waits : DoneValue → Option Ticket → Type 0) (n : Nexus) (k k1 k' : TasksValue) (s : S) (c : ScsiCommand)
     (payload : List ℕ) (r : Result TakenCommand TasksFault) (v : TakenCommand)
     (reason : RejectReason) (stat_sn : SerialNumber) (rejected : List ℕ) → r ≡ Ok v → v ≡ taken.Rejected reason
     → (r ≢ Err NoMemory → r ≡ command_answer k c payload) → k1 ≡ after_command k c payload r → k' ≡ k1
-    → Acts notes n k s (Commanded c payload) (refusal k1 stat_sn reason rejected) k' s
-command_rejected {S} notes n k k1 k' s c payload r v reason stat_sn rejected is as_ told after same =
-    command_acts notes n k k1 k' s s c payload r (taken.Rejected reason) (refusal k1 stat_sn reason rejected) (cc) told after
+    → Acts notes waits n k s (Commanded c payload) (refusal k1 stat_sn reason rejected) k' s
+command_rejected {S} notes waits n k k1 k' s c payload r v reason stat_sn rejected is as_ told after same =
+    command_acts notes waits n k k1 k' s s c payload r (taken.Rejected reason) (refusal k1 stat_sn reason rejected) (cc) told after
     (stat_sn, rejected, refl, same, refl)
 
 data_is : (r : Result TakenData TasksFault) (v : TakenData) (asked : Result TakenData TasksFault) → r ≡ Ok v → (r ≢ Err NoMemory → r ≡ asked) → asked ≡ Ok v
@@ -136,44 +138,50 @@ pub data_rejected : (k k1 k' : TasksValue) (d : DataOut) (payload : List ℕ) (r
 data_rejected k k1 k' d payload r v reason stat_sn rejected is as_ told same =
     data_tells k k1 k' d payload r (taken_data.Rejected reason) (refusal k1 stat_sn reason rejected) (cc) told same (stat_sn, rejected, refl)
 
-told_does : {S : Type 0} (notes : S → DoneValue → S → Type 0) (n : Nexus) (s t : S) (k k' : TasksValue) (o : Outcome)
+told_does : {S : Type 0} (notes : S → DoneValue → S → Type 0) (waits : DoneValue → Option Ticket → Type 0) (n : Nexus) (s t : S) (k k' : TasksValue) (o : Outcome)
     (said : List TargetPduValue)
-    → t ≡ s → k' ≡ k → Tells k o said → Does notes n s k o said k' t
-told_does notes n s t k k' Nothing said same still tells = (tells, still, same)
-told_does notes n s t k k' (Reject reason) said same still tells = (tells.0, tells.1, tells.2, still, same)
-told_does notes n s t k k' (Execute command bytes) said same still tells = absurd tells
-told_does notes n s t k k' (Fail command fault) said same still tells = absurd tells
-told_does notes n s t k k' (Ask request) said same still tells = absurd tells
+    → t ≡ s → k' ≡ k → Tells k o said → Does notes waits n s k o said k' t
+told_does notes waits n s t k k' Nothing said same still tells = (tells, still, same)
+told_does notes waits n s t k k' (Reject reason) said same still tells = (tells.0, tells.1, tells.2, still, same)
+told_does notes waits n s t k k' (Execute command bytes) said same still tells = absurd tells
+told_does notes waits n s t k k' (Fail command fault) said same still tells = absurd tells
+told_does notes waits n s t k k' (Ask request) said same still tells = absurd tells
 
-pub told_acts : {S : Type 0} (notes : S → DoneValue → S → Type 0) (n : Nexus) (k k' : TasksValue) (s t : S) (act : Act) (said : List TargetPduValue)
+pub told_acts : {S : Type 0} (notes : S → DoneValue → S → Type 0) (waits : DoneValue → Option Ticket → Type 0) (n : Nexus) (k k' : TasksValue) (s t : S) (act : Act) (said : List TargetPduValue)
     → t ≡ s → k' ≡ stepped k act
-    → Tells k' (outcome k act) said → Acts notes n k s act said k' t
-told_acts notes n k k' s t act said same steps tells =
-    told_does notes n s t (stepped k act) k' (outcome k act) said same steps (subst (λ (x : TasksValue). Tells x
+    → Tells k' (outcome k act) said → Acts notes waits n k s act said k' t
+told_acts notes waits n k k' s t act said same steps tells =
+    told_does notes waits n s t (stepped k act) k' (outcome k act) said same steps (subst (λ (x : TasksValue). Tells x
     (outcome k act) said) steps tells)
 
+says_waiting : (k k' : TasksValue) (c : ScsiCommand) (handed_over : ℕ) (reply : Reply) (ticket : Option Ticket) (said : List TargetPduValue)
+    → AnswersOrHolds k c handed_over reply ticket said k' → k'.waiting ≡ k.waiting
+says_waiting k k' c handed_over reply None said so = ap (λ (x : TasksValue). x.waiting) so.2
+says_waiting k k' c handed_over reply (Some ticket) said so = ap (λ (x : TasksValue). x.waiting) so.1
+
 -- what is done leaves those that wait
-pub does_waiting : {S : Type 0} (notes : S → DoneValue → S → Type 0) (n : Nexus) (s t : S) (k k' : TasksValue) (o : Outcome)
+pub does_waiting : {S : Type 0} (notes : S → DoneValue → S → Type 0) (waits : DoneValue → Option Ticket → Type 0) (n : Nexus) (s t : S) (k k' : TasksValue) (o : Outcome)
     (said : List TargetPduValue)
-    → Does notes n s k o said k' t → k'.waiting ≡ k.waiting
-does_waiting notes n s t k k' Nothing said does = ap (λ (x : TasksValue). x.waiting) does.1
-does_waiting notes n s t k k' (Execute command bytes) said does = ap (λ (x : TasksValue). x.waiting) does.answered
-does_waiting notes n s t k k' (Fail command fault) said does = ap (λ (x : TasksValue). x.waiting) does.2
-does_waiting notes n s t k k' (Ask request) said does = ap (λ (x : TasksValue). x.waiting) does.2
-does_waiting notes n s t k k' (Reject reason) said does = ap (λ (x : TasksValue). x.waiting) does.3
+    → Does notes waits n s k o said k' t → k'.waiting ≡ k.waiting
+does_waiting notes waits n s t k k' Nothing said does = ap (λ (x : TasksValue). x.waiting) does.1
+does_waiting notes waits n s t k k' (Execute command bytes) said does =
+    says_waiting k k' command (min (length bytes) 0xFFFFFFFF) does.reply does.ticket said does.says
+does_waiting notes waits n s t k k' (Fail command fault) said does = ap (λ (x : TasksValue). x.waiting) does.2
+does_waiting notes waits n s t k k' (Ask request) said does = ap (λ (x : TasksValue). x.waiting) does.2
+does_waiting notes waits n s t k k' (Reject reason) said does = ap (λ (x : TasksValue). x.waiting) does.3
 
 -- ---- what is to be done next, one after another
 
-pub goes_none : {S : Type 0} (notes : S → DoneValue → S → Type 0) (n : Nexus) (k : TasksValue) (s : S) → GoesOn notes n 0 k s [] k s
+pub goes_none : {S : Type 0} (notes : S → DoneValue → S → Type 0) (waits : DoneValue → Option Ticket → Type 0) (n : Nexus) (k : TasksValue) (s : S) → GoesOn notes waits n 0 k s [] k s
 unfolding GoesOn
-goes_none notes n k s = (refl, refl, refl)
+goes_none notes waits n k s = (refl, refl, refl)
 
-pub goes_more : {S : Type 0} (notes : S → DoneValue → S → Type 0) (n : Nexus) (times : ℕ) (k k1 k' : TasksValue) (s m t : S) (first last : List TargetPduValue)
-    → GoesOn notes n times k s first k1 m → Acts notes n k1 m AskedNext last k' t → GoesOn notes n (times + 1) k s (first ++ last) k' t
+pub goes_more : {S : Type 0} (notes : S → DoneValue → S → Type 0) (waits : DoneValue → Option Ticket → Type 0) (n : Nexus) (times : ℕ) (k k1 k' : TasksValue) (s m t : S) (first last : List TargetPduValue)
+    → GoesOn notes waits n times k s first k1 m → Acts notes waits n k1 m AskedNext last k' t → GoesOn notes waits n (times + 1) k s (first ++ last) k' t
 unfolding GoesOn
-goes_more {S} notes n times k k1 k' s m t first last so acts =
+goes_more {S} notes waits n times k k1 k' s m t first last so acts =
     let more : suc times ≡ times + 1 = omega arith in
-    subst (λ (j : ℕ). GoesOn notes n j k s (first ++ last) k' t) more (k1, m, first, last, refl, so, acts)
+    subst (λ (j : ℕ). GoesOn notes waits n j k s (first ++ last) k' t) more (k1, m, first, last, refl, so, acts)
 
 -- ---- and there is an end to that
 

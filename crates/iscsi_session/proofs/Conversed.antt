@@ -10,16 +10,20 @@ use Rattle.iscsi_tasks.specs.Values.{TasksValue}
 use Rattle.read_buffer.specs.Reading.{Added}
 use Rattle.iscsi_session.specs.Moments.{Advances}
 use Rattle.iscsi_session.specs.Saying.{Says}
-use Rattle.iscsi_session.specs.Talking.{Answers, BeginsWith, Converses, IsAskedToLeave, IsPinged, MayAsk, Moment, Writes, asked_to_leave, pinged}
+use Rattle.iscsi_session.specs.Talking.{Answers, BeginsWith, Converses, IsAskedToLeave, IsPinged, MayAsk, Moment, Writes, asked_to_leave, must_wait, pinged}
 use Rattle.iscsi_session.specs.Worlds.{World}
 use Rattle.iscsi_session.proofs.Acted.{said_more}
-use Rattle.iscsi_session.proofs.Talked.{answers_resets, answers_none, answers_one, answers_pinged, answers_then}
+use Rattle.iscsi_session.specs.Releasing.{Releases}
+use Rattle.iscsi_session.proofs.Talked.{answers_released, answers_resets, answers_none, answers_one, answers_pinged, answers_then}
 use Rattle.iscsi_session.proofs.Talked.{converses_asked, converses_none, converses_read, converses_then, converses_within}
 use Rattle.iscsi_session.proofs.Talked.{writes_flushed, writes_said, writes_then}
 
 pub no_matter : {A F : Type 0} (Q : Type 0) (r : Result A F) → IsErr r → OnOk r Q
 no_matter Q (Ok value) e = absurd cc
 no_matter Q (Err fault) e = tt
+
+abbrev pub moment_of : {S : Type 0} → TasksValue → S → (pending out : List ℕ) → Moment S
+moment_of k s pending out = record { tasks = k; service = s; pending = pending; out = out }
 
 -- ---- what is pending
 
@@ -32,28 +36,28 @@ answered_none w a = ([], answers_none w a, sym (append-nil a.out))
 
 -- a PDU more
 pub answered_more : {S : Type 0} (w : World S) (a b c : Moment S) (p : InitiatorPduValue) (size : ℕ)
-    → IsAnswered w a b → next_of b.tasks ≡ Idle → BeginsWith b.pending p size → c.pending ≡ drop size b.pending
+    → IsAnswered w a b → next_of b.tasks ≡ Idle → must_wait b.tasks p.header ≡ false → BeginsWith b.pending p size → c.pending ≡ drop size b.pending
     → (said : List TargetPduValue) × Says w.works p b.tasks b.service said c.tasks c.service × (c.out ≡ b.out ++ bytes_of_all said)
     → IsAnswered w a c
-answered_more {S} w a b c p size so idle here cut one = (
+answered_more {S} w a b c p size so idle now here cut one = (
   so.0 ++ one.0,
-  answers_then w a b c c.pending so.0 one.0 so.1 (answers_one w b c c.pending p size one.0 idle here cut one.1),
+  answers_then w a b c c.pending so.0 one.0 so.1 (answers_one w b c c.pending p size one.0 idle now here cut one.1),
   said_more so.0 one.0 a.out b.out c.out so.2 one.2,
 )
 
 -- a PDU that may have been taken, and by which the connection broke
 pub answered_broken : {S A F : Type 0} (w : World S) (a b c : Moment S) (p : InitiatorPduValue) (size : ℕ) (r : Result A F)
-    (Q : List TargetPduValue → List ℕ → Type 0) → IsAnswered w a b → next_of b.tasks ≡ Idle → BeginsWith b.pending p size → IsErr r
+    (Q : List TargetPduValue → List ℕ → Type 0) → IsAnswered w a b → next_of b.tasks ≡ Idle → must_wait b.tasks p.header ≡ false → BeginsWith b.pending p size → IsErr r
     → ((said : List TargetPduValue) × Says w.works p b.tasks b.service said c.tasks c.service × Unit {0})
     ⊎ ((c.tasks ≡ b.tasks) × (c.service ≡ b.service))
     → (said : List TargetPduValue) × (rest : List ℕ) × Answers w 0 a said c rest × OnOk r (Q said rest)
-answered_broken {S} w a b c p size r Q so idle here e (inl one) = (
+answered_broken {S} w a b c p size r Q so idle now here e (inl one) = (
   so.0 ++ one.0,
   drop size b.pending,
-  answers_then w a b c (drop size b.pending) so.0 one.0 so.1 (answers_one w b c (drop size b.pending) p size one.0 idle here refl one.1),
+  answers_then w a b c (drop size b.pending) so.0 one.0 so.1 (answers_one w b c (drop size b.pending) p size one.0 idle now here refl one.1),
   no_matter _ r e,
 )
-answered_broken {S} w a b c p size r Q so idle here e (inr still) = (
+answered_broken {S} w a b c p size r Q so idle now here e (inr still) = (
   so.0,
   b.pending,
   subst (λ (x : TasksValue). Answers w 0 a so.0 (record c { tasks = x }) b.pending) (sym still.0)
@@ -93,6 +97,30 @@ pub resets_broken : {S A F : Type 0} (w : World S) (a b : Moment S) (r : Result 
     → (said : List TargetPduValue) × (rest : List ℕ) × Answers w 0 a said b rest × OnOk r (Q said rest)
 resets_broken {S} w a b r P Q e so =
     let up = so.2 in (up.0, a.pending, answers_resets w a b so.0 up.0 so.1 up.1, no_matter _ r e)
+
+released_said : {A F : Type 0} (r : Result A F) (out mid out' pending : List ℕ) (xs ys : List TargetPduValue) (rest : List ℕ)
+    → mid ≡ out ++ bytes_of_all xs → OnOk r ((rest ≡ pending) × (out' ≡ mid ++ bytes_of_all ys))
+    → OnOk r ((rest ≡ pending) × (out' ≡ out ++ bytes_of_all (xs ++ ys)))
+released_said (Ok value) out mid out' pending xs ys rest one two = (two.0, said_more xs ys out mid out' one two.1)
+released_said (Err fault) out mid out' pending xs ys rest one two = tt
+
+-- replies were released, and then PDUs were answered
+pub released_then : {S A F : Type 0} (w : World S) (a m b : Moment S) (r : Result A F)
+    → (said : List TargetPduValue) × Releases w.settles a.tasks said m.tasks × (m.out ≡ a.out ++ bytes_of_all said)
+    → m.pending ≡ a.pending → m.service ≡ a.service → Advances w r m b → Advances w r a b
+released_then {S} w a m b r up same still one =
+    let before : Answers w 0 a up.0 m m.pending =
+    subst (λ (xs : List ℕ). Answers w 0 a up.0 m xs) (sym same) (answers_released w a m up.0 still up.1) in (
+      up.0 ++ one.0,
+      one.1,
+      answers_then w a m b one.1 up.0 one.0 before one.2,
+      released_said r a.out m.out b.out b.pending up.0 one.0 one.1 up.2 one.3,
+    )
+
+-- where a fault ended it
+pub released_broken : {S A F : Type 0} (w : World S) (a b : Moment S) (r : Result A F) (P : List TargetPduValue → Type 0) → IsErr r
+    → (said : List TargetPduValue) × Releases w.settles a.tasks said b.tasks × P said → b.service ≡ a.service → Advances w r a b
+released_broken {S} w a b r P e up still = (up.0, a.pending, answers_released w a b up.0 still up.1, no_matter _ r e)
 
 -- ---- what is written
 

@@ -5,4 +5,5 @@ pub mod Held
 pub mod LoggedIn
 pub mod Managed
 pub mod Served
+pub mod Released
 pub mod Talked

@@ -1,5 +1,5 @@
 -- A task management function, and the work on tasks.
-use Rattle.std.proofs.Common.{◌≡◌, ◌∙◌, ℕ, Bool, true, false, if◌then◌else◌, ◌⊎◌, Result, Ok, Err, IsErr, OnOk, inl, inr, List, [], ◌∷◌, ◌++◌}
+use Rattle.std.proofs.Common.{◌≡◌, ◌∙◌, ℕ, Bool, true, false, if◌then◌else◌, ◌⊎◌, Result, Ok, Err, IsErr, OnOk, Option, inl, inr, List, [], ◌∷◌, ◌++◌}
 use Rattle.std.proofs.Common.{refl, sym, ap, subst, All}
 use Rattle.scsi_nexus.specs.declared.nexus.Nexus.{Nexus}
 use Rattle.logical_unit.specs.Answers.{DoneValue}
@@ -17,6 +17,7 @@ use Rattle.iscsi_pdu.specs.declared.initiator_header.InitiatorHeader.{InitiatorH
 use Rattle.iscsi_pdu.specs.declared.initiator_header.InitiatorHeader.TheVariants as sent
 use Rattle.iscsi_pdu.specs.declared.data_out.DataOut.{DataOut}
 use Rattle.iscsi_tasks.specs.Runs.{DataCame, stepped}
+use Rattle.tickets.specs.declared.ticket.Ticket.{Ticket}
 use Rattle.iscsi_session.specs.Executing.{Acts, Adds, GoesOn, OrElse, Tells, numbers, outcome}
 use Rattle.iscsi_session.specs.Managing.{Manages, ManagesTasks}
 use Rattle.iscsi_session.specs.Saying.{AddsPlain, TakesResets, Says, TakesTask, Works, behind_other, is_of_tasks, without_units}
@@ -36,62 +37,62 @@ managed {S} notes count r k k1 k2 k' s t result stat_sn taken counts manages sam
     )
 
 -- where a Data-Out was taken
-pub data_takes : {S : Type 0} (notes : S → DoneValue → S → Type 0) (n : Nexus) (k k' : TasksValue) (s : S) (d : DataOut) (payload : List ℕ)
+pub data_takes : {S : Type 0} (notes : S → DoneValue → S → Type 0) (waits : DoneValue → Option Ticket → Type 0) (n : Nexus) (k k' : TasksValue) (s : S) (d : DataOut) (payload : List ℕ)
     (P : List TargetPduValue → Type 0)
     → (said : List TargetPduValue) × (k' ≡ stepped k (DataCame d payload)) × Tells k' (outcome k (DataCame d payload)) said × P said
-    → (said : List TargetPduValue) × Acts notes n k s (DataCame d payload) said k' s × P said
-data_takes notes n k k' s d payload P took = (took.0, told_acts notes n k k' s s (DataCame d payload) took.0 refl took.1 took.2, took.3)
+    → (said : List TargetPduValue) × Acts notes waits n k s (DataCame d payload) said k' s × P said
+data_takes notes waits n k k' s d payload P took = (took.0, told_acts notes waits n k k' s s (DataCame d payload) took.0 refl took.1 took.2, took.3)
 
-pub data_broke : {S : Type 0} (notes : S → DoneValue → S → Type 0) (n : Nexus) (k k' : TasksValue) (s : S) (d : DataOut) (payload : List ℕ)
+pub data_broke : {S : Type 0} (notes : S → DoneValue → S → Type 0) (waits : DoneValue → Option Ticket → Type 0) (n : Nexus) (k k' : TasksValue) (s : S) (d : DataOut) (payload : List ℕ)
     → ((said : List TargetPduValue) × (k' ≡ stepped k (DataCame d payload)) × Tells k' (outcome k (DataCame d payload)) said × Unit {0}) ⊎ (k' ≡ k)
-    → ((said : List TargetPduValue) × Acts notes n k s (DataCame d payload) said k' s × Unit {0}) ⊎ ((k' ≡ k) × (s ≡ s))
-data_broke notes n k k' s d payload (inl took) =
-    inl (took.0, told_acts notes n k k' s s (DataCame d payload) took.0 refl took.1 took.2, tt)
-data_broke notes n k k' s d payload (inr same) = inr (same, refl)
+    → ((said : List TargetPduValue) × Acts notes waits n k s (DataCame d payload) said k' s × Unit {0}) ⊎ ((k' ≡ k) × (s ≡ s))
+data_broke notes waits n k k' s d payload (inl took) =
+    inl (took.0, told_acts notes waits n k k' s s (DataCame d payload) took.0 refl took.1 took.2, tt)
+data_broke notes waits n k k' s d payload (inr same) = inr (same, refl)
 
 -- where others had reset units, and what waited behind went on
-pub resets_taken : {S A F : Type 0} (resets : ℕ → Type 0) (notes : S → DoneValue → S → Type 0) (n : Nexus) (k left k' : TasksValue) (s t : S)
+pub resets_taken : {S A F : Type 0} (resets : ℕ → Type 0) (notes : S → DoneValue → S → Type 0) (waits : DoneValue → Option Ticket → Type 0) (n : Nexus) (k left k' : TasksValue) (s t : S)
     (out out' : List ℕ) (r : Result A F) → (units : List ℕ) × All resets units × (left ≡ without_units k units)
-    → (times : ℕ) × (said : List TargetPduValue) × GoesOn notes n times left s said k' t × Adds r out out' said
-    → (units : List ℕ) × All resets units × ((said : List TargetPduValue) × TakesResets notes n units k s said k' t × Adds r out out' said)
-resets_taken {S} resets notes n k left k' s t out out' r told so = (
+    → (times : ℕ) × (said : List TargetPduValue) × GoesOn notes waits n times left s said k' t × Adds r out out' said
+    → (units : List ℕ) × All resets units × ((said : List TargetPduValue) × TakesResets notes waits n units k s said k' t × Adds r out out' said)
+resets_taken {S} resets notes waits n k left k' s t out out' r told so = (
   told.0,
   told.1,
-  (so.1, (so.0, subst (λ (x : TasksValue). GoesOn notes n so.0 x s so.1 k' t) told.2 so.2), so.3),
+  (so.1, (so.0, subst (λ (x : TasksValue). GoesOn notes waits n so.0 x s so.1 k' t) told.2 so.2), so.3),
 )
 
 -- where a PDU of a task was taken, and nothing else was done
-pub work_broke : {S A F : Type 0} (notes : S → DoneValue → S → Type 0) (count : S → ℕ) (n : Nexus) (h : InitiatorHeader) (payload : List ℕ)
+pub work_broke : {S A F : Type 0} (notes : S → DoneValue → S → Type 0) (waits : DoneValue → Option Ticket → Type 0) (count : S → ℕ) (n : Nexus) (h : InitiatorHeader) (payload : List ℕ)
     (k k' : TasksValue) (s t : S) (out out' : List ℕ) (other : Type 0) (r : Result A F) → IsErr r
-    → ((said : List TargetPduValue) × TakesTask notes count n h payload k s said k' t × Unit {0}) ⊎ other
-    → OrElse r other ((said : List TargetPduValue) × Works notes count n h payload k s said k' t × Adds r out out' said)
-work_broke {S} notes count n h payload k k' s t out out' other r e (inr still) = by_fault _ _ r e (inr still)
-work_broke {S} notes count n h payload k k' s t out out' other r e (inl took) =
+    → ((said : List TargetPduValue) × TakesTask notes waits count n h payload k s said k' t × Unit {0}) ⊎ other
+    → OrElse r other ((said : List TargetPduValue) × Works notes waits count n h payload k s said k' t × Adds r out out' said)
+work_broke {S} notes waits count n h payload k k' s t out out' other r e (inr still) = by_fault _ _ r e (inr still)
+work_broke {S} notes waits count n h payload k k' s t out out' other r e (inl took) =
     surely _ _ r (
       took.0 ++ [],
-      record { tasks = k'; service = t; first = took.0; others = []; times = 0; said_is = refl; takes = took.1; goes_on = goes_none notes n k' t },
+      record { tasks = k'; service = t; first = took.0; others = []; times = 0; said_is = refl; takes = took.1; goes_on = goes_none notes waits n k' t },
       adds_nothing r out out' (took.0 ++ []) e,
     )
 
 -- where what waits went on behind it
-pub went_on : {S : Type 0} (notes : S → DoneValue → S → Type 0) (count : S → ℕ) (n : Nexus) (h : InitiatorHeader) (payload : List ℕ)
+pub went_on : {S : Type 0} (notes : S → DoneValue → S → Type 0) (waits : DoneValue → Option Ticket → Type 0) (count : S → ℕ) (n : Nexus) (h : InitiatorHeader) (payload : List ℕ)
     (k k1 k' : TasksValue) (s m t : S) (out mid out' : List ℕ)
-    → (said : List TargetPduValue) × TakesTask notes count n h payload k s said k1 m × (mid ≡ out ++ bytes_of_all said)
-    → (times : ℕ) × (said : List TargetPduValue) × GoesOn notes n times k1 m said k' t × (out' ≡ mid ++ bytes_of_all said)
-    → (said : List TargetPduValue) × Works notes count n h payload k s said k' t × (out' ≡ out ++ bytes_of_all said)
-went_on {S} notes count n h payload k k1 k' s m t out mid out' one two = (
+    → (said : List TargetPduValue) × TakesTask notes waits count n h payload k s said k1 m × (mid ≡ out ++ bytes_of_all said)
+    → (times : ℕ) × (said : List TargetPduValue) × GoesOn notes waits n times k1 m said k' t × (out' ≡ mid ++ bytes_of_all said)
+    → (said : List TargetPduValue) × Works notes waits count n h payload k s said k' t × (out' ≡ out ++ bytes_of_all said)
+went_on {S} notes waits count n h payload k k1 k' s m t out mid out' one two = (
   one.0 ++ two.1,
   record { tasks = k1; service = m; first = one.0; others = two.1; times = two.0; said_is = refl; takes = one.1; goes_on = two.2 },
   said_more one.0 two.1 out mid out' one.2 two.3,
 )
 
 -- where what waits broke it
-pub went_on_broken : {S A B F G : Type 0} (notes : S → DoneValue → S → Type 0) (count : S → ℕ) (n : Nexus) (h : InitiatorHeader) (payload : List ℕ)
+pub went_on_broken : {S A B F G : Type 0} (notes : S → DoneValue → S → Type 0) (waits : DoneValue → Option Ticket → Type 0) (count : S → ℕ) (n : Nexus) (h : InitiatorHeader) (payload : List ℕ)
     (k k1 k' : TasksValue) (s m t : S) (out mid out' : List ℕ) (other : Type 0) (q : Result A F) (r : Result B G) → IsErr r
-    → (said : List TargetPduValue) × TakesTask notes count n h payload k s said k1 m × (mid ≡ out ++ bytes_of_all said)
-    → (times : ℕ) × (said : List TargetPduValue) × GoesOn notes n times k1 m said k' t × Adds q mid out' said
-    → OrElse r other ((said : List TargetPduValue) × Works notes count n h payload k s said k' t × Adds r out out' said)
-went_on_broken {S} notes count n h payload k k1 k' s m t out mid out' other q r e one two =
+    → (said : List TargetPduValue) × TakesTask notes waits count n h payload k s said k1 m × (mid ≡ out ++ bytes_of_all said)
+    → (times : ℕ) × (said : List TargetPduValue) × GoesOn notes waits n times k1 m said k' t × Adds q mid out' said
+    → OrElse r other ((said : List TargetPduValue) × Works notes waits count n h payload k s said k' t × Adds r out out' said)
+went_on_broken {S} notes waits count n h payload k k1 k' s m t out mid out' other q r e one two =
     surely _ _ r (
       one.0 ++ two.1,
       record { tasks = k1; service = m; first = one.0; others = two.1; times = two.0; said_is = refl; takes = one.1; goes_on = two.2 },

@@ -9,6 +9,8 @@ use Rattle.iscsi_answers.specs.Written.{bytes_of_all}
 use Rattle.iscsi_tasks.specs.Next.{next_of}
 use Rattle.iscsi_tasks.specs.declared.next_task.NextTask.TheVariants.{Idle}
 use Rattle.iscsi_tasks.specs.Values.{TasksValue}
+use Rattle.tickets.specs.declared.ticket.Ticket.{Ticket}
+use Rattle.tickets.specs.declared.ticket.Outcome.{Outcome}
 use Rattle.session.specs.Serving.{IsLostBelow}
 use Rattle.session.specs.Answering.{ComesByCalls}
 use Rattle.session.proofs.Read.{consumes_more}
@@ -22,25 +24,27 @@ use Rattle.iscsi_session.specs.Saying.{normal_world}
 use Rattle.iscsi_session.specs.Serving.{Holds, IsServed, Serves, ServesBehind, WritesLast, first_moment, first_tasks}
 use Rattle.iscsi_session.specs.Talking.{Converses, Moment, Writes}
 use Rattle.iscsi_session.specs.Worlds.{World}
-use Rattle.iscsi_session.specs.Handing.{Hands, brought_in}
+use Rattle.iscsi_session.specs.Handing.{Hands, brought_in, settlements}
 use Rattle.iscsi_session.proofs.Handed.{talks_hands}
 use Rattle.iscsi_session.proofs.LoggedIn.{requests_before}
 use Rattle.iscsi_session.proofs.Talked.{appends_more}
 
-pub converses_calls : {S : Type 0} {resets ends : ℕ → Type 0} (notes : S → DoneValue → S → Type 0) (count : S → ℕ) (n : Nexus) (a b : Moment S)
+pub converses_calls : {S : Type 0} {resets ends : ℕ → Type 0}
+    {settles : Ticket → Outcome → Type 0} (notes : S → DoneValue → S → Type 0) (waits : DoneValue → Option Ticket → Type 0) (count : S → ℕ) (n : Nexus) (a b : Moment S)
     (rest : List ℕ) (left left' : Option (List ℕ)) (said : List TargetPduValue)
-    → Converses (normal_world notes count n resets ends) 1 a left left' said b rest → ComesByCalls notes n a.service b.service
-converses_calls {S} {resets = resets} {ends = ends} notes count n a b rest left left' said so =
+    → Converses (normal_world notes waits count n resets ends settles) 1 a left left' said b rest → ComesByCalls notes n a.service b.service
+converses_calls {S} {resets = resets} {ends = ends} {settles = settles} notes waits count n a b rest left left' said so =
     let answers = so.2 in
-    let hands : Hands notes n a.tasks a.service (brought_in answers.events) b.tasks b.service =
-    talks_hands notes count n resets ends answers.events a.tasks b.tasks a.service b.service said answers.talks in (hands.calls, hands.made)
+    let hands : Hands notes waits n a.tasks a.service (brought_in answers.events) (settlements answers.events) b.tasks b.service =
+    talks_hands notes waits count n resets ends settles answers.events a.tasks b.tasks a.service b.service said answers.talks in (hands.calls, hands.made)
 
-abbrev is_served : {S : Type 0} {resets ends : ℕ → Type 0} (notes : S → DoneValue → S → Type 0) (count : S → ℕ) (target : LoginTarget)
+abbrev is_served : {S : Type 0} {resets ends : ℕ → Type 0}
+    {settles : Ticket → Outcome → Type 0} (notes : S → DoneValue → S → Type 0) (waits : DoneValue → Option Ticket → Type 0) (count : S → ℕ) (target : LoginTarget)
     (challenge : Option Challenge) (port : ℕ) (begun : FullFeature) (e : ExchangeValue) (s t : S) (pending : List ℕ)
     (left left1 left2 : Option (List ℕ)) (said : List TargetPduValue) (all : Bool) → LogsIn target (started port challenge) e left left1 pending
-    → HasReached e begun → Holds notes count resets ends port begun s pending left1 left2 said all t
-    → IsServed notes count resets ends target challenge port s left left2 said all t
-is_served {S} {resets = resets} {ends = ends} notes count target challenge port begun e s t pending left left1 left2 said all login reached held =
+    → HasReached e begun → Holds notes waits count resets ends settles port begun s pending left1 left2 said all t
+    → IsServed notes waits count resets ends settles target challenge port s left left2 said all t
+is_served {S} {resets = resets} {ends = ends} {settles = settles} notes waits count target challenge port begun e s t pending left left1 left2 said all login reached held =
     let behind = held.converses in
     let answers = behind.2 in record {
       begun = begun;
@@ -60,27 +64,28 @@ is_served {S} {resets = resets} {ends = ends} notes count target challenge port 
       asked = answers.asked;
       talks = answers.talks;
       hands =
-          talks_hands notes count (nexus_of port begun) resets ends answers.events (first_tasks begun) held.last.tasks s held.last.service said
+          talks_hands notes waits count (nexus_of port begun) resets ends settles answers.events (first_tasks begun) held.last.tasks s held.last.service said
           answers.talks;
       lost = held.lost;
     }
 
 -- what came behind a login, and the loss
-abbrev pub holds : {S : Type 0} {resets ends : ℕ → Type 0} (notes : S → DoneValue → S → Type 0) (count : S → ℕ) (port : ℕ) (begun : FullFeature)
+abbrev pub holds : {S : Type 0} {resets ends : ℕ → Type 0}
+    {settles : Ticket → Outcome → Type 0} (notes : S → DoneValue → S → Type 0) (waits : DoneValue → Option Ticket → Type 0) (count : S → ℕ) (port : ℕ) (begun : FullFeature)
     (n : Nexus) (last : Moment S) (s s1 before after t : S) (units : ℕ) (pending rest : List ℕ) (left left' : Option (List ℕ))
     (said : List TargetPduValue) (all : Bool) → begun.session_type ≡ Normal → n ≡ nexus_of port begun → s1 ≡ s
-    → Converses (normal_world notes count n resets ends) 1 (first_moment begun s1 pending) left left' said last rest → last.service ≡ before
+    → Converses (normal_world notes waits count n resets ends settles) 1 (first_moment begun s1 pending) left left' said last rest → last.service ≡ before
     → units ≡ count before → IsLostBelow notes n units before after all → t ≡ after
-    → Holds notes count resets ends port begun s pending left left' said all t
-holds {S} {resets = resets} {ends = ends} notes count port begun n last s s1 before after t units pending rest left left' said all
+    → Holds notes waits count resets ends settles port begun s pending left left' said all t
+holds {S} {resets = resets} {ends = ends} {settles = settles} notes waits count port begun n last s s1 before after t units pending rest left left' said all
     type is library talks served size lost ended = record {
       normal = type;
       last = last;
       rest = rest;
       converses =
-          subst (λ (x : S). Converses (normal_world notes count (nexus_of port begun) resets ends) 1 (first_moment begun x pending) left left'
+          subst (λ (x : S). Converses (normal_world notes waits count (nexus_of port begun) resets ends settles) 1 (first_moment begun x pending) left left'
           said last rest) library
-          (subst (λ (x : Nexus). Converses (normal_world notes count x resets ends) 1 (first_moment begun s1 pending) left left' said last rest) is talks);
+          (subst (λ (x : Nexus). Converses (normal_world notes waits count x resets ends settles) 1 (first_moment begun s1 pending) left left' said last rest) is talks);
       lost =
           subst (λ (x : S). IsLostBelow notes (nexus_of port begun) (count x) x t all) (sym served)
           (subst (λ (i : ℕ). IsLostBelow notes (nexus_of port begun) i before t all) size
@@ -126,18 +131,19 @@ all_written : {A F : Type 0} (r : Result A F) (w w1 w2 : Option (List ℕ)) (sai
 all_written (Ok value) w w1 w2 said told all k one two = (two.0, two.1, writes_last w w1 w2 said told one two.2)
 all_written (Err fault) w w1 w2 said told all k one two = tt
 
-pub serves : {S A F : Type 0} {resets ends : ℕ → Type 0} (notes : S → DoneValue → S → Type 0) (count : S → ℕ) (target : LoginTarget)
+pub serves : {S A F : Type 0} {resets ends : ℕ → Type 0}
+    {settles : Ticket → Outcome → Type 0} (notes : S → DoneValue → S → Type 0) (waits : DoneValue → Option Ticket → Type 0) (count : S → ℕ) (target : LoginTarget)
     (challenge : Option Challenge) (port : ℕ) (begun : FullFeature) (e0 e : ExchangeValue) (s t : S) (pending : List ℕ)
     (left left1 left2 w w1 w2 : Option (List ℕ)) (r : Result A F) → e0 ≡ started port challenge → LogsIn target e0 e left left1 pending
     → HasReached e begun → (told : List ℕ) × Appends w w1 told
-    → ServesBehind notes count resets ends port begun s pending left1 left2 w1 w2 r t
-    → Serves notes count resets ends target challenge port s left left2 w w2 r t
+    → ServesBehind notes waits count resets ends settles port begun s pending left1 left2 w1 w2 r t
+    → Serves notes waits count resets ends settles target challenge port s left left2 w w2 r t
 unfolding Serves
-serves notes count target challenge port begun e0 e s t pending left left1 left2 w w1 w2 r start login reached told (inl same) = inl same
-serves {S} notes count target challenge port begun e0 e s t pending left left1 left2 w w1 w2 r start login reached told (inr held) = inr (
+serves notes waits count target challenge port begun e0 e s t pending left left1 left2 w w1 w2 r start login reached told (inl same) = inl same
+serves {S} notes waits count target challenge port begun e0 e s t pending left left1 left2 w w1 w2 r start login reached told (inr held) = inr (
   held.0,
   held.1,
-  is_served notes count target challenge port begun e s t pending left left1 left2 held.0 held.1
+  is_served notes waits count target challenge port begun e s t pending left left1 left2 held.0 held.1
       (subst (λ (x : ExchangeValue). LogsIn target x e left left1 pending) start login) reached held.2,
   all_written r w w1 w2 held.0 told.0 held.1 held.2.last.tasks told.1 held.3,
 )

@@ -1,7 +1,7 @@
 -- PDUs taken off a stream, one after another, and what is written.
-use Rattle.std.proofs.Common.{◌≡◌, ◌≤◌, ◌+◌, ℕ, List, [], ◌∷◌, ◌++◌, length, length-append, drop, refl, sym, ap, subst, ◌∙◌, append_assoc, append-nil}
+use Rattle.std.proofs.Common.{◌≡◌, ◌≤◌, ◌+◌, ℕ, false, List, [], ◌∷◌, ◌++◌, length, length-append, drop, refl, sym, ap, subst, ◌∙◌, append_assoc, append-nil}
 use Rattle.std.proofs.Common.{Option, Some, None, arith, All}
-use Rattle.std.proofs.lemmas.List.Elements.{All-append, All-cons, All-nil}
+use Rattle.std.proofs.lemmas.List.Elements.{All-append, All-cons, All-head, All-nil, All-tail}
 use Rattle.std.proofs.lemmas.List.{drop-append-le}
 use Rattle.std.proofs.lemmas.Grind.{flat_map-append}
 use Rattle.std.specs.Io.KnownBytes.{Appends}
@@ -17,8 +17,12 @@ use Rattle.iscsi_tasks.specs.Values.{TasksValue}
 use Rattle.session.proofs.Read.{consumes_more, consumes_none}
 use Rattle.read_buffer.specs.Reading.{Added}
 use Rattle.iscsi_session.specs.Saying.{Says}
-use Rattle.iscsi_session.specs.Talking.{Answers, BeginsWith, Came, Converses, Ending, Event, IsSo, Moment, Silence, Told, Takes, Talks, Writes}
-use Rattle.iscsi_session.specs.Talking.{asked_to_leave, leave_requests, pdus_of, pinged}
+use Rattle.iscsi_session.specs.Talking.{Answers, BeginsWith, Came, Converses, Ending, Event, IsSo, Moment, Released, Silence, Told, Takes, Talks, Writes}
+use Rattle.iscsi_session.specs.Talking.{asked_to_leave, leave_requests, must_wait, pdus_of, pinged}
+use Rattle.iscsi_tasks.specs.Runs.{Settled, stepped}
+use Rattle.tickets.specs.declared.ticket.Ticket.{Ticket}
+use Rattle.tickets.specs.declared.ticket.Outcome.{Outcome}
+use Rattle.iscsi_session.specs.Releasing.{Releases, ReleasesAll, Settlement}
 use Rattle.iscsi_session.specs.Worlds.{World}
 
 known_segments : (s : Found SegmentsValue) → IsKnown (initiator_found s) → IsKnown s
@@ -67,12 +71,14 @@ pdus_append (Came p ∷ es) fs = ap (λ (ps : List InitiatorPduValue). p ∷ ps)
 pdus_append (Silence ∷ es) fs = pdus_append es fs
 pdus_append (Told units ∷ es) fs = pdus_append es fs
 pdus_append (Ending seconds ∷ es) fs = pdus_append es fs
+pdus_append (Released ticket outcome ∷ es) fs = pdus_append es fs
 
 requests_append : (es fs : List Event) → leave_requests (es ++ fs) ≡ leave_requests es + leave_requests fs
 requests_append [] fs = omega arith
 requests_append (Came p ∷ es) fs = requests_append es fs
 requests_append (Silence ∷ es) fs = requests_append es fs
 requests_append (Told units ∷ es) fs = requests_append es fs
+requests_append (Released ticket outcome ∷ es) fs = requests_append es fs
 requests_append (Ending seconds ∷ es) fs = omega (arith, requests_append es fs)
 
 talks_append : {S : Type 0} (w : World S) (es fs : List Event) (k k1 k' : TasksValue) (s m t : S) (a b : List TargetPduValue)
@@ -92,18 +98,19 @@ talks_append {S} w (e ∷ es) fs k k1 k' s m t a b one two = (
 
 -- ---- what is pending
 
-one_so : (resets ends : ℕ → Type 0) (e : Event) → IsSo resets ends e → All (IsSo resets ends) (e ∷ [])
-one_so resets ends e so = All-cons (IsSo resets ends) e [] so (All-nil (IsSo resets ends))
+one_so : (resets ends : ℕ → Type 0) (settles : Ticket → Outcome → Type 0) (e : Event) → IsSo resets ends settles e
+    → All (IsSo resets ends settles) (e ∷ [])
+one_so resets ends settles e so = All-cons (IsSo resets ends settles) e [] so (All-nil (IsSo resets ends settles))
 
 pub answers_none : {S : Type 0} {most : ℕ} (w : World S) (a : Moment S) → Answers w most a [] a a.pending
 answers_none {most = most} w a =
-    record { events = []; so = All-nil (IsSo w.resets w.ends); asked = omega arith; talks = (refl, refl, refl); takes = refl }
+    record { events = []; so = All-nil (IsSo w.resets w.ends w.settles); asked = omega arith; talks = (refl, refl, refl); takes = refl }
 
 answers_and : {S : Type 0} (i j most : ℕ) (w : World S) (a m b : Moment S) (rest : List ℕ) (xs ys : List TargetPduValue)
     → i + j ≤ most → Answers w i a xs m m.pending → Answers w j m ys b rest → Answers w most a (xs ++ ys) b rest
 answers_and {S} i j most w a m b rest xs ys few one two = record {
   events = one.events ++ two.events;
-  so = All-append (IsSo w.resets w.ends) one.events two.events one.so two.so;
+  so = All-append (IsSo w.resets w.ends w.settles) one.events two.events one.so two.so;
   asked = omega (arith, few, one.asked, two.asked, requests_append one.events two.events);
   talks = talks_append w one.events two.events a.tasks m.tasks b.tasks a.service m.service b.service xs ys one.talks two.talks;
   takes =
@@ -118,20 +125,20 @@ answers_then {S} {most = most} w a m b rest xs ys one two = answers_and most 0 m
 
 pub answers_one : {S : Type 0} (w : World S) (a b : Moment S) (rest : List ℕ) (p : InitiatorPduValue) (size : ℕ)
     (said : List TargetPduValue)
-    → next_of a.tasks ≡ Idle → BeginsWith a.pending p size → rest ≡ drop size a.pending
+    → next_of a.tasks ≡ Idle → must_wait a.tasks p.header ≡ false → BeginsWith a.pending p size → rest ≡ drop size a.pending
     → Says w.works p a.tasks a.service said b.tasks b.service → Answers w 0 a said b rest
-answers_one w a b rest p size said idle here cut says = record {
+answers_one w a b rest p size said idle now here cut says = record {
   events = Came p ∷ [];
-  so = one_so w.resets w.ends (Came p) tt;
+  so = one_so w.resets w.ends w.settles (Came p) tt;
   asked = omega arith;
-  talks = (b.tasks, b.service, said, [], sym (append-nil said), (idle, says), (refl, refl, refl));
+  talks = (b.tasks, b.service, said, [], sym (append-nil said), (idle, now, says), (refl, refl, refl));
   takes = (size, here, cut);
 }
 
 pub answers_pinged : {S : Type 0} (w : World S) (a : Moment S) (stat_sn : SerialNumber) → Answers w 0 a (pinged a.tasks stat_sn) a a.pending
 answers_pinged w a stat_sn = record {
   events = Silence ∷ [];
-  so = one_so w.resets w.ends Silence tt;
+  so = one_so w.resets w.ends w.settles Silence tt;
   asked = omega arith;
   talks = (
     a.tasks,
@@ -150,7 +157,7 @@ pub answers_asked : {S : Type 0} (w : World S) (a : Moment S) (stat_sn : SerialN
 answers_asked w a stat_sn seconds so =
     let said = asked_to_leave a.tasks stat_sn seconds in record {
       events = Ending seconds ∷ [];
-      so = one_so w.resets w.ends (Ending seconds) so;
+      so = one_so w.resets w.ends w.settles (Ending seconds) so;
       asked = omega arith;
       talks = (a.tasks, a.service, said, [], sym (append-nil said), (stat_sn, refl, refl, refl), (refl, refl, refl));
       takes = refl;
@@ -160,10 +167,60 @@ pub answers_resets : {S : Type 0} (w : World S) (a b : Moment S) (units : List �
     → All w.resets units → w.takes_resets units a.tasks a.service said b.tasks b.service → Answers w 0 a said b a.pending
 answers_resets w a b units said told so = record {
   events = Told units ∷ [];
-  so = one_so w.resets w.ends (Told units) told;
+  so = one_so w.resets w.ends w.settles (Told units) told;
   asked = omega arith;
   talks = (b.tasks, b.service, said, [], sym (append-nil said), so, (refl, refl, refl));
   takes = refl;
+}
+
+-- one ticket after another was settled
+settled_events : List Settlement → List Event
+settled_events [] = []
+settled_events (x ∷ xs) = Released x.ticket x.outcome ∷ settled_events xs
+
+events_so : {S : Type 0} (w : World S) (xs : List Settlement) → All (λ (x : Settlement). w.settles x.ticket x.outcome) xs
+    → All (IsSo w.resets w.ends w.settles) (settled_events xs)
+unfolding settled_events
+events_so w [] so = All-nil (IsSo w.resets w.ends w.settles)
+events_so w (x ∷ xs) so =
+    All-cons (IsSo w.resets w.ends w.settles) (Released x.ticket x.outcome) (settled_events xs)
+    (All-head (λ (y : Settlement). w.settles y.ticket y.outcome) x xs so)
+    (events_so w xs (All-tail (λ (y : Settlement). w.settles y.ticket y.outcome) x xs so))
+
+events_talk : {S : Type 0} (w : World S) (xs : List Settlement) (k k' : TasksValue) (s : S) (said : List TargetPduValue)
+    → ReleasesAll xs k said k' → Talks w (settled_events xs) k s said k' s
+unfolding settled_events
+events_talk w [] k k' s said so = (so.0, so.1, refl)
+events_talk w (x ∷ xs) k k' s said so = (
+  stepped k (Settled x.ticket x.outcome),
+  s,
+  so.0,
+  so.1,
+  so.2,
+  (refl, so.3, refl),
+  events_talk w xs (stepped k (Settled x.ticket x.outcome)) k' s so.1 so.4,
+)
+
+events_ask : (xs : List Settlement) → leave_requests (settled_events xs) ≡ 0
+unfolding settled_events
+events_ask [] = refl
+events_ask (x ∷ xs) = events_ask xs
+
+events_take : (xs : List Settlement) → pdus_of (settled_events xs) ≡ []
+unfolding settled_events
+events_take [] = refl
+events_take (x ∷ xs) = events_take xs
+
+pub answers_released : {S : Type 0} (w : World S) (a b : Moment S) (said : List TargetPduValue) → b.service ≡ a.service
+    → Releases w.settles a.tasks said b.tasks → Answers w 0 a said b a.pending
+answers_released {S} w a b said still so = record {
+  events = settled_events so.0;
+  so = events_so w so.0 so.1;
+  asked = omega (arith, events_ask so.0);
+  talks =
+      subst (λ (x : S). Talks w (settled_events so.0) a.tasks a.service said b.tasks x) (sym still)
+      (events_talk w so.0 a.tasks b.tasks a.service said so.2);
+  takes = subst (λ (ps : List InitiatorPduValue). Takes a.pending ps a.pending) (sym (events_take so.0)) refl;
 }
 
 answers_before : {S : Type 0} {most : ℕ} (w : World S) (a b : Moment S) (rest piece : List ℕ) (said : List TargetPduValue)

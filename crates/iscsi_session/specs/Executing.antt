@@ -1,5 +1,6 @@
--- What comes of what happens to the tasks of a session. `notes s d t` says that a call with the answer d makes t of the service s.
-use Rattle.std.specs.Prelude.{◌≡◌, ℕ, zero, suc, min, Bool, true, false, List, [], ◌∷◌, ◌++◌, length, take, Option, Some, None, Result, Ok, Err, OnOk, ◌⊎◌}
+-- What comes of what happens to the tasks of a session. `notes s d t` says that a call with the answer d makes t of the service s, and
+-- `waits d ticket` what the reply in d waits for, if it has to wait.
+use Rattle.std.specs.Prelude.{◌≡◌, ℕ, zero, suc, min, Bool, true, false, List, [], ◌∷◌, ◌++◌, length, take, Option, Some, None, is_some, Result, Ok, Err, OnOk, ◌⊎◌}
 use Rattle.scsi_nexus.specs.declared.nexus.Nexus.{Nexus}
 use Rattle.scsi_sense.specs.declared.sense.Sense.{Sense}
 use Rattle.scsi_sense.specs.declared.status.Status.{Status}
@@ -15,6 +16,7 @@ use Rattle.iscsi_pdu.specs.declared.reject_reason.RejectReason.{RejectReason}
 use Rattle.iscsi_pdu.specs.declared.scsi_command.ScsiCommand.{ScsiCommand}
 use Rattle.iscsi_pdu.specs.declared.target_header.TargetHeader.TheVariants as header
 use Rattle.iscsi_tasks.specs.Values.{TasksValue}
+use Rattle.iscsi_tasks.specs.declared.held_reply.UnitReply.{UnitReply}
 use Rattle.iscsi_tasks.specs.Commands as tasks
 use Rattle.iscsi_tasks.specs.DataOuts.{data_answer}
 use Rattle.iscsi_tasks.specs.Next.{next_of, ready_to_transfer}
@@ -31,6 +33,7 @@ use Rattle.iscsi_tasks.specs.declared.taken.TakenCommand.TheVariants as taken
 use Rattle.iscsi_tasks.specs.declared.taken.TakenData.{TakenData}
 use Rattle.iscsi_tasks.specs.declared.taken.TakenData.TheVariants as taken_data
 use Rattle.iscsi_answers.specs.Single.{pdu, rejection}
+use Rattle.tickets.specs.declared.ticket.Ticket.{Ticket}
 use Rattle.iscsi_answers.specs.CommandAnswers.{answered_command, command_answer}
 use Rattle.iscsi_answers.specs.Written.{bytes_of_all}
 use Rattle.iscsi_answers.specs.declared.limits.TransferLimits.{TransferLimits}
@@ -85,22 +88,49 @@ abbrev pub answer_to : TasksValue → TransferLimits → SerialNumber → ScsiCo
 answer_to k limits stat_sn command handed_over status sense bytes =
     command_answer limits (numbers k stat_sn) (answered_command command handed_over) status sense bytes
 
--- a command is handed to the unit of its LUN with these data, once, and this is what the unit has replied to that very call; or its LUN is no
--- unit's number, this is what a unit that doesn't exist replies, and nothing happens at the service
-abbrev pub Replies : {S : Type 0} → (S → DoneValue → S → Type 0) → Nexus → S → (unit : Option ℕ) → (cdb bytes : List ℕ) → Reply → S → Type 0
-Replies notes n s (Some unit) cdb bytes reply t =
-    (done : DoneValue) × IsAnswer done (Some n) unit (event.Command cdb bytes) × notes s done t × (reply ≡ done.reply)
-Replies notes n s None cdb bytes reply t = AnswersAbsent cdb reply × (t ≡ s)
+-- what a reply waits for, by its data: one that has some waits for nothing
+abbrev pub WaitsFor : (waits : DoneValue → Option Ticket → Type 0) → DoneValue → (payload : List ℕ) → Option Ticket → Type 0
+WaitsFor waits done [] ticket = waits done ticket
+WaitsFor waits done (byte ∷ bytes) ticket = ticket ≡ None
 
--- a command is executed with these data, and answered by that reply, with the numbers of the tasks behind it
-pub record Executes {S : Type 0} (notes : S → DoneValue → S → Type 0) (n : Nexus) (s : S) (k : TasksValue) (command : ScsiCommand)
-    (bytes : List ℕ) (said : List TargetPduValue) (k' : TasksValue) (t : S) : Type 0 where
+-- a command is handed to the unit of its LUN with these data, once, and this is what the unit has replied to that very call, and what that waits
+-- for; or its LUN is no unit's number, this is what a unit that doesn't exist replies, it waits for nothing, and nothing happens at the service
+abbrev pub Replies : {S : Type 0} → (S → DoneValue → S → Type 0) → (DoneValue → Option Ticket → Type 0) → Nexus → S → (unit : Option ℕ)
+    → (cdb bytes : List ℕ) → Reply → Option Ticket → S → Type 0
+Replies notes waits n s (Some unit) cdb bytes reply ticket t =
+    (done : DoneValue) × IsAnswer done (Some n) unit (event.Command cdb bytes) × notes s done t × (reply ≡ done.reply)
+    × WaitsFor waits done done.reply.payload ticket
+Replies notes waits n s None cdb bytes reply ticket t = AnswersAbsent cdb reply × (ticket ≡ None) × (t ≡ s)
+
+-- a reply as it is held: it has no data
+abbrev pub held_reply : Reply → (handed_over : ℕ) → UnitReply
+held_reply reply handed_over = record { handed_over = handed_over; status = reply.status; sense = reply.sense }
+
+-- a reply that waits for nothing answers the command in hand at once, with the numbers of the tasks behind it; one that waits is held, and nothing
+-- is said yet
+abbrev pub AnswersOrHolds : TasksValue → ScsiCommand → (handed_over : ℕ) → Reply → Option Ticket → (said : List TargetPduValue) → TasksValue
+    → Type 0
+AnswersOrHolds k command handed_over reply None said k' =
+    (limits : TransferLimits) × (stat_sn : SerialNumber) × (k' ≡ stepped k Answered)
+    × (said ≡ answer_to k' limits stat_sn command handed_over reply.status reply.sense reply.payload)
+AnswersOrHolds k command handed_over reply (Some ticket) said k' =
+    (said ≡ []) × (k' ≡ stepped k (Held (held_reply reply handed_over) ticket))
+
+-- a command is executed with these data, and its reply answers it or is held
+pub record Executes {S : Type 0} (notes : S → DoneValue → S → Type 0) (waits : DoneValue → Option Ticket → Type 0) (n : Nexus) (s : S)
+    (k : TasksValue) (command : ScsiCommand) (bytes : List ℕ) (said : List TargetPduValue) (k' : TasksValue) (t : S) : Type 0 where
   pub reply : Reply
-  pub limits : TransferLimits
-  pub stat_sn : SerialNumber
-  pub replied : Replies notes n s (unit_of command.lun) command.cdb bytes reply t
-  pub answered : k' ≡ stepped k Answered
-  pub said_is : said ≡ answer_to k' limits stat_sn command (min (length bytes) 0xFFFFFFFF) reply.status reply.sense reply.payload
+  pub ticket : Option Ticket
+  pub replied : Replies notes waits n s (unit_of command.lun) command.cdb bytes reply ticket t
+  pub says : AnswersOrHolds k command (min (length bytes) 0xFFFFFFFF) reply ticket said k'
+
+-- what is to be executed or answered as failed is in hand
+abbrev pub HasInHand : Outcome → TasksValue → Type 0
+HasInHand Nothing k = Unit {0}
+HasInHand (Execute command bytes) k = is_some k.in_hand ≡ true
+HasInHand (Fail command fault) k = Unit {0}
+HasInHand (Ask request) k = Unit {0}
+HasInHand (Reject reason) k = Unit {0}
 
 -- ABORTED COMMAND, 0Bh, and why
 abbrev pub aborted : TaskFault → Sense
@@ -127,14 +157,14 @@ abbrev pub refusal : TasksValue → SerialNumber → RejectReason → (rejected 
 refusal k stat_sn reason rejected = rejection (numbers k stat_sn) reason rejected ∷ []
 
 -- what is to be done is done, and these PDUs are what is said; a command that is answered is in hand no longer
-abbrev pub Does : {S : Type 0} → (S → DoneValue → S → Type 0) → Nexus → S → TasksValue → Outcome → (said : List TargetPduValue) → TasksValue
+abbrev pub Does : {S : Type 0} → (S → DoneValue → S → Type 0) → (DoneValue → Option Ticket → Type 0) → Nexus → S → TasksValue → Outcome → (said : List TargetPduValue) → TasksValue
     → S → Type 0
-Does notes n s k Nothing said k' t = (said ≡ []) × (k' ≡ k) × (t ≡ s)
-Does notes n s k (Execute command bytes) said k' t = Executes notes n s k command bytes said k' t
-Does notes n s k (Fail command fault) said k' t = (limits : TransferLimits) × (stat_sn : SerialNumber) × (k' ≡ stepped k Answered)
+Does notes waits n s k Nothing said k' t = (said ≡ []) × (k' ≡ k) × (t ≡ s)
+Does notes waits n s k (Execute command bytes) said k' t = Executes notes waits n s k command bytes said k' t
+Does notes waits n s k (Fail command fault) said k' t = (limits : TransferLimits) × (stat_sn : SerialNumber) × (k' ≡ stepped k Answered)
     × (said ≡ failure k' limits stat_sn command fault) × (t ≡ s)
-Does notes n s k (Ask request) said k' t = (stat_sn : SerialNumber) × (said ≡ demand k stat_sn request) × (k' ≡ k) × (t ≡ s)
-Does notes n s k (Reject reason) said k' t = (stat_sn : SerialNumber) × (rejected : List ℕ) × (said ≡ refusal k stat_sn reason rejected)
+Does notes waits n s k (Ask request) said k' t = (stat_sn : SerialNumber) × (said ≡ demand k stat_sn request) × (k' ≡ k) × (t ≡ s)
+Does notes waits n s k (Reject reason) said k' t = (stat_sn : SerialNumber) × (rejected : List ℕ) × (said ≡ refusal k stat_sn reason rejected)
     × (k' ≡ k) × (t ≡ s)
 
 -- what is said where a unit isn't concerned
@@ -146,17 +176,17 @@ Tells k (Fail command fault) said = ⊥
 Tells k (Ask request) said = ⊥
 
 -- something happens to the tasks, and what that comes to is done
-abbrev pub Acts : {S : Type 0} → (S → DoneValue → S → Type 0) → Nexus → TasksValue → S → Act → (said : List TargetPduValue) → TasksValue → S
+abbrev pub Acts : {S : Type 0} → (S → DoneValue → S → Type 0) → (DoneValue → Option Ticket → Type 0) → Nexus → TasksValue → S → Act → (said : List TargetPduValue) → TasksValue → S
     → Type 0
-Acts notes n k s act said k' t = Does notes n s (stepped k act) (outcome k act) said k' t
+Acts notes waits n k s act said k' t = Does notes waits n s (stepped k act) (outcome k act) said k' t
 
 -- what is to be done next is done, so many times
-unfoldable pub GoesOn : {S : Type 0} → (S → DoneValue → S → Type 0) → Nexus → (times : ℕ) → TasksValue → S
+unfoldable pub GoesOn : {S : Type 0} → (S → DoneValue → S → Type 0) → (DoneValue → Option Ticket → Type 0) → Nexus → (times : ℕ) → TasksValue → S
     → (said : List TargetPduValue) → TasksValue → S → Type 0
-GoesOn notes n zero k s said k' t = (said ≡ []) × (k' ≡ k) × (t ≡ s)
-GoesOn {S} notes n (suc times) k s said k' t =
+GoesOn notes waits n zero k s said k' t = (said ≡ []) × (k' ≡ k) × (t ≡ s)
+GoesOn {S} notes waits n (suc times) k s said k' t =
     (k1 : TasksValue) × (m : S) × (first last : List TargetPduValue) × (said ≡ first ++ last)
-    × GoesOn notes n times k s first k1 m × Acts notes n k1 m AskedNext last k' t
+    × GoesOn notes waits n times k s first k1 m × Acts notes waits n k1 m AskedNext last k' t
 
 abbrev pub is_idle : NextTask → Bool
 is_idle found.Idle = true

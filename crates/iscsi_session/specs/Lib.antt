@@ -2,6 +2,7 @@ pub mod Limits
 pub mod Faults
 pub mod Executing
 pub mod Managing
+pub mod Releasing
 pub mod Worlds
 pub mod Saying
 pub mod Talking

@@ -1,5 +1,5 @@
 -- What a session does with its PDUs. `notes s d t` says that a call with the answer d makes t of the service s.
-use Rattle.std.specs.Prelude.{◌≡◌, ℕ, Bool, true, false, MatchBool, List, [], ◌∷◌, ◌++◌, if◌then◌else◌}
+use Rattle.std.specs.Prelude.{◌≡◌, ℕ, Bool, true, false, MatchBool, List, [], ◌∷◌, ◌++◌, Option, if◌then◌else◌}
 use Rattle.scsi_nexus.specs.declared.nexus.Nexus.{Nexus}
 use Rattle.logical_unit.specs.Answers.{DoneValue}
 use Rattle.iscsi_pdu.specs.Pdus.{InitiatorPduValue, TargetPduValue}
@@ -13,6 +13,8 @@ use Rattle.iscsi_tasks.specs.Aborts.{without_unit}
 use Rattle.iscsi_tasks.specs.Commands.{is_taken, counted}
 use Rattle.iscsi_tasks.specs.Runs.{Commanded, DataCame}
 use Rattle.iscsi_tasks.specs.Values.{TasksValue}
+use Rattle.tickets.specs.declared.ticket.Ticket.{Ticket}
+use Rattle.tickets.specs.declared.ticket.Outcome.{Outcome}
 use Rattle.iscsi_session.specs.Executing.{Acts, GoesOn}
 use Rattle.iscsi_session.specs.Managing.{ManagesTasks}
 use Rattle.iscsi_session.specs.Worlds.{World, world}
@@ -64,15 +66,15 @@ abbrev pub AddsPlain : (out out' : List ℕ) → Type 0
 AddsPlain out out' = (said : List TargetPduValue) × IsPlain said × (out' ≡ out ++ bytes_of_all said)
 
 -- a PDU of a task happens to the tasks
-abbrev pub TakesTask : {S : Type 0} → (S → DoneValue → S → Type 0) → (count : S → ℕ) → Nexus → InitiatorHeader → (payload : List ℕ)
+abbrev pub TakesTask : {S : Type 0} → (S → DoneValue → S → Type 0) → (DoneValue → Option Ticket → Type 0) → (count : S → ℕ) → Nexus → InitiatorHeader → (payload : List ℕ)
     → TasksValue → S → (said : List TargetPduValue) → TasksValue → S → Type 0
-TakesTask notes count n (sent.ScsiCommand p) payload k s said k' t = Acts notes n k s (Commanded p payload) said k' t
-TakesTask notes count n (sent.DataOut p) payload k s said k' t = Acts notes n k s (DataCame p payload) said k' t
-TakesTask notes count n (sent.TaskManagementRequest p) payload k s said k' t = ManagesTasks notes count p k s said k' t
-TakesTask notes count n _ payload k s said k' t = ⊥
+TakesTask notes waits count n (sent.ScsiCommand p) payload k s said k' t = Acts notes waits n k s (Commanded p payload) said k' t
+TakesTask notes waits count n (sent.DataOut p) payload k s said k' t = Acts notes waits n k s (DataCame p payload) said k' t
+TakesTask notes waits count n (sent.TaskManagementRequest p) payload k s said k' t = ManagesTasks notes count p k s said k' t
+TakesTask notes waits count n _ payload k s said k' t = ⊥
 
 -- and then those that wait go on: what a normal session does with it
-pub record Works {S : Type 0} (notes : S → DoneValue → S → Type 0) (count : S → ℕ) (n : Nexus) (h : InitiatorHeader) (payload : List ℕ)
+pub record Works {S : Type 0} (notes : S → DoneValue → S → Type 0) (waits : DoneValue → Option Ticket → Type 0) (count : S → ℕ) (n : Nexus) (h : InitiatorHeader) (payload : List ℕ)
     (k : TasksValue) (s : S) (said : List TargetPduValue) (k' : TasksValue) (t : S) : Type 0 where
   pub tasks : TasksValue
   pub service : S
@@ -80,8 +82,8 @@ pub record Works {S : Type 0} (notes : S → DoneValue → S → Type 0) (count 
   pub others : List TargetPduValue
   pub times : ℕ
   pub said_is : said ≡ first ++ others
-  pub takes : TakesTask notes count n h payload k s first tasks service
-  pub goes_on : GoesOn notes n times tasks service others k' t
+  pub takes : TakesTask notes waits count n h payload k s first tasks service
+  pub goes_on : GoesOn notes waits n times tasks service others k' t
 
 -- without the commands that wait at these units, the first of them last
 abbrev pub without_units : TasksValue → (units : List ℕ) → TasksValue
@@ -89,13 +91,14 @@ without_units k [] = k
 without_units k (unit ∷ units) = without_unit (without_units k units) unit
 
 -- of units that others have reset the commands that wait there go unexecuted, and those that waited behind them go on
-abbrev pub TakesResets : {S : Type 0} → (S → DoneValue → S → Type 0) → Nexus → (units : List ℕ) → TasksValue → S
+abbrev pub TakesResets : {S : Type 0} → (S → DoneValue → S → Type 0) → (DoneValue → Option Ticket → Type 0) → Nexus → (units : List ℕ) → TasksValue → S
     → (said : List TargetPduValue) → TasksValue → S → Type 0
-TakesResets notes n units k s said k' t = (times : ℕ) × GoesOn notes n times (without_units k units) s said k' t
+TakesResets notes waits n units k s said k' t = (times : ℕ) × GoesOn notes waits n times (without_units k units) s said k' t
 
 -- the world of a normal session
-abbrev pub normal_world : {S : Type 0} → (S → DoneValue → S → Type 0) → (count : S → ℕ) → Nexus → (resets ends : ℕ → Type 0) → World S
-normal_world notes count n resets ends = world (Works notes count n) (TakesResets notes n) resets ends
+abbrev pub normal_world : {S : Type 0} → (S → DoneValue → S → Type 0) → (DoneValue → Option Ticket → Type 0) → (count : S → ℕ) → Nexus
+    → (resets ends : ℕ → Type 0) → (settles : Ticket → Outcome → Type 0) → World S
+normal_world notes waits count n resets ends settles = world (Works notes waits count n) (TakesResets notes waits n) resets ends settles
 
 -- one PDU; what comes of one of a task `works` says
 abbrev pub Says : {S : Type 0}

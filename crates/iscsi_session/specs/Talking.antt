@@ -1,7 +1,9 @@
 -- The PDUs of a stream, one after another.
-use Rattle.std.specs.Prelude.{◌≡◌, ◌⊎◌, ◌≤◌, ℕ, suc, Bool, true, false, List, [], ◌∷◌, ◌++◌, length, drop, All, Option}
+use Rattle.std.specs.Prelude.{◌≡◌, ◌⊎◌, ◌≤◌, ℕ, suc, Bool, true, false, not, List, [], ◌∷◌, ◌++◌, length, drop, All, Option}
 use Rattle.std.specs.Io.KnownBytes.{Consumes, Appends}
 use Rattle.iscsi_keys.specs.Limits.{segment_limit}
+use Rattle.iscsi_pdu.specs.declared.initiator_header.InitiatorHeader.{InitiatorHeader}
+use Rattle.iscsi_pdu.specs.declared.initiator_header.InitiatorHeader.TheVariants as sent
 use Rattle.iscsi_pdu.specs.declared.serial_number.SerialNumber.{SerialNumber}
 use Rattle.iscsi_pdu.specs.Pdus.{InitiatorPduValue, TargetPduValue, parsed_initiator}
 use Rattle.iscsi_pdu.specs.Segments.{Complete}
@@ -10,7 +12,12 @@ use Rattle.iscsi_answers.specs.Written.{bytes_of_all}
 use Rattle.iscsi_tasks.specs.Next.{next_of}
 use Rattle.iscsi_tasks.specs.Values.{TasksValue}
 use Rattle.iscsi_tasks.specs.declared.next_task.NextTask.TheVariants.{Idle}
+use Rattle.iscsi_tasks.specs.Holding.{answers_due, holds_none}
+use Rattle.iscsi_tasks.specs.Runs.{Settled, stepped}
+use Rattle.tickets.specs.declared.ticket.Ticket.{Ticket}
+use Rattle.tickets.specs.declared.ticket.Outcome.{Outcome}
 use Rattle.iscsi_session.specs.Executing.{numbers}
+use Rattle.iscsi_session.specs.Releasing.{SaysDue}
 use Rattle.iscsi_session.specs.Saying.{Says}
 use Rattle.iscsi_session.specs.Worlds.{World}
 
@@ -26,19 +33,21 @@ Takes bytes [] rest = rest ≡ bytes
 Takes bytes (p ∷ ps) rest = (size : ℕ) × BeginsWith bytes p size × Takes (drop size bytes) ps rest
 
 -- what happens to a session: a PDU comes, or nothing for a while; or it is told of units that other sessions have reset, or that all
--- sessions are to end within so many seconds
+-- sessions are to end within so many seconds, or how keeping what a ticket is for ended
 pub data Event : Type 0 where
   Came : InitiatorPduValue → Event
   Silence : Event
   Told : (units : List ℕ) → Event
   Ending : (seconds : ℕ) → Event
+  Released : Ticket → Outcome → Event
 
 -- what it is told is so
-abbrev pub IsSo : (resets ends : ℕ → Type 0) → Event → Type 0
-IsSo resets ends (Came p) = Unit {0}
-IsSo resets ends Silence = Unit {0}
-IsSo resets ends (Told units) = All resets units
-IsSo resets ends (Ending seconds) = ends seconds
+abbrev pub IsSo : (resets ends : ℕ → Type 0) → (settles : Ticket → Outcome → Type 0) → Event → Type 0
+IsSo resets ends settles (Came p) = Unit {0}
+IsSo resets ends settles Silence = Unit {0}
+IsSo resets ends settles (Told units) = All resets units
+IsSo resets ends settles (Ending seconds) = ends seconds
+IsSo resets ends settles (Released ticket outcome) = settles ticket outcome
 
 abbrev pub pdus_of : List Event → List InitiatorPduValue
 pdus_of [] = []
@@ -46,6 +55,7 @@ pdus_of (Came p ∷ es) = p ∷ pdus_of es
 pdus_of (Silence ∷ es) = pdus_of es
 pdus_of (Told units ∷ es) = pdus_of es
 pdus_of (Ending seconds ∷ es) = pdus_of es
+pdus_of (Released ticket outcome ∷ es) = pdus_of es
 
 -- how often a logout is asked for
 abbrev pub leave_requests : List Event → ℕ
@@ -53,6 +63,7 @@ leave_requests [] = 0
 leave_requests (Came p ∷ es) = leave_requests es
 leave_requests (Silence ∷ es) = leave_requests es
 leave_requests (Told units ∷ es) = leave_requests es
+leave_requests (Released ticket outcome ∷ es) = leave_requests es
 leave_requests (Ending seconds ∷ es) = suc (leave_requests es)
 
 -- a ping
@@ -75,14 +86,29 @@ abbrev pub MayAsk : (ends : ℕ → Type 0) → TasksValue → (asked asked' : B
 MayAsk ends k asked asked' out out' =
     ((asked' ≡ asked) × (out' ≡ out)) ⊎ ((asked ≡ false) × (asked' ≡ true) × IsAskedToLeave ends k out out')
 
+-- a logout is not taken as long as replies are held
+abbrev pub must_wait : TasksValue → InitiatorHeader → Bool
+must_wait k (sent.LogoutRequest p) = not (holds_none k)
+must_wait k (sent.ScsiCommand p) = false
+must_wait k (sent.DataOut p) = false
+must_wait k (sent.TaskManagementRequest p) = false
+must_wait k (sent.NopOut p) = false
+must_wait k (sent.TextRequest p) = false
+must_wait k (sent.LoginRequest p) = false
+must_wait k (sent.SnackRequest p) = false
+must_wait k (sent.Unknown p) = false
+
 -- a PDU is taken where nothing is left to be done with those before it; behind a silence the target pings; of units that others have reset `w`
--- says what comes; where all sessions are to end a logout is asked for
+-- says what comes; where all sessions are to end a logout is asked for; and the replies that waited for no more than a ticket answer their commands,
+-- with the numbers of the tasks without them
 abbrev pub Happens : {S : Type 0} → World S → Event → TasksValue → S → (said : List TargetPduValue) → TasksValue → S → Type 0
-Happens w (Came p) k s said k' t = (next_of k ≡ Idle) × Says w.works p k s said k' t
+Happens w (Came p) k s said k' t = (next_of k ≡ Idle) × (must_wait k p.header ≡ false) × Says w.works p k s said k' t
 Happens w Silence k s said k' t = (stat_sn : SerialNumber) × (said ≡ pinged k stat_sn) × (k' ≡ k) × (t ≡ s)
 Happens w (Told units) k s said k' t = w.takes_resets units k s said k' t
 Happens w (Ending seconds) k s said k' t =
     (stat_sn : SerialNumber) × (said ≡ asked_to_leave k stat_sn seconds) × (k' ≡ k) × (t ≡ s)
+Happens w (Released ticket outcome) k s said k' t =
+    (k' ≡ stepped k (Settled ticket outcome)) × SaysDue k' (answers_due ticket outcome k.replies) said × (t ≡ s)
 
 -- one after another, and what is said to them
 abbrev pub Talks : {S : Type 0} → World S → List Event → TasksValue → S → (said : List TargetPduValue) → TasksValue → S → Type 0
@@ -103,7 +129,7 @@ pub record Moment (S : Type 0) : Type 0 where
 pub record AnswersAll {S : Type 0} (w : World S) (most : ℕ) (k : TasksValue) (s : S) (pending : List ℕ) (said : List TargetPduValue)
     (k' : TasksValue) (t : S) (rest : List ℕ) : Type 0 where
   pub events : List Event
-  pub so : All (IsSo w.resets w.ends) events
+  pub so : All (IsSo w.resets w.ends w.settles) events
   pub asked : leave_requests events ≤ most
   pub talks : Talks w events k s said k' t
   pub takes : Takes pending (pdus_of events) rest

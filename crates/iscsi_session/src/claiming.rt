@@ -7,6 +7,7 @@ ghost use Rattle.iscsi_session.specs.declared.claiming.Claim.TheVariants.{New, P
 use iscsi_login::FullFeature;
 use iscsi_pdu::LoginStatus;
 use scsi_nexus::Nexus;
+use tickets::{Outcome, Ticket};
 
 /// What a session is known by beside its nexus, which stands for the initiator's name and the portal group.
 #[derive(Clone, Copy, PartialEq, Eq)]
@@ -22,12 +23,17 @@ pub struct SessionIdentity {
 /// Where the sessions that live are noted, those of all portals.
 pub trait SessionRegister {
     ghost use Rattle.std.specs.Prelude.{ℕ, IsTrue, IfSome};
+    ghost use Rattle.tickets.specs.declared.ticket.Outcome.{Outcome};
+    ghost use Rattle.tickets.specs.declared.ticket.Ticket.{Ticket};
 
     // That another session has reset a unit, as far as whoever keeps the register says what that means.
     ghost resets: { Self → ℕ → Type 0 } = { λ _ _. Unit {0} };
 
     // That all sessions are to end within so many seconds, in the same way.
     ghost ends: { Self → ℕ → Type 0 } = { λ _ _. Unit {0} };
+
+    // That keeping what a ticket is for ended so, in the same way.
+    ghost settles: { Self → Ticket → Outcome → Type 0 } = { λ _ _ _. Unit {0} };
 
     /// The session that lives as a nexus, if it is one of iSCSI.
     fn living(&self, nexus: Nexus) -> Option<SessionIdentity>;
@@ -49,6 +55,10 @@ pub trait SessionRegister {
     /// Within how many seconds all sessions are to end. `None`: they may go on. It is asked whenever a read has ended.
     fn ends_within(&self) -> Option<u16>
         ensures { IfSome result (ends self.now) };
+
+    /// How keeping what a held reply waits for ended, if it has. It is asked of each whenever a read has ended.
+    fn outcome_of(&self, ticket: Ticket) -> Option<Outcome>
+        ensures { IfSome result (settles self.now ticket) };
 }
 
 /// What a login asks for.

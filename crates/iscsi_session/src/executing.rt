@@ -1,32 +1,34 @@
 //! Commands: handed to their units, and answered.
-ghost use Rattle.std.specs.Prelude.{◌≡◌, ◌<◌, ◌^◌, ◌++◌, ℕ, List, length, min, IfErr, OnOk};
+ghost use Rattle.std.specs.Prelude.{◌≡◌, ◌<◌, ◌^◌, ◌++◌, ℕ, true, List, length, min, is_some, IfErr, OnOk};
 ghost use Rattle.iscsi_pdu.specs.Pdus.{TargetPduValue};
 ghost use Rattle.iscsi_answers.specs.Written.{bytes_of_all};
 ghost use Rattle.iscsi_tasks.specs.Next.{next_of};
-ghost use Rattle.iscsi_tasks.specs.Runs.{Answered, Commanded, DataCame, stepped};
+ghost use Rattle.iscsi_tasks.specs.Runs.{Answered, Commanded, DataCame, Held, stepped};
 ghost use Rattle.iscsi_tasks.specs.declared.next_task.NextTask.TheVariants.{Idle};
 ghost use Rattle.iscsi_session.specs.Faults.{IsLater};
-ghost use Rattle.iscsi_session.specs.Executing.{Acts, Adds, Does, Executes, GoesOn, OrElse, Tells};
-ghost use Rattle.iscsi_session.specs.Executing.{answer_to, demand, failure, is_idle, next_outcome, outcome};
+ghost use Rattle.iscsi_session.specs.Executing.{Acts, Adds, Does, Executes, GoesOn, HasInHand, OrElse, Tells, WaitsFor};
+ghost use Rattle.iscsi_session.specs.Executing.{answer_to, demand, failure, held_reply, is_idle, next_outcome, outcome};
 
 use crate::connection::Connection;
 use crate::fault::IscsiFault;
+use crate::keeping::KeepingService;
 use crate::requests::{BasicHeader, reject};
 use iscsi_answers::{AnsweredCommand, UnitAnswer, write_command_answer, write_ready_to_transfer};
 use iscsi_pdu::{DataOut, ScsiCommand, unit_of};
-use iscsi_tasks::{NextTask, TakenCommand, TakenData, TaskFault, TransferRequest};
+use iscsi_tasks::{NextTask, TakenCommand, TakenData, TaskFault, TransferRequest, UnitReply};
 use judgement::{Reply, absent};
+use logical_unit::Done;
 use scsi_nexus::Nexus;
 use scsi_sense::{Sense, Status};
-use session::Service;
 use std::alloc::Global;
+use tickets::Ticket;
 
 /// The sense key of a command that ends unexecuted since its data aren't right (SPC-4, "Sense key and additional sense code definitions").
 const ABORTED_COMMAND: u8 = 0x0B;
 
-/// Hands a command to its unit with its data, and adds what answers it. A command whose LUN is no unit's number is answered as a unit that
-/// doesn't exist answers it.
-fn execute<S: Service>(
+/// Hands the command in hand to its unit with its data, and adds what answers it, or holds the reply until what it waits for is kept. A
+/// command whose LUN is no unit's number is answered as a unit that doesn't exist answers it.
+fn execute<S: KeepingService>(
     alloc: Global,
     service: &mut S,
     nexus: Nexus,
@@ -34,20 +36,58 @@ fn execute<S: Service>(
     command: &ScsiCommand,
     bytes: &[u8],
 ) -> Result<(), IscsiFault>
+    requires { is_some connection.old.tasks.in_hand ≡ true }
     ensures fault { IfErr result IsLater }
     ensures executed { (said : List TargetPduValue)
-        × Executes S.notes nexus service.old connection.old.tasks command.now bytes.now said connection.new.tasks service.new
+        × Executes S.notes S.waits nexus service.old connection.old.tasks command.now bytes.now said connection.new.tasks service.new
         × Adds result connection.old.out.items connection.new.out.items said }
 {
     match unit_of(command.lun) {
         Some(lun) => {
             let done = service.submit(alloc, nexus, lun, &command.cdb, bytes);
-            answer_executed(connection, command, bytes, &done.receipt().reply)
+            let reply = &done.receipt().reply;
+            match ticket_for(service, &done, bytes.len()) {
+                Some(ticket) => {
+                    let held = reply_to_hold(reply, handed_over(bytes));
+                    connection.tasks.hold(held, ticket);
+                    Ok(())
+                }
+                None => answer_executed(connection, command, bytes, reply),
+            }
         }
         None => {
             let reply = absent(alloc, &command.cdb);
             answer_executed(connection, command, bytes, &reply)
         }
+    }
+}
+
+/// What the reply to a command waits for with which so many bytes were sent: one with data waits for nothing.
+fn ticket_for<S: KeepingService>(service: &S, done: &Done<'_>, length: usize) -> Option<Ticket>
+    ensures { WaitsFor S.waits done.now done.now.reply.payload result }
+{
+    if done.receipt().reply.payload.bytes().is_empty() {
+        service.begin_keeping(done, length)
+    } else {
+        None
+    }
+}
+
+/// How many bytes of data a unit got, as answers tell it.
+fn handed_over(bytes: &[u8]) -> u32
+    ensures { result ≡ min (length bytes.now) 0xFFFFFFFF }
+{
+    bytes.len().min(u32::MAX as usize) as u32
+}
+
+/// A reply without data, as it is held.
+fn reply_to_hold(reply: &Reply, handed_over: u32) -> UnitReply
+    ensures { result ≡ held_reply reply.now handed_over }
+{
+    UnitReply {
+        handed_over,
+        status: reply.status,
+        sense: reply.sense,
     }
 }
 
@@ -69,8 +109,7 @@ fn answer_executed(
         sense: reply.sense,
         data: reply.payload.bytes(),
     };
-    let handed_over = bytes.len().min(u32::MAX as usize) as u32;
-    answer_command(connection, command, handed_over, &answer)
+    answer_command(connection, command, handed_over(bytes), &answer)
 }
 
 /// Adds what answers the command in hand, of whose data so many bytes were handed over. The answer has the numbers of the tasks without
@@ -89,6 +128,23 @@ fn answer_command(
         answer.now.status answer.now.sense answer.now.data.now)) }
 {
     connection.tasks.answered();
+    add_answer(connection, command, handed_over, answer)
+}
+
+/// Adds what answers a command that is neither in hand nor held any more, of whose data so many bytes were handed over.
+pub(crate) fn add_answer(
+    connection: &mut Connection<'_>,
+    command: &ScsiCommand,
+    handed_over: u32,
+    answer: &UnitAnswer<'_>,
+) -> Result<(), IscsiFault>
+    requires { length answer.now.data.now < 2 ^ 32 }
+    ensures fault { IfErr result IsLater }
+    ensures tasks { connection.new.tasks ≡ connection.old.tasks }
+    ensures answered { OnOk result (connection.new.out.items ≡ connection.old.out.items
+        ++ bytes_of_all (answer_to connection.old.tasks connection.old.limits connection.old.stat_sn command.now handed_over
+        answer.now.status answer.now.sense answer.now.data.now)) }
+{
     let answered = AnsweredCommand::of(command, handed_over);
     let numbers = connection.numbers();
     write_command_answer(
@@ -141,17 +197,18 @@ fn ask(connection: &mut Connection<'_>, request: TransferRequest) -> Result<(), 
     Ok(())
 }
 
-/// Does what is to be done next.
-fn do_next<S: Service>(
+/// Does what is to be done next. What is handed out for that is in hand.
+fn do_next<S: KeepingService>(
     alloc: Global,
     service: &mut S,
     nexus: Nexus,
     connection: &mut Connection<'_>,
     next: NextTask,
 ) -> Result<(), IscsiFault>
+    requires { HasInHand (next_outcome next) connection.old.tasks }
     ensures fault { IfErr result IsLater }
     ensures done { (said : List TargetPduValue)
-        × Does S.notes nexus service.old connection.old.tasks (next_outcome next) said connection.new.tasks service.new
+        × Does S.notes S.waits nexus service.old connection.old.tasks (next_outcome next) said connection.new.tasks service.new
         × Adds result connection.old.out.items connection.new.out.items said }
 {
     match next {
@@ -173,7 +230,7 @@ fn is_idle(next: &NextTask) -> bool
 }
 
 /// Goes on with the commands that wait, until they wait for PDUs.
-pub(crate) fn go_on<S: Service>(
+pub(crate) fn go_on<S: KeepingService>(
     alloc: Global,
     service: &mut S,
     nexus: Nexus,
@@ -181,7 +238,7 @@ pub(crate) fn go_on<S: Service>(
 ) -> Result<(), IscsiFault>
     ensures fault { IfErr result IsLater }
     ensures gone { (times : ℕ) × (said : List TargetPduValue)
-        × GoesOn S.notes nexus times connection.old.tasks service.old said connection.new.tasks service.new
+        × GoesOn S.notes S.waits nexus times connection.old.tasks service.old said connection.new.tasks service.new
         × Adds result connection.old.out.items connection.new.out.items said }
     ensures idle { OnOk result (next_of connection.new.tasks ≡ Idle) }
 {
@@ -195,7 +252,7 @@ pub(crate) fn go_on<S: Service>(
 }
 
 /// Takes a SCSI Command: executes it at once, or once its turn has come and its data are there.
-pub(crate) fn take_command<S: Service>(
+pub(crate) fn take_command<S: KeepingService>(
     alloc: Global,
     service: &mut S,
     nexus: Nexus,
@@ -207,7 +264,7 @@ pub(crate) fn take_command<S: Service>(
     ensures fault { IfErr result IsLater }
     ensures taken { OrElse result ((connection.new.tasks ≡ connection.old.tasks) × (service.new ≡ service.old))
         ((said : List TargetPduValue)
-        × Acts S.notes nexus connection.old.tasks service.old (Commanded command.now payload.now) said connection.new.tasks service.new
+        × Acts S.notes S.waits nexus connection.old.tasks service.old (Commanded command.now payload.now) said connection.new.tasks service.new
         × Adds result connection.old.out.items connection.new.out.items said) }
 {
     match connection.tasks.take_command(command, payload)? {

@@ -11,13 +11,13 @@ use crate::claiming::SessionRegister;
 use crate::connection::Connection;
 use crate::executing::{go_on, take_command, take_data};
 use crate::fault::IscsiFault;
+use crate::keeping::KeepingService;
 use crate::managing::manage;
 use crate::requests::{BasicHeader, take_unsupported, turn_down};
 use crate::resets::drop_reset;
 use iscsi_login::SessionType;
 use iscsi_pdu::{DataOut, RejectReason, ScsiCommand, TaskManagementRequest};
 use scsi_nexus::Nexus;
-use session::Service;
 use std::alloc::Global;
 
 /// What a session does in the way of its type: what concerns tasks. `S` is what serves the session: a service that has units, or nothing.
@@ -113,12 +113,12 @@ pub(crate) struct NormalSession {
     pub(crate) nexus: Nexus,
 }
 
-impl<S: Service> SessionKind<S> for NormalSession {
+impl<S: KeepingService> SessionKind<S> for NormalSession {
     ghost use Rattle.iscsi_session.specs.Saying.{TakesResets, Works};
 
-    ghost works = { λ session. Works S.notes S.count session.nexus };
+    ghost works = { λ session. Works S.notes S.waits S.count session.nexus };
 
-    ghost takes_resets = { λ session. TakesResets S.notes session.nexus };
+    ghost takes_resets = { λ session. TakesResets S.notes S.waits session.nexus };
 
     const SESSION_TYPE: SessionType = SessionType::Normal;
 

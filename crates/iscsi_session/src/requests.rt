@@ -3,15 +3,17 @@ ghost use Rattle.std.specs.Prelude.{◌≡◌, ◌≤◌, ◌++◌, List, length
 ghost use Rattle.iscsi_answers.specs.Written.{bytes_of_all};
 ghost use Rattle.iscsi_session.specs.Executing.{refusal};
 ghost use Rattle.iscsi_session.specs.Saying.{AddsPlain, numbered};
+ghost use Rattle.iscsi_session.specs.Talking.{must_wait};
 ghost use Rattle.iscsi_session.specs.Faults.{IsLater};
 
 use crate::connection::Connection;
 use crate::fault::IscsiFault;
 use iscsi_answers::{write_logout_response, write_nop_in, write_reject};
 use iscsi_pdu::{
-    BASIC_HEADER_SEGMENT, LogoutReason, LogoutRequest, LogoutResult, NopOut, RESERVED_TAG,
-    RejectReason, SerialNumber,
+    BASIC_HEADER_SEGMENT, InitiatorHeader, LogoutReason, LogoutRequest, LogoutResult, NopOut,
+    RESERVED_TAG, RejectReason, SerialNumber,
 };
+use iscsi_tasks::Tasks;
 
 /// The bytes of a basic header segment (RFC 7143, "Basic Header Segment (BHS)").
 pub(crate) type BasicHeader = [u8; BASIC_HEADER_SEGMENT];
@@ -101,6 +103,23 @@ pub(crate) fn take_nop_out(
     )?;
     connection.has_answered();
     Ok(false)
+}
+
+/// Whether a PDU waits until no reply is held: a logout does, so that the replies are sent before its answer.
+pub(crate) fn must_wait(tasks: &Tasks, header: &InitiatorHeader) -> bool
+    ensures { result ≡ must_wait tasks.now header.now }
+{
+    match header {
+        InitiatorHeader::LogoutRequest(_) => !tasks.holds_none(),
+        InitiatorHeader::ScsiCommand(_)
+        | InitiatorHeader::DataOut(_)
+        | InitiatorHeader::TaskManagementRequest(_)
+        | InitiatorHeader::NopOut(_)
+        | InitiatorHeader::TextRequest(_)
+        | InitiatorHeader::LoginRequest(_)
+        | InitiatorHeader::SnackRequest(_)
+        | InitiatorHeader::Unknown(_) => false,
+    }
 }
 
 /// Takes a logout, and says whether the connection ends.

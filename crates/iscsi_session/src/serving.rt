@@ -13,6 +13,7 @@ ghost use Rattle.iscsi_session.specs.Worlds.{world};
 use crate::claiming::{Claim, SessionIdentity, SessionRegister, claim_of};
 use crate::connection::{Connection, flush};
 use crate::fault::{IscsiEnd, IscsiFault};
+use crate::keeping::KeepingService;
 use crate::kinds::{DiscoverySession, NormalSession, SessionKind};
 use crate::login::{LoginWait, await_login};
 use crate::pdu_buffer::PduBuffer;
@@ -48,7 +49,7 @@ use std::io::{Read, Write};
 /// Behind a read of whatever kind a logout is asked for, once, where the register says that all sessions are to end (RFC 7143,
 /// "Asynchronous Message").
 #[tactic(auto, unfolding(crate::specs::Serving::Serves))]
-pub fn serve<S: Service, G: SessionRegister, R: Read, W: Write>(
+pub fn serve<S: KeepingService, G: SessionRegister, R: Read, W: Write>(
     alloc: Global,
     service: &mut S,
     register: &G,
@@ -59,7 +60,7 @@ pub fn serve<S: Service, G: SessionRegister, R: Read, W: Write>(
 ) -> Result<IscsiEnd, IscsiFault>
     ensures service { Leaves S.notes S.count arrival.now.portal.group service.old service.new }
     ensures refused { IfErr result (λ fault. IsLater fault ⊎ (service.new ≡ service.old)) }
-    ensures session { Serves S.notes S.count (G.resets register.now) (G.ends register.now)
+    ensures session { Serves S.notes S.waits S.count (G.resets register.now) (G.ends register.now) (G.settles register.now)
         arrival.now.portal.target.now arrival.now.challenge arrival.now.portal.group service.old
         (R.remaining reader.old) (R.remaining reader.new) (W.contents writer.old) (W.contents writer.new) result service.new }
 {
@@ -122,7 +123,7 @@ impl<'a> DueLogin<'a> {
     }
 
     /// Serves the session, by its type.
-    fn serve<S: Service, G: SessionRegister, R: Read, W: Write>(
+    fn serve<S: KeepingService, G: SessionRegister, R: Read, W: Write>(
         self,
         alloc: Global,
         service: &mut S,
@@ -132,7 +133,7 @@ impl<'a> DueLogin<'a> {
     ) -> Result<IscsiEnd, IscsiFault>
         ensures service { Leaves S.notes S.count self.entry.arrival.portal.group service.old service.new }
         ensures refused { IfErr result (λ fault. IsLater fault ⊎ (service.new ≡ service.old)) }
-        ensures session { ServesBehind S.notes S.count (G.resets register.now) (G.ends register.now)
+        ensures session { ServesBehind S.notes S.waits S.count (G.resets register.now) (G.ends register.now) (G.settles register.now)
             self.entry.arrival.portal.group self.entry.begun service.old self.entry.read_buffer
             (R.remaining reader.old) (R.remaining reader.new) (W.contents writer.old) (W.contents writer.new) result service.new }
     {
@@ -174,7 +175,7 @@ impl<'a> DueLogin<'a> {
     }
 
     /// A normal session, from the last request of its login to its end.
-    fn serve_session<S: Service, G: SessionRegister, R: Read, W: Write>(
+    fn serve_session<S: KeepingService, G: SessionRegister, R: Read, W: Write>(
         self,
         alloc: Global,
         service: &mut S,
@@ -185,7 +186,7 @@ impl<'a> DueLogin<'a> {
         requires { self.begun.session_type ≡ Normal }
         ensures service { Leaves S.notes S.count self.entry.arrival.portal.group service.old service.new }
         ensures refused { IfErr result (λ fault. IsLater fault ⊎ (service.new ≡ service.old)) }
-        ensures session { ServesBehind S.notes S.count (G.resets register.now) (G.ends register.now)
+        ensures session { ServesBehind S.notes S.waits S.count (G.resets register.now) (G.ends register.now) (G.settles register.now)
             self.entry.arrival.portal.group self.entry.begun service.old self.entry.read_buffer
             (R.remaining reader.old) (R.remaining reader.new) (W.contents writer.old) (W.contents writer.new) result service.new }
     {
@@ -220,7 +221,7 @@ impl<'a> DueLogin<'a> {
     ) -> Result<IscsiEnd, IscsiFault>
         ensures fault { IfErr result IsLater }
         ensures talks { (said : List TargetPduValue) × (ended : Moment S) × (rest : List ℕ) × Converses
-            (world (K.works kind) (K.takes_resets kind) (G.resets register.now) (G.ends register.now))
+            (world (K.works kind) (K.takes_resets kind) (G.resets register.now) (G.ends register.now) (G.settles register.now))
             1 (first_moment self.entry.begun service.old self.entry.read_buffer) (R.remaining reader.old) (R.remaining reader.new)
             said ended rest
             × (ended.service ≡ service.new)

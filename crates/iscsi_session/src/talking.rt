@@ -14,7 +14,8 @@ use crate::fault::{IscsiEnd, IscsiFault};
 use crate::kinds::SessionKind;
 use crate::login::{end_of, read_fault};
 use crate::pdu_buffer::PduBuffer;
-use crate::requests::basic_header;
+use crate::releasing::release;
+use crate::requests::{basic_header, must_wait};
 use iscsi_answers::{seconds_to_leave, write_leave_request, write_ping};
 use iscsi_keys::TARGET_MAX_RECV_DATA_SEGMENT_LENGTH;
 use iscsi_pdu::{ParsedInitiatorPdu, parse_initiator_pdu};
@@ -34,7 +35,7 @@ const PING_TAG: u32 = 0;
 /// Why answering paused.
 #[derive(Clone, Copy)]
 enum Pause {
-    /// No whole PDU is left.
+    /// No whole PDU is left, or the first of them is a logout that waits for replies that are held.
     NeedsInput,
     /// There are enough answers to be written.
     FlushDue,
@@ -99,7 +100,7 @@ impl<'p, K> Session<'p, K> {
         ensures kind { self.new.kind ≡ self.old.kind }
         ensures fault { IfErr result IsLater }
         ensures full { result ≡ Ok Pause.FlushDue → length self.new.read_buffer < length self.old.read_buffer }
-        ensures talks { Advances (world (K.works self.old.kind) (K.takes_resets self.old.kind) (G.resets register.now) (G.ends register.now))
+        ensures talks { Advances (world (K.works self.old.kind) (K.takes_resets self.old.kind) (G.resets register.now) (G.ends register.now) (G.settles register.now))
             result (moment self.old service.old) (moment self.new service.new) }
         ensures idle { OnOk result (next_of self.new.connection.tasks ≡ Idle) }
     {
@@ -109,6 +110,9 @@ impl<'p, K> Session<'p, K> {
                 ParsedInitiatorPdu::Partial(_) => return Ok(Pause::NeedsInput),
                 ParsedInitiatorPdu::Invalid(fault) => return Err(fault.into()),
                 ParsedInitiatorPdu::Complete(pdu, count) => {
+                    if must_wait(&self.connection.tasks, &pdu.header) {
+                        return Ok(Pause::NeedsInput);
+                    }
                     let kind = self.kind;
                     let header = basic_header(pending);
                     let connection = &mut self.connection;
@@ -125,7 +129,8 @@ impl<'p, K> Session<'p, K> {
         }
     }
 
-    /// Takes the resets by other sessions, and answers the PDUs that have come whole until there are enough answers.
+    /// Takes the resets by other sessions, sends the replies that are held no longer, and answers the PDUs that have come whole until there are
+    /// enough answers.
     fn answer_batch<S, G: SessionRegister>(
         &mut self,
         alloc: Global,
@@ -138,12 +143,13 @@ impl<'p, K> Session<'p, K> {
         ensures kind { self.new.kind ≡ self.old.kind }
         ensures fault { IfErr result IsLater }
         ensures full { result ≡ Ok Pause.FlushDue → length self.new.read_buffer < length self.old.read_buffer }
-        ensures talks { Advances (world (K.works self.old.kind) (K.takes_resets self.old.kind) (G.resets register.now) (G.ends register.now))
+        ensures talks { Advances (world (K.works self.old.kind) (K.takes_resets self.old.kind) (G.resets register.now) (G.ends register.now) (G.settles register.now))
             result (moment self.old service.old) (moment self.new service.new) }
         ensures idle { OnOk result (next_of self.new.connection.tasks ≡ Idle) }
     {
         self.kind
             .take_resets(alloc, service, register, &mut self.connection)?;
+        release(register, &mut self.connection)?;
         self.answer_pending(alloc, service, register)
     }
 
@@ -161,7 +167,7 @@ impl<'p, K> Session<'p, K> {
         ensures kind { self.new.kind ≡ self.old.kind }
         ensures fault { IfErr result IsLater }
         ensures talks { (said : List TargetPduValue) × (rest : List ℕ) × Answers
-            (world (K.works self.old.kind) (K.takes_resets self.old.kind) (G.resets register.now) (G.ends register.now))
+            (world (K.works self.old.kind) (K.takes_resets self.old.kind) (G.resets register.now) (G.ends register.now) (G.settles register.now))
             0 (moment self.old service.old) said (moment self.new service.new) rest
             × OnOk result ((rest ≡ self.new.read_buffer) × Writes (W.contents writer.old) (W.contents writer.new)
             self.old.connection.out.items self.new.connection.out.items said) }
@@ -226,7 +232,7 @@ impl<'p, K> Session<'p, K> {
         ensures kind { self.new.kind ≡ self.old.kind }
         ensures fault { IfErr result IsLater }
         ensures talks { (said : List TargetPduValue) × (rest : List ℕ) × Converses
-            (world (K.works self.old.kind) (K.takes_resets self.old.kind) (G.resets register.now) (G.ends register.now))
+            (world (K.works self.old.kind) (K.takes_resets self.old.kind) (G.resets register.now) (G.ends register.now) (G.settles register.now))
             1 (moment self.old service.old) (R.remaining reader.old) (R.remaining reader.new)
             said (moment self.new service.new) rest
             × OnOk result (Writes (W.contents writer.old) (W.contents writer.new) self.old.connection.out.items [] said) }

@@ -1,8 +1,8 @@
 //! The volumes of a library, copied into their images part by part: the unit where one lies waits while a part is taken, and goes on while it is
 //! written.
 
-use crate::behind::Behind;
 use crate::looking::{BayLook, PartLook, VolumeLook, VolumePlace};
+use crate::shared_requests::SharedRequests;
 use crate::volume_image::{ImageInUse, VolumeImage, Way};
 use crate::watch::Extent;
 use library_device::Device;
@@ -56,7 +56,7 @@ pub(crate) struct Copying<
     pub rt: &'a R,
     pub alloc: Global,
     pub images: &'a [VolumeImage<S>],
-    pub behind: &'a Behind,
+    pub requests: &'a SharedRequests,
     pub source: &'a T,
     pub listener: &'a H,
     pub purpose: Purpose,
@@ -82,7 +82,7 @@ impl<'a, S: ImageStore + Drop, R: Wait, T: TapeSource<Device>, H: KeepListener> 
                 // What can't be copied is told, and tried again.
                 let _ = self.copy_image(image, place_in_drive(lun, image.tag));
             }
-            Some(_) | None => self.behind.take(self.rt, lun, behind),
+            Some(_) | None => self.take_off(lun, behind),
         }
     }
 
@@ -119,7 +119,7 @@ impl<'a, S: ImageStore + Drop, R: Wait, T: TapeSource<Device>, H: KeepListener> 
         match (copied, depth) {
             (Ok(copied), Depth::Image) => image.note_copied(self.rt, copied.bytes),
             (Ok(_), Depth::Disk) => image.note_synced(self.rt),
-            (Err(_), _) => self.behind.stick(self.rt, at.lun),
+            (Err(_), _) => self.stick(at.lun),
         }
         let extent = copied.map(|copied| copied.extent);
         in_use.note(extent);
@@ -198,7 +198,7 @@ impl<'a, S: ImageStore + Drop, R: Wait, T: TapeSource<Device>, H: KeepListener> 
         let mut parts = 0u8;
         let mut bytes = 0u64;
         for _look in self.rt.forever() {
-            let before = self.behind.at(self.rt, at.lun);
+            let before = self.requests.behind(self.rt, at.lun);
             let Some(taken) = self.take_part(kept, at, &mut part) else {
                 at = self.find(at);
                 continue;
@@ -230,7 +230,22 @@ impl<'a, S: ImageStore + Drop, R: Wait, T: TapeSource<Device>, H: KeepListener> 
         } else {
             before.min(part.size() as u64)
         };
-        self.behind.take(self.rt, lun, copied);
+        self.take_off(lun, copied);
+    }
+
+    /// So many bytes fewer are behind at a drive, for which replies to WRITEs may wait. A volume's image is held here, as where a change is
+    /// told: who is told locks none.
+    fn take_off(&self, lun: u8, bytes: u64) {
+        if self.requests.take(self.rt, lun, bytes) {
+            self.listener.settled();
+        }
+    }
+
+    /// What is behind at a drive couldn't be copied: no reply waits for it.
+    fn stick(&self, lun: u8) {
+        if self.requests.stick(self.rt, lun) {
+            self.listener.settled();
+        }
     }
 
     /// Takes the next part of the volume at a place, if it is still there.

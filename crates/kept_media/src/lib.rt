@@ -2,18 +2,25 @@
 //! reply says to be kept is on the disk before it goes out.
 #![tactic(auto)]
 
-mod behind;
+mod backlog;
 mod copying;
+mod item;
+mod job;
 mod keeper;
+mod laws;
 mod listing;
 mod looking;
+mod queues;
+mod requests;
 mod rows;
+mod shared_requests;
 mod store;
 mod volume_image;
 mod watch;
 mod wish;
 
 pub use keeper::MediaKeeper;
+pub use laws::{backlog_rows, item_rows, items_have_numbers};
 pub use rows::{asked_rows, look_rows};
 pub use store::InventoryStore;
 pub use volume_image::VolumeImage;

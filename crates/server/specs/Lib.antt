@@ -5,3 +5,5 @@ pub mod SeatService
 pub mod Sessions
 pub mod Logins
 pub mod Rows
+pub mod Keeping
+pub mod Waits

@@ -1,22 +1,44 @@
 use std::alloc::Global;
 use std::sync::Wait;
 use std::time::Clock;
-use tape_keeper::{GoodCommand, KeepListener};
+use tape_keeper::{GoodCommand, KeepListener, KeepPlace};
+use tickets::{Outcome, Ticket};
 
 /// Who looks after the tapes of the library whose sessions are served, whichever library and keeper of tapes that is.
 pub trait Caretaker {
-    /// Keeps what a command left that was GOOD, as `TapeKeeper::keep` does.
-    fn keep<R: Wait, H: KeepListener>(
+    ghost use Rattle.std.specs.Prelude.{◌≡◌, Bool, true, is_some};
+    ghost use Rattle.permit_tables.specs.declared.classes.Class.{Class};
+
+    /// Whether the reply to a command of a class says that something is kept.
+    ghost says_kept: { Class → Bool };
+
+    /// Begins to keep what a command left that was GOOD, and gives the ticket that its reply has to wait for, as `TapeKeeper::begin` does.
+    fn begin<R: Wait, H: KeepListener>(
+        &self,
+        rt: &R,
+        listener: &H,
+        command: GoodCommand,
+    ) -> Option<Ticket>
+        ensures { says_kept command.class ≡ true → is_some result ≡ true };
+
+    /// How keeping what a ticket is for ended, if it has.
+    fn outcome_of<R: Wait>(&self, rt: &R, ticket: Ticket) -> Option<Outcome>;
+
+    /// Waits until keeping what a ticket is for has ended, and says how.
+    fn await_outcome<R: Wait>(&self, rt: &R, ticket: Ticket) -> Outcome;
+
+    /// How many drives the library has: their LUNs are the numbers from 1 on.
+    fn drives(&self) -> u8;
+
+    /// Does what is to be done at a place whenever there is something, until the library ends.
+    fn work<R: Clock + Wait, H: KeepListener>(
         &self,
         rt: &R,
         alloc: Global,
         listener: &H,
-        command: GoodCommand,
-    ) -> bool;
+        place: KeepPlace,
+    );
 
-    /// Copies what was written to the volumes in drives, whenever that is to be done, until the library ends.
-    fn write_behind<R: Clock + Wait, H: KeepListener>(&self, rt: &R, alloc: Global, listener: &H);
-
-    /// The library ends: nothing is copied behind any more.
+    /// The library ends: who works at a place stops.
     fn end<R: Wait>(&self, rt: &R);
 }

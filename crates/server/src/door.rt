@@ -1,3 +1,4 @@
+use crate::worker_service::Replies;
 use iscsi_login::LoginTarget;
 use std::io;
 use std::net::{Shutdown, SocketAddr, TcpListener};
@@ -81,6 +82,14 @@ impl<'a> Door<'a> {
     pub fn shut_down(&self) {
         // A listener can always be shut down.
         let _ = self.second.shutdown(Shutdown::Both);
+    }
+
+    /// What its sessions do with replies that say that something is kept.
+    pub(crate) fn replies(&self) -> Replies {
+        match &self.entrance {
+            Entrance::Socket(_) => Replies::InPlace,
+            Entrance::Portal(_, _) => Replies::Held,
+        }
     }
 
     pub(crate) fn portal(&self) -> Option<PortalDoor<'a>> {

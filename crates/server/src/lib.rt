@@ -22,6 +22,7 @@ mod staff;
 mod staffing;
 mod teller;
 mod timed_reader;
+mod waiting;
 mod worker;
 mod worker_service;
 
@@ -36,3 +37,4 @@ pub use record_drain::RecordDrain;
 pub use rows::session_rows;
 pub use staffing::{serve_all, serve_and_end};
 pub use teller::{Teller, Telling};
+pub use waiting::PollSource;

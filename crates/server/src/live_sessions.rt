@@ -1,6 +1,8 @@
+use crate::caretaker::Caretaker;
 use crate::end_notice::EndNotice;
 use crate::logged_in::{LoggedIn, shown_name};
 use crate::reset_counts::ResetCounts;
+use crate::session_flags::SessionFlags;
 use crate::teller::Teller;
 use iscsi_session::{SessionIdentity, SessionRegister};
 use scsi_nexus::Nexus;
@@ -11,6 +13,7 @@ use std::net::Shutdown;
 use std::os::unix::net::UnixStream;
 use std::sync::{Condvar, Mutex, Wait};
 use std::time::{Clock, Duration};
+use tickets::{Outcome, Ticket};
 
 /// How many seconds a session is waited for whose place another one takes.
 const END_OF_SESSION: u64 = 5;
@@ -164,9 +167,12 @@ impl LiveSessions {
 
 /// The sessions that go on, as one of them sees them, by its key, and who is told when it has logged in.
 #[derive(Drop)]
-pub(crate) struct SessionsBeside<'a, R: Clock + Wait, E: Write> {
+pub(crate) struct SessionsBeside<'a, C: Caretaker, R: Clock + Wait, E: Write> {
     pub rt: &'a R,
     pub sessions: &'a LiveSessions,
+    pub caretaker: &'a C,
+    /// Those of the session that sees them so.
+    pub flags: &'a SessionFlags,
     pub key: usize,
     /// Its place in the order of accepting, from 1 on.
     pub number: u64,
@@ -175,7 +181,7 @@ pub(crate) struct SessionsBeside<'a, R: Clock + Wait, E: Write> {
     pub seen: ResetCounts,
 }
 
-impl<'a, R: Clock + Wait, E: Write> SessionRegister for SessionsBeside<'a, R, E> {
+impl<'a, C: Caretaker, R: Clock + Wait, E: Write> SessionRegister for SessionsBeside<'a, C, R, E> {
     fn living(&self, nexus: Nexus) -> Option<SessionIdentity> {
         self.sessions.live.lock(self.rt).living(nexus)
     }
@@ -212,5 +218,11 @@ impl<'a, R: Clock + Wait, E: Write> SessionRegister for SessionsBeside<'a, R, E>
 
     fn ends_within(&self) -> Option<u16> {
         self.sessions.end_notice.ends_within()
+    }
+
+    fn outcome_of(&self, ticket: Ticket) -> Option<Outcome> {
+        let outcome = self.caretaker.outcome_of(self.rt, ticket)?;
+        self.flags.release();
+        Some(outcome)
     }
 }

@@ -12,11 +12,12 @@ use crate::faulty_session::{Cause, FaultySession};
 use crate::kept_writer::KeptWriter;
 use crate::live_sessions::SessionsBeside;
 use crate::timed_reader::{Patience, TimedReader};
+use crate::waiting::PollSource;
 use crate::worker::Visit;
 use crate::worker_service::WorkerService;
 use iscsi_login::{Authentication, Challenge};
-use iscsi_session::{Arrival, IscsiEnd, IscsiFault, Portal, PortalAddress};
-use session::{End, SeatService, Service, SessionFault, serve};
+use iscsi_session::{Arrival, IscsiEnd, IscsiFault, KeepingService, Portal, PortalAddress};
+use session::{End, SeatService, SessionFault, serve};
 use std::alloc::{AllocError, Global};
 use std::io::{Read, Write};
 use std::net::SocketAddr;
@@ -33,7 +34,7 @@ pub(crate) fn serve_connection<
     'a,
     S: SeatService,
     C: Caretaker,
-    R: Clock + RandomSource + Wait,
+    R: Clock + PollSource + RandomSource + Wait,
     E: Write,
 >(
     alloc: Global,
@@ -48,7 +49,13 @@ pub(crate) fn serve_connection<
     let flags = service.flags;
     let limited = stream.set_write_timeout(times.write);
     let (Ok(mut reader), Ok(())) = (
-        TimedReader::new(service.rt, stream, flags, patience_at(visit.door, times)),
+        TimedReader::new(
+            service.rt,
+            alloc,
+            stream,
+            flags,
+            patience_at(visit.door, times),
+        ),
         limited,
     ) else {
         return Err(FaultySession {
@@ -94,7 +101,7 @@ fn serve_session<
     'a,
     S: SeatService,
     C: Caretaker,
-    R: Clock + RandomSource + Wait,
+    R: Clock + PollSource + RandomSource + Wait,
     E: Write,
     I: Read,
     O: Write,
@@ -122,6 +129,8 @@ fn serve_session<
             let beside = SessionsBeside {
                 rt: service.rt,
                 sessions,
+                caretaker: service.caretaker,
+                flags: service.flags,
                 key: visit.key,
                 number: visit.number,
                 teller: service.teller,
@@ -161,10 +170,17 @@ fn serve_frames<'a, S: SeatService, C: Caretaker, R: Wait, E: Write, I: Read, O:
 }
 
 /// Serves one session of iSCSI, at a portal whose address is the one that it has come to.
-fn serve_iscsi<S: Service, R: Clock + RandomSource + Wait, E: Write, I: Read, O: Write>(
+fn serve_iscsi<
+    S: KeepingService,
+    C: Caretaker,
+    R: Clock + RandomSource + Wait,
+    E: Write,
+    I: Read,
+    O: Write,
+>(
     alloc: Global,
     service: &mut S,
-    beside: &SessionsBeside<'_, R, E>,
+    beside: &SessionsBeside<'_, C, R, E>,
     doors: &[Door<'_>],
     came_to: PortalDoor<'_>,
     reader: &mut I,

@@ -1,10 +1,23 @@
-use std::sync::atomic::{AtomicBool, Ordering};
+use mio::Waker;
+use std::sync::atomic::{AtomicBool, AtomicU32, Ordering};
+use std::sync::{Mutex, Wait};
 
-/// What is known of the session that a worker serves, for its reader and its writer.
+/// What is known of the session that a worker serves, for its reader, its writer, and those who keep tapes.
+///
+/// No held reply stays asleep, by the order in which both sides go. A session notes that it holds a reply, then asks how its ticket
+/// ended, then waits. A keeper notes how a ticket ended, then looks whether a session holds something, then wakes it. So either the session
+/// is told as it asks, or the keeper sees that it holds; and a wake that comes before the wait ends that wait.
 #[derive(Drop)]
 pub(crate) struct SessionFlags {
     is_in: AtomicBool,
     is_kept: AtomicBool,
+    /// How many replies the session holds, which its own thread counts. More than it holds where some were dropped: then it is woken, and
+    /// waits to be, without need. Never fewer.
+    held: AtomicU32,
+    /// Whether the session has held a reply since it looked around the last time.
+    is_new: AtomicBool,
+    /// By which the thread of the session is woken while it waits for its host.
+    waker: Mutex<Option<Waker>>,
 }
 
 impl SessionFlags {
@@ -13,6 +26,9 @@ impl SessionFlags {
         SessionFlags {
             is_in: AtomicBool::new(false),
             is_kept: AtomicBool::new(true),
+            held: AtomicU32::new(0),
+            is_new: AtomicBool::new(false),
+            waker: Mutex::new(None),
         }
     }
 
@@ -20,6 +36,14 @@ impl SessionFlags {
     pub fn begin(&self) {
         self.is_in.store(false, Ordering::SeqCst);
         self.is_kept.store(true, Ordering::SeqCst);
+        self.held.store(0, Ordering::SeqCst);
+        self.is_new.store(false, Ordering::SeqCst);
+    }
+
+    /// The session has ended: it holds nothing any more, and nobody wakes it.
+    pub fn end<R: Wait>(&self, rt: &R) {
+        self.held.store(0, Ordering::SeqCst);
+        *self.waker.lock(rt) = None;
     }
 
     /// Whether the session's host is logged in.
@@ -40,5 +64,44 @@ impl SessionFlags {
     /// Something isn't kept that a reply would say to be: from now on none is sent.
     pub fn lose(&self) {
         self.is_kept.store(false, Ordering::SeqCst);
+    }
+
+    /// Whether the session holds replies.
+    pub fn holds(&self) -> bool {
+        self.held.load(Ordering::SeqCst) > 0
+    }
+
+    /// The session holds one more.
+    pub fn hold(&self) {
+        let held = self.held.load(Ordering::SeqCst);
+        self.held.store(held.saturating_add(1), Ordering::SeqCst);
+        self.is_new.store(true, Ordering::SeqCst);
+    }
+
+    /// The session holds one less, whose ticket is settled.
+    pub fn release(&self) {
+        let held = self.held.load(Ordering::SeqCst);
+        self.held.store(held.saturating_sub(1), Ordering::SeqCst);
+    }
+
+    /// Whether the session has held a reply since this was asked the last time.
+    pub fn take_new(&self) -> bool {
+        self.is_new.swap(false, Ordering::SeqCst)
+    }
+
+    /// By which the session is woken from now on.
+    pub fn wake_by<R: Wait>(&self, rt: &R, waker: Waker) {
+        *self.waker.lock(rt) = Some(waker);
+    }
+
+    /// Wakes the session, where it holds replies and can be woken.
+    pub fn wake<R: Wait>(&self, rt: &R) {
+        if !self.holds() {
+            return;
+        }
+        if let Some(waker) = &*self.waker.lock(rt) {
+            // Where the system refuses that, the session looks around by itself before long.
+            let _ = waker.wake();
+        }
     }
 }

@@ -10,7 +10,7 @@ use crate::reset_counts::ResetCounts;
 use crate::session_flags::SessionFlags;
 use crate::teller::Teller;
 use crate::worker::Worker;
-use crate::worker_service::{SessionSoFar, WorkerService};
+use crate::worker_service::{Replies, SessionSoFar, WorkerService};
 use session::SeatService;
 use std::alloc::{AllocError, Global};
 use std::io::Write;
@@ -35,6 +35,8 @@ pub(crate) struct WorkerMeans<'a, C: Caretaker, R: Wait, E: Write> {
     pub resets: &'a ResetCounts,
     pub drain: Option<&'a RecordDrain>,
     pub teller: &'a Teller<E>,
+    /// The flags of the session that each worker serves, by its place.
+    pub sessions: &'a [SessionFlags],
 }
 
 /// A worker who has served nobody.
@@ -52,8 +54,9 @@ fn worker_for<'a, S: SeatService, C: Caretaker, R: Wait, E: Write>(
         drain: means.drain,
         teller: means.teller,
         flags,
+        sessions: means.sessions,
         resets: means.resets,
-        session: SessionSoFar::new(),
+        session: SessionSoFar::new(Replies::InPlace),
     };
     Worker {
         service,
@@ -66,15 +69,14 @@ pub(crate) fn workers_of<'a, S: SeatService, C: Caretaker, R: Wait, E: Write>(
     means: &WorkerMeans<'a, C, R, E>,
     alloc: Global,
     services: Vec<S>,
-    flags: &'a [SessionFlags],
 ) -> Result<Vec<Worker<'a, S, C, R, E>>, AllocError>
-    requires { length flags.now ≡ vec_len services }
+    requires { length means.now.sessions.now ≡ vec_len services }
     ensures { IfOk result (λ workers. map (λ w. w.service) workers.items ≡ services.items) }
 {
     let mut workers = Vec::new(alloc);
     let mut place = 0usize;
     'services: for seat_service in services {
-        workers.push(worker_for(means, seat_service, &flags[place]))?;
+        workers.push(worker_for(means, seat_service, &means.sessions[place]))?;
         place += 1;
     }
     Ok(workers)

@@ -1,10 +1,19 @@
+ghost use Rattle.std.specs.Io.{ReadsAtMost};
+
 use crate::session_flags::SessionFlags;
+use crate::waiting::{PollSource, Waiting};
+use std::alloc::Global;
 use std::io::{self, ErrorKind, Read};
+use std::os::fd::AsRawFd;
 use std::os::unix::net::UnixStream;
+use std::sync::Wait;
 use std::time::{Clock, Duration, Instant};
 
 /// How often one read may be cut short by a signal.
 const MOST_SIGNALS: u32 = 1000;
+
+/// After how many milliseconds at most a session looks around that holds replies and can't be woken.
+const GLANCE: u64 = 20;
 
 /// How long a connection is waited for. `None`: for ever.
 #[derive(Clone, Copy)]
@@ -19,14 +28,28 @@ pub(crate) struct Patience {
     pub look: Option<Duration>,
 }
 
+/// How a wait has ended of a session that holds replies.
+#[derive(Clone, Copy)]
+enum WaitEnd {
+    /// Something is there to be read.
+    HasInput,
+    /// The session is to look around: it was woken, or the time is up.
+    HasNone,
+    /// There was no wait, since the session can't be woken.
+    NotWakeable,
+}
+
 /// Reads what a host sends, which has to log in by a time, and may later on be silent for so long. A read by which it is late
 /// fails, and so do all that follow. One by which nothing has come for as long as until a ping fails by `TimedOut`, which no other
 /// does, and one that is given up before, so that its session may look around, by `Interrupted`.
+///
+/// While the session holds replies a read is given up too once a keeper of tapes wakes it.
 #[derive(Drop)]
-pub(crate) struct TimedReader<'a, C: Clock> {
-    clock: &'a C,
+pub(crate) struct TimedReader<'a, R: Clock + PollSource + Wait> {
+    rt: &'a R,
+    alloc: Global,
     stream: &'a UnixStream,
-    /// Say whether the host is logged in.
+    /// Say whether the host is logged in, and whether the session holds replies.
     flags: &'a SessionFlags,
     patience: Patience,
     /// `None`: its login may take for ever.
@@ -37,23 +60,27 @@ pub(crate) struct TimedReader<'a, C: Clock> {
     unasked: Duration,
     /// How long a read of the stream waits now. `None`: nothing was said.
     wait: Option<Option<Duration>>,
+    /// What the session waits by that holds replies. `None`: it has held none yet, or there was no descriptor for it.
+    waiting: Option<Waiting>,
     is_late: bool,
 }
 
-impl<'a, C: Clock> TimedReader<'a, C> {
+impl<'a, R: Clock + PollSource + Wait> TimedReader<'a, R> {
     /// Nothing has been read yet; the time for the login begins now.
     pub fn new(
-        clock: &'a C,
+        rt: &'a R,
+        alloc: Global,
         stream: &'a UnixStream,
         flags: &'a SessionFlags,
         patience: Patience,
-    ) -> io::Result<TimedReader<'a, C>> {
+    ) -> io::Result<TimedReader<'a, R>> {
         let login_by = match patience.login {
-            Some(time) => Instant::now(clock)?.checked_add(time),
+            Some(time) => Instant::now(rt)?.checked_add(time),
             None => None,
         };
         Ok(TimedReader {
-            clock,
+            rt,
+            alloc,
             stream,
             flags,
             patience,
@@ -61,6 +88,7 @@ impl<'a, C: Clock> TimedReader<'a, C> {
             silence: Duration::ZERO,
             unasked: Duration::ZERO,
             wait: None,
+            waiting: None,
             is_late: false,
         })
     }
@@ -80,7 +108,7 @@ impl<'a, C: Clock> TimedReader<'a, C> {
             return Ok(shorter(left, self.patience.look));
         }
         match self.login_by {
-            Some(by) => Ok(Some(by.saturating_duration_since(Instant::now(self.clock)?))),
+            Some(by) => Ok(Some(by.saturating_duration_since(Instant::now(self.rt)?))),
             None => Ok(None),
         }
     }
@@ -95,9 +123,8 @@ impl<'a, C: Clock> TimedReader<'a, C> {
     }
 
     /// Why a read failed for which nothing came in so long.
-    fn kind_behind(&mut self, wait: Option<Duration>) -> ErrorKind {
+    fn kind_behind(&mut self, waited: Duration) -> ErrorKind {
         if self.flags.is_in() {
-            let waited = wait.unwrap_or(Duration::ZERO);
             self.silence = self.silence.saturating_add(waited);
             self.unasked = self.unasked.saturating_add(waited);
             if !is_over(self.patience.idle, self.silence) {
@@ -116,6 +143,99 @@ impl<'a, C: Clock> TimedReader<'a, C> {
         } else {
             ErrorKind::Interrupted
         }
+    }
+
+    /// How long the next read may wait. Fails where the host is late already.
+    fn due_wait(&mut self) -> io::Result<Option<Duration>> {
+        let wait = self.next_wait()?;
+        if self.is_late || wait == Some(Duration::ZERO) {
+            self.is_late = true;
+            return Err(io::Error::from(ErrorKind::ConnectionAborted));
+        }
+        Ok(wait)
+    }
+
+    /// Reads what comes within a time.
+    fn read_within(&mut self, buffer: &mut [u8], wait: Option<Duration>) -> io::Result<usize>
+        ensures { ReadsAtMost result buffer.new }
+    {
+        self.limit_wait(wait)?;
+        let mut stream = self.stream;
+        'tries: for _cut_short in 0..MOST_SIGNALS {
+            match stream.read(buffer) {
+                Ok(count) => {
+                    self.silence = Duration::ZERO;
+                    self.unasked = Duration::ZERO;
+                    return Ok(count);
+                }
+                Err(error) => match error.kind() {
+                    // A read that waits for a time is cut short where the program was stopped and goes on.
+                    ErrorKind::Interrupted => {}
+                    // Which of the two a read gives whose time is up depends on the system.
+                    ErrorKind::WouldBlock | ErrorKind::TimedOut => {
+                        let waited = wait.unwrap_or(Duration::ZERO);
+                        return Err(io::Error::from(self.kind_behind(waited)));
+                    }
+                    _ => return Err(error),
+                },
+            }
+        }
+        Err(io::Error::from(ErrorKind::Interrupted))
+    }
+
+    /// Reads what comes until the session is woken, which holds replies.
+    fn read_while_holding(&mut self, buffer: &mut [u8]) -> io::Result<usize>
+        ensures { ReadsAtMost result buffer.new }
+    {
+        // A reply may be settled already that was held a moment ago: its session has to ask once behind that, before it waits.
+        if self.flags.take_new() {
+            self.become_wakeable();
+            return Err(io::Error::from(ErrorKind::Interrupted));
+        }
+        let wait = self.due_wait()?;
+        let begun = Instant::now(self.rt)?;
+        match self.wait_for(wait) {
+            // The stream's own limit holds too: what is reported may be gone once it is read.
+            WaitEnd::HasInput => self.read_within(buffer, wait),
+            // A wake ends a wait early, so that the whole of it isn't what has gone by.
+            WaitEnd::HasNone => {
+                let waited = begun.elapsed(self.rt)?;
+                Err(io::Error::from(self.kind_behind(waited)))
+            }
+            WaitEnd::NotWakeable => {
+                let glance = Some(Duration::from_millis(GLANCE));
+                self.read_within(buffer, shorter(wait, glance))
+            }
+        }
+    }
+
+    /// Waits until something is there to be read, or the session is woken, or the time is up.
+    fn wait_for(&mut self, time: Option<Duration>) -> WaitEnd {
+        let Some(waiting) = &mut self.waiting else {
+            return WaitEnd::NotWakeable;
+        };
+        match waiting.wait(time) {
+            Ok(waited) if waited.has_input && !waited.is_woken => WaitEnd::HasInput,
+            Ok(_) => WaitEnd::HasNone,
+            Err(_) => {
+                self.waiting = None;
+                WaitEnd::NotWakeable
+            }
+        }
+    }
+
+    /// Sees to it that the session can be woken, where there are descriptors and memory for that.
+    fn become_wakeable(&mut self) {
+        if self.waiting.is_none() {
+            self.waiting = self.new_waiting().ok();
+        }
+    }
+
+    /// What the session waits by, whose waker is known from now on.
+    fn new_waiting(&self) -> io::Result<Waiting> {
+        let waiting = Waiting::new(self.rt, self.alloc, self.stream.as_raw_fd())?;
+        self.flags.wake_by(self.rt, waiting.waker()?);
+        Ok(waiting)
     }
 }
 
@@ -144,33 +264,13 @@ fn shorter(one: Option<Duration>, other: Option<Duration>) -> Option<Duration> {
     }
 }
 
-impl<'a, C: Clock> Read for TimedReader<'a, C> {
+impl<'a, R: Clock + PollSource + Wait> Read for TimedReader<'a, R> {
     fn read(&mut self, buffer: &mut [u8]) -> io::Result<usize> {
-        let wait = self.next_wait()?;
-        if self.is_late || wait == Some(Duration::ZERO) {
-            self.is_late = true;
-            return Err(io::Error::from(ErrorKind::ConnectionAborted));
+        if self.flags.holds() {
+            self.read_while_holding(buffer)
+        } else {
+            let wait = self.due_wait()?;
+            self.read_within(buffer, wait)
         }
-        self.limit_wait(wait)?;
-        let mut stream = self.stream;
-        'tries: for _cut_short in 0..MOST_SIGNALS {
-            match stream.read(buffer) {
-                Ok(count) => {
-                    self.silence = Duration::ZERO;
-                    self.unasked = Duration::ZERO;
-                    return Ok(count);
-                }
-                Err(error) => match error.kind() {
-                    // A read that waits for a time is cut short where the program was stopped and goes on.
-                    ErrorKind::Interrupted => {}
-                    // Which of the two a read gives whose time is up depends on the system.
-                    ErrorKind::WouldBlock | ErrorKind::TimedOut => {
-                        return Err(io::Error::from(self.kind_behind(wait)));
-                    }
-                    _ => return Err(error),
-                },
-            }
-        }
-        Err(io::Error::from(ErrorKind::Interrupted))
     }
 }

@@ -8,6 +8,7 @@ use crate::door::{Door, Visitor};
 use crate::event::{EndedSession, Event};
 use crate::faulty_session::{FaultySession, first_accepted};
 use crate::serving::serve_connection;
+use crate::waiting::PollSource;
 use crate::worker_service::{SessionSoFar, WorkerService};
 use session::SeatService;
 use std::alloc::Global;
@@ -34,13 +35,13 @@ pub(crate) struct Visit<'v, 'd> {
     pub key: usize,
 }
 
-impl<'a, S: SeatService, C: Caretaker, R: Clock + RandomSource + Wait, E: Write> Worker<
+impl<
     'a,
-    S,
-    C,
-    R,
-    E,
-> {
+    S: SeatService,
+    C: Caretaker,
+    R: Clock + PollSource + RandomSource + Wait,
+    E: Write,
+> Worker<'a, S, C, R, E> {
     /// Serves one connection of its door after another, until no more are to be. Behind each it asks that the records so far be
     /// handed out, where they are while the library is served. Its place among the workers says which door is its own.
     pub fn work(&mut self, alloc: Global, acceptor: &Acceptor<'_>, place: usize)
@@ -106,11 +107,12 @@ impl<'a, S: SeatService, C: Caretaker, R: Clock + RandomSource + Wait, E: Write>
         let rt = self.service.rt;
         let teller = self.service.teller;
         let number = visit.number;
-        self.service.session = SessionSoFar::new();
+        self.service.session = SessionSoFar::new(visit.door.replies());
         self.service.flags.begin();
         teller.tell(rt, &Event::Begins(number));
         let begun = Instant::now(rt);
         let ended = serve_connection(alloc, &mut self.service, acceptor, visit);
+        self.service.flags.end(rt);
         let seconds = match begun {
             Ok(begun) => begun.elapsed(rt).unwrap_or(Duration::ZERO).as_secs(),
             Err(_) => 0,

@@ -7,6 +7,7 @@ use crate::record_drain::RecordDrain;
 use crate::reset_counts::ResetCounts;
 use crate::session_flags::SessionFlags;
 use crate::teller::Teller;
+use iscsi_session::KeepingService;
 use logical_unit::{ActKind, Done};
 use scsi_nexus::Nexus;
 use scsi_sense::Status;
@@ -16,6 +17,7 @@ use std::io::Write;
 use std::marker::Model;
 use std::sync::Wait;
 use tape_keeper::GoodCommand;
+use tickets::{Outcome, Ticket};
 
 /// A seat that has noted so many calls since they were settled is settled again.
 const MANY: usize = 4096;
@@ -53,9 +55,19 @@ fn settle_with<S: SeatService>(service: &mut S, drain: &RecordDrain)
     };
 }
 
+/// What a session does with a reply that says that something is kept, until it is.
+#[derive(Clone, Copy)]
+pub(crate) enum Replies {
+    /// It waits, and answers nothing else meanwhile: a session of frames, whose host reads one reply after another.
+    InPlace,
+    /// It holds the reply and goes on: a session of iSCSI.
+    Held,
+}
+
 /// What is known of a session that goes on.
 #[derive(Clone, Copy)]
 pub(crate) struct SessionSoFar {
+    pub replies: Replies,
     /// Who asked last to be let in.
     pub nexus: Option<Nexus>,
     /// How many commands it has sent.
@@ -66,11 +78,13 @@ impl SessionSoFar {
     ghost use Rattle.std.specs.Prelude.{◌≡◌, None};
 
     /// One whose host isn't logged in yet.
-    pub fn new() -> SessionSoFar
+    pub fn new(replies: Replies) -> SessionSoFar
+        ensures replies { result.replies ≡ replies }
         ensures nobody { result.nexus ≡ None }
         ensures none { result.commands ≡ 0 }
     {
         SessionSoFar {
+            replies,
             nexus: None,
             commands: 0,
         }
@@ -88,6 +102,8 @@ pub(crate) struct WorkerService<'a, S: SeatService, C: Caretaker, R: Wait, E: Wr
     pub drain: Option<&'a RecordDrain>,
     pub teller: &'a Teller<E>,
     pub flags: &'a SessionFlags,
+    /// The flags of all workers' sessions, its own among them.
+    pub sessions: &'a [SessionFlags],
     /// The resets of all sessions, which end the tasks that wait in those of iSCSI.
     pub resets: &'a ResetCounts,
     pub session: SessionSoFar,
@@ -101,6 +117,7 @@ impl<'a, S: SeatService, C: Caretaker, R: Wait, E: Write> Model for WorkerServic
 
 impl<'a, S: SeatService, C: Caretaker, R: Wait, E: Write> WorkerService<'a, S, C, R, E> {
     ghost use Rattle.std.specs.Prelude.{◌≡◌};
+    ghost use Rattle.server.specs.Keeping.{WaitsWhereKept};
 
     /// Tells of a command that was BUSY, and whether for want of a slot.
     fn tell_busy(&self, nexus: Nexus, lun: u8) {
@@ -112,16 +129,21 @@ impl<'a, S: SeatService, C: Caretaker, R: Wait, E: Write> WorkerService<'a, S, C
         self.teller.tell(self.rt, &event);
     }
 
-    /// Keeps what a command left that was GOOD, and with which so many bytes were sent. Where that fails the session's replies are sent
-    /// no more.
-    fn keep(&self, alloc: Global, done: &Done<'_>, length: usize) {
+    /// Begins to keep what a command left, if it was GOOD, and with which so many bytes were sent, and gives the ticket that its reply
+    /// has to wait for.
+    fn begin_to_keep(&self, done: &Done<'_>, length: usize) -> Option<Ticket>
+        ensures { WaitsWhereKept C.says_kept done.now result }
+    {
+        if done.receipt().reply.status != Status::Good {
+            return None;
+        }
         let class = match done.act() {
             Some(ActKind::Command(class)) => class,
             Some(ActKind::Invalid)
             | Some(ActKind::Loss)
             | Some(ActKind::Reset)
             | Some(ActKind::Medium)
-            | None => return,
+            | None => return None,
         };
         let command = GoodCommand {
             lun: done.lun(),
@@ -132,9 +154,28 @@ impl<'a, S: SeatService, C: Caretaker, R: Wait, E: Write> WorkerService<'a, S, C
         let listener = KeepTeller {
             rt: self.rt,
             teller: self.teller,
+            sessions: self.sessions,
         };
-        if !self.caretaker.keep(self.rt, alloc, &listener, command) {
-            self.flags.lose();
+        self.caretaker.begin(self.rt, &listener, command)
+    }
+
+    /// Keeps what a command left that was GOOD, where its session waits for that. Where it is lost the session's replies are sent no more.
+    fn keep_in_place(&self, done: &Done<'_>, length: usize) {
+        match self.session.replies {
+            Replies::Held => {}
+            Replies::InPlace => {
+                if let Some(ticket) = self.begin_to_keep(done, length) {
+                    self.await_kept(ticket);
+                }
+            }
+        }
+    }
+
+    /// Waits until what a ticket is for is kept. Where it is lost the session's replies are sent no more.
+    fn await_kept(&self, ticket: Ticket) {
+        match self.caretaker.await_outcome(self.rt, ticket) {
+            Outcome::Kept => {}
+            Outcome::Lost => self.flags.lose(),
         }
     }
 
@@ -189,7 +230,7 @@ impl<'a, S: SeatService, C: Caretaker, R: Wait, E: Write> Service
         let reply = &done.receipt().reply;
         match reply.status {
             Status::Busy => self.tell_busy(nexus, lun),
-            Status::Good => self.keep(alloc, &done, bytes.len()),
+            Status::Good => self.keep_in_place(&done, bytes.len()),
             Status::CheckCondition | Status::ReservationConflict => {}
         }
         self.tend(lun, reply.number);
@@ -228,5 +269,18 @@ impl<'a, S: SeatService, C: Caretaker, R: Wait, E: Write> Service
 
     fn logout(&mut self, key: usize) {
         self.seat_service.logout(key)
+    }
+}
+
+impl<'a, S: SeatService, C: Caretaker, R: Wait, E: Write> KeepingService
+    for WorkerService<'a, S, C, R, E> {
+    ghost use Rattle.server.specs.Keeping.{WaitsWhereKept};
+
+    ghost waits = { WaitsWhereKept C.says_kept };
+
+    fn begin_keeping(&self, done: &Done<'_>, length: usize) -> Option<Ticket> {
+        let ticket = self.begin_to_keep(done, length)?;
+        self.flags.hold();
+        Some(ticket)
     }
 }

@@ -10,7 +10,8 @@ use std::alloc::Global;
 use std::io::Write;
 use std::sync::Wait;
 use std::time::Clock;
-use tape_keeper::{GoodCommand, KeepListener, TapeKeeper, TapeSource};
+use tape_keeper::{GoodCommand, KeepListener, KeepPlace, TapeKeeper, TapeSource};
+use tickets::{Outcome, Ticket};
 
 /// The tapes of a library, and who keeps them.
 #[derive(Drop)]
@@ -20,26 +21,42 @@ pub(crate) struct KeptTapes<'a, K: TapeKeeper<Device>, T: TapeSource<Device>> {
 }
 
 impl<'a, K: TapeKeeper<Device>, T: TapeSource<Device>> Caretaker for KeptTapes<'a, K, T> {
-    fn keep<R: Wait, H: KeepListener>(
+    ghost says_kept = { K.says_kept };
+
+    fn begin<R: Wait, H: KeepListener>(
+        &self,
+        rt: &R,
+        listener: &H,
+        command: GoodCommand,
+    ) -> Option<Ticket> {
+        self.keeper.begin(rt, listener, command)
+    }
+
+    fn outcome_of<R: Wait>(&self, rt: &R, ticket: Ticket) -> Option<Outcome> {
+        self.keeper.outcome_of(rt, ticket)
+    }
+
+    fn await_outcome<R: Wait>(&self, rt: &R, ticket: Ticket) -> Outcome {
+        self.keeper.await_outcome(rt, ticket)
+    }
+
+    // LUN 0 is the changer's.
+    fn drives(&self) -> u8 {
+        self.tapes.units().saturating_sub(1)
+    }
+
+    fn work<R: Clock + Wait, H: KeepListener>(
         &self,
         rt: &R,
         alloc: Global,
         listener: &H,
-        command: GoodCommand,
-    ) -> bool {
-        self.keeper.keep(rt, alloc, self.tapes, listener, command)
-    }
-
-    fn write_behind<R: Clock + Wait, H: KeepListener>(&self, rt: &R, alloc: Global, listener: &H) {
+        place: KeepPlace,
+    ) {
         for _turn in rt.forever() {
-            if !self.keeper.await_turn(rt) {
+            if !self.keeper.await_turn(rt, place) {
                 return;
             }
-            for lun in 1..self.tapes.units() {
-                self.keeper
-                    .write_behind(rt, alloc, self.tapes, listener, lun);
-            }
-            self.keeper.retry(rt, alloc, self.tapes, listener);
+            self.keeper.work(rt, alloc, self.tapes, listener, place);
         }
     }
 
@@ -58,7 +75,8 @@ pub(crate) fn keep_at_the_end<K: TapeKeeper<Device>, T: TapeSource<Device>, R: W
 ) -> Option<ServerFault>
     ensures { IfSome result (λ fault. fault ≡ Media) }
 {
-    let listener = KeepTeller { rt, teller };
+    // No session goes on.
+    let listener = KeepTeller::new(rt, teller);
     if keeper.keep_all(rt, alloc, source, &listener) {
         None
     } else {

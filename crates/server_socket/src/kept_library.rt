@@ -77,7 +77,7 @@ pub(crate) fn kept_library<'a, E: Write>(
     };
     Ok(KeptLibrary {
         core,
-        keeper: MediaKeeper::new(size, images, store),
+        keeper: MediaKeeper::new(alloc, size, images, store)?,
     })
 }
 

@@ -24,8 +24,8 @@ use library_service::{give_back, services_of};
 use lun_router::{Blanks, Library, Pass, Seat};
 use output_lines::RecordOutput;
 use server::{
-    Acceptor, Caretaker, Door, Event, FaultySession, RecordDrain, ServeLimits, Teller, serve_all,
-    serve_and_end,
+    Acceptor, Caretaker, Door, Event, FaultySession, PollSource, RecordDrain, ServeLimits, Teller,
+    serve_all, serve_and_end,
 };
 use session::{Directory, SeatService};
 use std::alloc::{AllocError, Global};
@@ -58,7 +58,7 @@ pub struct ServiceMeans<'a, R: Wait, K: TapeKeeper<Device>, E: Write> {
 /// Of the faults that happened the first in the order of `ServerFault` is told; no clause says which of them happened. No seat is missing
 /// at the end.
 pub fn serve_library<
-    R: Clock + RandomSource + Threads + Wait + Sync,
+    R: Clock + PollSource + RandomSource + Threads + Wait + Sync,
     K: TapeKeeper<Device> + Sync,
     E: Write + Send,
     W: Write + Send,
@@ -108,7 +108,7 @@ fn serve_with_ledgers<
     L2: UnitLedger + Send + Sync,
     L3: UnitLedger + Send + Sync,
     L4: UnitLedger + Send + Sync,
-    R: Clock + RandomSource + Threads + Wait + Sync,
+    R: Clock + PollSource + RandomSource + Threads + Wait + Sync,
     K: TapeKeeper<Device> + Sync,
     E: Write + Send,
     W: Write + Send,
@@ -159,7 +159,7 @@ fn serve_seats<
     L2: UnitLedger + Send + Sync,
     L3: UnitLedger + Send + Sync,
     L4: UnitLedger + Send + Sync,
-    R: Clock + RandomSource + Threads + Wait + Sync,
+    R: Clock + PollSource + RandomSource + Threads + Wait + Sync,
     K: TapeKeeper<Device> + Sync,
     E: Write + Send,
     W: Write + Send,
@@ -203,7 +203,7 @@ fn serve_services<
     S: SeatService + Send,
     C: Caretaker + Sync,
     D: RecordSource + Sync,
-    R: Clock + RandomSource + Threads + Wait + Sync,
+    R: Clock + PollSource + RandomSource + Threads + Wait + Sync,
     K: TapeKeeper<Device> + Sync,
     E: Write + Send,
     W: Write + Send,
@@ -235,7 +235,7 @@ fn serve_and_write<
     S: SeatService + Send,
     C: Caretaker + Sync,
     D: RecordSource + Sync,
-    R: Clock + RandomSource + Threads + Wait + Sync,
+    R: Clock + PollSource + RandomSource + Threads + Wait + Sync,
     K: TapeKeeper<Device> + Sync,
     E: Write + Send,
     W: Write + Send,

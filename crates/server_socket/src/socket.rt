@@ -18,7 +18,7 @@ use command_line::ServeOptions;
 use library_device::Device;
 use output_lines::{Audit, RecordOutput};
 use program_options::{LibraryOptions, MAX_READS, ServeTimes, ServeUntil};
-use server::{LiveSessions, ServeLimits, ServeTerm, Teller, Telling, WaitTimes};
+use server::{LiveSessions, PollSource, ServeLimits, ServeTerm, Teller, Telling, WaitTimes};
 use std::alloc::{AllocError, Global};
 use std::fs::Files;
 use std::io::{self, Read, Write};
@@ -182,7 +182,16 @@ fn tell_places<E: Write>(
 
 /// Serves a target for a term, in a second thread: this one waits for the end of standard input, where that ends the term.
 fn serve_until<
-    R: AllocGlobal + Clock + Files + Input + Print + RandomSource + Sync + Threads + Wait,
+    R: AllocGlobal
+        + Clock
+        + Files
+        + Input
+        + PollSource
+        + Print
+        + RandomSource
+        + Sync
+        + Threads
+        + Wait,
     E: Write + Send,
     K: TapeKeeper<Device> + Sync,
 >(

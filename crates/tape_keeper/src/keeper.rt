@@ -6,10 +6,14 @@ use std::alloc::Global;
 use std::sync::Wait;
 use std::time::Clock;
 use tape_medium::VolumeTag;
+use tickets::{Outcome, Ticket};
 
 /// Who is told how keeping tapes goes.
 pub trait KeepListener {
     fn tell(&self, event: &KeepEvent);
+
+    /// Something is settled that replies wait for: whoever holds such a reply may ask how that ended.
+    fn settled(&self);
 }
 
 /// A command that ended GOOD, as far as a keeper of tapes looks at it.
@@ -23,47 +27,55 @@ pub struct GoodCommand {
     pub length: usize,
 }
 
-/// Who keeps copies of the tapes of a library that is served, and notes where its volumes lie. The copies go to who has to wait for
-/// them while the units' locks are held: no answer of a unit depends on them.
+/// Where a keeper works. Each place has a thread of its own, so that a disk that is slow with one volume holds up no other.
+#[derive(Clone, Copy)]
+pub enum KeepPlace {
+    /// Volumes that were moved, and where all of them lie.
+    Changer,
+    /// The volume in the drive with this LUN, 1 to 4.
+    Drive(u8),
+    /// What couldn't be kept, and what has waited to be brought to the disk.
+    Upkeep,
+}
+
+/// Who keeps copies of the tapes of a library that is served, and notes where its volumes lie. What replies wait for has tickets: whoever is to
+/// send such a reply holds it until its ticket is settled, while no unit's lock is held, so that no answer of a unit depends on the copies.
 pub trait TapeKeeper<D: DeviceServer> {
-    ghost use Rattle.std.specs.Prelude.{◌≡◌, Bool, true, false};
+    ghost use Rattle.std.specs.Prelude.{◌≡◌, Bool, true, is_some};
     ghost use Rattle.permit_tables.specs.declared.classes.Class.{Class};
 
     /// Whether the reply to a command of a class says that something is kept.
     ghost says_kept: { Class → Bool };
 
-    /// Keeps what a command left. False where its reply says that it is kept and that fails: then the reply must not be sent.
-    fn keep<R: Wait, T: TapeSource<D>, H: KeepListener>(
+    /// Takes what a command left, which is to be kept, and gives the ticket that its reply has to wait for, if it has to wait. This waits for
+    /// nothing but locks that are held for a moment.
+    fn begin<R: Wait, H: KeepListener>(
         &self,
         rt: &R,
-        alloc: Global,
-        source: &T,
         listener: &H,
         command: GoodCommand,
-    ) -> bool
-        ensures { says_kept command.class ≡ false → result ≡ true };
+    ) -> Option<Ticket>
+        ensures { says_kept command.class ≡ true → is_some result ≡ true };
 
-    /// Waits until what was written to tapes is to be copied, or the library ends. Whether it is to be.
-    fn await_turn<R: Clock + Wait>(&self, rt: &R) -> bool;
+    /// How keeping what a ticket is for ended, if it has. Where that couldn't be kept the reply must not be sent.
+    fn outcome_of<R: Wait>(&self, rt: &R, ticket: Ticket) -> Option<Outcome>;
 
-    /// Copies what was written to the volume in a drive and isn't copied yet.
-    fn write_behind<R: Wait, T: TapeSource<D>, H: KeepListener>(
+    /// Waits until keeping what a ticket is for has ended, and says how.
+    fn await_outcome<R: Wait>(&self, rt: &R, ticket: Ticket) -> Outcome;
+
+    /// Waits until something is to be done at a place, or the library ends. Whether it goes on.
+    fn await_turn<R: Clock + Wait>(&self, rt: &R, place: KeepPlace) -> bool;
+
+    /// Does what is to be done at a place: keeps what was asked for there, and settles it. At a drive it copies what was written to the volume in
+    /// it and isn't copied yet. As upkeep it tries again to keep what couldn't be kept, a volume wherever it is, and brings to the disk what was
+    /// copied a while ago; but nothing for a while after the last time.
+    fn work<R: Clock + Wait, T: TapeSource<D>, H: KeepListener>(
         &self,
         rt: &R,
         alloc: Global,
         source: &T,
         listener: &H,
-        lun: u8,
-    );
-
-    /// Tries again to keep what couldn't be kept, a volume wherever it is, and brings to the disk what was copied a while ago; but nothing for a
-    /// while after the last time.
-    fn retry<R: Clock + Wait, T: TapeSource<D>, H: KeepListener>(
-        &self,
-        rt: &R,
-        alloc: Global,
-        source: &T,
-        listener: &H,
+        place: KeepPlace,
     );
 
     /// The library ends: nobody waits for a turn any more.
@@ -88,36 +100,34 @@ impl<D: DeviceServer> TapeKeeper<D> for NoKeeper {
 
     ghost says_kept = { λ _. false };
 
-    fn keep<R: Wait, T: TapeSource<D>, H: KeepListener>(
+    fn begin<R: Wait, H: KeepListener>(
         &self,
         _rt: &R,
-        _alloc: Global,
-        _source: &T,
         _listener: &H,
         _command: GoodCommand,
-    ) -> bool {
-        true
+    ) -> Option<Ticket> {
+        None
     }
 
-    fn await_turn<R: Clock + Wait>(&self, _rt: &R) -> bool {
+    fn outcome_of<R: Wait>(&self, _rt: &R, _ticket: Ticket) -> Option<Outcome> {
+        Some(Outcome::Kept)
+    }
+
+    fn await_outcome<R: Wait>(&self, _rt: &R, _ticket: Ticket) -> Outcome {
+        Outcome::Kept
+    }
+
+    fn await_turn<R: Clock + Wait>(&self, _rt: &R, _place: KeepPlace) -> bool {
         false
     }
 
-    fn write_behind<R: Wait, T: TapeSource<D>, H: KeepListener>(
+    fn work<R: Clock + Wait, T: TapeSource<D>, H: KeepListener>(
         &self,
         _rt: &R,
         _alloc: Global,
         _source: &T,
         _listener: &H,
-        _lun: u8,
-    ) {}
-
-    fn retry<R: Clock + Wait, T: TapeSource<D>, H: KeepListener>(
-        &self,
-        _rt: &R,
-        _alloc: Global,
-        _source: &T,
-        _listener: &H,
+        _place: KeepPlace,
     ) {}
 
     fn end<R: Wait>(&self, _rt: &R) {}

@@ -6,5 +6,5 @@ mod keeper;
 mod source;
 
 pub use event::{KeepChange, KeepEvent, KeepFault, KeptThing};
-pub use keeper::{GoodCommand, KeepListener, NoKeeper, TapeKeeper};
+pub use keeper::{GoodCommand, KeepListener, KeepPlace, NoKeeper, TapeKeeper};
 pub use source::TapeSource;

@@ -6,6 +6,7 @@ use iscsi_session::{Arrival, Portal, SessionIdentity, SessionRegister, serve};
 use scsi_nexus::Nexus;
 use std::alloc::Global;
 use std::process::Abort;
+use tickets::{Outcome, Ticket};
 
 /// No other session lives, none is to end, and none has reset a unit.
 #[derive(Drop)]
@@ -31,10 +32,14 @@ impl SessionRegister for Alone {
     fn ends_within(&self) -> Option<u16> {
         None
     }
+
+    fn outcome_of(&self, _ticket: Ticket) -> Option<Outcome> {
+        Some(Outcome::Kept)
+    }
 }
 
 /// A login of `iqn.a` with CmdSN 1: from operational negotiation to full feature.
-const LOGIN: &[u8] = b"C\x87\0\0\0\0\08\0\x02=\0\0\x01\0\0\0\0\0\x01\0\x02\0\0\
+pub(super) const LOGIN: &[u8] = b"C\x87\0\0\0\0\08\0\x02=\0\0\x01\0\0\0\0\0\x01\0\x02\0\0\
     \0\0\0\x01\0\0\0\0\0\0\0\0\0\0\0\0\0\0\0\0\0\0\0\0\
     InitiatorName=iqn.a\0TargetName=iqn.t\0SessionType=Normal\0";
 
@@ -97,7 +102,7 @@ fn sent_by(rt: &impl Abort, alloc: Global, row: &Row) -> Vec<u8> {
 }
 
 /// The target `iqn.t`, which lets in every host.
-fn target(rt: &impl Abort, alloc: Global) -> LoginTarget {
+pub(super) fn target(rt: &impl Abort, alloc: Global) -> LoginTarget {
     LoginTarget {
         name: Vec::from_slice(alloc, b"iqn.t").expect(rt, "memory"),
         access: Access {

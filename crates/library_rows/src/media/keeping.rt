@@ -9,8 +9,9 @@ use permit_tables::Class;
 use std::alloc::Global;
 use std::process::Abort;
 use std::sync::{Mutex, Wait};
+use std::time::Clock;
 use tape_flush::{ImageStore, StoreFault};
-use tape_keeper::{GoodCommand, KeepEvent, KeepListener, TapeKeeper};
+use tape_keeper::{GoodCommand, KeepEvent, KeepListener, KeepPlace, TapeKeeper};
 use tape_medium::VolumeTag;
 
 const TAG: VolumeTag = VolumeTag([b'A'; 32]);
@@ -87,6 +88,8 @@ struct NoListener;
 
 impl KeepListener for NoListener {
     fn tell(&self, _event: &KeepEvent) {}
+
+    fn settled(&self) {}
 }
 
 type Keeper<'a, R> = MediaKeeper<SharedStore<'a, R>, NoStore>;
@@ -99,7 +102,7 @@ fn keeper<'a, R: Abort + Wait>(
 ) -> Keeper<'a, R> {
     let image = image_in(rt, alloc, TAG, store);
     let images = Vec::from_array(alloc, [image]).expect(rt, "memory");
-    MediaKeeper::new(SIZE, images, NoStore)
+    MediaKeeper::new(alloc, SIZE, images, NoStore).expect(rt, "memory")
 }
 
 /// What is done, with the drive or its keeper.
@@ -137,7 +140,7 @@ const ROWS: [Row; 5] = [
 ];
 
 /// Does what is to be done, and says whether it was.
-fn is_done<R: Wait>(
+fn is_done<R: Clock + Wait>(
     rt: &R,
     alloc: Global,
     units: &Units,
@@ -146,9 +149,10 @@ fn is_done<R: Wait>(
 ) -> bool {
     match act {
         Act::Write => units.performs(rt, alloc, 1, &WRITE_HI, b"hi"),
-        Act::Keep => keeper.keep(rt, alloc, units, &NoListener, WRITE),
+        // Its reply waits for nothing.
+        Act::Keep => TapeKeeper::begin(keeper, rt, &NoListener, WRITE).is_none(),
         Act::WriteBehind => {
-            keeper.write_behind(rt, alloc, units, &NoListener, 1);
+            keeper.work(rt, alloc, units, &NoListener, KeepPlace::Drive(1));
             true
         }
     }

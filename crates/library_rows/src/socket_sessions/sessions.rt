@@ -1,12 +1,14 @@
 //! What no socket shows of a session: that reads are counted, and keys of the directory.
 
 use super::assert_same;
+use iscsi_session::KeepingService;
 use judgement::ReceivedCommand;
 use logical_unit::{Done, EventKind};
 use scsi_cdb::Kind;
 use scsi_nexus::Nexus;
 use session::{Directory, Service, SessionFault, serve};
 use std::alloc::Global;
+use tickets::Ticket;
 
 const A: Nexus = Nexus {
     sas: 0x5000_0000_0000_000A,
@@ -63,6 +65,17 @@ impl Service for Empty {
     }
 
     fn logout(&mut self, _key: usize) {}
+}
+
+/// No reply waits.
+impl KeepingService for Empty {
+    ghost use Rattle.std.specs.Prelude.{◌≡◌, None};
+
+    ghost waits = { λ _ ticket. ticket ≡ None };
+
+    fn begin_keeping(&self, _done: &Done<'_>, _length: usize) -> Option<Ticket> {
+        None
+    }
 }
 
 /// The one read of a session brings its LOGIN.

@@ -7,7 +7,7 @@ use Rattle.iscsi_session.proofs.executing.go_on.Given as goal
 
 abbrev pub invariant-steps : goal.invariant-steps
 invariant-steps g l =
-    (times : ℕ) × (said : List TargetPduValue) × GoesOn g.S.Service.notes l.nexus times l.fn.connection.tasks l.fn.service said l.connection.tasks l.service
+    (times : ℕ) × (said : List TargetPduValue) × GoesOn g.S.Service.notes g.S.KeepingService.waits l.nexus times l.fn.connection.tasks l.fn.service said l.connection.tasks l.service
     × (l.connection.out.items ≡ l.fn.connection.out.items ++ bytes_of_all said)
 
 abbrev pub decreases-steps : goal.decreases-steps

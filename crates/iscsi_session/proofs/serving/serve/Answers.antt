@@ -21,6 +21,6 @@ returns-clause-session g c =
     let told =
     subst (λ (w : LoginWait). WhereBegun w (λ begun. (told : List ℕ) × Appends written written1 told)) c.in-Begins.is
     c.in_ok-begun.ensures.written in
-    serves g.S.Service.notes g.S.Service.count target c.args.arrival.now.challenge c.args.arrival.now.portal.group c.in-Begins.begun _ e
+    serves g.S.Service.notes g.S.KeepingService.waits g.S.Service.count target c.args.arrival.now.challenge c.args.arrival.now.portal.group c.in-Begins.begun _ e
     c.args.service.now c.serve.new.service pending left left1 _ written written1 _ c.serve.result c.new-exchange.ensures login
     reached told c.serve.ensures.session

@@ -6,18 +6,18 @@ use Rattle.iscsi_session.proofs.kinds.NormalSessionSessionKind.take_management.G
 pub returns-in_err-manage-clause-worked : goal.returns-in_err-manage-clause-worked
 returns-in_err-manage-clause-worked g c payload =
     let k = c.args.connection.now.tasks in
-    work_broke g.S.Service.notes g.S.Service.count c.args.self.nexus (sent.TaskManagementRequest c.args.request.now) payload k _ c.args.service.now _
+    work_broke g.S.Service.notes g.S.KeepingService.waits g.S.Service.count c.args.self.nexus (sent.TaskManagementRequest c.args.request.now) payload k _ c.args.service.now _
     c.args.connection.now.out.items _ _ c.from_residual.result c.from_residual.ensures.0 (inl c.in_err-manage.ensures.managed)
 
 pub returns-in_err-go_on-clause-worked : goal.returns-in_err-go_on-clause-worked
 returns-in_err-go_on-clause-worked g c payload =
     let k = c.args.connection.now.tasks in
-    went_on_broken g.S.Service.notes g.S.Service.count c.args.self.nexus (sent.TaskManagementRequest c.args.request.now) payload k _ _
+    went_on_broken g.S.Service.notes g.S.KeepingService.waits g.S.Service.count c.args.self.nexus (sent.TaskManagementRequest c.args.request.now) payload k _ _
     c.args.service.now _ _ c.args.connection.now.out.items _ _ _ c.go_on.result c.from_residual-in_err-go_on.result
     c.from_residual-in_err-go_on.ensures.0 c.in_ok-manage.ensures.managed c.go_on.ensures.gone
 
 pub returns-clause-worked : goal.returns-clause-worked
 returns-clause-worked g c payload =
     let k = c.args.connection.now.tasks in
-    went_on g.S.Service.notes g.S.Service.count c.args.self.nexus (sent.TaskManagementRequest c.args.request.now) payload k _ _
+    went_on g.S.Service.notes g.S.KeepingService.waits g.S.Service.count c.args.self.nexus (sent.TaskManagementRequest c.args.request.now) payload k _ _
     c.args.service.now _ _ c.args.connection.now.out.items _ _ c.in_ok-manage.ensures.managed c.in_ok-go_on.ensures.gone

@@ -9,7 +9,7 @@ pub returns-then-not-is_lost-clause-service : goal.returns-then-not-is_lost-clau
 returns-then-not-is_lost-clause-service g c =
     let talk = c.begin-ended.ensures.talks in
     let first = first_moment c.args.self.begun c.enter.new.service c.args.self.read_buffer in
-    let calls = converses_calls g.S.Service.notes g.S.Service.count _ first talk.1 talk.2 (g.R.Read.remaining c.args.reader.now) _ talk.0 talk.3 in
+    let calls = converses_calls g.S.Service.notes g.S.KeepingService.waits g.S.Service.count _ first talk.1 talk.2 (g.R.Read.remaining c.args.reader.now) _ talk.0 talk.3 in
     is_held g.S.Service.notes g.S.Service.count c.args.self.arrival.portal.group _ c.args.service.now c.enter.new.service
     c.begin-ended.new.service c.lose_at_units-is_lost.new.service c.logout.new.self _ c.lose_at_units-is_lost.result
     (ap (λ (n : Nexus). n.port) c.nexus-nexus.ensures) c.enter.ensures (rw talk.4 at calls) refl c.lose_at_units-is_lost.ensures c.logout.ensures
@@ -18,7 +18,7 @@ pub returns-in-Ok-ended-clause-service : goal.returns-in-Ok-ended-clause-service
 returns-in-Ok-ended-clause-service g c =
     let talk = c.begin-ended.ensures.talks in
     let first = first_moment c.args.self.begun c.enter.new.service c.args.self.read_buffer in
-    let calls = converses_calls g.S.Service.notes g.S.Service.count _ first talk.1 talk.2 (g.R.Read.remaining c.args.reader.now) _ talk.0 talk.3 in
+    let calls = converses_calls g.S.Service.notes g.S.KeepingService.waits g.S.Service.count _ first talk.1 talk.2 (g.R.Read.remaining c.args.reader.now) _ talk.0 talk.3 in
     is_held g.S.Service.notes g.S.Service.count c.args.self.arrival.portal.group _ c.args.service.now c.enter.new.service
     c.begin-ended.new.service c.lose_at_units-is_lost.new.service c.logout.new.self _ c.lose_at_units-is_lost.result
     (ap (λ (n : Nexus). n.port) c.nexus-nexus.ensures) c.enter.ensures (rw talk.4 at calls) refl c.lose_at_units-is_lost.ensures c.logout.ensures
@@ -27,7 +27,7 @@ pub returns-in-Err-ended-clause-service : goal.returns-in-Err-ended-clause-servi
 returns-in-Err-ended-clause-service g c =
     let talk = c.begin-ended.ensures.talks in
     let first = first_moment c.args.self.begun c.enter.new.service c.args.self.read_buffer in
-    let calls = converses_calls g.S.Service.notes g.S.Service.count _ first talk.1 talk.2 (g.R.Read.remaining c.args.reader.now) _ talk.0 talk.3 in
+    let calls = converses_calls g.S.Service.notes g.S.KeepingService.waits g.S.Service.count _ first talk.1 talk.2 (g.R.Read.remaining c.args.reader.now) _ talk.0 talk.3 in
     is_held g.S.Service.notes g.S.Service.count c.args.self.arrival.portal.group _ c.args.service.now c.enter.new.service
     c.begin-ended.new.service c.lose_at_units-is_lost.new.service c.logout.new.self _ c.lose_at_units-is_lost.result
     (ap (λ (n : Nexus). n.port) c.nexus-nexus.ensures) c.enter.ensures (rw talk.4 at calls) refl c.lose_at_units-is_lost.ensures c.logout.ensures
@@ -36,7 +36,7 @@ pub returns-then-not-is_lost-clause-session : goal.returns-then-not-is_lost-clau
 returns-then-not-is_lost-clause-session g c =
     let talk = c.begin-ended.ensures.talks in
     let held =
-    holds g.S.Service.notes g.S.Service.count c.args.self.arrival.portal.group c.args.self.begun _ talk.1 c.args.service.now
+    holds g.S.Service.notes g.S.KeepingService.waits g.S.Service.count c.args.self.arrival.portal.group c.args.self.begun _ talk.1 c.args.service.now
     c.enter.new.service c.begin-ended.new.service c.lose_at_units-is_lost.new.service c.logout.new.self _ c.args.self.read_buffer talk.2
     (g.R.Read.remaining c.args.reader.now) _ talk.0 c.lose_at_units-is_lost.result c.requires c.nexus-nexus.ensures c.enter.ensures talk.3 talk.4 refl
     c.lose_at_units-is_lost.ensures c.logout.ensures in
@@ -46,7 +46,7 @@ pub returns-in-Err-ended-clause-session : goal.returns-in-Err-ended-clause-sessi
 returns-in-Err-ended-clause-session g c =
     let talk = c.begin-ended.ensures.talks in
     let held =
-    holds g.S.Service.notes g.S.Service.count c.args.self.arrival.portal.group c.args.self.begun _ talk.1 c.args.service.now
+    holds g.S.Service.notes g.S.KeepingService.waits g.S.Service.count c.args.self.arrival.portal.group c.args.self.begun _ talk.1 c.args.service.now
     c.enter.new.service c.begin-ended.new.service c.lose_at_units-is_lost.new.service c.logout.new.self _ c.args.self.read_buffer talk.2
     (g.R.Read.remaining c.args.reader.now) _ talk.0 c.lose_at_units-is_lost.result c.requires c.nexus-nexus.ensures c.enter.ensures talk.3 talk.4 refl
     c.lose_at_units-is_lost.ensures c.logout.ensures in
@@ -56,7 +56,7 @@ pub returns-in-Ok-ended-clause-session : goal.returns-in-Ok-ended-clause-session
 returns-in-Ok-ended-clause-session g c =
     let talk = c.in-Ok-ended.ensures.talks in
     let held =
-    holds g.S.Service.notes g.S.Service.count c.args.self.arrival.portal.group c.args.self.begun _ talk.1 c.args.service.now
+    holds g.S.Service.notes g.S.KeepingService.waits g.S.Service.count c.args.self.arrival.portal.group c.args.self.begun _ talk.1 c.args.service.now
     c.enter.new.service c.begin-ended.new.service c.lose_at_units-is_lost.new.service c.logout.new.self _ c.args.self.read_buffer talk.2
     (g.R.Read.remaining c.args.reader.now) _ talk.0 c.lose_at_units-is_lost.result c.requires c.nexus-nexus.ensures c.enter.ensures talk.3 talk.4 refl
     c.lose_at_units-is_lost.ensures c.logout.ensures in

@@ -10,7 +10,7 @@ batches-init g c = (refl, c.requires, written_none _ (moment c.args.self.now c.a
 pub returns-in_err-flush-clause-talks : goal.returns-in_err-flush-clause-talks
 returns-in_err-flush-clause-talks g c =
     let w = world (g.K.SessionKind.works c.args.self.now.kind) (g.K.SessionKind.takes_resets c.args.self.now.kind)
-    (g.G.SessionRegister.resets c.args.register.now) (g.G.SessionRegister.ends c.args.register.now) in
+    (g.G.SessionRegister.resets c.args.register.now) (g.G.SessionRegister.ends c.args.register.now) (g.G.SessionRegister.settles c.args.register.now) in
     let a = moment c.args.self.now c.args.service.now in
     let b = moment c.batches.self c.batches.service in
     let v0 = g.W.Write.contents c.args.writer.now in
@@ -21,7 +21,7 @@ returns-in_err-flush-clause-talks g c =
 pub returns-in_err-pause-clause-talks : goal.returns-in_err-pause-clause-talks
 returns-in_err-pause-clause-talks g c =
     let w = world (g.K.SessionKind.works c.args.self.now.kind) (g.K.SessionKind.takes_resets c.args.self.now.kind)
-    (g.G.SessionRegister.resets c.args.register.now) (g.G.SessionRegister.ends c.args.register.now) in
+    (g.G.SessionRegister.resets c.args.register.now) (g.G.SessionRegister.ends c.args.register.now) (g.G.SessionRegister.settles c.args.register.now) in
     let a = moment c.args.self.now c.args.service.now in
     let b = moment c.batches.self c.batches.service in
     let v0 = g.W.Write.contents c.args.writer.now in
@@ -32,7 +32,7 @@ returns-in_err-pause-clause-talks g c =
 pub returns-in-NeedsInput-clause-talks : goal.returns-in-NeedsInput-clause-talks
 returns-in-NeedsInput-clause-talks g c =
     let w = world (g.K.SessionKind.works c.args.self.now.kind) (g.K.SessionKind.takes_resets c.args.self.now.kind)
-    (g.G.SessionRegister.resets c.args.register.now) (g.G.SessionRegister.ends c.args.register.now) in
+    (g.G.SessionRegister.resets c.args.register.now) (g.G.SessionRegister.ends c.args.register.now) (g.G.SessionRegister.settles c.args.register.now) in
     let a = moment c.args.self.now c.args.service.now in
     let b = moment c.batches.self c.batches.service in
     let v0 = g.W.Write.contents c.args.writer.now in
@@ -45,7 +45,7 @@ returns-in-NeedsInput-clause-talks g c =
 pub returns-in-LoggedOut-clause-talks : goal.returns-in-LoggedOut-clause-talks
 returns-in-LoggedOut-clause-talks g c =
     let w = world (g.K.SessionKind.works c.args.self.now.kind) (g.K.SessionKind.takes_resets c.args.self.now.kind)
-    (g.G.SessionRegister.resets c.args.register.now) (g.G.SessionRegister.ends c.args.register.now) in
+    (g.G.SessionRegister.resets c.args.register.now) (g.G.SessionRegister.ends c.args.register.now) (g.G.SessionRegister.settles c.args.register.now) in
     let a = moment c.args.self.now c.args.service.now in
     let b = moment c.batches.self c.batches.service in
     let v0 = g.W.Write.contents c.args.writer.now in
@@ -58,7 +58,7 @@ returns-in-LoggedOut-clause-talks g c =
 pub batches-preserved : goal.batches-preserved
 batches-preserved g c =
     let w = world (g.K.SessionKind.works c.args.self.now.kind) (g.K.SessionKind.takes_resets c.args.self.now.kind)
-    (g.G.SessionRegister.resets c.args.register.now) (g.G.SessionRegister.ends c.args.register.now) in
+    (g.G.SessionRegister.resets c.args.register.now) (g.G.SessionRegister.ends c.args.register.now) (g.G.SessionRegister.settles c.args.register.now) in
     let a = moment c.args.self.now c.args.service.now in
     let b = moment c.batches.self c.batches.service in
     let v0 = g.W.Write.contents c.args.writer.now in

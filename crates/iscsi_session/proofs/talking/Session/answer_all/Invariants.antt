@@ -11,7 +11,7 @@ invariant-batches g l =
     (l.self.kind ≡ l.fn.self.kind) × (next_of l.self.connection.tasks ≡ Idle)
     × IsWritten
     (world (g.K.SessionKind.works l.fn.self.kind) (g.K.SessionKind.takes_resets l.fn.self.kind)
-    (g.G.SessionRegister.resets l.register) (g.G.SessionRegister.ends l.register))
+    (g.G.SessionRegister.resets l.register) (g.G.SessionRegister.ends l.register) (g.G.SessionRegister.settles l.register))
     (moment l.fn.self l.fn.service) (g.W.Write.contents l.fn.writer) (moment l.self l.service) (g.W.Write.contents l.writer)
 
 abbrev pub decreases-batches : goal.decreases-batches

@@ -1,5 +1,5 @@
 use Rattle.std.proofs.lemmas.Grind.{common_steps}
-use Rattle.std.proofs.Common.{ap, refl, arith}
+use Rattle.std.proofs.Common.{ap, refl, sym, ◌∙◌, arith}
 use Rattle.std.proofs.lemmas.List.{length-drop}
 use Rattle.std.proofs.Common.{length}
 use Rattle.iscsi_pdu.specs.Views.{initiator_value}
@@ -15,7 +15,7 @@ pdus-init g c = (refl, omega arith, c.requires, answered_none _ (moment c.args.s
 pub returns-in_err-ends-in-Complete-clause-talks : goal.returns-in_err-ends-in-Complete-clause-talks
 returns-in_err-ends-in-Complete-clause-talks g c =
     let w = world (g.K.SessionKind.works c.args.self.now.kind) (g.K.SessionKind.takes_resets c.args.self.now.kind)
-    (g.G.SessionRegister.resets c.args.register.now) (g.G.SessionRegister.ends c.args.register.now) in
+    (g.G.SessionRegister.resets c.args.register.now) (g.G.SessionRegister.ends c.args.register.now) (g.G.SessionRegister.settles c.args.register.now) in
     let a = moment c.args.self.now c.args.service.now in
     let b = moment c.pdus.self c.pdus.service in
     let pdu = initiator_value c.in-Complete.pdu in
@@ -27,13 +27,13 @@ returns-in_err-ends-in-Complete-clause-talks g c =
       service = c.answer.new.service;
       pending = c.pdus.self.read_buffer;
       out = c.answer.new.connection.out.items;
-    }) pdu size c.from_residual.result _ c.pdus.invariant.3 c.pdus.invariant.2 here c.from_residual.ensures.0
+    }) pdu size c.from_residual.result _ c.pdus.invariant.3 c.pdus.invariant.2 (sym c.must_wait.ensures ∙ c.if-must_wait.false) here c.from_residual.ensures.0
     (rw c.pdus.invariant.0 at c.in_err-ends-in-Complete.ensures.said)
 
 pub returns-then-ends-clause-talks : goal.returns-then-ends-clause-talks
 returns-then-ends-clause-talks g c =
     let w = world (g.K.SessionKind.works c.args.self.now.kind) (g.K.SessionKind.takes_resets c.args.self.now.kind)
-    (g.G.SessionRegister.resets c.args.register.now) (g.G.SessionRegister.ends c.args.register.now) in
+    (g.G.SessionRegister.resets c.args.register.now) (g.G.SessionRegister.ends c.args.register.now) (g.G.SessionRegister.settles c.args.register.now) in
     let a = moment c.args.self.now c.args.service.now in
     let b = moment c.pdus.self c.pdus.service in
     let pdu = initiator_value c.in-Complete.pdu in
@@ -45,13 +45,13 @@ returns-then-ends-clause-talks g c =
       service = c.answer.new.service;
       pending = c.consume.new.self;
       out = c.answer.new.connection.out.items;
-    }) pdu size c.pdus.invariant.3 c.pdus.invariant.2 here c.consume.ensures (rw c.pdus.invariant.0 at c.in_ok-ends-in-Complete.ensures.said) in
+    }) pdu size c.pdus.invariant.3 c.pdus.invariant.2 (sym c.must_wait.ensures ∙ c.if-must_wait.false) here c.consume.ensures (rw c.pdus.invariant.0 at c.in_ok-ends-in-Complete.ensures.said) in
     (so.0, _, so.1, (refl, so.2))
 
 pub returns-then-len-ge-BATCH-clause-talks : goal.returns-then-len-ge-BATCH-clause-talks
 returns-then-len-ge-BATCH-clause-talks g c =
     let w = world (g.K.SessionKind.works c.args.self.now.kind) (g.K.SessionKind.takes_resets c.args.self.now.kind)
-    (g.G.SessionRegister.resets c.args.register.now) (g.G.SessionRegister.ends c.args.register.now) in
+    (g.G.SessionRegister.resets c.args.register.now) (g.G.SessionRegister.ends c.args.register.now) (g.G.SessionRegister.settles c.args.register.now) in
     let a = moment c.args.self.now c.args.service.now in
     let b = moment c.pdus.self c.pdus.service in
     let pdu = initiator_value c.in-Complete.pdu in
@@ -63,11 +63,16 @@ returns-then-len-ge-BATCH-clause-talks g c =
       service = c.answer.new.service;
       pending = c.consume.new.self;
       out = c.answer.new.connection.out.items;
-    }) pdu size c.pdus.invariant.3 c.pdus.invariant.2 here c.consume.ensures (rw c.pdus.invariant.0 at c.in_ok-ends-in-Complete.ensures.said) in
+    }) pdu size c.pdus.invariant.3 c.pdus.invariant.2 (sym c.must_wait.ensures ∙ c.if-must_wait.false) here c.consume.ensures (rw c.pdus.invariant.0 at c.in_ok-ends-in-Complete.ensures.said) in
     (so.0, _, so.1, (refl, so.2))
 
 pub returns-in-Partial-clause-talks : goal.returns-in-Partial-clause-talks
 returns-in-Partial-clause-talks g c =
+    let so = c.pdus.invariant.3 in
+    (so.0, _, so.1, (refl, so.2))
+
+pub returns-then-must_wait-clause-talks : goal.returns-then-must_wait-clause-talks
+returns-then-must_wait-clause-talks g c =
     let so = c.pdus.invariant.3 in
     (so.0, _, so.1, (refl, so.2))
 
@@ -79,7 +84,7 @@ returns-in-Invalid-clause-talks g c =
 pub pdus-preserved : goal.pdus-preserved
 pdus-preserved g c =
     let w = world (g.K.SessionKind.works c.args.self.now.kind) (g.K.SessionKind.takes_resets c.args.self.now.kind)
-    (g.G.SessionRegister.resets c.args.register.now) (g.G.SessionRegister.ends c.args.register.now) in
+    (g.G.SessionRegister.resets c.args.register.now) (g.G.SessionRegister.ends c.args.register.now) (g.G.SessionRegister.settles c.args.register.now) in
     let a = moment c.args.self.now c.args.service.now in
     let b = moment c.pdus.self c.pdus.service in
     let pdu = initiator_value c.in-Complete.pdu in
@@ -94,7 +99,7 @@ pdus-preserved g c =
         service = c.answer.new.service;
         pending = c.consume.new.self;
         out = c.answer.new.connection.out.items;
-      }) pdu size c.pdus.invariant.3 c.pdus.invariant.2 here c.consume.ensures (rw c.pdus.invariant.0 at c.in_ok-ends-in-Complete.ensures.said),
+      }) pdu size c.pdus.invariant.3 c.pdus.invariant.2 (sym c.must_wait.ensures ∙ c.if-must_wait.false) here c.consume.ensures (rw c.pdus.invariant.0 at c.in_ok-ends-in-Complete.ensures.said),
     )
 
 pub returns-then-len-ge-BATCH-clause-full : goal.returns-then-len-ge-BATCH-clause-full

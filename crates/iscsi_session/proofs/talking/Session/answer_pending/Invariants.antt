@@ -11,7 +11,7 @@ invariant-pdus g l =
     (l.self.kind ≡ l.fn.self.kind) × (length l.self.read_buffer ≤ length l.fn.self.read_buffer) × (next_of l.self.connection.tasks ≡ Idle)
     × IsAnswered
     (world (g.K.SessionKind.works l.fn.self.kind) (g.K.SessionKind.takes_resets l.fn.self.kind)
-    (g.G.SessionRegister.resets l.register) (g.G.SessionRegister.ends l.register))
+    (g.G.SessionRegister.resets l.register) (g.G.SessionRegister.ends l.register) (g.G.SessionRegister.settles l.register))
     (moment l.fn.self l.fn.service) (moment l.self l.service)
 
 abbrev pub decreases-pdus : goal.decreases-pdus

@@ -14,7 +14,7 @@ turns-init g c =
 pub returns-in_err-answer_all-clause-talks : goal.returns-in_err-answer_all-clause-talks
 returns-in_err-answer_all-clause-talks g c =
     let w = world (g.K.SessionKind.works c.args.self.now.kind) (g.K.SessionKind.takes_resets c.args.self.now.kind)
-    (g.G.SessionRegister.resets c.args.register.now) (g.G.SessionRegister.ends c.args.register.now) in
+    (g.G.SessionRegister.resets c.args.register.now) (g.G.SessionRegister.ends c.args.register.now) (g.G.SessionRegister.settles c.args.register.now) in
     let a = moment c.args.self.now c.args.service.now in
     let b = moment c.turns.self c.turns.service in
     let l0 = g.R.Read.remaining c.args.reader.now in
@@ -28,7 +28,7 @@ returns-in_err-answer_all-clause-talks g c =
 pub returns-then-not-branch-clause-talks : goal.returns-then-not-branch-clause-talks
 returns-then-not-branch-clause-talks g c =
     let w = world (g.K.SessionKind.works c.args.self.now.kind) (g.K.SessionKind.takes_resets c.args.self.now.kind)
-    (g.G.SessionRegister.resets c.args.register.now) (g.G.SessionRegister.ends c.args.register.now) in
+    (g.G.SessionRegister.resets c.args.register.now) (g.G.SessionRegister.ends c.args.register.now) (g.G.SessionRegister.settles c.args.register.now) in
     let a = moment c.args.self.now c.args.service.now in
     let b = moment c.turns.self c.turns.service in
     let l0 = g.R.Read.remaining c.args.reader.now in
@@ -45,7 +45,7 @@ returns-then-not-branch-clause-talks g c =
 pub returns-then-left-eq0-clause-talks : goal.returns-then-left-eq0-clause-talks
 returns-then-left-eq0-clause-talks g c =
     let w = world (g.K.SessionKind.works c.args.self.now.kind) (g.K.SessionKind.takes_resets c.args.self.now.kind)
-    (g.G.SessionRegister.resets c.args.register.now) (g.G.SessionRegister.ends c.args.register.now) in
+    (g.G.SessionRegister.resets c.args.register.now) (g.G.SessionRegister.ends c.args.register.now) (g.G.SessionRegister.settles c.args.register.now) in
     let a = moment c.args.self.now c.args.service.now in
     let b = moment c.turns.self c.turns.service in
     let l0 = g.R.Read.remaining c.args.reader.now in
@@ -61,7 +61,7 @@ returns-then-left-eq0-clause-talks g c =
 pub returns-in_err-read_on-clause-talks : goal.returns-in_err-read_on-clause-talks
 returns-in_err-read_on-clause-talks g c =
     let w = world (g.K.SessionKind.works c.args.self.now.kind) (g.K.SessionKind.takes_resets c.args.self.now.kind)
-    (g.G.SessionRegister.resets c.args.register.now) (g.G.SessionRegister.ends c.args.register.now) in
+    (g.G.SessionRegister.resets c.args.register.now) (g.G.SessionRegister.ends c.args.register.now) (g.G.SessionRegister.settles c.args.register.now) in
     let a = moment c.args.self.now c.args.service.now in
     let b = moment c.turns.self c.turns.service in
     let l0 = g.R.Read.remaining c.args.reader.now in
@@ -81,7 +81,7 @@ returns-in_err-read_on-clause-talks g c =
 pub returns-then-branch-clause-talks : goal.returns-then-branch-clause-talks
 returns-then-branch-clause-talks g c =
     let w = world (g.K.SessionKind.works c.args.self.now.kind) (g.K.SessionKind.takes_resets c.args.self.now.kind)
-    (g.G.SessionRegister.resets c.args.register.now) (g.G.SessionRegister.ends c.args.register.now) in
+    (g.G.SessionRegister.resets c.args.register.now) (g.G.SessionRegister.ends c.args.register.now) (g.G.SessionRegister.settles c.args.register.now) in
     let a = moment c.args.self.now c.args.service.now in
     let b = moment c.turns.self c.turns.service in
     let l0 = g.R.Read.remaining c.args.reader.now in
@@ -102,7 +102,7 @@ returns-then-branch-clause-talks g c =
 pub returns-in_err-ask_to_leave-clause-talks : goal.returns-in_err-ask_to_leave-clause-talks
 returns-in_err-ask_to_leave-clause-talks g c =
     let w = world (g.K.SessionKind.works c.args.self.now.kind) (g.K.SessionKind.takes_resets c.args.self.now.kind)
-    (g.G.SessionRegister.resets c.args.register.now) (g.G.SessionRegister.ends c.args.register.now) in
+    (g.G.SessionRegister.resets c.args.register.now) (g.G.SessionRegister.ends c.args.register.now) (g.G.SessionRegister.settles c.args.register.now) in
     let a = moment c.args.self.now c.args.service.now in
     let b = moment c.turns.self c.turns.service in
     let l0 = g.R.Read.remaining c.args.reader.now in
@@ -123,7 +123,7 @@ returns-in_err-ask_to_leave-clause-talks g c =
 pub turns-preserved : goal.turns-preserved
 turns-preserved g c =
     let w = world (g.K.SessionKind.works c.args.self.now.kind) (g.K.SessionKind.takes_resets c.args.self.now.kind)
-    (g.G.SessionRegister.resets c.args.register.now) (g.G.SessionRegister.ends c.args.register.now) in
+    (g.G.SessionRegister.resets c.args.register.now) (g.G.SessionRegister.ends c.args.register.now) (g.G.SessionRegister.settles c.args.register.now) in
     let a = moment c.args.self.now c.args.service.now in
     let b = moment c.turns.self c.turns.service in
     let l0 = g.R.Read.remaining c.args.reader.now in

@@ -11,7 +11,7 @@ invariant-turns g l =
     (l.self.kind ≡ l.fn.self.kind) × (next_of l.self.connection.tasks ≡ Idle)
     × IsTalked
     (world (g.K.SessionKind.works l.fn.self.kind) (g.K.SessionKind.takes_resets l.fn.self.kind)
-    (g.G.SessionRegister.resets l.register) (g.G.SessionRegister.ends l.register))
+    (g.G.SessionRegister.resets l.register) (g.G.SessionRegister.ends l.register) (g.G.SessionRegister.settles l.register))
     (times_asked l.is_asked) (moment l.fn.self l.fn.service) (g.R.Read.remaining l.fn.reader) (g.W.Write.contents l.fn.writer)
     (moment l.self l.service) (g.R.Read.remaining l.reader) (g.W.Write.contents l.writer)
 

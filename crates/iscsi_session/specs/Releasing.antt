@@ -1,0 +1,45 @@
+-- What answers commands whose replies were held.
+use Rattle.std.specs.Prelude.{◌≡◌, List, [], ◌∷◌, ◌++◌, All}
+use Rattle.iscsi_pdu.specs.Pdus.{TargetPduValue}
+use Rattle.iscsi_pdu.specs.declared.scsi_command.ScsiCommand.{ScsiCommand}
+use Rattle.iscsi_pdu.specs.declared.serial_number.SerialNumber.{SerialNumber}
+use Rattle.iscsi_answers.specs.Single.{target_failure}
+use Rattle.iscsi_answers.specs.declared.limits.TransferLimits.{TransferLimits}
+use Rattle.iscsi_tasks.specs.Values.{TasksValue}
+use Rattle.iscsi_tasks.specs.Holding.{answers_due}
+use Rattle.iscsi_tasks.specs.Runs.{Settled, stepped}
+use Rattle.iscsi_tasks.specs.declared.held_reply.DueAnswer.{DueAnswer}
+use Rattle.iscsi_tasks.specs.declared.held_reply.Response.{Response}
+use Rattle.iscsi_tasks.specs.declared.held_reply.Response.TheVariants.{Replied, TargetFailure}
+use Rattle.tickets.specs.declared.ticket.Ticket.{Ticket}
+use Rattle.tickets.specs.declared.ticket.Outcome.{Outcome}
+use Rattle.iscsi_session.specs.Executing.{answer_to, numbers}
+
+-- what the unit has replied, or target failure (RFC 7143, "SCSI Response")
+abbrev pub response_to : TasksValue → TransferLimits → SerialNumber → ScsiCommand → Response → List TargetPduValue
+response_to k limits stat_sn command (Replied reply) = answer_to k limits stat_sn command reply.handed_over reply.status reply.sense []
+response_to k limits stat_sn command TargetFailure = target_failure (numbers k stat_sn) command.initiator_task_tag ∷ []
+
+-- one answer after another, each with a StatSN of its own
+abbrev pub SaysDue : TasksValue → List DueAnswer → (said : List TargetPduValue) → Type 0
+SaysDue k [] said = said ≡ []
+SaysDue k (answer ∷ answers) said =
+    (limits : TransferLimits) × (stat_sn : SerialNumber) × (others : List TargetPduValue)
+    × (said ≡ response_to k limits stat_sn answer.command answer.response ++ others) × SaysDue k answers others
+
+-- a ticket that was settled, and how
+pub record Settlement : Type 0 where
+  pub ticket : Ticket
+  pub outcome : Outcome
+
+-- tickets are settled one after another, and the replies that waited for no more answer their commands, with the numbers of the tasks without them
+abbrev pub ReleasesAll : List Settlement → TasksValue → (said : List TargetPduValue) → TasksValue → Type 0
+ReleasesAll [] k said k' = (said ≡ []) × (k' ≡ k)
+ReleasesAll (x ∷ xs) k said k' =
+    (first others : List TargetPduValue) × (said ≡ first ++ others)
+    × SaysDue (stepped k (Settled x.ticket x.outcome)) (answers_due x.ticket x.outcome k.replies) first
+    × ReleasesAll xs (stepped k (Settled x.ticket x.outcome)) others k'
+
+-- those of which `settles` says so
+abbrev pub Releases : (settles : Ticket → Outcome → Type 0) → TasksValue → (said : List TargetPduValue) → TasksValue → Type 0
+Releases settles k said k' = (settled : List Settlement) × All (λ x. settles x.ticket x.outcome) settled × ReleasesAll settled k said k'
