@@ -1,5 +1,7 @@
 //! What comes to a session in the rows of held replies: what an initiator sends, and what happens beside it.
 
+ghost use Rattle.std.specs.Prelude.{◌≤◌, length};
+
 use super::keepers::{Keeper, Settlement};
 use super::refused_resets::LOGIN;
 use std::alloc::Global;
@@ -208,7 +210,9 @@ pub(super) struct Script<'a> {
 }
 
 /// Puts bytes at the front of a buffer, and says how many found room.
-fn put(buffer: &mut [u8], bytes: &[u8]) -> usize {
+fn put(buffer: &mut [u8], bytes: &[u8]) -> usize
+    ensures { result ≤ length buffer.old }
+{
     let count = bytes.len().min(buffer.len());
     buffer[..count].copy_from_slice(&bytes[..count]);
     count
