@@ -32,7 +32,7 @@ pub record Settlement : Type 0 where
   pub ticket : Ticket
   pub outcome : Outcome
 
--- tickets are settled one after another, and the replies that waited for no more answer their commands, with the numbers of the tasks without them
+-- tickets are settled one after another, and the replies that waited for them answer their commands, with the numbers of the tasks without them
 abbrev pub ReleasesAll : List Settlement → TasksValue → (said : List TargetPduValue) → TasksValue → Type 0
 ReleasesAll [] k said k' = (said ≡ []) × (k' ≡ k)
 ReleasesAll (x ∷ xs) k said k' =

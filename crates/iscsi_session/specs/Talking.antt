@@ -99,7 +99,7 @@ must_wait k (sent.SnackRequest p) = false
 must_wait k (sent.Unknown p) = false
 
 -- a PDU is taken where nothing is left to be done with those before it; behind a silence the target pings; of units that others have reset `w`
--- says what comes; where all sessions are to end a logout is asked for; and the replies that waited for no more than a ticket answer their commands,
+-- says what comes; where all sessions are to end a logout is asked for; and the replies that waited for a ticket answer their commands,
 -- with the numbers of the tasks without them
 abbrev pub Happens : {S : Type 0} → World S → Event → TasksValue → S → (said : List TargetPduValue) → TasksValue → S → Type 0
 Happens w (Came p) k s said k' t = (next_of k ≡ Idle) × (must_wait k p.header ≡ false) × Says w.works p k s said k' t

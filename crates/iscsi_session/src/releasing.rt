@@ -31,7 +31,7 @@ pub(crate) fn release<G: SessionRegister>(
     Ok(())
 }
 
-/// Answers the commands whose replies waited for no more than a ticket, if that is settled by now.
+/// Answers the commands whose replies waited for a ticket, if that is settled by now.
 fn release_one<G: SessionRegister>(
     register: &G,
     connection: &mut Connection<'_>,

@@ -73,6 +73,14 @@ fn ask_to_leave<G: SessionRegister>(
     }
 }
 
+/// How the end of input ends a connection in full feature: between PDUs too where a whole one, a logout, still waits.
+fn end_behind(pending: &[u8]) -> IscsiEnd {
+    match parse_initiator_pdu(TARGET_MAX_RECV_DATA_SEGMENT_LENGTH, pending) {
+        ParsedInitiatorPdu::Complete(_, _) => IscsiEnd::Closed,
+        ParsedInitiatorPdu::Partial(_) | ParsedInitiatorPdu::Invalid(_) => end_of(pending),
+    }
+}
+
 /// A session in full feature, of the type `K`.
 #[derive(Drop)]
 pub(crate) struct Session<'p, K> {
@@ -250,7 +258,7 @@ impl<'p, K> Session<'p, K> {
             }
             left -= 1;
             if self.read_on(reader, &mut is_pinged)? {
-                return Ok(end_of(self.read_buffer.pending()));
+                return Ok(end_behind(self.read_buffer.pending()));
             }
             ask_to_leave(register, &mut self.connection, &mut is_asked)?;
         }

@@ -1,5 +1,5 @@
 -- Replies that are held until it is settled whether what their commands left is on the disk (profile).
-use Rattle.std.specs.Prelude.{ℕ, ◌==◌, nat_le, Bool, not, ◌&&◌, List, [], ◌∷◌, ◌++◌, length, map, filter, Option, Some, None}
+use Rattle.std.specs.Prelude.{ℕ, ◌==◌, Bool, not, ◌&&◌, List, [], ◌∷◌, ◌++◌, length, map, filter, Option, Some, None}
 use Rattle.std.specs.List.{list_any}
 use Rattle.iscsi_pdu.specs.declared.scsi_command.ScsiCommand.{ScsiCommand}
 use Rattle.tickets.specs.declared.ticket.Ticket.{Ticket}
@@ -12,9 +12,9 @@ use Rattle.iscsi_tasks.specs.declared.held_reply.Response.TheVariants.{Replied, 
 use Rattle.iscsi_tasks.specs.declared.held_reply.DueAnswer.{DueAnswer}
 use Rattle.iscsi_tasks.specs.Values.{TasksValue}
 
--- it waits for the volume, and no further than it is settled
+-- it waits for that very ticket: others of the same thing may have ended otherwise
 abbrev pub is_due : (settled : Ticket) → HeldReply → Bool
-is_due settled r = (r.ticket.thing == settled.thing) && nat_le r.ticket.number settled.number
+is_due settled r = (r.ticket.thing == settled.thing) && (r.ticket.number == settled.number)
 
 -- what leaves, and what stays, in the order in which they came
 abbrev pub due : (settled : Ticket) → List HeldReply → List HeldReply

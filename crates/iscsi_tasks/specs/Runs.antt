@@ -20,7 +20,7 @@ use Rattle.iscsi_tasks.specs.Aborts.{without_task, without_unit}
 use Rattle.iscsi_tasks.specs.Holding.{with_held, without_due}
 
 -- what happens to the tasks: a PDU with a number comes, or a command, or data; what is next is asked for; a task or the tasks of a unit are
--- dropped; the command in hand is answered, or its reply is held; and the volume of a ticket is settled as far as the ticket, by an outcome
+-- dropped; the command in hand is answered, or its reply is held; and a ticket is settled, by an outcome
 pub data Act : Type 0 where
   Numbered : (immediate : Bool) → (cmd_sn : SerialNumber) → Act
   Commanded : ScsiCommand → (payload : List ℕ) → Act

@@ -42,11 +42,11 @@ impl HeldReply {
     ghost use Rattle.iscsi_tasks.specs.Aborts.{is_reply_at, is_reply_named};
     ghost use Rattle.iscsi_tasks.specs.Holding.{answer_by, is_due};
 
-    /// Whether what it waits for is settled, once its volume is settled as far as a ticket.
+    /// Whether the ticket that is settled is its own. Others of the same thing may have ended otherwise.
     pub(crate) fn is_due(&self, settled: Ticket) -> bool
         ensures { result ≡ is_due settled self.now }
     {
-        self.ticket.thing == settled.thing && self.ticket.number <= settled.number
+        self.ticket.thing == settled.thing && self.ticket.number == settled.number
     }
 
     /// Whether the LUN of its command names the unit.

@@ -57,7 +57,7 @@ pub(crate) fn tickets_of(replies: &[HeldReply]) -> ArrayVec<Ticket, MOST_REPLIES
     tickets
 }
 
-/// The answers to those that wait for no more than what is settled.
+/// The answers to those that wait for the ticket that is settled.
 pub(crate) fn answers_due(
     replies: &[HeldReply],
     settled: Ticket,
@@ -75,7 +75,7 @@ pub(crate) fn answers_due(
     answers
 }
 
-/// Removes those that wait for no more than what is settled.
+/// Removes those that wait for the ticket that is settled.
 pub(crate) fn drop_due(replies: &mut ArrayVec<HeldReply, MOST_REPLIES>, settled: Ticket)
     ensures { replies.new.items ≡ not_due settled replies.old.items }
 {

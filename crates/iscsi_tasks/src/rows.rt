@@ -71,10 +71,10 @@ pub fn holding_rows()
     ensures kept { answers_due (record { thing = 7; number = 2 }) Kept
         (reply_to (write 4 true) 7 2 ∷ reply_to (write 4 true) 8 1 ∷ reply_to (write 4 true) 7 3 ∷ [])
         ≡ record { command = write 4 true; response = Replied good } ∷ [] }
-    ensures lost { answers_due (record { thing = 8; number = 9 }) Lost (reply_to (write 4 true) 7 2 ∷ reply_to (write 4 true) 8 1 ∷ [])
+    ensures lost { answers_due (record { thing = 8; number = 1 }) Lost (reply_to (write 4 true) 7 2 ∷ reply_to (write 4 true) 8 1 ∷ [])
         ≡ record { command = write 4 true; response = TargetFailure } ∷ [] }
     ensures stay { without_due (holding (reply_to (write 4 true) 7 2 ∷ reply_to (write 4 true) 8 1 ∷ []))
-        (record { thing = 8; number = 9 })
+        (record { thing = 8; number = 1 })
         ≡ holding (reply_to (write 4 true) 7 2 ∷ []) }
     ensures there { is_waiting_at (holding (reply_to (write 4 true) 7 1 ∷ [])) 0 1 ≡ true }
     ensures not_there { is_waiting_at (holding (reply_to (write 4 true) 7 1 ∷ [])) 1 1 ≡ false }

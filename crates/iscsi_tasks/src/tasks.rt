@@ -324,7 +324,7 @@ impl Tasks {
         tickets_of(self.replies.as_slice())
     }
 
-    /// Removes the replies that wait for no more than what is settled, and says how their commands are answered, in the order in which
+    /// Removes the replies that wait for the ticket that is settled, and says how their commands are answered, in the order in which
     /// they were executed.
     pub fn settle(&mut self, settled: Ticket, outcome: Outcome) -> ArrayVec<DueAnswer, MOST_REPLIES>
         ensures answers { result.items ≡ answers_due settled outcome self.old.replies }

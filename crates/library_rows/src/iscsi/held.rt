@@ -29,7 +29,7 @@ struct Row {
     ended: Ended,
 }
 
-const SETTLEMENTS: [Row; 9] = [
+const SETTLEMENTS: [Row; 10] = [
     Row {
         shows: "a filemark is answered once it is kept, and all else before",
         steps: &[
@@ -119,6 +119,24 @@ const SETTLEMENTS: [Row; 9] = [
             (Answer::Busy, 1, [1, 4, 33]),
             (Answer::Failure, 2, [2, 4, 34]),
             (Answer::Busy, 3, [3, 4, 35]),
+        ],
+        handed: &[(0x10, 1, 1), (0x10, 2, 1), (0x10, 1, 1)],
+        ended: Ended::Closed,
+    },
+    Row {
+        shows: "what is kept and what is lost between two questions of one look have each their own outcome",
+        steps: &[
+            Step::Sent(&[
+                Request::Mark(1, 1),
+                Request::Mark(2, 2),
+                Request::Mark(3, 1),
+            ]),
+            Step::Meanwhile(&[Settlement::Kept(1, 1), Settlement::Lost(1, 2)]),
+            Step::Woken,
+        ],
+        told: &[
+            (Answer::Failure, 3, [1, 4, 33]),
+            (Answer::Busy, 1, [2, 4, 34]),
         ],
         handed: &[(0x10, 1, 1), (0x10, 2, 1), (0x10, 1, 1)],
         ended: Ended::Closed,

@@ -37,6 +37,8 @@ pub(super) struct Keeper {
     things: Cell<[Progress; 10]>,
     /// The unit that another session has reset, until that is told.
     reset: Cell<Option<u8>>,
+    /// What it settles once it is asked for the outcome of a filemark at unit 2.
+    meanwhile: Cell<&'static [Settlement]>,
 }
 
 impl Keeper {
@@ -44,6 +46,7 @@ impl Keeper {
         Keeper {
             things: Cell::new([Progress::new(); 10]),
             reset: Cell::new(None),
+            meanwhile: Cell::new(&[]),
         }
     }
 
@@ -76,6 +79,10 @@ impl Keeper {
                 Settlement::Lost(thing, number) => self.settle(thing, number, Outcome::Lost),
             }
         }
+    }
+
+    pub(super) fn settle_later(&self, settlements: &'static [Settlement]) {
+        self.meanwhile.set(settlements);
     }
 
     /// Another session has reset a unit.
@@ -111,6 +118,10 @@ impl SessionRegister for Keeper {
     }
 
     fn outcome_of(&self, ticket: Ticket) -> Option<Outcome> {
+        if ticket.thing == 2 {
+            self.settle_all(self.meanwhile.get());
+            self.meanwhile.set(&[]);
+        }
         let things = self.things.get();
         let progress = things.get(ticket.thing as usize)?;
         progress.outcome_of(ticket.number)

@@ -59,6 +59,8 @@ pub(super) enum Step {
     ResetElsewhere(u8),
     /// It is interrupted, and nothing has happened.
     Woken,
+    /// It is interrupted, and the keeper settles these once the session asks for the outcome of a filemark at unit 2.
+    Meanwhile(&'static [Settlement]),
     /// Nothing came for a while.
     Silence,
 }
@@ -235,6 +237,7 @@ impl Read for Script<'_> {
             Step::Silence => return Err(io::Error::from(io::ErrorKind::WouldBlock)),
             Step::Settled(settlements) => self.keeper.settle_all(settlements),
             Step::ResetElsewhere(unit) => self.keeper.note_reset(unit),
+            Step::Meanwhile(settlements) => self.keeper.settle_later(settlements),
             Step::Woken => {}
         }
         Err(io::Error::from(io::ErrorKind::Interrupted))
