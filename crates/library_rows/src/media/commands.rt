@@ -53,7 +53,7 @@ pub(super) enum Ended {
     Lost,
 }
 
-pub(super) fn ended(outcome: Option<Outcome>) -> Ended {
+pub(super) fn ended_by(outcome: Option<Outcome>) -> Ended {
     match outcome {
         None => Ended::NotYet,
         Some(Outcome::Kept) => Ended::Kept,

@@ -1,6 +1,6 @@
 //! A library of two drives, whose volumes A and B are kept on a disk in memory, and what is told of that.
 
-use super::commands::{A, B, Ended, ended};
+use super::commands::{A, B, Ended, ended_by};
 use super::memory_disk::{MemoryDisk, SharedFile, SharedInventory};
 use super::units::{Units, image_in};
 use kept_media::MediaKeeper;
@@ -104,7 +104,7 @@ impl<'a, R: Abort + Clock + Wait> Library<'a, R> {
     /// How keeping what a ticket is for ended.
     pub(super) fn ended(&self, ticket: Option<Ticket>) -> Ended {
         match ticket {
-            Some(ticket) => ended(TapeKeeper::outcome_of(&self.keeper, self.rt, ticket)),
+            Some(ticket) => ended_by(TapeKeeper::outcome_of(&self.keeper, self.rt, ticket)),
             None => Ended::NoTicket,
         }
     }

@@ -1,6 +1,6 @@
 //! Threads that wait for something to be done at a place, or to be settled, and who wakes them.
 
-use super::commands::{A, B, Ended, ended, marked, written};
+use super::commands::{A, B, Ended, ended_by, marked, written};
 use super::library::Library;
 use super::memory_disk::MemoryDisk;
 use crate::comparing::assert_same;
@@ -52,7 +52,7 @@ fn awaited<R: Abort + AllocGlobal + Clock + Threads + Wait + Sync>(rt: &R) -> En
         },
         || TapeKeeper::await_outcome(&library.keeper, rt, ticket),
     );
-    ended(Some(outcome))
+    ended_by(Some(outcome))
 }
 
 /// Too much is behind, and is copied while another thread waits for that: how it ended.
@@ -71,7 +71,7 @@ fn awaited_write<R: Abort + AllocGlobal + Clock + Threads + Wait + Sync>(rt: &R)
         },
         || TapeKeeper::await_outcome(&library.keeper, rt, ticket),
     );
-    ended(Some(outcome))
+    ended_by(Some(outcome))
 }
 
 /// The library ends while a thread waits for something to do, and another for a filemark to be kept.
@@ -96,7 +96,7 @@ fn ended_waits<R: Abort + AllocGlobal + Clock + Threads + Wait + Sync>(rt: &R) -
             )
         },
     );
-    (goes_on, ended(outcome))
+    (goes_on, ended_by(outcome))
 }
 
 #[test]
