@@ -37,7 +37,7 @@ impl Backlog {
         self.bytes >= MANY && !self.is_stuck
     }
 
-    /// Whether who writes on waits.
+    /// Whether a host that writes on has to wait.
     pub fn is_too_much(&self) -> bool
         ensures { result ≡ is_too_much self.now }
     {

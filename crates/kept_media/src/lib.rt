@@ -3,6 +3,7 @@
 #![tactic(auto)]
 
 mod backlog;
+mod conditions;
 mod copying;
 mod item;
 mod job;

@@ -170,12 +170,12 @@ impl Requests {
         self.settle_backlog(lun)
     }
 
-    /// Whether who wrote to a drive's volume waits until less of it waits to be copied.
+    /// Whether a host that wrote to a drive's volume has to wait until less of it waits to be copied.
     fn is_full(&self, lun: u8) -> bool {
         self.backlogs.at(lun).is_too_much() && !self.is_over
     }
 
-    /// What who wrote to a drive's volume has to wait for, if too much of it waits to be copied.
+    /// What the reply to a WRITE at a drive has to wait for, if too much of its volume waits to be copied.
     pub fn wait_for_backlog(&mut self, lun: u8) -> Option<Ticket> {
         if !self.is_full(lun) {
             return None;
@@ -198,6 +198,11 @@ impl Requests {
             Some(job) => job.settle_all(),
             None => false,
         }
+    }
+
+    /// Whether a thread of its own has come to a place.
+    pub fn is_served(&self, place: KeepPlace) -> bool {
+        self.queues.is_served(place)
     }
 
     /// A thread of its own is at a place.

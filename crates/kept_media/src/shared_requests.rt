@@ -1,6 +1,7 @@
 //! The requests of a keeper, which its threads share: what is to be kept is asked for here, and its threads take that and say how it ended. The
 //! lock is held for a moment only: nothing is copied and nobody is told meanwhile, and no other lock is taken.
 
+use crate::conditions::Conditions;
 use crate::item::KeptItem;
 use crate::requests::{Requests, TURN, Task};
 use std::alloc::{AllocError, Global};
@@ -14,7 +15,7 @@ use tickets::{Outcome, Ticket};
 pub(crate) struct SharedRequests {
     requests: Mutex<Requests>,
     /// Something is to be done, or the library ends.
-    asked: Condvar,
+    asked: Conditions,
     /// Something is settled, or the library ends.
     settled: Condvar,
 }
@@ -24,15 +25,16 @@ impl SharedRequests {
     pub fn new(alloc: Global, images: usize) -> Result<SharedRequests, AllocError> {
         Ok(SharedRequests {
             requests: Mutex::new(Requests::new(alloc, images)?),
-            asked: Condvar::new(),
+            asked: Conditions::new(),
             settled: Condvar::new(),
         })
     }
 
     /// Asks that an item be kept, at a place.
     pub fn ask<R: Wait>(&self, rt: &R, item: KeptItem, place: KeepPlace) -> Ticket {
-        let ticket = self.requests.lock(rt).ask(item, place);
-        self.asked.notify_all();
+        let mut requests = self.requests.lock(rt);
+        let ticket = requests.ask(item, place);
+        self.asked.notify(place, requests.is_served(place));
         ticket
     }
 
@@ -67,7 +69,8 @@ impl SharedRequests {
     pub fn add<R: Wait>(&self, rt: &R, lun: u8, bytes: u64) -> Option<Ticket> {
         let mut requests = self.requests.lock(rt);
         if requests.add(lun, bytes) {
-            self.asked.notify_all();
+            let place = KeepPlace::Drive(lun);
+            self.asked.notify(place, requests.is_served(place));
         }
         requests.wait_for_backlog(lun)
     }
@@ -89,7 +92,7 @@ impl SharedRequests {
         self.wake_settled(is_settled)
     }
 
-    /// Wakes who waits for something to be settled, if something is.
+    /// Wakes the threads that wait for something to be settled, if something is.
     fn wake_settled(&self, is_settled: bool) -> bool {
         if is_settled {
             self.settled.notify_all();
@@ -107,13 +110,15 @@ impl SharedRequests {
     pub fn await_turn<R: Clock + Wait>(&self, rt: &R, place: KeepPlace) -> bool {
         let mut requests = self.requests.lock(rt);
         requests.serve(place);
-        let requests = self
-            .asked
-            .wait_while(rt, requests, |requests| requests.is_asleep(place));
+        let asked = self.asked.at(place);
+        let requests = asked.wait_while(rt, requests, |requests| requests.is_asleep(place));
         let turn = Duration::from_millis(TURN);
-        let (requests, _) = self
-            .asked
-            .wait_timeout_while(rt, requests, turn, |requests| requests.is_idle(place));
+        let (requests, _) = asked.wait_timeout_while(
+            rt,
+            requests,
+            turn,
+            |requests| requests.is_idle(place),
+        );
         !requests.is_over()
     }
 
