@@ -56,6 +56,10 @@ pub trait SessionRegister {
     fn ends_within(&self) -> Option<u16>
         ensures { IfSome result (ends self.now) };
 
+    /// Notes whether the session of the caller holds replies. It is told whenever a read has ended, behind those replies that were sent then, and
+    /// before commands are carried out of which others may have to be held.
+    fn note_holding(&self, is_holding: bool);
+
     /// How keeping what a held reply waits for ended, if it has. It is asked of each whenever a read has ended.
     fn outcome_of(&self, ticket: Ticket) -> Option<Outcome>
         ensures { IfSome result (settles self.now ticket) };

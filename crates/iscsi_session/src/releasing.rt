@@ -14,7 +14,7 @@ use iscsi_answers::{UnitAnswer, write_target_failure};
 use iscsi_tasks::{DueAnswer, Response};
 use tickets::Ticket;
 
-/// Answers the commands whose replies waited for what is settled by now.
+/// Answers the commands whose replies waited for what is settled by now, and notes whether others still wait.
 pub(crate) fn release<G: SessionRegister>(
     register: &G,
     connection: &mut Connection<'_>,
@@ -28,6 +28,7 @@ pub(crate) fn release<G: SessionRegister>(
     'tickets: for ticket in tickets.as_slice() {
         release_one(register, connection, *ticket)?;
     }
+    register.note_holding(!connection.tasks.holds_none());
     Ok(())
 }
 

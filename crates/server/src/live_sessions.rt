@@ -220,9 +220,11 @@ impl<'a, C: Caretaker, R: Clock + Wait, E: Write> SessionRegister for SessionsBe
         self.sessions.end_notice.ends_within()
     }
 
+    fn note_holding(&self, is_holding: bool) {
+        self.flags.note_holding(is_holding);
+    }
+
     fn outcome_of(&self, ticket: Ticket) -> Option<Outcome> {
-        let outcome = self.caretaker.outcome_of(self.rt, ticket)?;
-        self.flags.release();
-        Some(outcome)
+        self.caretaker.outcome_of(self.rt, ticket)
     }
 }

@@ -1,8 +1,8 @@
 use mio::Waker;
-use std::sync::atomic::{AtomicBool, AtomicU32, Ordering};
+use std::sync::atomic::{AtomicBool, Ordering};
 use std::sync::{Mutex, Wait};
 
-/// What is known of the session that a worker serves, for its reader, its writer, and those who keep tapes.
+/// What is known of the session that a worker serves, for its reader, its writer, and the threads that keep tapes.
 ///
 /// No held reply stays asleep, by the order in which both sides go. A session notes that it holds a reply, then asks how its ticket
 /// ended, then waits. A keeper notes how a ticket ended, then looks whether a session holds something, then wakes it. So either the session
@@ -11,9 +11,8 @@ use std::sync::{Mutex, Wait};
 pub(crate) struct SessionFlags {
     is_in: AtomicBool,
     is_kept: AtomicBool,
-    /// How many replies the session holds, which its own thread counts. More than it holds where some were dropped: then it is woken, and
-    /// waits to be, without need. Never fewer.
-    held: AtomicU32,
+    /// Whether the session holds replies, as its own thread says: from the first that it holds until a look by which it holds none.
+    is_holding: AtomicBool,
     /// Whether the session has held a reply since it looked around the last time.
     is_new: AtomicBool,
     /// By which the thread of the session is woken while it waits for its host.
@@ -26,7 +25,7 @@ impl SessionFlags {
         SessionFlags {
             is_in: AtomicBool::new(false),
             is_kept: AtomicBool::new(true),
-            held: AtomicU32::new(0),
+            is_holding: AtomicBool::new(false),
             is_new: AtomicBool::new(false),
             waker: Mutex::new(None),
         }
@@ -36,13 +35,13 @@ impl SessionFlags {
     pub fn begin(&self) {
         self.is_in.store(false, Ordering::SeqCst);
         self.is_kept.store(true, Ordering::SeqCst);
-        self.held.store(0, Ordering::SeqCst);
+        self.is_holding.store(false, Ordering::SeqCst);
         self.is_new.store(false, Ordering::SeqCst);
     }
 
     /// The session has ended: it holds nothing any more, and nobody wakes it.
     pub fn end<R: Wait>(&self, rt: &R) {
-        self.held.store(0, Ordering::SeqCst);
+        self.is_holding.store(false, Ordering::SeqCst);
         *self.waker.lock(rt) = None;
     }
 
@@ -68,20 +67,18 @@ impl SessionFlags {
 
     /// Whether the session holds replies.
     pub fn holds(&self) -> bool {
-        self.held.load(Ordering::SeqCst) > 0
+        self.is_holding.load(Ordering::SeqCst)
     }
 
-    /// The session holds one more.
+    /// The session holds a reply more.
     pub fn hold(&self) {
-        let held = self.held.load(Ordering::SeqCst);
-        self.held.store(held.saturating_add(1), Ordering::SeqCst);
+        self.is_holding.store(true, Ordering::SeqCst);
         self.is_new.store(true, Ordering::SeqCst);
     }
 
-    /// The session holds one less, whose ticket is settled.
-    pub fn release(&self) {
-        let held = self.held.load(Ordering::SeqCst);
-        self.held.store(held.saturating_sub(1), Ordering::SeqCst);
+    /// The session has looked around, and holds some replies or none.
+    pub fn note_holding(&self, is_holding: bool) {
+        self.is_holding.store(is_holding, Ordering::SeqCst);
     }
 
     /// Whether the session has held a reply since this was asked the last time.

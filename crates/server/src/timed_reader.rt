@@ -54,7 +54,7 @@ pub(crate) struct TimedReader<'a, R: Clock + PollSource + Wait> {
     patience: Patience,
     /// `None`: its login may take for ever.
     login_by: Option<Instant>,
-    /// How long nothing has come since the host is logged in.
+    /// How long nothing has come since the host is logged in, while no reply to it was held.
     silence: Duration,
     /// How long of that since a read was given up for a ping.
     unasked: Duration,
@@ -125,7 +125,10 @@ impl<'a, R: Clock + PollSource + Wait> TimedReader<'a, R> {
     /// Why a read failed for which nothing came in so long.
     fn kind_behind(&mut self, waited: Duration) -> ErrorKind {
         if self.flags.is_in() {
-            self.silence = self.silence.saturating_add(waited);
+            // A host that waits for a reply has nothing to say.
+            if !self.flags.holds() {
+                self.silence = self.silence.saturating_add(waited);
+            }
             self.unasked = self.unasked.saturating_add(waited);
             if !is_over(self.patience.idle, self.silence) {
                 return self.kind_within();

@@ -14,7 +14,7 @@ use std::time::Duration;
 /// The token of the connection.
 const SOCKET: usize = 0;
 
-/// The token of who wakes a session.
+/// The token by which a session is woken.
 const WOKEN: usize = 1;
 
 /// How a wait has ended. Neither: its time is up, or a signal came.

@@ -527,3 +527,57 @@ fn each_reply_without_data_is_asked_for_once(rt: HostRuntime) {
     let expected = [(0x10, 0), (0x10, 4), (0x0A, 4)];
     assert_list(&rt, asked.as_slice(), &expected, "with how many bytes");
 }
+
+/// What it shows, what comes, and whether the session says at last that it holds replies.
+type HoldingRow = (&'static str, &'static [Step], bool);
+
+const HOLDING: [HoldingRow; 5] = [
+    (
+        "a reply that waits is held",
+        &[Step::Sent(&[Request::Mark(1, 1)]), Step::Woken],
+        true,
+    ),
+    (
+        "one that was sent isn't",
+        &[
+            Step::Sent(&[Request::Mark(1, 1)]),
+            Step::Settled(&[Settlement::Kept(1, 1)]),
+        ],
+        false,
+    ),
+    (
+        "nor is one that was dropped",
+        &[
+            Step::Sent(&[Request::Mark(1, 1)]),
+            Step::Sent(&[Request::AbortTask(0x51, 1, 1)]),
+            Step::Woken,
+        ],
+        false,
+    ),
+    (
+        "nor one that another session's reset dropped",
+        &[Step::Sent(&[Request::Mark(1, 1)]), Step::ResetElsewhere(1)],
+        false,
+    ),
+    (
+        "of two one is left",
+        &[
+            Step::Sent(&[Request::Mark(1, 1), Request::Mark(2, 2)]),
+            Step::Settled(&[Settlement::Kept(2, 1)]),
+        ],
+        true,
+    ),
+];
+
+#[test]
+fn a_session_says_whether_it_holds_replies(rt: HostRuntime) {
+    let alloc = rt.alloc();
+    let target = target(&rt, alloc);
+    for (shows, steps, is_holding) in &HOLDING {
+        let keeper = Keeper::new();
+        let mut units = Units::new(alloc, &keeper);
+        let mut told = Vec::new(alloc);
+        let _ = served(alloc, &target, &mut units, steps, &mut told);
+        assert_same(&rt, keeper.is_holding(), *is_holding, shows);
+    }
+}

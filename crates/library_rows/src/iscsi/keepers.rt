@@ -39,6 +39,8 @@ pub(super) struct Keeper {
     reset: Cell<Option<u8>>,
     /// What it settles once it is asked for the outcome of a filemark at unit 2.
     meanwhile: Cell<&'static [Settlement]>,
+    /// Whether its session held replies at the end of its last look.
+    is_holding: Cell<bool>,
 }
 
 impl Keeper {
@@ -47,7 +49,13 @@ impl Keeper {
             things: Cell::new([Progress::new(); 10]),
             reset: Cell::new(None),
             meanwhile: Cell::new(&[]),
+            is_holding: Cell::new(false),
         }
+    }
+
+    /// Whether its session held replies at the end of its last look.
+    pub(super) fn is_holding(&self) -> bool {
+        self.is_holding.get()
     }
 
     /// Is asked to keep a thing.
@@ -115,6 +123,10 @@ impl SessionRegister for Keeper {
 
     fn ends_within(&self) -> Option<u16> {
         None
+    }
+
+    fn note_holding(&self, is_holding: bool) {
+        self.is_holding.set(is_holding);
     }
 
     fn outcome_of(&self, ticket: Ticket) -> Option<Outcome> {

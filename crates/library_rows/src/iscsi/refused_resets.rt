@@ -33,6 +33,8 @@ impl SessionRegister for Alone {
         None
     }
 
+    fn note_holding(&self, _is_holding: bool) {}
+
     fn outcome_of(&self, _ticket: Ticket) -> Option<Outcome> {
         Some(Outcome::Kept)
     }
