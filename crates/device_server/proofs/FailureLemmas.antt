@@ -58,7 +58,7 @@ pub field_free : (kind : Kind) (r : Request) (bytes : List ℕ) → fault_fails 
 field_free kind (request.Read sili fixed l) bytes = invalid_free (sili && fixed)
 field_free kind (request.Write true l) bytes = refl
 field_free kind (request.Write false l) bytes = invalid_free (nat_lt block_limit l || not (length bytes == l))
-field_free kind (request.WriteFilemarks wsmk count) bytes = invalid_free wsmk
+field_free kind (request.WriteFilemarks wsmk immed count) bytes = invalid_free wsmk
 field_free kind (request.Space code count) bytes = invalid_free _
 field_free kind (request.ModeSelect true l) bytes = refl
 field_free kind (request.ModeSelect false l) bytes = list_free l bytes
@@ -122,7 +122,7 @@ tape_free m protected t (request.Write false asked) bytes = writing_free protect
 tape_free m protected t (request.Write true count) bytes =
     either (is_fixed_transfer m count && length bytes == count * m) (unless_nothing count t (unless_protected protected t (wrote t count (writes_blocks t bytes m)))) (t, refused InvalidFieldInCdb)
     (writing_free protected t count (writes_blocks t bytes m)) refl
-tape_free m protected t (request.WriteFilemarks wsmk count) bytes = writing_free protected t count (writes_marks t count)
+tape_free m protected t (request.WriteFilemarks wsmk immed count) bytes = writing_free protected t count (writes_marks t count)
 tape_free m protected t (request.Space code count) bytes =
     let moved = spaced (space_code code) t count in
     stopped_free (unsigned_abs count - moved.1.moved) moved.1.stop

@@ -114,7 +114,7 @@ tape_is m protected t (request.Read sili true count) bytes =
 tape_is m protected t (request.Write false asked) bytes = writing_is protected t asked (writes_block t bytes)
 tape_is m protected t (request.Write true count) bytes =
     transfer_is (is_fixed_transfer m count && length bytes == count * m) t (unless_nothing count t (unless_protected protected t (wrote t count (writes_blocks t bytes m)))) (writing_is protected t count (writes_blocks t bytes m))
-tape_is m protected t (request.WriteFilemarks wsmk count) bytes = writing_is protected t count (writes_marks t count)
+tape_is m protected t (request.WriteFilemarks wsmk immed count) bytes = writing_is protected t count (writes_marks t count)
 tape_is m protected t (request.Space code count) bytes =
     let moved = spaced (space_code code) t count in
     stopped_is (unsigned_abs count - moved.1.moved) moved.1.stop
@@ -152,7 +152,7 @@ drive_own d request.ReadBlockLimits bytes = record { ended = inl (refl, refl); m
 drive_own d request.InitializeElementStatus bytes = by_bay d request.InitializeElementStatus bytes
 drive_own d (request.Read sili fixed l) bytes = by_bay d (request.Read sili fixed l) bytes
 drive_own d (request.Write fixed l) bytes = by_bay d (request.Write fixed l) bytes
-drive_own d (request.WriteFilemarks wsmk l) bytes = by_bay d (request.WriteFilemarks wsmk l) bytes
+drive_own d (request.WriteFilemarks wsmk immed l) bytes = by_bay d (request.WriteFilemarks wsmk immed l) bytes
 drive_own d (request.Space code l) bytes = by_bay d (request.Space code l) bytes
 drive_own d (request.Inquiry evpd page l) bytes = by_bay d (request.Inquiry evpd page l) bytes
 drive_own d (request.ModeSelect sp l) bytes = record { ended = inl (refl, refl); mode = λ e. (refl, refl) }

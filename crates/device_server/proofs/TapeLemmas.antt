@@ -123,8 +123,8 @@ tape_kept m protected t (request.Write true count) bytes =
     (either_capacity t (is_block_length m && is_whole m bytes) (cond (length bytes == 0) (Ok t) (writes t more)) (Err BlockLength)
     (either_capacity t (length bytes == 0) (Ok t) (writes t more) refl (writes_capacity t more)) tt)))
     (stands r t (refused InvalidFieldInCdb))
-tape_kept m protected t (request.WriteFilemarks wsmk count) bytes =
-    let r = request.WriteFilemarks wsmk count in
+tape_kept m protected t (request.WriteFilemarks wsmk immed count) bytes =
+    let r = request.WriteFilemarks wsmk immed count in
     tested_kept r t count protected (wrote t count (writes_marks t count)) (wrote_kept r t count (writes_marks t count) refl
     (either_capacity t (count == 0) (Ok t) (writes t (marks count)) refl (writes_capacity t (marks count))))
 tape_kept m protected t (request.Space code count) bytes =

@@ -138,7 +138,7 @@ on_tape block_length protected t (Write true count) bytes =
     if is_fixed_transfer block_length count && length bytes == count * block_length
     then unless_nothing count t (unless_protected protected t (wrote t count (writes_blocks t bytes block_length)))
     else (t, refused InvalidFieldInCdb)
-on_tape block_length protected t (WriteFilemarks wsmk count) bytes =
+on_tape block_length protected t (WriteFilemarks wsmk immed count) bytes =
     unless_nothing count t (unless_protected protected t (wrote t count (writes_marks t count)))
 on_tape block_length protected t (Space code count) bytes = space_ended (unsigned_abs count) (spaced (space_code code) t count)
 on_tape block_length protected t Erase bytes = unless_protected protected t (erased t, done [])

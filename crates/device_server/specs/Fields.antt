@@ -41,7 +41,7 @@ mode_select_fault false list_length bytes = list_fault list_length bytes
 abbrev pub field_fault_of : Kind → Request → List ℕ → Option Condition
 field_fault_of kind (Read sili fixed transfer_length) bytes = invalid_where (sili && fixed)
 field_fault_of kind (Write fixed transfer_length) bytes = write_fault fixed transfer_length bytes
-field_fault_of kind (WriteFilemarks wsmk count) bytes = invalid_where wsmk
+field_fault_of kind (WriteFilemarks wsmk immed count) bytes = invalid_where wsmk
 field_fault_of kind (Space code count) bytes = invalid_where (not (is_space_code code))
 field_fault_of kind (ModeSelect sp list_length) bytes = mode_select_fault sp list_length bytes
 field_fault_of kind (ModeSense dbd page_control page subpage allocation_length) bytes = mode_sense_fault kind page_control page subpage

@@ -165,7 +165,7 @@ pub record RefusedFields : Type 0 where
   pub all_pages : field_fault_of kind.Drive (ModeSense false 0 0x3f 0x00 255) [] ≡ None
   pub element_addresses : field_fault_of kind.Changer (ModeSense false 0 0x1d 0x00 255) [] ≡ None
   pub suppressed_fixed : field_fault_of kind.Drive (Read true true 1) [] ≡ Some InvalidFieldInCdb
-  pub setmarks : field_fault_of kind.Drive (WriteFilemarks true 0) [] ≡ Some InvalidFieldInCdb
+  pub setmarks : field_fault_of kind.Drive (WriteFilemarks true false 0) [] ≡ Some InvalidFieldInCdb
   pub sequential_marks : field_fault_of kind.Drive (Space 2 (pos 1)) [] ≡ Some InvalidFieldInCdb
   pub end_of_data : field_fault_of kind.Drive (Space 3 (pos 1)) [] ≡ None
   pub above_limit : field_fault_of kind.Drive (Write false 65537) (replicate 65537 0) ≡ Some InvalidFieldInCdb
@@ -227,19 +227,21 @@ pub record RefusedWrites (tag : VolumeTag) : Type 0 where
       ≡ checks (loaded tag 512 (tape_of 2 1)) [] (sense 0xf0 0x4d 0x00 0x00 0x00 0x02 0x00 0x02)
   pub block_overflow : sent (loaded tag 0 (tape_of 2 1)) (Write false 600) (replicate 600 9)
       ≡ checks (loaded tag 0 (tape_of 2 1)) [] (sense 0xf0 0x4d 0x00 0x00 0x02 0x58 0x00 0x02)
-  pub marks_overflow : asked (loaded tag 0 full_of_marks) (WriteFilemarks false 1)
+  pub marks_overflow : asked (loaded tag 0 full_of_marks) (WriteFilemarks false false 1)
       ≡ checks (loaded tag 0 full_of_marks) [] (sense 0xf0 0x4d 0x00 0x00 0x00 0x01 0x00 0x02)
-  pub last_mark : asked (loaded tag 0 (record full_of_marks { position = 999999 })) (WriteFilemarks false 1)
+  pub last_mark : asked (loaded tag 0 (record full_of_marks { position = 999999 })) (WriteFilemarks false false 1)
+      ≡ gives (loaded tag 0 (record (blank 1000) { objects = Mark ∷ []; position = 1000000 })) []
+  pub mark_at_once : asked (loaded tag 0 (record full_of_marks { position = 999999 })) (WriteFilemarks false true 1)
       ≡ gives (loaded tag 0 (record (blank 1000) { objects = Mark ∷ []; position = 1000000 })) []
   pub protected_medium : sent (protected tag (block_and_mark 1)) (Write false 1) (5 ∷ [])
       ≡ checks (protected tag (block_and_mark 1)) [] (sense 0x70 0x07 0x00 0x00 0x00 0x00 0x27 0x00)
-  pub protected_marks : asked (protected tag (block_and_mark 1)) (WriteFilemarks false 1)
+  pub protected_marks : asked (protected tag (block_and_mark 1)) (WriteFilemarks false false 1)
       ≡ checks (protected tag (block_and_mark 1)) [] (sense 0x70 0x07 0x00 0x00 0x00 0x00 0x27 0x00)
   pub protected_erase : asked (protected tag (block_and_mark 1)) Erase
       ≡ checks (protected tag (block_and_mark 1)) [] (sense 0x70 0x07 0x00 0x00 0x00 0x00 0x27 0x00)
   pub erase : asked (loaded tag 0 (block_and_mark 1)) Erase
       ≡ gives (loaded tag 0 (record (blank 1000) { objects = Block (replicate 400 7) ∷ []; position = 1 })) []
-  pub protected_nothing : asked (protected tag (block_and_mark 1)) (WriteFilemarks false 0)
+  pub protected_nothing : asked (protected tag (block_and_mark 1)) (WriteFilemarks false false 0)
       ≡ gives (protected tag (block_and_mark 1)) []
 
 abbrev pub not_present : List ℕ

@@ -68,7 +68,7 @@ pub record Carries (before after : DeviceView) (source destination : ℕ) : Type
 -- the commands that change what is on a tape, and the one that changes where a volume is
 abbrev pub is_write : Request → Bool
 is_write (Write fixed transfer_length) = true
-is_write (WriteFilemarks wsmk count) = true
+is_write (WriteFilemarks wsmk immed count) = true
 is_write Erase = true
 is_write request = false
 

@@ -34,6 +34,7 @@ pub fn field_fault(kind: Kind, request: &Request, bytes: &[u8]) -> Option<Condit
         } => write_fault(*fixed, *transfer_length, bytes),
         Request::WriteFilemarks {
             write_setmarks,
+            immediate: _,
             filemark_count: _,
         } => invalid_where(*write_setmarks),
         Request::Space { code, count: _ } => invalid_where(!is_space_code(*code)),

@@ -24,6 +24,10 @@ pub(crate) fn release<G: SessionRegister>(
         × Releases (G.settles register.now) connection.old.tasks said connection.new.tasks
         × Adds result connection.old.out.items connection.new.out.items said }
 {
+    if connection.tasks.holds_none() {
+        register.note_holding(false);
+        return Ok(());
+    }
     let tickets = connection.tasks.tickets();
     'tickets: for ticket in tickets.as_slice() {
         release_one(register, connection, *ticket)?;

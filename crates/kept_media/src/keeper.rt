@@ -285,9 +285,10 @@ fn place_at(lun: u8) -> KeepPlace {
 }
 
 impl<S: ImageStore + Drop, N: InventoryStore + Drop> TapeKeeper<Device> for MediaKeeper<S, N> {
+    ghost use Rattle.std.specs.Prelude.{false};
     ghost use Rattle.kept_media.specs.Wishes.{wish_of, is_waited_for};
 
-    ghost says_kept = { λ class. is_waited_for (wish_of class) };
+    ghost says_kept = { λ class. is_waited_for (wish_of class false) };
 
     fn begin<R: Wait, H: KeepListener>(
         &self,
@@ -295,10 +296,14 @@ impl<S: ImageStore + Drop, N: InventoryStore + Drop> TapeKeeper<Device> for Medi
         listener: &H,
         command: GoodCommand,
     ) -> Option<Ticket> {
-        match wish_of(command.class) {
+        match wish_of(command.class, command.is_immediate) {
             Wish::Nothing => None,
             Wish::Behind => self.requests.add(rt, command.lun, command.length as u64),
             Wish::Volume => Some(self.begin_volume(rt, listener, command)),
+            Wish::VolumeBehind => {
+                let _ = self.begin_volume(rt, listener, command);
+                None
+            }
             Wish::Move => Some(self.begin_move(rt, listener, command)),
         }
     }

@@ -8,6 +8,7 @@ mod image_bytes;
 mod images;
 mod keeping;
 mod library;
+mod meanwhile;
 mod memory;
 mod memory_disk;
 mod moved;

@@ -96,7 +96,7 @@ module _ (ty : ResType) (ro : Role) (closed : row_allows Changing ty ro ≡ fals
       either_same t (is_fixed_transfer m count) (unless_nothing count t (reads_fixed m count t)) (t, refused InvalidFieldInCdb)
       (either_same t (count == 0) (t, done []) (reads_fixed m count t) (same_tape t) (run_same t count (run m (ahead t) count))) (same_tape t)
   tape_same m protected t (request.Write fixed asked) bytes h = barred _ h closed
-  tape_same m protected t (request.WriteFilemarks wsmk count) bytes h = barred _ h closed
+  tape_same m protected t (request.WriteFilemarks wsmk immed count) bytes h = barred _ h closed
   tape_same m protected t (request.Space code count) bytes h = spaced_same (space_code code) t count
   tape_same m protected t (request.Inquiry evpd page l) bytes h = same_tape t
   tape_same m protected t (request.ModeSelect sp l) bytes h = same_tape t
@@ -151,7 +151,7 @@ module _ (ty : ResType) (ro : Role) (closed : row_allows Changing ty ro ≡ fals
   drive_same d request.InitializeElementStatus bytes h = bay_same d d.bay request.InitializeElementStatus bytes refl h
   drive_same d (request.Read sili fixed l) bytes h = bay_same d d.bay (request.Read sili fixed l) bytes refl h
   drive_same d (request.Write fixed l) bytes h = bay_same d d.bay (request.Write fixed l) bytes refl h
-  drive_same d (request.WriteFilemarks wsmk l) bytes h = bay_same d d.bay (request.WriteFilemarks wsmk l) bytes refl h
+  drive_same d (request.WriteFilemarks wsmk immed l) bytes h = bay_same d d.bay (request.WriteFilemarks wsmk immed l) bytes refl h
   drive_same d (request.Space code l) bytes h = bay_same d d.bay (request.Space code l) bytes refl h
   drive_same d (request.Inquiry evpd page l) bytes h = bay_same d d.bay (request.Inquiry evpd page l) bytes refl h
   drive_same d request.Erase bytes h = bay_same d d.bay request.Erase bytes refl h

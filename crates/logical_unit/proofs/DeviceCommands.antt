@@ -58,7 +58,7 @@ request_plain request.ReadBlockLimits bytes = record { tells = λ k n changed. r
 request_plain request.InitializeElementStatus bytes = record { tells = λ k n changed. refl; listless = refl; own = refl }
 request_plain (request.Read sili fixed l) bytes = record { tells = λ k n changed. refl; listless = refl; own = refl }
 request_plain (request.Write fixed l) bytes = record { tells = λ k n changed. refl; listless = refl; own = refl }
-request_plain (request.WriteFilemarks wsmk l) bytes = record { tells = λ k n changed. refl; listless = refl; own = refl }
+request_plain (request.WriteFilemarks wsmk immed l) bytes = record { tells = λ k n changed. refl; listless = refl; own = refl }
 request_plain (request.Space code l) bytes = record { tells = λ k n changed. refl; listless = refl; own = refl }
 request_plain (request.Inquiry evpd page l) bytes = tt
 request_plain (request.ModeSelect sp l) bytes = record { tells = λ k n changed. refl; listless = refl; own = refl }

@@ -43,7 +43,7 @@ tape_quiet ty ro s m protected t request.ReadBlockLimits bytes h = record { same
 tape_quiet ty ro s m protected t request.InitializeElementStatus bytes h = record { same = refl; steady = refl }
 tape_quiet ty ro s m protected t (request.Read sili fixed asked) bytes h = barred _ h s.reading
 tape_quiet ty ro s m protected t (request.Write fixed asked) bytes h = barred _ h s.changing
-tape_quiet ty ro s m protected t (request.WriteFilemarks wsmk count) bytes h = barred _ h s.changing
+tape_quiet ty ro s m protected t (request.WriteFilemarks wsmk immed count) bytes h = barred _ h s.changing
 tape_quiet ty ro s m protected t (request.Space code count) bytes h = barred _ h s.reading
 tape_quiet ty ro s m protected t (request.Inquiry evpd page l) bytes h = record { same = refl; steady = refl }
 tape_quiet ty ro s m protected t (request.ModeSelect sp l) bytes h = record { same = refl; steady = refl }
@@ -83,7 +83,7 @@ drive_quiet ty ro s d request.ReadBlockLimits bytes h = record { same = refl; st
 drive_quiet ty ro s d request.InitializeElementStatus bytes h = bay_quiet ty ro s d d.bay request.InitializeElementStatus bytes refl h
 drive_quiet ty ro s d (request.Read sili fixed l) bytes h = bay_quiet ty ro s d d.bay (request.Read sili fixed l) bytes refl h
 drive_quiet ty ro s d (request.Write fixed l) bytes h = bay_quiet ty ro s d d.bay (request.Write fixed l) bytes refl h
-drive_quiet ty ro s d (request.WriteFilemarks wsmk l) bytes h = bay_quiet ty ro s d d.bay (request.WriteFilemarks wsmk l) bytes refl h
+drive_quiet ty ro s d (request.WriteFilemarks wsmk immed l) bytes h = bay_quiet ty ro s d d.bay (request.WriteFilemarks wsmk immed l) bytes refl h
 drive_quiet ty ro s d (request.Space code l) bytes h = bay_quiet ty ro s d d.bay (request.Space code l) bytes refl h
 drive_quiet ty ro s d (request.Inquiry evpd page l) bytes h = bay_quiet ty ro s d d.bay (request.Inquiry evpd page l) bytes refl h
 drive_quiet ty ro s d (request.ModeSelect sp l) bytes h = barred _ h s.changing
@@ -108,7 +108,7 @@ changer_quiet ty ro closed e request.ReadBlockLimits h = record { same = refl; s
 changer_quiet ty ro closed e request.InitializeElementStatus h = record { same = refl; steady = refl }
 changer_quiet ty ro closed e (request.Read sili fixed l) h = record { same = refl; steady = refl }
 changer_quiet ty ro closed e (request.Write fixed l) h = record { same = refl; steady = refl }
-changer_quiet ty ro closed e (request.WriteFilemarks wsmk l) h = record { same = refl; steady = refl }
+changer_quiet ty ro closed e (request.WriteFilemarks wsmk immed l) h = record { same = refl; steady = refl }
 changer_quiet ty ro closed e (request.Space code l) h = record { same = refl; steady = refl }
 changer_quiet ty ro closed e (request.Inquiry evpd page l) h = record { same = refl; steady = refl }
 changer_quiet ty ro closed e (request.ModeSelect sp l) h = record { same = refl; steady = refl }

@@ -11,5 +11,6 @@ pub mod MoveFinding
 pub mod History
 pub mod ActKinds
 pub mod Answers
+pub mod AtOnce
 pub mod EventValue
 pub mod VolumeAfter

@@ -1,10 +1,11 @@
-ghost use Rattle.std.specs.Prelude.{◌≡◌, [], ◌∷◌, ◌++◌, Some, None};
+ghost use Rattle.std.specs.Prelude.{◌≡◌, true, [], ◌∷◌, ◌++◌, Some, None};
 ghost use Rattle.device_server.specs.View.{kind_of, drives_of};
 ghost use Rattle.judgement.specs.Replies.{busy};
 ghost use Rattle.judgement.specs.Commands.{act_of_decoded};
 ghost use Rattle.judgement.specs.Received.{IsFor, command_in};
 ghost use Rattle.logical_unit.specs.ActKinds.{act_kind_of, act_kind_if};
 ghost use Rattle.logical_unit.specs.Answers as event;
+ghost use Rattle.logical_unit.specs.AtOnce.{asks_at_once};
 ghost use Rattle.logical_unit.specs.Answers.{IsAnswer, own_number};
 ghost use Rattle.logical_unit.specs.Move.{MovesOne, MovesTwo, numbers_of};
 ghost use Rattle.logical_unit.specs.Route.{named};
@@ -19,7 +20,7 @@ use crate::route::route_of;
 use crate::unit::LogicalUnit;
 use device_server::DeviceServer;
 use judgement::ReceivedCommand;
-use scsi_cdb::{Class, Kind};
+use scsi_cdb::{Class, Kind, is_immediate};
 use scsi_nexus::Nexus;
 use std::alloc::Global;
 use tape_medium::VolumeTag;
@@ -52,6 +53,19 @@ fn volume_after<D: DeviceServer>(
     }
 }
 
+/// Whether the reply to a command that was sent to a unit needn't wait for the medium.
+fn is_at_once<D: DeviceServer>(unit: &LogicalUnit<D>, received: &ReceivedCommand<'_>) -> bool
+    requires { IsFor unit.now.unit.device received.now }
+    ensures { result ≡ true → asks_at_once (event.Command received.now.cdb received.now.bytes) ≡ true }
+{
+    match unit.kind() {
+        Kind::Drive => received
+            .request()
+            .is_ok_and(|request| is_immediate(&request)),
+        Kind::Changer => false,
+    }
+}
+
 impl<D: DeviceServer> LogicalUnit<D> {
     /// One command, as `execute` does it, with its answer. Without a number it is BUSY, and nothing has changed.
     pub fn carry_out<'a>(&mut self, alloc: Global, received: &ReceivedCommand<'a>) -> Done<'a>
@@ -64,6 +78,7 @@ impl<D: DeviceServer> LogicalUnit<D> {
         ensures unnumbered { result.numbers ≡ [] → result.reply ≡ busy }
     {
         let lun = self.lun();
+        let is_immediate = is_at_once(self, received);
         let (reply, act) = self.answer(alloc, received);
         let receipt = Receipt::of(lun, reply);
         let volume = volume_after(self, received);
@@ -73,6 +88,7 @@ impl<D: DeviceServer> LogicalUnit<D> {
             asked_by(received),
             act,
             volume,
+            is_immediate,
             receipt,
         )
     }
@@ -90,7 +106,7 @@ impl<D: DeviceServer> LogicalUnit<D> {
         let reply = self.lose_reply(alloc, nexus);
         let receipt = Receipt::of(lun, reply);
         let act = recorded_kind(ActKind::Loss, receipt.numbers.as_slice());
-        done_with(Some(nexus), lun, EventKind::Loss, act, None, receipt)
+        done_with(Some(nexus), lun, EventKind::Loss, act, None, false, receipt)
     }
 
     /// A reset of the unit, as `reset` does it, with its answer. Without a number it is BUSY, and nothing has changed.
@@ -106,7 +122,7 @@ impl<D: DeviceServer> LogicalUnit<D> {
         let reply = self.reset_reply(alloc);
         let receipt = Receipt::of(lun, reply);
         let act = recorded_kind(ActKind::Reset, receipt.numbers.as_slice());
-        done_with(None, lun, EventKind::Reset, act, None, receipt)
+        done_with(None, lun, EventKind::Reset, act, None, false, receipt)
     }
 }
 
@@ -137,6 +153,7 @@ pub fn carry_out_move_one<'a, D: DeviceServer>(
         asked_by(received),
         act,
         volume,
+        false,
         receipt,
     )
 }
@@ -168,6 +185,7 @@ pub fn carry_out_move_two<'a, D: DeviceServer>(
         asked_by(received),
         act,
         volume,
+        false,
         receipt,
     )
 }

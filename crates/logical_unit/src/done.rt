@@ -1,9 +1,10 @@
-ghost use Rattle.std.specs.Prelude.{◌≡◌, [], None, Some};
+ghost use Rattle.std.specs.Prelude.{◌≡◌, true, [], None, Some};
 ghost use Rattle.scsi_sense.specs.declared.condition.Condition.TheVariants.{LogicalUnitNotSupported};
 ghost use Rattle.judgement.specs.Replies.{AnswersAbsent, busy, check};
 ghost use Rattle.logical_unit.specs.Answers as event;
 ghost use Rattle.logical_unit.specs.Answers.{count_at, entry_of, IsAnswer, LeavesNothing};
 ghost use Rattle.logical_unit.specs.EventValue.{event_value};
+ghost use Rattle.logical_unit.specs.AtOnce.{asks_at_once};
 
 use crate::act_kind::ActKind;
 use crate::entry::Entry;
@@ -46,17 +47,22 @@ pub struct Done<'a> {
     asked: EventKind<'a>,
     act: Option<ActKind>,
     volume: Option<VolumeTag>,
+    is_immediate: bool,
     receipt: Receipt,
 }
 
 impl<'a> Model for Done<'a> {
+    ghost use Rattle.std.specs.Prelude.{◌≡◌, true};
     ghost use Rattle.logical_unit.specs.Answers.{DoneValue};
+    ghost use Rattle.logical_unit.specs.AtOnce.{asks_at_once};
 
     ghost Value = { DoneValue };
 
     ghost use Rattle.logical_unit.specs.EventValue.{event_value};
 
     ghost view = { λ d. record { nexus = d.nexus; lun = d.lun; asked = event_value d.asked; act = d.act; volume = d.volume; reply = d.receipt.reply; numbers = d.receipt.numbers.items } };
+
+    ghost invariant = { λ d. d.is_immediate ≡ true → asks_at_once (event_value d.asked) ≡ true };
 }
 
 /// The answer to a call, with its receipt.
@@ -66,8 +72,10 @@ pub(crate) fn done_with<'a>(
     asked: EventKind<'a>,
     act: Option<ActKind>,
     volume: Option<VolumeTag>,
+    is_immediate: bool,
     receipt: Receipt,
 ) -> Done<'a>
+    requires immediate { is_immediate ≡ true → asks_at_once (event_value asked) ≡ true }
     ensures answer { IsAnswer result nexus lun (event_value asked.entry) }
     ensures reply { result.reply ≡ receipt.reply }
     ensures numbers { result.numbers ≡ receipt.numbers.items }
@@ -80,6 +88,7 @@ pub(crate) fn done_with<'a>(
         asked,
         act,
         volume,
+        is_immediate,
         receipt,
     }
 }
@@ -92,7 +101,15 @@ fn plain<'a>(nexus: Option<Nexus>, lun: u8, asked: EventKind<'a>, reply: Reply) 
     ensures volume { result.volume ≡ None }
 {
     let numbers = ArrayVec::new();
-    done_with(nexus, lun, asked, None, None, Receipt { reply, numbers })
+    done_with(
+        nexus,
+        lun,
+        asked,
+        None,
+        None,
+        false,
+        Receipt { reply, numbers },
+    )
 }
 
 impl<'a> Done<'a> {
@@ -173,6 +190,13 @@ impl<'a> Done<'a> {
         ensures { result ≡ self.now.volume }
     {
         self.volume
+    }
+
+    /// Whether the reply needn't wait for the medium, since the host said so.
+    pub fn is_immediate(&self) -> bool
+        ensures { result ≡ true → asks_at_once self.now.asked ≡ true }
+    {
+        self.is_immediate
     }
 
     /// The reply, and for each record that the call left the unit that has it, and its number there.

@@ -1,5 +1,5 @@
 -- The class of each request: the row of the permission table that it is judged by.
-use Rattle.std.specs.Prelude.{◌==◌, if◌then◌else◌}
+use Rattle.std.specs.Prelude.{◌==◌, Bool, false, if◌then◌else◌}
 use Rattle.permit_tables.specs.declared.classes.Class.{Class}
 use Rattle.permit_tables.specs.declared.classes.Class.TheVariants as class
 use Rattle.permit_tables.specs.Classes.{class_of_action}
@@ -16,7 +16,7 @@ class_of request.ReadBlockLimits = class.ReadBlockLimits
 class_of request.InitializeElementStatus = class.InitializeElementStatus
 class_of (request.Read sili fixed n) = class.Read
 class_of (request.Write fixed n) = class.Write
-class_of (request.WriteFilemarks wsmk n) = class.WriteFilemarks
+class_of (request.WriteFilemarks wsmk immed n) = class.WriteFilemarks
 class_of (request.Space code n) = class.Space
 class_of (request.Inquiry evpd page n) = class.Inquiry
 class_of (request.ModeSelect sp n) = class.ModeSelect
@@ -32,3 +32,8 @@ class_of (request.ReportLuns select n) = class.ReportLuns
 class_of (request.MoveMedium transport source destination invert) = class.MoveMedium
 class_of (request.ReadElementStatus voltag type_code start count curdata dvcid n) =
     if curdata then class.ReadElementStatusCurdata else class.ReadElementStatus
+
+-- whether the status needn't wait for the medium
+abbrev pub is_immediate : Request → Bool
+is_immediate (request.WriteFilemarks wsmk immed n) = immed
+is_immediate request = false

@@ -67,7 +67,7 @@ table =
     ∷ row 0x07 6 Changers (λ c. Some InitializeElementStatus)
     ∷ row 0x08 6 Drives (λ c. Some (Read (bit c 1 1) (bit c 1 0) (three_bytes c 2)))
     ∷ row 0x0A 6 Drives (λ c. Some (Write (bit c 1 0) (three_bytes c 2)))
-    ∷ row 0x10 6 Drives (λ c. Some (WriteFilemarks (bit c 1 1) (three_bytes c 2)))
+    ∷ row 0x10 6 Drives (λ c. Some (WriteFilemarks (bit c 1 1) (bit c 1 0) (three_bytes c 2)))
     ∷ row 0x11 6 Drives (λ c. Some (Space (bits c 1 3 0) (signed_three_bytes c 2)))
     ∷ row 0x12 6 Both (λ c. Some (Inquiry (bit c 1 0) (byte c 2) (two_bytes c 3)))
     ∷ row 0x15 6 Drives (λ c. Some (ModeSelect (bit c 1 0) (byte c 4)))

@@ -50,7 +50,7 @@ encoded ReadBlockLimits = padded (0x05 ∷ [])
 encoded InitializeElementStatus = padded (0x07 ∷ [])
 encoded (Read sili fixed n) = padded (0x08 ∷ (at 1 sili + at 0 fixed) ∷ three n)
 encoded (Write fixed n) = padded (0x0A ∷ at 0 fixed ∷ three n)
-encoded (WriteFilemarks wsmk n) = padded (0x10 ∷ at 1 wsmk ∷ three n)
+encoded (WriteFilemarks wsmk immed n) = padded (0x10 ∷ (at 1 wsmk + at 0 immed) ∷ three n)
 encoded (Space code n) = padded (0x11 ∷ from 3 0 code ∷ three (twos_complement n))
 encoded (Inquiry evpd page n) = padded (0x12 ∷ at 0 evpd ∷ page ∷ two n)
 encoded (ModeSelect sp n) = padded (0x15 ∷ at 0 sp ∷ 0 ∷ 0 ∷ n ∷ [])
@@ -73,7 +73,7 @@ abbrev pub Fits : Request → Type 0
 Fits (RequestSense desc n) = n < 2 ^ 8
 Fits (Read sili fixed n) = n < 2 ^ 24
 Fits (Write fixed n) = n < 2 ^ 24
-Fits (WriteFilemarks wsmk n) = n < 2 ^ 24
+Fits (WriteFilemarks wsmk immed n) = n < 2 ^ 24
 Fits (Space code n) = (code < 2 ^ 4) × (neg_ℤ (pos (2 ^ 23)) ≤ℤ n) × (n <ℤ pos (2 ^ 23))
 Fits (Inquiry evpd page n) = (page < 2 ^ 8) × (n < 2 ^ 16)
 Fits (ModeSelect sp n) = n < 2 ^ 8

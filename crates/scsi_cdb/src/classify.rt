@@ -1,5 +1,5 @@
 ghost use Rattle.std.specs.Prelude.{◌≡◌};
-ghost use Rattle.scsi_cdb.specs.Classes.{class_of};
+ghost use Rattle.scsi_cdb.specs.Classes.{class_of, is_immediate};
 ghost use Rattle.scsi_cdb.specs.declared.request.Request.TheVariants.{PreventAllowMediumRemoval};
 
 use crate::request::Request;
@@ -37,6 +37,20 @@ pub fn class(request: &Request) -> Class
         } => Class::ReadElementStatusCurdata,
         Request::ReadElementStatus { .. } => Class::ReadElementStatus,
     }
+}
+
+/// Whether the status may be returned before what a request writes is on the medium: IMMED of WRITE FILEMARKS(6) (SSC-4, "WRITE
+/// FILEMARKS(6) command"). IMMED of other commands isn't offered: their status always waits.
+pub fn is_immediate(request: &Request) -> bool
+    ensures { result ≡ is_immediate request.now }
+{
+    matches!(
+        request,
+        Request::WriteFilemarks {
+            immediate: true,
+            ..
+        }
+    )
 }
 
 /// The class of PREVENT ALLOW MEDIUM REMOVAL by its field PREVENT.

@@ -40,16 +40,12 @@ pub fn encode(request: &Request) -> [u8; CDB_LENGTH]
         }
         Request::WriteFilemarks {
             write_setmarks,
+            immediate,
             filemark_count,
         } => {
             let [_, n2, n1, n0] = filemark_count.to_be_bytes();
-            zero_padded(&[
-                WRITE_FILEMARKS_6,
-                flag(WSMK_BIT, write_setmarks),
-                n2,
-                n1,
-                n0,
-            ])
+            let flags = flag(WSMK_BIT, write_setmarks) + flag(IMMED_BIT, immediate);
+            zero_padded(&[WRITE_FILEMARKS_6, flags, n2, n1, n0])
         }
         Request::Space { code, count } => {
             let [_, n2, n1, n0] = count.to_be_bytes();

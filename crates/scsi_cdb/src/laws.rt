@@ -65,8 +65,9 @@ pub fn worked_rows_of_drives()
     ensures read_of_two_blocks { decoded Drive (8 ∷ 1 ∷ 0 ∷ 0 ∷ 2 ∷ 0 ∷ []) ≡ Ok (Read false true 2) }
     ensures longest_read { decoded Drive (8 ∷ 2 ∷ 0xFF ∷ 0xFF ∷ 0xFF ∷ 0xC0 ∷ []) ≡ Ok (Read true false 0xFFFFFF) }
     ensures write { decoded Drive (0x0A ∷ 1 ∷ 1 ∷ 2 ∷ 3 ∷ 0 ∷ []) ≡ Ok (Write true 0x010203) }
-    ensures filemarks { decoded Drive (0x10 ∷ 1 ∷ 0 ∷ 1 ∷ 2 ∷ 0 ∷ []) ≡ Ok (WriteFilemarks false 258) }
-    ensures setmark { decoded Drive (0x10 ∷ 2 ∷ 0 ∷ 0 ∷ 1 ∷ 0 ∷ []) ≡ Ok (WriteFilemarks true 1) }
+    ensures filemarks { decoded Drive (0x10 ∷ 0 ∷ 0 ∷ 1 ∷ 2 ∷ 0 ∷ []) ≡ Ok (WriteFilemarks false false 258) }
+    ensures filemark_at_once { decoded Drive (0x10 ∷ 1 ∷ 0 ∷ 0 ∷ 1 ∷ 0 ∷ []) ≡ Ok (WriteFilemarks false true 1) }
+    ensures setmark { decoded Drive (0x10 ∷ 2 ∷ 0 ∷ 0 ∷ 1 ∷ 0 ∷ []) ≡ Ok (WriteFilemarks true false 1) }
     ensures space_to_end_of_data { decoded Drive (0x11 ∷ 3 ∷ 0 ∷ 0 ∷ 0 ∷ 0 ∷ []) ≡ Ok (Space 3 (pos 0)) }
     ensures space_one_back { decoded Drive (0x11 ∷ 0 ∷ 0xFF ∷ 0xFF ∷ 0xFF ∷ 0 ∷ []) ≡ Ok (Space 0 (negsuc 0)) }
     ensures space_furthest { decoded Drive (0x11 ∷ 0xF1 ∷ 0x7F ∷ 0xFF ∷ 0xFF ∷ 0 ∷ []) ≡ Ok (Space 1 (pos 8388607)) }

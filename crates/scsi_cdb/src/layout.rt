@@ -91,6 +91,8 @@ pub const TRANSFER_LENGTH: usize = 2;
 // WRITE FILEMARKS(6), byte 1, and a place.
 pub const WSMK_BIT: u8 = 1;
 
+pub const IMMED_BIT: u8 = 0;
+
 pub const FILEMARK_COUNT: usize = 2;
 
 // SPACE(6): places, and the bits of the code.

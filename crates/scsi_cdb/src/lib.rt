@@ -16,7 +16,7 @@ mod request;
 mod stream;
 
 pub use action::InServiceAction;
-pub use classify::{class, class_of_prevent};
+pub use classify::{class, class_of_prevent, is_immediate};
 pub use decoding::decode;
 pub use encoding::encode;
 pub use fault::CdbFault;

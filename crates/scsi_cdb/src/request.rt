@@ -32,6 +32,8 @@ pub enum Request {
     WriteFilemarks {
         /// WSMK.
         write_setmarks: bool,
+        /// IMMED.
+        immediate: bool,
         /// 24 bits.
         filemark_count: u32,
     },

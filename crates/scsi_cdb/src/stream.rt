@@ -34,11 +34,12 @@ pub fn write_at(cdb: &[u8]) -> Request
 
 pub fn write_filemarks_at(cdb: &[u8]) -> Request
     requires { 6 ≤ length cdb.now }
-    ensures value { result ≡ WriteFilemarks (bit cdb.now 1 1) (three_bytes cdb.now 2) }
+    ensures value { result ≡ WriteFilemarks (bit cdb.now 1 1) (bit cdb.now 1 0) (three_bytes cdb.now 2) }
     ensures fits { Fits result }
 {
     Request::WriteFilemarks {
         write_setmarks: bit_at(cdb, FLAGS, WSMK_BIT),
+        immediate: bit_at(cdb, FLAGS, IMMED_BIT),
         filemark_count: u24_at(cdb, FILEMARK_COUNT),
     }
 }

@@ -6,7 +6,7 @@ use tickets::{Outcome, Ticket};
 
 /// Who looks after the tapes of the library whose sessions are served, whichever library and keeper of tapes that is.
 pub trait Caretaker {
-    ghost use Rattle.std.specs.Prelude.{◌≡◌, Bool, true, is_some};
+    ghost use Rattle.std.specs.Prelude.{◌≡◌, Bool, true, false, is_some};
     ghost use Rattle.permit_tables.specs.declared.classes.Class.{Class};
 
     /// Whether the reply to a command of a class says that something is kept.
@@ -19,7 +19,7 @@ pub trait Caretaker {
         listener: &H,
         command: GoodCommand,
     ) -> Option<Ticket>
-        ensures { says_kept command.class ≡ true → is_some result ≡ true };
+        ensures { command.is_immediate ≡ false → says_kept command.class ≡ true → is_some result ≡ true };
 
     /// How keeping what a ticket is for ended, if it has.
     fn outcome_of<R: Wait>(&self, rt: &R, ticket: Ticket) -> Option<Outcome>;

@@ -148,6 +148,7 @@ impl<'a, S: SeatService, C: Caretaker, R: Wait, E: Write> WorkerService<'a, S, C
         let command = GoodCommand {
             lun: done.lun(),
             class,
+            is_immediate: done.is_immediate(),
             volume: done.volume(),
             length,
         };

@@ -21,6 +21,8 @@ pub trait KeepListener {
 pub struct GoodCommand {
     pub lun: u8,
     pub class: Class,
+    /// Whether its reply needn't wait for the medium.
+    pub is_immediate: bool,
     /// The volume that it was carried out on, wherever that is by now.
     pub volume: Option<VolumeTag>,
     /// How many bytes were sent with it.
@@ -41,7 +43,7 @@ pub enum KeepPlace {
 /// Who keeps copies of the tapes of a library that is served, and notes where its volumes lie. What replies wait for has tickets: whoever is to
 /// send such a reply holds it until its ticket is settled, while no unit's lock is held, so that no answer of a unit depends on the copies.
 pub trait TapeKeeper<D: DeviceServer> {
-    ghost use Rattle.std.specs.Prelude.{◌≡◌, Bool, true, is_some};
+    ghost use Rattle.std.specs.Prelude.{◌≡◌, Bool, true, false, is_some};
     ghost use Rattle.permit_tables.specs.declared.classes.Class.{Class};
 
     /// Whether the reply to a command of a class says that something is kept.
@@ -55,7 +57,7 @@ pub trait TapeKeeper<D: DeviceServer> {
         listener: &H,
         command: GoodCommand,
     ) -> Option<Ticket>
-        ensures { says_kept command.class ≡ true → is_some result ≡ true };
+        ensures { command.is_immediate ≡ false → says_kept command.class ≡ true → is_some result ≡ true };
 
     /// How keeping what a ticket is for ended, if it has. Where that couldn't be kept the reply must not be sent.
     fn outcome_of<R: Wait>(&self, rt: &R, ticket: Ticket) -> Option<Outcome>;

@@ -1,11 +1,12 @@
 -- Worked rows: what an entry keeps of an act, and the numbers of records by unit.
-use Rattle.std.specs.Prelude.{◌≡◌, ℕ, false, List, [], ◌∷◌, Some, None}
+use Rattle.std.specs.Prelude.{◌≡◌, ℕ, true, false, List, [], ◌∷◌, Some, None}
 use Rattle.permit_tables.specs.declared.service_action.OutServiceAction.TheVariants as out
 use Rattle.permit_tables.specs.declared.classes.Class.TheVariants as class
 use Rattle.permit_tables.specs.declared.out_params.OutParams.{OutParams}
 use Rattle.audit_log.specs.declared.act.Act.TheVariants as act
 use Rattle.logical_unit.specs.declared.act_kind.ActKind.TheVariants as kind
-use Rattle.logical_unit.specs.Answers.{own_number, at, count_at, OnlyAt}
+use Rattle.logical_unit.specs.Answers.{Reset, Command, own_number, at, count_at, OnlyAt}
+use Rattle.logical_unit.specs.AtOnce.{asks_at_once}
 use Rattle.logical_unit.specs.ActKinds.{act_kind_of, act_kind_if}
 
 -- a PREEMPT
@@ -25,6 +26,16 @@ pub record ActKindRows : Type 0 where
   -- where there is no record, nothing
   pub recorded : act_kind_if ((1, 7) ∷ []) kind.Loss ≡ Some kind.Loss
   pub unrecorded : act_kind_if [] kind.Loss ≡ None
+
+pub record AtOnceRows : Type 0 where
+  pub filemark : asks_at_once (Command (0x10 ∷ 0 ∷ 0 ∷ 0 ∷ 1 ∷ 0 ∷ []) []) ≡ false
+  pub immediate : asks_at_once (Command (0x10 ∷ 1 ∷ 0 ∷ 0 ∷ 1 ∷ 0 ∷ []) []) ≡ true
+  -- no IMMED: FIXED of a WRITE, IMMED of ERASE and of LOAD UNLOAD, which always wait
+  pub fixed : asks_at_once (Command (0x0A ∷ 1 ∷ 0 ∷ 0 ∷ 1 ∷ 0 ∷ []) []) ≡ false
+  pub erase : asks_at_once (Command (0x19 ∷ 2 ∷ 0 ∷ 0 ∷ 0 ∷ 0 ∷ []) []) ≡ false
+  pub unload : asks_at_once (Command (0x1B ∷ 1 ∷ 0 ∷ 0 ∷ 0 ∷ 0 ∷ []) []) ≡ false
+  pub no_command : asks_at_once (Command (0x10 ∷ 1 ∷ []) []) ≡ false
+  pub was_reset : asks_at_once Reset ≡ false
 
 -- the numbers of a move from drive 2 to drive 4: record 9 of the changer, 3 and 9 of the drives
 abbrev pub of_a_move : List (ℕ × ℕ)

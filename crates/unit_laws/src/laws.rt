@@ -159,10 +159,16 @@ pub fn numbers_of_records()
     ensures { NumbersOfRecords }
 {}
 
-ghost use Rattle.unit_laws.specs.CallRows.{ActKindRows, CountRows};
+ghost use Rattle.unit_laws.specs.CallRows.{ActKindRows, AtOnceRows, CountRows};
 
 /// Worked rows: what an entry keeps of an act, and the numbers of records by unit.
 pub fn numbers_of_calls()
     ensures kinds { ActKindRows }
     ensures numbers { CountRows }
+{}
+
+/// Worked rows: which commands' replies needn't wait for the medium.
+#[tactic(auto, unfolding(scsi_cdb::specs::Commands::command_of))]
+pub fn commands_at_once()
+    ensures { AtOnceRows }
 {}

@@ -14,6 +14,7 @@ pub(super) fn marked_at(lun: u8, tag: VolumeTag) -> GoodCommand {
     GoodCommand {
         lun,
         class: Class::WriteFilemarks,
+        is_immediate: false,
         volume: Some(tag),
         length: 0,
     }
@@ -28,6 +29,7 @@ pub(super) fn moved(tag: VolumeTag) -> GoodCommand {
     GoodCommand {
         lun: 0,
         class: Class::MoveMedium,
+        is_immediate: false,
         volume: Some(tag),
         length: 0,
     }
@@ -38,6 +40,7 @@ pub(super) fn written(tag: VolumeTag, length: usize) -> GoodCommand {
     GoodCommand {
         lun: 1,
         class: Class::Write,
+        is_immediate: false,
         volume: Some(tag),
         length,
     }

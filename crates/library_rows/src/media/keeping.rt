@@ -30,6 +30,7 @@ const SIZE: LibrarySize = LibrarySize {
 const WRITE: GoodCommand = GoodCommand {
     lun: 1,
     class: Class::Write,
+    is_immediate: false,
     volume: Some(TAG),
     length: 2,
 };

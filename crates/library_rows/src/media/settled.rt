@@ -50,6 +50,30 @@ fn filemarks_that_wait_are_kept_at_once(rt: HostRuntime) {
     assert_same(&rt, disk.a.syncs.load(Ordering::SeqCst), 0, "A isn't");
 }
 
+/// With IMMED nobody waits for a filemark, which is kept as soon.
+#[test]
+fn a_filemark_at_once_is_kept(rt: HostRuntime) {
+    let alloc = rt.alloc();
+    let disk = MemoryDisk::new(alloc);
+    let library = Library::new(&rt, alloc, &disk, A, B);
+    let is_written = library.units.performs(&rt, alloc, 1, &WRITE_HI, b"hi");
+    let is_marked = library.units.performs(&rt, alloc, 1, &WRITE_MARK, &[]);
+    let mut at_once = marked(B);
+    at_once.is_immediate = true;
+    let ticket = library.keep(at_once, DRIVE);
+    let found = (is_written, is_marked, ticket);
+    let expected = (true, true, Ended::NoTicket);
+    assert_same(&rt, found, expected, "no reply waits");
+    assert_list(
+        &rt,
+        &disk.b.bytes.lock(&rt),
+        BLOCK_AND_MARK,
+        "it is in the file",
+    );
+    let syncs = disk.b.syncs.load(Ordering::SeqCst);
+    assert_same(&rt, syncs > 0, true, "and on the disk");
+}
+
 /// A disk that fails once.
 #[test]
 fn what_was_lost_is_kept_with_the_next(rt: HostRuntime) {

@@ -25,6 +25,7 @@ pub(super) const WRITE_HI: Request = Request::Write {
 
 pub(super) const WRITE_MARK: Request = Request::WriteFilemarks {
     write_setmarks: false,
+    immediate: false,
     filemark_count: 1,
 };
 

@@ -25,6 +25,10 @@ pub(super) enum Ask {
     Loss,
     /// TEST UNIT READY.
     Ready,
+    /// WRITE FILEMARKS(6) of one.
+    Mark,
+    /// The same with IMMED.
+    MarkAtOnce,
     /// MOVE MEDIUM of the volume of 0400h into drive 1.
     ToDrive1,
 }
@@ -35,6 +39,14 @@ const fn event_of(ask: Ask) -> EventKind<'static> {
         Ask::Loss => EventKind::Loss,
         Ask::Ready => EventKind::Command {
             cdb: &[0; 6],
+            bytes: &[],
+        },
+        Ask::Mark => EventKind::Command {
+            cdb: b"\x10\0\0\0\x01\0",
+            bytes: &[],
+        },
+        Ask::MarkAtOnce => EventKind::Command {
+            cdb: b"\x10\x01\0\0\x01\0",
             bytes: &[],
         },
         Ask::ToDrive1 => EventKind::Command {
@@ -86,6 +98,13 @@ pub(super) fn ask_one<T: Opened, R: Abort + Wait>(
 ) {
     let (_, nexus, lun, ask, _, _) = *row;
     let done = library.ask(rt, alloc, seat, nexus, lun, event_of(ask));
+    let is_immediate = matches!(ask, Ask::MarkAtOnce);
+    assert_same(
+        rt,
+        done.is_immediate(),
+        is_immediate,
+        "whether it has IMMED",
+    );
     assert_answer(rt, done.receipt(), row);
 }
 

@@ -27,8 +27,8 @@ const A_FIRST: [Row; 1] = [("A's first command", A, 1, Ask::Ready, POWER_ON, 1)]
 const B_ONCE: [Row; 1] = [("B's first command", B, 1, Ask::Ready, POWER_ON, 1)];
 
 const A_TWICE: [Row; 2] = [
-    ("A again", A, 1, Ask::Ready, NO_MEDIUM, 1),
-    ("and again", A, 1, Ask::Ready, NO_MEDIUM, 1),
+    ("a filemark of A", A, 1, Ask::Mark, NO_MEDIUM, 1),
+    ("and one with IMMED", A, 1, Ask::MarkAtOnce, NO_MEDIUM, 1),
 ];
 
 const A_TWICE_AND_NO_RECORD: [Row; 3] = [

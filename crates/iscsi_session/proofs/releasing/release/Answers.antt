@@ -1,7 +1,11 @@
-use Rattle.std.proofs.Common.{◌++◌}
+use Rattle.std.proofs.Common.{◌++◌, [], sym, append-nil}
 use Rattle.iscsi_session.proofs.Acted.{adds_nothing, said_more}
-use Rattle.iscsi_session.proofs.Released.{releases_then}
+use Rattle.iscsi_session.proofs.Released.{releases_none, releases_then}
 use Rattle.iscsi_session.proofs.releasing.release.Goals as goal
+
+pub returns-then-holds_none-clause-released : goal.returns-then-holds_none-clause-released
+returns-then-holds_none-clause-released g c =
+    ([], releases_none (g.G.SessionRegister.settles c.args.register.now) _, sym (append-nil c.args.connection.old.out.items))
 
 pub returns-in_err-release_one-clause-released : goal.returns-in_err-release_one-clause-released
 returns-in_err-release_one-clause-released g c =
