@@ -1,11 +1,15 @@
-"""A session that can't end when it is to, since its command waits for a reader of the records: who logs in for its place is told so."""
+"""A unit whose records nobody takes: the replies of its commands wait, and the sessions of iSCSI go on, and end when they are to."""
+import contextlib
 import os
 import select
+import typing
 
 from drains import AT_ONCE, MOST, Reading, unread_pipe
-from exchanges import DRIVE_READY, good
-from portal_pdus import NAMES, OPERATIONAL, TARGET_ERROR, TO_FULL, login, ready, refused
-from portal_scenes import REFUSALS, begins, gets, sends
+from exchanges import DRIVE_READY, good as good_frame
+from portal_pdus import (
+    ABORT_TASK, ABORT_TASK_SET, CHANGER, COMPLETE, DRIVE, GROUP, NAMES, READS, TO_FULL, UNIT_RESET, command, data_in, good, let_on, login, manage, managed,
+    nop_in, nop_out, ready, response)
+from portal_scenes import CLOSED, begins, connects, gets, sends
 from portal_stage import Stage, address_of, name_of
 from serving import Row, Server, Tried, Wrong, holds, lacks
 
@@ -14,11 +18,13 @@ from frames import exactly, framed  # of examples/
 CID = 1
 # How many commands are answered at most whose records nobody takes: as many as are being written, and as many as wait.
 MOST_ANSWERED = 2 * MOST
+# READ POSITION, and what it says at the beginning of the tape.
+POSITION, AT_BEGINNING = "34000000000000000000", b"\x80" + bytes(19)
 
 
 def fill(stage: Stage) -> None:
     """The host at the socket asks the drive until no answer comes."""
-    size, answered = len(framed(good(0))), 0
+    size, answered = len(framed(good_frame(0))), 0
     while answered <= (MOST_ANSWERED + AT_ONCE) * size:
         stage.host.sendall(framed(DRIVE_READY) * AT_ONCE)
         wanted = answered + AT_ONCE * size
@@ -29,14 +35,15 @@ def fill(stage: Stage) -> None:
     raise Wrong("the commands that are answered as long as nobody reads their lines", answered // size, f"at most {MOST_ANSWERED}")
 
 
-def hang(stage: Stage) -> None:
-    """The initiator asks the drive, and has no answer."""
-    stage.one.send(ready(2, 1))
+def is_silent(stage: Stage) -> None:
+    """The initiator has no answer."""
     if select.select([stage.one.connection], [], [], 1)[0]:
         raise Wrong("a command to a unit that is full", "is answered", "waits")
 
 
-def no_end(tried: Tried) -> None:
+@contextlib.contextmanager
+def full_drive(tried: Tried) -> typing.Iterator[tuple[Stage, int]]:
+    """An initiator that has logged in, and nobody takes the records of the drive. At the end whoever has begun to read has them all."""
     with unread_pipe() as (reader, writer), Server(
             tried, "--iscsi", "127.0.0.1:0", "--host", f"{name_of(0)}={address_of(0):016x}", "--workers", "4", "--drain", "--log",
             output=writer) as server:
@@ -46,21 +53,73 @@ def no_end(tried: Tried) -> None:
         for step in begins(cid=CID):
             step(stage)
         fill(stage)
-        hang(stage)
-        for tsih in (0, stage.one.tsih):
-            claim = stage.connect()
-            for step in (sends(login(TO_FULL, NAMES, tsih=tsih, cid=CID)), gets(refused(OPERATIONAL, TARGET_ERROR, tsih=tsih))):
-                step(stage)
-            claim.is_left()
-            holds("what is told", stage.told_of(claim), f": login refused: {REFUSALS[TARGET_ERROR]}\n")
-        stage.close()
-        stage.host.close()
+        yield stage, reader
+
+
+def ends(stage: Stage, reading: Reading) -> None:
+    stage.close()
+    stage.host.close()
+    stage.server.end()
+    stage.server.status()
+    reading.join()
+    lacks("what is told", stage.server.told.text, "device fault")
+
+
+def goes_on(tried: Tried) -> None:
+    with full_drive(tried) as (stage, reader):
+        for step in (
+                sends(ready(2, 1)), is_silent,
+                sends(nop_out(4, 2, now=True)), gets(nop_in(4, (3, 2, 32))),
+                sends(ready(5, 2, CHANGER)), gets(good(5, (4, 3, 33))),
+                # The data of a read wait for nothing, and its status does.
+                sends(command(6, 3, POSITION, READS, 20)), gets(data_in(6, (4, 33), AT_BEGINNING)), is_silent,
+                sends(manage(ABORT_TASK, 4, of=2)), gets(managed(COMPLETE, (5, 4, 34)))):
+            step(stage)
         reading = Reading(reader)
-        server.end()
-        server.status()
-        reading.join()
-        lacks("what is told", server.told.text, "device fault")
+        gets(response(6, (6, 4, 35), 0, count=1))(stage)
+        sends(ready(7, 4))(stage)
+        gets(good(7, (7, 5, 36)))(stage)
+        ends(stage, reading)
 
 
-ROWS = [Row(
-    "no-end", "a login for the place of a session that doesn't end, or by its number, is told of a fault of the target", no_end)]
+def is_reset(tried: Tried) -> None:
+    with full_drive(tried) as (stage, reader):
+        for step in (
+                sends(ready(2, 1)), is_silent,
+                sends(manage(UNIT_RESET, 2)), gets(managed(COMPLETE, (3, 2, 33)))):
+            step(stage)
+        ends(stage, Reading(reader))
+
+
+def is_bounded(tried: Tried) -> None:
+    """Each time the initiator asks as often as it may, and aborts that."""
+    with full_drive(tried) as (stage, reader):
+        first = 1
+        for stat in (3, 4, 5):
+            sends(*(ready(first + more, first + more) for more in range(32)), manage(ABORT_TASK_SET, first + 32))(stage)
+            gets(managed(COMPLETE, (stat, first + 32, first + 63)))(stage)
+            first += 32
+        for step in (sends(ready(2, first), manage(ABORT_TASK_SET, first + 1)), is_silent):
+            step(stage)
+        ends(stage, Reading(reader))
+
+
+def is_followed(tried: Tried) -> None:
+    """The initiator comes again while its command waits."""
+    with full_drive(tried) as (stage, reader):
+        first = stage.one
+        for step in (
+                sends(ready(2, 1)), is_silent, connects,
+                sends(login(TO_FULL, NAMES, cid=CID)), gets(let_on(TO_FULL, GROUP)),
+                sends(ready(3, 1, DRIVE, now=True)), is_silent):
+            step(stage)
+        first.is_left()
+        holds("what is told", stage.told_of(first), CLOSED)
+        ends(stage, Reading(reader))
+
+
+ROWS = [
+    Row("goes-on", "a unit whose records nobody takes holds the replies of its commands, and not their session", goes_on),
+    Row("is-reset", "such a unit is reset at once", is_reset),
+    Row("is-bounded", "replies that are dropped make no room for more records", is_bounded),
+    Row("is-followed", "a session whose command waits for a reader of the records ends for one that takes its place", is_followed)]

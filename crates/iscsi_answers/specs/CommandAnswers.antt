@@ -43,8 +43,11 @@ abbrev pub sent : AnsweredCommand → (bytes : List ℕ) → List ℕ
 sent c bytes = if c.reads && not c.writes then take c.expected_data_transfer_length bytes else []
 
 -- how many bytes there were to transfer: of a write those that were handed over, else those that the unit gave
+abbrev pub transferable_of : AnsweredCommand → (given : ℕ) → ℕ
+transferable_of c given = if c.writes then c.handed_over else given
+
 abbrev pub transferable : AnsweredCommand → (bytes : List ℕ) → ℕ
-transferable c bytes = if c.writes then c.handed_over else length bytes
+transferable c bytes = transferable_of c (length bytes)
 
 -- what the initiator expects, beside them
 abbrev pub residual_between : (expected transferable : ℕ) → Residual
@@ -94,10 +97,18 @@ response_behind count n c s sense residual = pdu (header.ScsiResponse (record {
 abbrev pub with_data : TransferLimits → SequenceNumbers → AnsweredCommand → Status → (bytes : List ℕ) → List TargetPduValue
 with_data l n c s bytes = data_ins (transfer l n c (Some (ending n s (residual_of c bytes)))) (sent c bytes)
 
+-- the data before a response
+abbrev pub data_before : TransferLimits → SequenceNumbers → AnsweredCommand → (bytes : List ℕ) → List TargetPduValue
+data_before l n c bytes = data_ins (transfer l n c None) (sent c bytes)
+
+-- a response by itself, behind the data of which so many bytes were given and which went out in so many Data-In
+abbrev pub late_response : SequenceNumbers → AnsweredCommand → Status → Option Sense → (given count : ℕ) → TargetPduValue
+late_response n c s sense given count =
+    response_behind count n c s sense (residual_between c.expected_data_transfer_length (transferable_of c given))
+
 abbrev pub with_response : TransferLimits → SequenceNumbers → AnsweredCommand → Status → Option Sense → (bytes : List ℕ) → List TargetPduValue
 with_response l n c s sense bytes =
-    let ins = data_ins (transfer l n c None) (sent c bytes) in
-    ins ++ response_behind (length ins) n c s sense (residual_of c bytes) ∷ []
+    let ins = data_before l n c bytes in ins ++ late_response n c s sense (length bytes) (length ins) ∷ []
 
 -- the PDUs that answer a command to which its unit has replied so
 abbrev pub command_answer : TransferLimits → SequenceNumbers → AnsweredCommand → Status → Option Sense → (bytes : List ℕ) → List TargetPduValue

@@ -1,8 +1,8 @@
-ghost use Rattle.std.specs.Prelude.{◌≡◌, ◌<◌, ◌≤◌, ◌+◌, ◌^◌, ◌++◌, length, OnOk};
+ghost use Rattle.std.specs.Prelude.{◌≡◌, ◌<◌, ◌≤◌, ◌+◌, ◌^◌, ◌++◌, length, None, IfOk, OnOk};
 ghost use Rattle.iscsi_answers.specs.Written.{bytes_of, bytes_of_all};
-ghost use Rattle.iscsi_answers.specs.CommandAnswers.{answered_command, command_answer, with_data, with_response, response_behind, residual_of, residual_between, told_status, sent, transferable, sense_segment};
+ghost use Rattle.iscsi_answers.specs.CommandAnswers.{answered_command, command_answer, data_before, transfer, late_response, with_data, with_response, residual_of, residual_between, told_status, sent, transferable_of, sense_segment};
 
-use crate::data_in::{Transfer, write_data_ins};
+use crate::data_in::{Transfer, count_data_ins, write_data_ins};
 use crate::limits::TransferLimits;
 use crate::sequence::SequenceNumbers;
 use crate::writing::write_pdu;
@@ -109,41 +109,91 @@ fn write_with_response(
     requires { length answer.now.data.now < 2 ^ 32 }
     ensures { OnOk result (out.new.items ≡ out.old.items ++ bytes_of_all (with_response limits numbers command answer.now.status answer.now.sense answer.now.data.now)) }
 {
-    let transfer = Transfer {
+    let count = write_data_before(out, limits, numbers, command, answer.data)?;
+    let given = answer.data.len() as u32;
+    write_late_response(
+        out,
+        numbers,
+        command,
+        answer.status,
+        answer.sense,
+        given,
+        count,
+    )
+}
+
+/// Adds the data of a command whose status goes out by itself, later on, as many as are expected. How many Data-In they are.
+pub fn write_data_before(
+    out: &mut Vec<u8>,
+    limits: TransferLimits,
+    numbers: SequenceNumbers,
+    command: AnsweredCommand,
+    bytes: &[u8],
+) -> Result<u32, AllocError>
+    requires { length bytes.now < 2 ^ 32 }
+    ensures added { OnOk result (out.new.items ≡ out.old.items ++ bytes_of_all (data_before limits numbers command bytes.now)) }
+    ensures count { IfOk result (λ count. count ≡ length (data_before limits numbers command bytes.now)) }
+{
+    let transfer = transfer_before(limits, numbers, command);
+    write_data_ins(out, &transfer, sent(command, bytes))
+}
+
+/// How many Data-In those are.
+pub fn count_data_before(
+    limits: TransferLimits,
+    numbers: SequenceNumbers,
+    command: AnsweredCommand,
+    bytes: &[u8],
+) -> u32
+    requires { length bytes.now < 2 ^ 32 }
+    ensures { result ≡ length (data_before limits numbers command bytes.now) }
+{
+    let transfer = transfer_before(limits, numbers, command);
+    count_data_ins(&transfer, sent(command, bytes))
+}
+
+/// What they have alike: none of them tells how the command ended.
+fn transfer_before(
+    limits: TransferLimits,
+    numbers: SequenceNumbers,
+    command: AnsweredCommand,
+) -> Transfer
+    ensures { result ≡ transfer limits numbers command None }
+{
+    Transfer {
         limits,
         numbers,
         initiator_task_tag: command.initiator_task_tag,
         completion: None,
-    };
-    let count = write_data_ins(out, &transfer, sent(command, answer.data))?;
-    let residual = residual_of(command, answer.data);
-    write_response(out, count, numbers, command, answer, residual)
+    }
 }
 
-/// Adds a SCSI Response.
-fn write_response(
+/// Adds a SCSI Response behind the data of which the unit gave so many bytes, and which went out in so many Data-In. It takes up a StatSN.
+pub fn write_late_response(
     out: &mut Vec<u8>,
-    exp_data_sn: u32,
     numbers: SequenceNumbers,
     command: AnsweredCommand,
-    answer: &UnitAnswer<'_>,
-    residual: Residual,
+    status: Status,
+    sense: Option<Sense>,
+    given: u32,
+    data_ins: u32,
 ) -> Result<(), AllocError>
-    ensures { OnOk result (out.new.items ≡ out.old.items ++ bytes_of (response_behind exp_data_sn numbers command answer.now.status answer.now.sense residual)) }
+    ensures { OnOk result (out.new.items ≡ out.old.items ++ bytes_of (late_response numbers command status sense given data_ins)) }
 {
     let header = TargetHeader::ScsiResponse(ScsiResponse {
         response: ServiceResponse::CommandCompletedAtTarget,
-        status: told_status(answer.status),
+        status: told_status(status),
         initiator_task_tag: command.initiator_task_tag,
         stat_sn: numbers.stat_sn,
         exp_cmd_sn: numbers.exp_cmd_sn,
         max_cmd_sn: numbers.max_cmd_sn,
-        exp_data_sn: SerialNumber {
-            number: exp_data_sn,
-        },
-        residual,
+        exp_data_sn: SerialNumber { number: data_ins },
+        residual: residual_between(
+            command.expected_data_transfer_length,
+            transferable(command, given),
+        ),
     });
-    match answer.sense {
+    match sense {
         None => write_pdu(
             out,
             &TargetPdu {
@@ -196,12 +246,22 @@ fn residual_of(command: AnsweredCommand, bytes: &[u8]) -> Residual
     requires { length bytes.now < 2 ^ 32 }
     ensures { result ≡ residual_of command bytes.now }
 {
-    let transferable = if command.writes {
+    let given = bytes.len() as u32;
+    residual_between(
+        command.expected_data_transfer_length,
+        transferable(command, given),
+    )
+}
+
+/// How many bytes there were to transfer where the unit gave so many.
+fn transferable(command: AnsweredCommand, given: u32) -> u32
+    ensures { result ≡ transferable_of command given }
+{
+    if command.writes {
         command.handed_over
     } else {
-        bytes.len() as u32
-    };
-    residual_between(command.expected_data_transfer_length, transferable)
+        given
+    }
 }
 
 /// What is left of what was expected, or over.

@@ -44,6 +44,26 @@ pub(crate) fn write_data_ins(
     Ok(data_sn)
 }
 
+/// How many Data-In PDUs the bytes go out in.
+pub(crate) fn count_data_ins(transfer: &Transfer, bytes: &[u8]) -> u32
+    requires { length bytes.now < 2 ^ 32 }
+    ensures { result ≡ length (data_ins transfer.now bytes.now) }
+{
+    let mut rest = bytes;
+    let mut offset = 0;
+    let mut data_ins = 0;
+    'segments: for _ in 0..bytes.len() {
+        if rest.is_empty() {
+            return data_ins;
+        }
+        let count = segment_length(transfer.limits, offset, rest.len());
+        rest = rest.split_at(count).1;
+        offset += count as u32;
+        data_ins += 1;
+    }
+    data_ins
+}
+
 /// How many of the bytes that are left go out at an offset.
 fn segment_length(limits: TransferLimits, offset: u32, left: usize) -> usize
     ensures value { result ≡ segment_length limits offset left }

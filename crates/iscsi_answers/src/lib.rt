@@ -19,7 +19,10 @@ pub use answers::{
     write_ready_to_transfer, write_reject, write_target_failure, write_task_management_response,
     write_text_response,
 };
-pub use command_answer::{AnsweredCommand, UnitAnswer, write_command_answer};
+pub use command_answer::{
+    AnsweredCommand, UnitAnswer, count_data_before, write_command_answer, write_data_before,
+    write_late_response,
+};
 pub use laws::{data_are_whole, residual_balances, residual_rows, segments_are_short};
 pub use leaving::seconds_to_leave;
 pub use limits::TransferLimits;

@@ -28,7 +28,7 @@ use Rattle.iscsi_tasks.specs.Next.{asked, is_whole, next_of, after_next, next_fo
 use Rattle.iscsi_tasks.specs.Runs.{Act, Commanded, DataCame, AskedNext, stepped}
 use Rattle.iscsi_session.specs.Saying.{AddsPlain, IsOfNoCommand}
 use Rattle.judgement.specs.declared.reply.Reply.{Reply}
-use Rattle.tickets.specs.declared.ticket.Ticket.{Ticket}
+use Rattle.tickets.specs.declared.ticket.ReplyTicket.{ReplyTicket}
 use Rattle.iscsi_session.specs.Executing.{Acts, Adds, AnswersOrHolds, Does, GoesOn, OrElse, Outcome, Nothing, Execute, Fail, Ask, Reject, Tells, refusal}
 use Rattle.iscsi_session.specs.Executing.{command_outcome, data_outcome, is_idle, next_outcome, outcome}
 
@@ -75,12 +75,12 @@ plain_one out out' p e plain = (p ∷ [], plain, said_one out out' p e)
 
 -- ---- acts
 
-pub next_does : {S : Type 0} (notes : S → DoneValue → S → Type 0) (waits : DoneValue → Option Ticket → Type 0) (n : Nexus) (k k' : TasksValue) (s t : S) (next is : NextTask)
+pub next_does : {S : Type 0} (notes : S → DoneValue → S → Type 0) (waits : DoneValue → Option ReplyTicket → Type 0) (n : Nexus) (k k' : TasksValue) (s t : S) (next is : NextTask)
     (said : List TargetPduValue)
     → next ≡ is → Does notes waits n s k (next_outcome is) said k' t → Does notes waits n s k (next_outcome next) said k' t
 next_does notes waits n k k' s t next is said same does = subst (λ (x : NextTask). Does notes waits n s k (next_outcome x) said k' t) (sym same) does
 
-pub next_acts : {S : Type 0} (notes : S → DoneValue → S → Type 0) (waits : DoneValue → Option Ticket → Type 0) (n : Nexus) (k k1 k' : TasksValue) (s t : S) (next : NextTask)
+pub next_acts : {S : Type 0} (notes : S → DoneValue → S → Type 0) (waits : DoneValue → Option ReplyTicket → Type 0) (n : Nexus) (k k1 k' : TasksValue) (s t : S) (next : NextTask)
     (said : List TargetPduValue)
     → next ≡ next_of k → k1 ≡ after_next k → Does notes waits n s k1 (next_outcome next) said k' t → Acts notes waits n k s AskedNext said k' t
 next_acts {S} notes waits n k k1 k' s t next said is left does =
@@ -92,7 +92,7 @@ command_is : (r : Result TakenCommand TasksFault) (v : TakenCommand) (asked : Re
 command_is r v asked is told = sym (told (λ e. absurd cc)) ∙ is
 
 -- a command that was taken so
-pub command_acts : {S : Type 0} (notes : S → DoneValue → S → Type 0) (waits : DoneValue → Option Ticket → Type 0) (n : Nexus) (k k1 k' : TasksValue) (s t : S) (c : ScsiCommand) (payload : List ℕ)
+pub command_acts : {S : Type 0} (notes : S → DoneValue → S → Type 0) (waits : DoneValue → Option ReplyTicket → Type 0) (n : Nexus) (k k1 k' : TasksValue) (s t : S) (c : ScsiCommand) (payload : List ℕ)
     (r : Result TakenCommand TasksFault) (v : TakenCommand)
     (said : List TargetPduValue) → r ≡ Ok v → (r ≢ Err NoMemory → r ≡ command_answer k c payload) → k1 ≡ after_command k c payload r
     → Does notes waits n s k1 (command_outcome c payload (Ok v)) said k' t → Acts notes waits n k s (Commanded c payload) said k' t
@@ -103,7 +103,7 @@ command_acts {S} notes waits n k k1 k' s t c payload r v said is told after does
     (subst (λ (a : Result TakenCommand TasksFault). Does notes waits n s k1 (command_outcome c payload a) said k' t) (sym e) does)
 
 -- and was rejected
-pub command_rejected : {S : Type 0} (notes : S → DoneValue → S → Type 0) (waits : DoneValue → Option Ticket → Type 0) (n : Nexus) (k k1 k' : TasksValue) (s : S) (c : ScsiCommand)
+pub command_rejected : {S : Type 0} (notes : S → DoneValue → S → Type 0) (waits : DoneValue → Option ReplyTicket → Type 0) (n : Nexus) (k k1 k' : TasksValue) (s : S) (c : ScsiCommand)
     (payload : List ℕ) (r : Result TakenCommand TasksFault) (v : TakenCommand)
     (reason : RejectReason) (stat_sn : SerialNumber) (rejected : List ℕ) → r ≡ Ok v → v ≡ taken.Rejected reason
     → (r ≢ Err NoMemory → r ≡ command_answer k c payload) → k1 ≡ after_command k c payload r → k' ≡ k1
@@ -138,7 +138,7 @@ pub data_rejected : (k k1 k' : TasksValue) (d : DataOut) (payload : List ℕ) (r
 data_rejected k k1 k' d payload r v reason stat_sn rejected is as_ told same =
     data_tells k k1 k' d payload r (taken_data.Rejected reason) (refusal k1 stat_sn reason rejected) (cc) told same (stat_sn, rejected, refl)
 
-told_does : {S : Type 0} (notes : S → DoneValue → S → Type 0) (waits : DoneValue → Option Ticket → Type 0) (n : Nexus) (s t : S) (k k' : TasksValue) (o : Outcome)
+told_does : {S : Type 0} (notes : S → DoneValue → S → Type 0) (waits : DoneValue → Option ReplyTicket → Type 0) (n : Nexus) (s t : S) (k k' : TasksValue) (o : Outcome)
     (said : List TargetPduValue)
     → t ≡ s → k' ≡ k → Tells k o said → Does notes waits n s k o said k' t
 told_does notes waits n s t k k' Nothing said same still tells = (tells, still, same)
@@ -147,20 +147,20 @@ told_does notes waits n s t k k' (Execute command bytes) said same still tells =
 told_does notes waits n s t k k' (Fail command fault) said same still tells = absurd tells
 told_does notes waits n s t k k' (Ask request) said same still tells = absurd tells
 
-pub told_acts : {S : Type 0} (notes : S → DoneValue → S → Type 0) (waits : DoneValue → Option Ticket → Type 0) (n : Nexus) (k k' : TasksValue) (s t : S) (act : Act) (said : List TargetPduValue)
+pub told_acts : {S : Type 0} (notes : S → DoneValue → S → Type 0) (waits : DoneValue → Option ReplyTicket → Type 0) (n : Nexus) (k k' : TasksValue) (s t : S) (act : Act) (said : List TargetPduValue)
     → t ≡ s → k' ≡ stepped k act
     → Tells k' (outcome k act) said → Acts notes waits n k s act said k' t
 told_acts notes waits n k k' s t act said same steps tells =
     told_does notes waits n s t (stepped k act) k' (outcome k act) said same steps (subst (λ (x : TasksValue). Tells x
     (outcome k act) said) steps tells)
 
-says_waiting : (k k' : TasksValue) (c : ScsiCommand) (handed_over : ℕ) (reply : Reply) (ticket : Option Ticket) (said : List TargetPduValue)
+says_waiting : (k k' : TasksValue) (c : ScsiCommand) (handed_over : ℕ) (reply : Reply) (ticket : Option ReplyTicket) (said : List TargetPduValue)
     → AnswersOrHolds k c handed_over reply ticket said k' → k'.waiting ≡ k.waiting
 says_waiting k k' c handed_over reply None said so = ap (λ (x : TasksValue). x.waiting) so.2
-says_waiting k k' c handed_over reply (Some ticket) said so = ap (λ (x : TasksValue). x.waiting) so.1
+says_waiting k k' c handed_over reply (Some ticket) said so = ap (λ (x : TasksValue). x.waiting) so.3
 
 -- what is done leaves those that wait
-pub does_waiting : {S : Type 0} (notes : S → DoneValue → S → Type 0) (waits : DoneValue → Option Ticket → Type 0) (n : Nexus) (s t : S) (k k' : TasksValue) (o : Outcome)
+pub does_waiting : {S : Type 0} (notes : S → DoneValue → S → Type 0) (waits : DoneValue → Option ReplyTicket → Type 0) (n : Nexus) (s t : S) (k k' : TasksValue) (o : Outcome)
     (said : List TargetPduValue)
     → Does notes waits n s k o said k' t → k'.waiting ≡ k.waiting
 does_waiting notes waits n s t k k' Nothing said does = ap (λ (x : TasksValue). x.waiting) does.1
@@ -172,11 +172,11 @@ does_waiting notes waits n s t k k' (Reject reason) said does = ap (λ (x : Task
 
 -- ---- what is to be done next, one after another
 
-pub goes_none : {S : Type 0} (notes : S → DoneValue → S → Type 0) (waits : DoneValue → Option Ticket → Type 0) (n : Nexus) (k : TasksValue) (s : S) → GoesOn notes waits n 0 k s [] k s
+pub goes_none : {S : Type 0} (notes : S → DoneValue → S → Type 0) (waits : DoneValue → Option ReplyTicket → Type 0) (n : Nexus) (k : TasksValue) (s : S) → GoesOn notes waits n 0 k s [] k s
 unfolding GoesOn
 goes_none notes waits n k s = (refl, refl, refl)
 
-pub goes_more : {S : Type 0} (notes : S → DoneValue → S → Type 0) (waits : DoneValue → Option Ticket → Type 0) (n : Nexus) (times : ℕ) (k k1 k' : TasksValue) (s m t : S) (first last : List TargetPduValue)
+pub goes_more : {S : Type 0} (notes : S → DoneValue → S → Type 0) (waits : DoneValue → Option ReplyTicket → Type 0) (n : Nexus) (times : ℕ) (k k1 k' : TasksValue) (s m t : S) (first last : List TargetPduValue)
     → GoesOn notes waits n times k s first k1 m → Acts notes waits n k1 m AskedNext last k' t → GoesOn notes waits n (times + 1) k s (first ++ last) k' t
 unfolding GoesOn
 goes_more {S} notes waits n times k k1 k' s m t first last so acts =

@@ -49,7 +49,7 @@ use Rattle.iscsi_session.specs.Releasing.{Settlement}
 use Rattle.iscsi_session.specs.Managing.{Manages, ManagesTasks, Resets, ResetsBelow, ResetsUnit, AbortsTask, AbortsTaskSet, unit_below}
 use Rattle.iscsi_session.specs.Saying.{Says, TakesTask, Works, behind_other, is_of_tasks, normal_world, without_units}
 use Rattle.iscsi_session.specs.Talking.{Came, Ending, Event, Released, Silence, Talks, Told}
-use Rattle.tickets.specs.declared.ticket.Ticket.{Ticket}
+use Rattle.tickets.specs.declared.ticket.ReplyTicket.{ReplyTicket}
 use Rattle.tickets.specs.declared.ticket.Outcome as keeping
 
 -- ---- one after another
@@ -88,7 +88,7 @@ settled_append (a ∷ xs) ys =
     ap (λ (l : List Settlement). settled_by a ++ l) (settled_append xs ys)
     ∙ sym (append_assoc (settled_by a) (settled_in xs) (settled_in ys))
 
-replied_append : (waits : DoneValue → Option Ticket → Type 0) (xs ys : List CarriedOut) → AllByRecursion (IsReplied waits) xs
+replied_append : (waits : DoneValue → Option ReplyTicket → Type 0) (xs ys : List CarriedOut) → AllByRecursion (IsReplied waits) xs
     → AllByRecursion (IsReplied waits) ys → AllByRecursion (IsReplied waits) (xs ++ ys)
 replied_append waits [] ys one two = two
 replied_append waits (c ∷ xs) ys one two = (one.0, replied_append waits xs ys one.1 two)
@@ -112,7 +112,7 @@ calls_append {S} notes n s [] es t u one two = subst (λ (x : S). Calls notes n 
 calls_append notes n s (d ∷ ds) es t u one two = (one.0, one.1, one.2, calls_append notes n one.0 ds es t u one.3 two)
 
 -- acts that neither execute nor hold, and no call
-still_hands : {S : Type 0} (notes : S → DoneValue → S → Type 0) (waits : DoneValue → Option Ticket → Type 0) (n : Nexus) (k k' : TasksValue) (s t : S) (acts : List Act)
+still_hands : {S : Type 0} (notes : S → DoneValue → S → Type 0) (waits : DoneValue → Option ReplyTicket → Type 0) (n : Nexus) (k k' : TasksValue) (s t : S) (acts : List Act)
     (x : List Settlement) → k' ≡ run k acts → brought acts ≡ [] → executed k acts ≡ [] → held_in k acts ≡ [] → t ≡ s → settled_in acts ≡ x
     → Hands notes waits n k s [] x k' t
 still_hands notes waits n k k' s t acts x runs brings executes holds still settles = record {
@@ -130,11 +130,11 @@ still_hands notes waits n k k' s t acts x runs brings executes holds still settl
   settled = settles;
 }
 
-hands_none : {S : Type 0} (notes : S → DoneValue → S → Type 0) (waits : DoneValue → Option Ticket → Type 0) (n : Nexus) (k k' : TasksValue) (s t : S) → k' ≡ k → t ≡ s
+hands_none : {S : Type 0} (notes : S → DoneValue → S → Type 0) (waits : DoneValue → Option ReplyTicket → Type 0) (n : Nexus) (k k' : TasksValue) (s t : S) → k' ≡ k → t ≡ s
     → Hands notes waits n k s [] [] k' t
 hands_none notes waits n k k' s t same still = still_hands notes waits n k k' s t [] [] same refl refl refl still refl
 
-hands_then : {S : Type 0} (notes : S → DoneValue → S → Type 0) (waits : DoneValue → Option Ticket → Type 0) (n : Nexus) (k k1 k' : TasksValue) (s m t : S) (a b : List Act)
+hands_then : {S : Type 0} (notes : S → DoneValue → S → Type 0) (waits : DoneValue → Option ReplyTicket → Type 0) (n : Nexus) (k k1 k' : TasksValue) (s m t : S) (a b : List Act)
     (x y : List Settlement)
     → Hands notes waits n k s a x k1 m → Hands notes waits n k1 m b y k' t
     → Hands notes waits n k s (a ++ b) (x ++ y) k' t
@@ -169,7 +169,7 @@ hands_then notes waits n k k1 k' s m t a b x y one two = record {
       held_append k one.acts two.acts ∙ ap (λ (rs : List HeldReply). rs ++ held_in (run k one.acts) two.acts) one.holds
       ∙ ap (λ (rs : List HeldReply). held_of one.carried_out ++ rs)
       (ap (λ (v : TasksValue). held_in v two.acts) (sym one.run_is) ∙ two.holds)
-      ∙ sym (flat_map-append (λ (c : CarriedOut). held_if c.executed c.reply c.ticket) one.carried_out two.carried_out);
+      ∙ sym (flat_map-append (λ (c : CarriedOut). held_if c.executed c.reply c.ticket c.data_ins) one.carried_out two.carried_out);
   settled =
       settled_append one.acts two.acts ∙ ap (λ (l : List Settlement). l ++ settled_in two.acts) one.settled
       ∙ ap (λ (l : List Settlement). x ++ l) two.settled;
@@ -216,7 +216,7 @@ act_executes k (Held reply ticket) = refl
 act_executes k (Settled ticket by) = refl
 
 -- what is done with an outcome: calls, and commands that are carried out by them
-pub record Carries {S : Type 0} (notes : S → DoneValue → S → Type 0) (waits : DoneValue → Option Ticket → Type 0) (n : Nexus) (s : S) (executes : List Executed)
+pub record Carries {S : Type 0} (notes : S → DoneValue → S → Type 0) (waits : DoneValue → Option ReplyTicket → Type 0) (n : Nexus) (s : S) (executes : List Executed)
     (carried_out : List CarriedOut) (t : S) : Type 0 where
   pub calls : List DoneValue
   pub made : Calls notes n s calls t
@@ -225,21 +225,21 @@ pub record Carries {S : Type 0} (notes : S → DoneValue → S → Type 0) (wait
   pub replied : AllByRecursion (IsReplied waits) carried_out
   pub calls_are : command_calls calls ≡ calls_of carried_out
 
-carries_none : {S : Type 0} (notes : S → DoneValue → S → Type 0) (waits : DoneValue → Option Ticket → Type 0) (n : Nexus) (s t : S) → t ≡ s → Carries notes waits n s [] [] t
+carries_none : {S : Type 0} (notes : S → DoneValue → S → Type 0) (waits : DoneValue → Option ReplyTicket → Type 0) (n : Nexus) (s t : S) → t ≡ s → Carries notes waits n s [] [] t
 carries_none notes waits n s t still =
     record { calls = []; made = still; handed_is = refl; carried_out_are = refl; replied = tt; calls_are = refl }
 
 -- a call that was made for an executed command, if its LUN is a unit's number
-pub record Called {S : Type 0} (notes : S → DoneValue → S → Type 0) (waits : DoneValue → Option Ticket → Type 0) (n : Nexus) (s : S) (e : Executed) (unit : Option ℕ)
-    (reply : Reply) (ticket : Option Ticket) (t : S) : Type 0 where
+pub record Called {S : Type 0} (notes : S → DoneValue → S → Type 0) (waits : DoneValue → Option ReplyTicket → Type 0) (n : Nexus) (s : S) (e : Executed) (unit : Option ℕ)
+    (reply : Reply) (ticket : Option ReplyTicket) (t : S) : Type 0 where
   pub call : Option DoneValue
   pub made : Calls notes n s (call_list call) t
   pub handed_is : commands_of (call_list call) ≡ call_for unit e.command.cdb e.bytes
   pub replied : RepliesTo waits e unit call reply ticket
   pub calls_are : command_calls (call_list call) ≡ call_list call
 
-is_called : {S : Type 0} (notes : S → DoneValue → S → Type 0) (waits : DoneValue → Option Ticket → Type 0) (n : Nexus) (s t : S) (e : Executed) (unit : Option ℕ) (reply : Reply)
-    (ticket : Option Ticket) → Replies notes waits n s unit e.command.cdb e.bytes reply ticket t
+is_called : {S : Type 0} (notes : S → DoneValue → S → Type 0) (waits : DoneValue → Option ReplyTicket → Type 0) (n : Nexus) (s t : S) (e : Executed) (unit : Option ℕ) (reply : Reply)
+    (ticket : Option ReplyTicket) → Replies notes waits n s unit e.command.cdb e.bytes reply ticket t
     → Called notes waits n s e unit reply ticket t
 is_called notes waits n s t e (Some unit) reply ticket so = record {
   call = Some so.0;
@@ -252,10 +252,10 @@ is_called notes waits n s t e (Some unit) reply ticket so = record {
 is_called notes waits n s t e None reply ticket so =
     record { call = None; made = so.2; handed_is = refl; replied = (so.0, so.1); calls_are = refl }
 
-carries_one : {S : Type 0} (notes : S → DoneValue → S → Type 0) (waits : DoneValue → Option Ticket → Type 0) (n : Nexus) (s t : S) (e : Executed) (reply : Reply) (ticket : Option Ticket)
-    (call : Called notes waits n s e (unit_of e.command.lun) reply ticket t)
-    → Carries notes waits n s (e ∷ []) (record { executed = e; call = call.call; reply = reply; ticket = ticket } ∷ []) t
-carries_one notes waits n s t e reply ticket call = record {
+carries_one : {S : Type 0} (notes : S → DoneValue → S → Type 0) (waits : DoneValue → Option ReplyTicket → Type 0) (n : Nexus) (s t : S) (e : Executed) (reply : Reply) (ticket : Option ReplyTicket)
+    (data_ins : ℕ) (call : Called notes waits n s e (unit_of e.command.lun) reply ticket t)
+    → Carries notes waits n s (e ∷ []) (record { executed = e; call = call.call; reply = reply; ticket = ticket; data_ins = data_ins } ∷ []) t
+carries_one notes waits n s t e reply ticket data_ins call = record {
   calls = call_list call.call;
   made = call.made;
   handed_is = call.handed_is ∙ sym (append-nil (call_for (unit_of e.command.lun) e.command.cdb e.bytes));
@@ -280,16 +280,16 @@ answered_follows : (k k' : TasksValue) → k' ≡ stepped k Answered → Follows
 answered_follows k k' steps =
     record { acts = Answered ∷ []; run_is = steps; brings = refl; executes = refl; holds = refl; settles = refl }
 
-says_follows : (k k' : TasksValue) (e : Executed) (reply : Reply) (ticket : Option Ticket) (said : List TargetPduValue)
+says_follows : (k k' : TasksValue) (e : Executed) (reply : Reply) (ticket : Option ReplyTicket) (said : List TargetPduValue)
     → k.in_hand ≡ Some e.command → AnswersOrHolds k e.command (min (length e.bytes) 0xFFFFFFFF) reply ticket said k'
-    → Follows k (held_if e reply ticket ++ []) k'
+    → Follows k (held_if e reply ticket (length said) ++ []) k'
 says_follows k k' e reply None said hand so = answered_follows k k' so.2
 says_follows k k' e reply (Some ticket) said hand so = record {
-  acts = Held (held_reply reply (min (length e.bytes) 0xFFFFFFFF)) ticket ∷ [];
-  run_is = so.1;
+  acts = Held (held_reply reply (min (length e.bytes) 0xFFFFFFFF) (length said)) ticket ∷ [];
+  run_is = so.3;
   brings = refl;
   executes = refl;
-  holds = ap (λ (o : Option ScsiCommand). held_for (held_reply reply (min (length e.bytes) 0xFFFFFFFF)) ticket o ++ []) hand;
+  holds = ap (λ (o : Option ScsiCommand). held_for (held_reply reply (min (length e.bytes) 0xFFFFFFFF) (length said)) ticket o ++ []) hand;
   settles = refl;
 }
 
@@ -343,13 +343,13 @@ act_in_hand k (Held reply ticket) = tt
 act_in_hand k (Settled ticket by) = tt
 
 -- what an outcome comes to
-pub record Did {S : Type 0} (notes : S → DoneValue → S → Type 0) (waits : DoneValue → Option Ticket → Type 0) (n : Nexus) (s : S) (k : TasksValue) (o : Outcome)
+pub record Did {S : Type 0} (notes : S → DoneValue → S → Type 0) (waits : DoneValue → Option ReplyTicket → Type 0) (n : Nexus) (s : S) (k : TasksValue) (o : Outcome)
     (k' : TasksValue) (t : S) : Type 0 where
   pub carried_out : List CarriedOut
   pub carries : Carries notes waits n s (executes o) carried_out t
   pub then : Follows k (held_of carried_out) k'
 
-does_carries : {S : Type 0} (notes : S → DoneValue → S → Type 0) (waits : DoneValue → Option Ticket → Type 0) (n : Nexus) (s t : S) (k k' : TasksValue) (o : Outcome)
+does_carries : {S : Type 0} (notes : S → DoneValue → S → Type 0) (waits : DoneValue → Option ReplyTicket → Type 0) (n : Nexus) (s t : S) (k k' : TasksValue) (o : Outcome)
     (said : List TargetPduValue)
     → HasCommand o k → Does notes waits n s k o said k' t → Did notes waits n s k o k' t
 does_carries notes waits n s t k k' Nothing said hand does =
@@ -358,8 +358,8 @@ does_carries {S} notes waits n s t k k' (Execute command bytes) said hand does =
     let e : Executed = record { command = command; bytes = bytes } in
     let call : Called notes waits n s e (unit_of command.lun) does.reply does.ticket t =
     is_called notes waits n s t e (unit_of command.lun) does.reply does.ticket does.replied in record {
-      carried_out = record { executed = e; call = call.call; reply = does.reply; ticket = does.ticket } ∷ [];
-      carries = carries_one notes waits n s t e does.reply does.ticket call;
+      carried_out = record { executed = e; call = call.call; reply = does.reply; ticket = does.ticket; data_ins = length said } ∷ [];
+      carries = carries_one notes waits n s t e does.reply does.ticket (length said) call;
       then = says_follows k k' e does.reply does.ticket said hand does.says;
     }
 does_carries notes waits n s t k k' (Fail command fault) said hand does =
@@ -369,7 +369,7 @@ does_carries notes waits n s t k k' (Ask request) said hand does =
 does_carries notes waits n s t k k' (Reject reason) said hand does =
     record { carried_out = []; carries = carries_none notes waits n s t does.4; then = follows_none k k' does.3 }
 
-acts_hands : {S : Type 0} (notes : S → DoneValue → S → Type 0) (waits : DoneValue → Option Ticket → Type 0) (n : Nexus) (k k' : TasksValue) (s t : S) (act : Act)
+acts_hands : {S : Type 0} (notes : S → DoneValue → S → Type 0) (waits : DoneValue → Option ReplyTicket → Type 0) (n : Nexus) (k k' : TasksValue) (s t : S) (act : Act)
     (said : List TargetPduValue) → held_by k act ≡ [] → settled_by act ≡ []
     → Acts notes waits n k s act said k' t
     → Hands notes waits n k s (brought (act ∷ [])) [] k' t
@@ -399,14 +399,14 @@ acts_hands {S} notes waits n k k' s t act said no_reply no_ticket so =
 
 -- ---- what is to be done next
 
-units_hand : {S : Type 0} (notes : S → DoneValue → S → Type 0) (waits : DoneValue → Option Ticket → Type 0) (n : Nexus) (k : TasksValue) (s : S) (units : List ℕ)
+units_hand : {S : Type 0} (notes : S → DoneValue → S → Type 0) (waits : DoneValue → Option ReplyTicket → Type 0) (n : Nexus) (k : TasksValue) (s : S) (units : List ℕ)
     → Hands notes waits n k s [] [] (without_units k units) s
 units_hand notes waits n k s [] = hands_none notes waits n k k s s refl refl
 units_hand {S} notes waits n k s (unit ∷ units) =
     hands_then notes waits n k (without_units k units) (without_unit (without_units k units) unit) s s s [] [] [] [] (units_hand notes waits n k s units)
     (acts_hands notes waits n (without_units k units) (without_unit (without_units k units) unit) s s (Dropped unit) [] refl refl (refl, refl, refl))
 
-goes_hands : {S : Type 0} (notes : S → DoneValue → S → Type 0) (waits : DoneValue → Option Ticket → Type 0) (n : Nexus) (times : ℕ) (k k' : TasksValue) (s t : S)
+goes_hands : {S : Type 0} (notes : S → DoneValue → S → Type 0) (waits : DoneValue → Option ReplyTicket → Type 0) (n : Nexus) (times : ℕ) (k k' : TasksValue) (s t : S)
     (said : List TargetPduValue)
     → GoesOn notes waits n times k s said k' t → Hands notes waits n k s [] [] k' t
 unfolding GoesOn
@@ -415,7 +415,7 @@ goes_hands {S} notes waits n (suc times) k k' s t said so =
     hands_then notes waits n k so.0 k' s so.1 t [] [] [] [] (goes_hands notes waits n times k so.0 s so.1 so.2 so.5)
     (acts_hands notes waits n so.0 k' so.1 t AskedNext so.3 refl refl so.6)
 
-settled_hands : {S : Type 0} (notes : S → DoneValue → S → Type 0) (waits : DoneValue → Option Ticket → Type 0) (n : Nexus) (k k' : TasksValue) (s t : S) (ticket : Ticket)
+settled_hands : {S : Type 0} (notes : S → DoneValue → S → Type 0) (waits : DoneValue → Option ReplyTicket → Type 0) (n : Nexus) (k k' : TasksValue) (s t : S) (ticket : ReplyTicket)
     (outcome : keeping.Outcome) → k' ≡ stepped k (Settled ticket outcome) → t ≡ s
     → Hands notes waits n k s [] (record { ticket = ticket; outcome = outcome } ∷ []) k' t
 settled_hands notes waits n k k' s t ticket outcome steps still =
@@ -423,24 +423,24 @@ settled_hands notes waits n k k' s t ticket outcome steps still =
 
 -- ---- task management
 
-number_hands : {S : Type 0} (notes : S → DoneValue → S → Type 0) (waits : DoneValue → Option Ticket → Type 0) (n : Nexus) (k k' : TasksValue) (s t : S) (immediate : Bool)
+number_hands : {S : Type 0} (notes : S → DoneValue → S → Type 0) (waits : DoneValue → Option ReplyTicket → Type 0) (n : Nexus) (k k' : TasksValue) (s t : S) (immediate : Bool)
     (cmd_sn : SerialNumber)
     → k' ≡ stepped k (Numbered immediate cmd_sn) → t ≡ s → Hands notes waits n k s [] [] k' t
 number_hands notes waits n k k' s t immediate cmd_sn steps still =
     still_hands notes waits n k k' s t (Numbered immediate cmd_sn ∷ []) ([]) steps refl refl refl still refl
 
-abort_hands : {S : Type 0} (notes : S → DoneValue → S → Type 0) (waits : DoneValue → Option Ticket → Type 0) (n : Nexus) (k k' : TasksValue) (s t : S) (unit tag : ℕ)
+abort_hands : {S : Type 0} (notes : S → DoneValue → S → Type 0) (waits : DoneValue → Option ReplyTicket → Type 0) (n : Nexus) (k k' : TasksValue) (s t : S) (unit tag : ℕ)
     → k' ≡ stepped k (Aborted unit tag) → t ≡ s → Hands notes waits n k s [] [] k' t
 abort_hands notes waits n k k' s t unit tag steps still =
     still_hands notes waits n k k' s t (Aborted unit tag ∷ []) ([]) steps refl refl refl still refl
 
-drop_hands : {S : Type 0} (notes : S → DoneValue → S → Type 0) (waits : DoneValue → Option Ticket → Type 0) (n : Nexus) (k k' : TasksValue) (s t : S) (unit : ℕ) → k' ≡ stepped k
+drop_hands : {S : Type 0} (notes : S → DoneValue → S → Type 0) (waits : DoneValue → Option ReplyTicket → Type 0) (n : Nexus) (k k' : TasksValue) (s t : S) (unit : ℕ) → k' ≡ stepped k
     (Dropped unit)
     → t ≡ s → Hands notes waits n k s [] [] k' t
 drop_hands notes waits n k k' s t unit steps still =
     still_hands notes waits n k k' s t (Dropped unit ∷ []) ([]) steps refl refl refl still refl
 
-reset_hands : {S : Type 0} (notes : S → DoneValue → S → Type 0) (waits : DoneValue → Option Ticket → Type 0) (n : Nexus) (k k' : TasksValue) (s t : S) (unit : ℕ)
+reset_hands : {S : Type 0} (notes : S → DoneValue → S → Type 0) (waits : DoneValue → Option ReplyTicket → Type 0) (n : Nexus) (k k' : TasksValue) (s t : S) (unit : ℕ)
     (result : TaskManagementResult)
     → k' ≡ stepped k (Dropped unit) → Resets notes unit s t result
     → Hands notes waits n k s [] [] k' t
@@ -459,29 +459,29 @@ reset_hands notes waits n k k' s t unit result steps so = record {
   settled = refl;
 }
 
-below_hands : {S : Type 0} (notes : S → DoneValue → S → Type 0) (waits : DoneValue → Option Ticket → Type 0) (n : Nexus) (units : ℕ) (k k' : TasksValue) (s t : S)
+below_hands : {S : Type 0} (notes : S → DoneValue → S → Type 0) (waits : DoneValue → Option ReplyTicket → Type 0) (n : Nexus) (units : ℕ) (k k' : TasksValue) (s t : S)
     → ResetsBelow notes units k s k' t → Hands notes waits n k s [] [] k' t
 below_hands notes waits n zero k k' s t so = hands_none notes waits n k k' s t so.0 so.1
 below_hands {S} notes waits n (suc unit) k k' s t so =
     hands_then notes waits n k so.0 k' s so.1 t [] [] [] [] (below_hands notes waits n unit k so.0 s so.1 so.3)
     (reset_hands notes waits n so.0 k' so.1 t unit so.2 so.4 so.5)
 
-aborts_task : {S : Type 0} (notes : S → DoneValue → S → Type 0) (waits : DoneValue → Option Ticket → Type 0) (n : Nexus) (k k' : TasksValue) (s t : S) (tag : ℕ) (o : Option ℕ)
+aborts_task : {S : Type 0} (notes : S → DoneValue → S → Type 0) (waits : DoneValue → Option ReplyTicket → Type 0) (n : Nexus) (k k' : TasksValue) (s t : S) (tag : ℕ) (o : Option ℕ)
     (result : TaskManagementResult) → AbortsTask k tag o k' result → t ≡ s → Hands notes waits n k s [] [] k' t
 aborts_task notes waits n k k' s t tag None result so still = hands_none notes waits n k k' s t so.0 still
 aborts_task notes waits n k k' s t tag (Some unit) result so still = abort_hands notes waits n k k' s t unit tag so.0 still
 
-aborts_set : {S : Type 0} (notes : S → DoneValue → S → Type 0) (waits : DoneValue → Option Ticket → Type 0) (n : Nexus) (k k' : TasksValue) (s t : S) (o : Option ℕ)
+aborts_set : {S : Type 0} (notes : S → DoneValue → S → Type 0) (waits : DoneValue → Option ReplyTicket → Type 0) (n : Nexus) (k k' : TasksValue) (s t : S) (o : Option ℕ)
     (result : TaskManagementResult) → AbortsTaskSet k o k' result → t ≡ s → Hands notes waits n k s [] [] k' t
 aborts_set notes waits n k k' s t None result so still = hands_none notes waits n k k' s t so.0 still
 aborts_set notes waits n k k' s t (Some unit) result so still = drop_hands notes waits n k k' s t unit so.0 still
 
-unit_hands : {S : Type 0} (notes : S → DoneValue → S → Type 0) (waits : DoneValue → Option Ticket → Type 0) (n : Nexus) (k k' : TasksValue) (s t : S) (o : Option ℕ)
+unit_hands : {S : Type 0} (notes : S → DoneValue → S → Type 0) (waits : DoneValue → Option ReplyTicket → Type 0) (n : Nexus) (k k' : TasksValue) (s t : S) (o : Option ℕ)
     (result : TaskManagementResult) → ResetsUnit notes k s o k' t result → Hands notes waits n k s [] [] k' t
 unit_hands notes waits n k k' s t None result so = hands_none notes waits n k k' s t so.0 so.1
 unit_hands notes waits n k k' s t (Some unit) result so = reset_hands notes waits n k k' s t unit result so.0 so.1
 
-manages_hands : {S : Type 0} (notes : S → DoneValue → S → Type 0) (waits : DoneValue → Option Ticket → Type 0) (n : Nexus) (units : ℕ) (r : TaskManagementRequest) (k k' : TasksValue)
+manages_hands : {S : Type 0} (notes : S → DoneValue → S → Type 0) (waits : DoneValue → Option ReplyTicket → Type 0) (n : Nexus) (units : ℕ) (r : TaskManagementRequest) (k k' : TasksValue)
     (s t : S)
     (f : TaskManagementFunction) (result : TaskManagementResult)
     → Manages notes units r k s f k' t result → Hands notes waits n k s [] [] k' t
@@ -506,7 +506,7 @@ by_test : {P Q R : Type 0} (b : Bool) → MatchBool b P Q → (b ≡ true → P 
 by_test true so f g = f refl so
 by_test false so f g = g refl so
 
-managed_by : {S : Type 0} (notes : S → DoneValue → S → Type 0) (waits : DoneValue → Option Ticket → Type 0) (count : S → ℕ) (n : Nexus) (r : TaskManagementRequest) (k k' : TasksValue)
+managed_by : {S : Type 0} (notes : S → DoneValue → S → Type 0) (waits : DoneValue → Option ReplyTicket → Type 0) (count : S → ℕ) (n : Nexus) (r : TaskManagementRequest) (k k' : TasksValue)
     (s t : S)
     (said : List TargetPduValue) → ManagesTasks notes count r k s said k' t
     → Hands notes waits n k s [] [] k' t
@@ -520,7 +520,7 @@ managed_by {S} notes waits count n r k k' s t said so =
 
 -- ---- PDUs
 
-task_hands : {S : Type 0} (notes : S → DoneValue → S → Type 0) (waits : DoneValue → Option Ticket → Type 0) (count : S → ℕ) (n : Nexus) (h : InitiatorHeader) (payload : List ℕ)
+task_hands : {S : Type 0} (notes : S → DoneValue → S → Type 0) (waits : DoneValue → Option ReplyTicket → Type 0) (count : S → ℕ) (n : Nexus) (h : InitiatorHeader) (payload : List ℕ)
     (k k' : TasksValue) (s t : S) (said : List TargetPduValue)
     → TakesTask notes waits count n h payload k s said k' t → Hands notes waits n k s (brought_by h payload) [] k' t
 task_hands notes waits count n (sent.ScsiCommand p) payload k k' s t said so = acts_hands notes waits n k k' s t (Commanded p payload) said refl refl so
@@ -533,7 +533,7 @@ task_hands notes waits count n (sent.LoginRequest p) payload k k' s t said so = 
 task_hands notes waits count n (sent.SnackRequest p) payload k k' s t said so = absurd so
 task_hands notes waits count n (sent.Unknown p) payload k k' s t said so = absurd so
 
-works_hands : {S : Type 0} (notes : S → DoneValue → S → Type 0) (waits : DoneValue → Option Ticket → Type 0) (count : S → ℕ) (n : Nexus) (h : InitiatorHeader) (payload : List ℕ)
+works_hands : {S : Type 0} (notes : S → DoneValue → S → Type 0) (waits : DoneValue → Option ReplyTicket → Type 0) (count : S → ℕ) (n : Nexus) (h : InitiatorHeader) (payload : List ℕ)
     (k k' : TasksValue)
     (s t : S) (said : List TargetPduValue) → Works notes waits count n h payload k s said k' t → Hands notes waits n k s (brought_by h payload) [] k' t
 works_hands {S} notes waits count n h payload k k' s t said so =
@@ -542,7 +542,7 @@ works_hands {S} notes waits count n h payload k k' s t said so =
     (task_hands notes waits count n h payload k so.tasks s so.service so.first so.takes)
     (goes_hands notes waits n so.times so.tasks k' so.service t so.others so.goes_on))
 
-others_hand : {S : Type 0} (notes : S → DoneValue → S → Type 0) (waits : DoneValue → Option Ticket → Type 0) (n : Nexus) (h : InitiatorHeader) (payload : List ℕ) (k k' : TasksValue)
+others_hand : {S : Type 0} (notes : S → DoneValue → S → Type 0) (waits : DoneValue → Option ReplyTicket → Type 0) (n : Nexus) (h : InitiatorHeader) (payload : List ℕ) (k k' : TasksValue)
     (s t : S)
     → is_of_tasks h ≡ false → k' ≡ behind_other k h → t ≡ s
     → Hands notes waits n k s (brought_by h payload) [] k' t
@@ -557,15 +557,15 @@ others_hand notes waits n (sent.ScsiCommand p) payload k k' s t other steps stil
 others_hand notes waits n (sent.DataOut p) payload k k' s t other steps still = absurd cc
 others_hand notes waits n (sent.TaskManagementRequest p) payload k k' s t other steps still = absurd cc
 
-says_hands : {S : Type 0} (notes : S → DoneValue → S → Type 0) (waits : DoneValue → Option Ticket → Type 0) (count : S → ℕ) (n : Nexus) (p : InitiatorPduValue) (k k' : TasksValue)
+says_hands : {S : Type 0} (notes : S → DoneValue → S → Type 0) (waits : DoneValue → Option ReplyTicket → Type 0) (count : S → ℕ) (n : Nexus) (p : InitiatorPduValue) (k k' : TasksValue)
     (s t : S)
     (said : List TargetPduValue) → Says (Works notes waits count n) p k s said k' t → Hands notes waits n k s (brought_by p.header p.payload) [] k' t
 says_hands {S} notes waits count n p k k' s t said so =
     by_test (is_of_tasks p.header) so (λ is got. works_hands notes waits count n p.header p.payload k k' s t said got)
     (λ is got. others_hand notes waits n p.header p.payload k k' s t is got.0 got.1)
 
-pub talks_hands : {S : Type 0} (notes : S → DoneValue → S → Type 0) (waits : DoneValue → Option Ticket → Type 0) (count : S → ℕ) (n : Nexus) (resets ends : ℕ → Type 0)
-    (settles : Ticket → keeping.Outcome → Type 0) (es : List Event)
+pub talks_hands : {S : Type 0} (notes : S → DoneValue → S → Type 0) (waits : DoneValue → Option ReplyTicket → Type 0) (count : S → ℕ) (n : Nexus) (resets ends : ℕ → Type 0)
+    (settles : ReplyTicket → keeping.Outcome → Type 0) (es : List Event)
     (k k' : TasksValue) (s t : S) (said : List TargetPduValue) → Talks (normal_world notes waits count n resets ends settles) es k s said k' t
     → Hands notes waits n k s (brought_in es) (settlements es) k' t
 talks_hands notes waits count n resets ends settles [] k k' s t said so = hands_none notes waits n k k' s t so.1 so.2

@@ -17,7 +17,7 @@ use Rattle.iscsi_pdu.specs.declared.initiator_header.InitiatorHeader.{InitiatorH
 use Rattle.iscsi_pdu.specs.declared.initiator_header.InitiatorHeader.TheVariants as sent
 use Rattle.iscsi_pdu.specs.declared.data_out.DataOut.{DataOut}
 use Rattle.iscsi_tasks.specs.Runs.{DataCame, stepped}
-use Rattle.tickets.specs.declared.ticket.Ticket.{Ticket}
+use Rattle.tickets.specs.declared.ticket.ReplyTicket.{ReplyTicket}
 use Rattle.iscsi_session.specs.Executing.{Acts, Adds, GoesOn, OrElse, Tells, numbers, outcome}
 use Rattle.iscsi_session.specs.Managing.{Manages, ManagesTasks}
 use Rattle.iscsi_session.specs.Saying.{AddsPlain, TakesResets, Says, TakesTask, Works, behind_other, is_of_tasks, without_units}
@@ -37,13 +37,13 @@ managed {S} notes count r k k1 k2 k' s t result stat_sn taken counts manages sam
     )
 
 -- where a Data-Out was taken
-pub data_takes : {S : Type 0} (notes : S → DoneValue → S → Type 0) (waits : DoneValue → Option Ticket → Type 0) (n : Nexus) (k k' : TasksValue) (s : S) (d : DataOut) (payload : List ℕ)
+pub data_takes : {S : Type 0} (notes : S → DoneValue → S → Type 0) (waits : DoneValue → Option ReplyTicket → Type 0) (n : Nexus) (k k' : TasksValue) (s : S) (d : DataOut) (payload : List ℕ)
     (P : List TargetPduValue → Type 0)
     → (said : List TargetPduValue) × (k' ≡ stepped k (DataCame d payload)) × Tells k' (outcome k (DataCame d payload)) said × P said
     → (said : List TargetPduValue) × Acts notes waits n k s (DataCame d payload) said k' s × P said
 data_takes notes waits n k k' s d payload P took = (took.0, told_acts notes waits n k k' s s (DataCame d payload) took.0 refl took.1 took.2, took.3)
 
-pub data_broke : {S : Type 0} (notes : S → DoneValue → S → Type 0) (waits : DoneValue → Option Ticket → Type 0) (n : Nexus) (k k' : TasksValue) (s : S) (d : DataOut) (payload : List ℕ)
+pub data_broke : {S : Type 0} (notes : S → DoneValue → S → Type 0) (waits : DoneValue → Option ReplyTicket → Type 0) (n : Nexus) (k k' : TasksValue) (s : S) (d : DataOut) (payload : List ℕ)
     → ((said : List TargetPduValue) × (k' ≡ stepped k (DataCame d payload)) × Tells k' (outcome k (DataCame d payload)) said × Unit {0}) ⊎ (k' ≡ k)
     → ((said : List TargetPduValue) × Acts notes waits n k s (DataCame d payload) said k' s × Unit {0}) ⊎ ((k' ≡ k) × (s ≡ s))
 data_broke notes waits n k k' s d payload (inl took) =
@@ -51,7 +51,7 @@ data_broke notes waits n k k' s d payload (inl took) =
 data_broke notes waits n k k' s d payload (inr same) = inr (same, refl)
 
 -- where others had reset units, and what waited behind went on
-pub resets_taken : {S A F : Type 0} (resets : ℕ → Type 0) (notes : S → DoneValue → S → Type 0) (waits : DoneValue → Option Ticket → Type 0) (n : Nexus) (k left k' : TasksValue) (s t : S)
+pub resets_taken : {S A F : Type 0} (resets : ℕ → Type 0) (notes : S → DoneValue → S → Type 0) (waits : DoneValue → Option ReplyTicket → Type 0) (n : Nexus) (k left k' : TasksValue) (s t : S)
     (out out' : List ℕ) (r : Result A F) → (units : List ℕ) × All resets units × (left ≡ without_units k units)
     → (times : ℕ) × (said : List TargetPduValue) × GoesOn notes waits n times left s said k' t × Adds r out out' said
     → (units : List ℕ) × All resets units × ((said : List TargetPduValue) × TakesResets notes waits n units k s said k' t × Adds r out out' said)
@@ -62,7 +62,7 @@ resets_taken {S} resets notes waits n k left k' s t out out' r told so = (
 )
 
 -- where a PDU of a task was taken, and nothing else was done
-pub work_broke : {S A F : Type 0} (notes : S → DoneValue → S → Type 0) (waits : DoneValue → Option Ticket → Type 0) (count : S → ℕ) (n : Nexus) (h : InitiatorHeader) (payload : List ℕ)
+pub work_broke : {S A F : Type 0} (notes : S → DoneValue → S → Type 0) (waits : DoneValue → Option ReplyTicket → Type 0) (count : S → ℕ) (n : Nexus) (h : InitiatorHeader) (payload : List ℕ)
     (k k' : TasksValue) (s t : S) (out out' : List ℕ) (other : Type 0) (r : Result A F) → IsErr r
     → ((said : List TargetPduValue) × TakesTask notes waits count n h payload k s said k' t × Unit {0}) ⊎ other
     → OrElse r other ((said : List TargetPduValue) × Works notes waits count n h payload k s said k' t × Adds r out out' said)
@@ -75,7 +75,7 @@ work_broke {S} notes waits count n h payload k k' s t out out' other r e (inl to
     )
 
 -- where what waits went on behind it
-pub went_on : {S : Type 0} (notes : S → DoneValue → S → Type 0) (waits : DoneValue → Option Ticket → Type 0) (count : S → ℕ) (n : Nexus) (h : InitiatorHeader) (payload : List ℕ)
+pub went_on : {S : Type 0} (notes : S → DoneValue → S → Type 0) (waits : DoneValue → Option ReplyTicket → Type 0) (count : S → ℕ) (n : Nexus) (h : InitiatorHeader) (payload : List ℕ)
     (k k1 k' : TasksValue) (s m t : S) (out mid out' : List ℕ)
     → (said : List TargetPduValue) × TakesTask notes waits count n h payload k s said k1 m × (mid ≡ out ++ bytes_of_all said)
     → (times : ℕ) × (said : List TargetPduValue) × GoesOn notes waits n times k1 m said k' t × (out' ≡ mid ++ bytes_of_all said)
@@ -87,7 +87,7 @@ went_on {S} notes waits count n h payload k k1 k' s m t out mid out' one two = (
 )
 
 -- where what waits broke it
-pub went_on_broken : {S A B F G : Type 0} (notes : S → DoneValue → S → Type 0) (waits : DoneValue → Option Ticket → Type 0) (count : S → ℕ) (n : Nexus) (h : InitiatorHeader) (payload : List ℕ)
+pub went_on_broken : {S A B F G : Type 0} (notes : S → DoneValue → S → Type 0) (waits : DoneValue → Option ReplyTicket → Type 0) (count : S → ℕ) (n : Nexus) (h : InitiatorHeader) (payload : List ℕ)
     (k k1 k' : TasksValue) (s m t : S) (out mid out' : List ℕ) (other : Type 0) (q : Result A F) (r : Result B G) → IsErr r
     → (said : List TargetPduValue) × TakesTask notes waits count n h payload k s said k1 m × (mid ≡ out ++ bytes_of_all said)
     → (times : ℕ) × (said : List TargetPduValue) × GoesOn notes waits n times k1 m said k' t × Adds q mid out' said

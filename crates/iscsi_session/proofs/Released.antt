@@ -5,39 +5,38 @@ use Rattle.std.proofs.lemmas.List.{drop_more}
 use Rattle.std.proofs.lemmas.List.Elements.{All-append, All-cons, All-nil}
 use Rattle.iscsi_pdu.specs.Pdus.{TargetPduValue}
 use Rattle.iscsi_pdu.specs.declared.serial_number.SerialNumber.{SerialNumber}
-use Rattle.iscsi_answers.specs.declared.limits.TransferLimits.{TransferLimits}
 use Rattle.iscsi_tasks.specs.Holding.{answers_due}
 use Rattle.iscsi_tasks.specs.Next.{next_of}
 use Rattle.iscsi_tasks.specs.Runs.{Settled, stepped}
 use Rattle.iscsi_tasks.specs.Values.{TasksValue}
 use Rattle.iscsi_tasks.specs.declared.held_reply.DueAnswer.{DueAnswer}
-use Rattle.tickets.specs.declared.ticket.Ticket.{Ticket}
+use Rattle.tickets.specs.declared.ticket.ReplyTicket.{ReplyTicket}
 use Rattle.tickets.specs.declared.ticket.Outcome.{Outcome}
 use Rattle.iscsi_session.specs.Releasing.{Releases, ReleasesAll, SaysDue, Settlement, response_to}
 
 -- some PDUs are always an answer to them
-pub says_something : (k : TasksValue) (limits : TransferLimits) (stat_sn : SerialNumber) (due : List DueAnswer)
+pub says_something : (k : TasksValue) (stat_sn : SerialNumber) (due : List DueAnswer)
     → (said : List TargetPduValue) × SaysDue k due said
-says_something k limits stat_sn [] = ([], refl)
-says_something k limits stat_sn (answer ∷ due) =
-    let others = says_something k limits stat_sn due in (
-      response_to k limits stat_sn answer.command answer.response ++ others.0,
-      (limits, stat_sn, others.0, refl, others.1),
+says_something k stat_sn [] = ([], refl)
+says_something k stat_sn (answer ∷ due) =
+    let others = says_something k stat_sn due in (
+      response_to k stat_sn answer.command answer.response ++ others.0,
+      (stat_sn, others.0, refl, others.1),
     )
 
 -- an answer more, in front of those that are left
-pub due_more : (k k1 : TasksValue) (limits : TransferLimits) (stat_sn : SerialNumber) (due : List DueAnswer) (i : ℕ) (d : DueAnswer)
+pub due_more : (k k1 : TasksValue) (stat_sn : SerialNumber) (due : List DueAnswer) (i : ℕ) (d : DueAnswer)
     (said : List TargetPduValue) → i < length due → k1 ≡ k
     → ((others : List TargetPduValue) → SaysDue k (drop i due) others → SaysDue k due (said ++ others))
     → (others : List TargetPduValue) → SaysDue k (drop (i + 1) due) others
-    → SaysDue k due ((said ++ response_to k1 limits stat_sn (get_or due i d).command (get_or due i d).response) ++ others)
-due_more k k1 limits stat_sn due i d said within same so others rest =
+    → SaysDue k due ((said ++ response_to k1 stat_sn (get_or due i d).command (get_or due i d).response) ++ others)
+due_more k k1 stat_sn due i d said within same so others rest =
     let a : DueAnswer = get_or due i d in
-    let first : List TargetPduValue = response_to k limits stat_sn a.command a.response in
-    subst (λ (v : TasksValue). SaysDue k due ((said ++ response_to v limits stat_sn a.command a.response) ++ others)) (sym same)
+    let first : List TargetPduValue = response_to k stat_sn a.command a.response in
+    subst (λ (v : TasksValue). SaysDue k due ((said ++ response_to v stat_sn a.command a.response) ++ others)) (sym same)
     (subst (λ (l : List TargetPduValue). SaysDue k due l) (sym (append_assoc said first others))
     (so (first ++ others) (subst (λ (l : List DueAnswer). SaysDue k l (first ++ others)) (sym (drop_more due i d within))
-    (limits, stat_sn, others, refl, rest))))
+    (stat_sn, others, refl, rest))))
 
 pub due_all : (k : TasksValue) (due : List DueAnswer) (i : ℕ) (said : List TargetPduValue) → length due ≤ i
     → ((others : List TargetPduValue) → SaysDue k (drop i due) others → SaysDue k due (said ++ others)) → SaysDue k due said
@@ -64,7 +63,7 @@ all_append (x ∷ xs) ys k k1 k' a b one two = (
   all_append xs ys (stepped k (Settled x.ticket x.outcome)) k1 k' one.1 b one.4 two,
 )
 
-pub releases_then : (settles : Ticket → Outcome → Type 0) (k k1 k' : TasksValue) (a b : List TargetPduValue) → Releases settles k a k1
+pub releases_then : (settles : ReplyTicket → Outcome → Type 0) (k k1 k' : TasksValue) (a b : List TargetPduValue) → Releases settles k a k1
     → Releases settles k1 b k' → Releases settles k (a ++ b) k'
 releases_then settles k k1 k' a b one two = (
   one.0 ++ two.0,
@@ -73,7 +72,7 @@ releases_then settles k k1 k' a b one two = (
 )
 
 -- one ticket
-pub releases_one : (settles : Ticket → Outcome → Type 0) (k k' : TasksValue) (ticket : Ticket) (outcome : Outcome)
+pub releases_one : (settles : ReplyTicket → Outcome → Type 0) (k k' : TasksValue) (ticket : ReplyTicket) (outcome : Outcome)
     (said : List TargetPduValue) → settles ticket outcome → k' ≡ stepped k (Settled ticket outcome)
     → SaysDue k' (answers_due ticket outcome k.replies) said → Releases settles k said k'
 releases_one settles k k' ticket outcome said told steps due =
@@ -90,7 +89,7 @@ releases_one settles k k' ticket outcome said told steps due =
       ),
     )
 
-pub releases_none : (settles : Ticket → Outcome → Type 0) (k : TasksValue) → Releases settles k [] k
+pub releases_none : (settles : ReplyTicket → Outcome → Type 0) (k : TasksValue) → Releases settles k [] k
 releases_none settles k = ([], All-nil (λ (y : Settlement). settles y.ticket y.outcome), (refl, refl))
 
 -- what is to be done next stays
@@ -98,6 +97,6 @@ all_next : (xs : List Settlement) (k k' : TasksValue) (said : List TargetPduValu
 all_next [] k k' said so = ap next_of so.1
 all_next (x ∷ xs) k k' said so = all_next xs (stepped k (Settled x.ticket x.outcome)) k' so.1 so.4
 
-pub releases_next : (settles : Ticket → Outcome → Type 0) (k k' : TasksValue) (said : List TargetPduValue) → Releases settles k said k'
+pub releases_next : (settles : ReplyTicket → Outcome → Type 0) (k k' : TasksValue) (said : List TargetPduValue) → Releases settles k said k'
     → next_of k' ≡ next_of k
 releases_next settles k k' said so = all_next so.0 k k' said so.2

@@ -9,7 +9,7 @@ use Rattle.iscsi_answers.specs.Written.{bytes_of_all}
 use Rattle.iscsi_tasks.specs.Next.{next_of}
 use Rattle.iscsi_tasks.specs.declared.next_task.NextTask.TheVariants.{Idle}
 use Rattle.iscsi_tasks.specs.Values.{TasksValue}
-use Rattle.tickets.specs.declared.ticket.Ticket.{Ticket}
+use Rattle.tickets.specs.declared.ticket.ReplyTicket.{ReplyTicket}
 use Rattle.tickets.specs.declared.ticket.Outcome.{Outcome}
 use Rattle.session.specs.Serving.{IsLostBelow}
 use Rattle.session.specs.Answering.{ComesByCalls}
@@ -30,7 +30,7 @@ use Rattle.iscsi_session.proofs.LoggedIn.{requests_before}
 use Rattle.iscsi_session.proofs.Talked.{appends_more}
 
 pub converses_calls : {S : Type 0} {resets ends : ℕ → Type 0}
-    {settles : Ticket → Outcome → Type 0} (notes : S → DoneValue → S → Type 0) (waits : DoneValue → Option Ticket → Type 0) (count : S → ℕ) (n : Nexus) (a b : Moment S)
+    {settles : ReplyTicket → Outcome → Type 0} (notes : S → DoneValue → S → Type 0) (waits : DoneValue → Option ReplyTicket → Type 0) (count : S → ℕ) (n : Nexus) (a b : Moment S)
     (rest : List ℕ) (left left' : Option (List ℕ)) (said : List TargetPduValue)
     → Converses (normal_world notes waits count n resets ends settles) 1 a left left' said b rest → ComesByCalls notes n a.service b.service
 converses_calls {S} {resets = resets} {ends = ends} {settles = settles} notes waits count n a b rest left left' said so =
@@ -39,7 +39,7 @@ converses_calls {S} {resets = resets} {ends = ends} {settles = settles} notes wa
     talks_hands notes waits count n resets ends settles answers.events a.tasks b.tasks a.service b.service said answers.talks in (hands.calls, hands.made)
 
 abbrev is_served : {S : Type 0} {resets ends : ℕ → Type 0}
-    {settles : Ticket → Outcome → Type 0} (notes : S → DoneValue → S → Type 0) (waits : DoneValue → Option Ticket → Type 0) (count : S → ℕ) (target : LoginTarget)
+    {settles : ReplyTicket → Outcome → Type 0} (notes : S → DoneValue → S → Type 0) (waits : DoneValue → Option ReplyTicket → Type 0) (count : S → ℕ) (target : LoginTarget)
     (challenge : Option Challenge) (port : ℕ) (begun : FullFeature) (e : ExchangeValue) (s t : S) (pending : List ℕ)
     (left left1 left2 : Option (List ℕ)) (said : List TargetPduValue) (all : Bool) → LogsIn target (started port challenge) e left left1 pending
     → HasReached e begun → Holds notes waits count resets ends settles port begun s pending left1 left2 said all t
@@ -71,7 +71,7 @@ is_served {S} {resets = resets} {ends = ends} {settles = settles} notes waits co
 
 -- what came behind a login, and the loss
 abbrev pub holds : {S : Type 0} {resets ends : ℕ → Type 0}
-    {settles : Ticket → Outcome → Type 0} (notes : S → DoneValue → S → Type 0) (waits : DoneValue → Option Ticket → Type 0) (count : S → ℕ) (port : ℕ) (begun : FullFeature)
+    {settles : ReplyTicket → Outcome → Type 0} (notes : S → DoneValue → S → Type 0) (waits : DoneValue → Option ReplyTicket → Type 0) (count : S → ℕ) (port : ℕ) (begun : FullFeature)
     (n : Nexus) (last : Moment S) (s s1 before after t : S) (units : ℕ) (pending rest : List ℕ) (left left' : Option (List ℕ))
     (said : List TargetPduValue) (all : Bool) → begun.session_type ≡ Normal → n ≡ nexus_of port begun → s1 ≡ s
     → Converses (normal_world notes waits count n resets ends settles) 1 (first_moment begun s1 pending) left left' said last rest → last.service ≡ before
@@ -132,7 +132,7 @@ all_written (Ok value) w w1 w2 said told all k one two = (two.0, two.1, writes_l
 all_written (Err fault) w w1 w2 said told all k one two = tt
 
 pub serves : {S A F : Type 0} {resets ends : ℕ → Type 0}
-    {settles : Ticket → Outcome → Type 0} (notes : S → DoneValue → S → Type 0) (waits : DoneValue → Option Ticket → Type 0) (count : S → ℕ) (target : LoginTarget)
+    {settles : ReplyTicket → Outcome → Type 0} (notes : S → DoneValue → S → Type 0) (waits : DoneValue → Option ReplyTicket → Type 0) (count : S → ℕ) (target : LoginTarget)
     (challenge : Option Challenge) (port : ℕ) (begun : FullFeature) (e0 e : ExchangeValue) (s t : S) (pending : List ℕ)
     (left left1 left2 w w1 w2 : Option (List ℕ)) (r : Result A F) → e0 ≡ started port challenge → LogsIn target e0 e left left1 pending
     → HasReached e begun → (told : List ℕ) × Appends w w1 told

@@ -20,7 +20,7 @@ use Rattle.iscsi_session.specs.Saying.{Says}
 use Rattle.iscsi_session.specs.Talking.{Answers, BeginsWith, Came, Converses, Ending, Event, IsSo, Moment, Released, Silence, Told, Takes, Talks, Writes}
 use Rattle.iscsi_session.specs.Talking.{asked_to_leave, leave_requests, must_wait, pdus_of, pinged}
 use Rattle.iscsi_tasks.specs.Runs.{Settled, stepped}
-use Rattle.tickets.specs.declared.ticket.Ticket.{Ticket}
+use Rattle.tickets.specs.declared.ticket.ReplyTicket.{ReplyTicket}
 use Rattle.tickets.specs.declared.ticket.Outcome.{Outcome}
 use Rattle.iscsi_session.specs.Releasing.{Releases, ReleasesAll, Settlement}
 use Rattle.iscsi_session.specs.Worlds.{World}
@@ -98,7 +98,7 @@ talks_append {S} w (e ∷ es) fs k k1 k' s m t a b one two = (
 
 -- ---- what is pending
 
-one_so : (resets ends : ℕ → Type 0) (settles : Ticket → Outcome → Type 0) (e : Event) → IsSo resets ends settles e
+one_so : (resets ends : ℕ → Type 0) (settles : ReplyTicket → Outcome → Type 0) (e : Event) → IsSo resets ends settles e
     → All (IsSo resets ends settles) (e ∷ [])
 one_so resets ends settles e so = All-cons (IsSo resets ends settles) e [] so (All-nil (IsSo resets ends settles))
 

@@ -33,8 +33,8 @@ use Rattle.iscsi_tasks.specs.declared.taken.TakenCommand.TheVariants as taken
 use Rattle.iscsi_tasks.specs.declared.taken.TakenData.{TakenData}
 use Rattle.iscsi_tasks.specs.declared.taken.TakenData.TheVariants as taken_data
 use Rattle.iscsi_answers.specs.Single.{pdu, rejection}
-use Rattle.tickets.specs.declared.ticket.Ticket.{Ticket}
-use Rattle.iscsi_answers.specs.CommandAnswers.{answered_command, command_answer}
+use Rattle.tickets.specs.declared.ticket.ReplyTicket.{ReplyTicket}
+use Rattle.iscsi_answers.specs.CommandAnswers.{answered_command, command_answer, data_before}
 use Rattle.iscsi_answers.specs.Written.{bytes_of_all}
 use Rattle.iscsi_answers.specs.declared.limits.TransferLimits.{TransferLimits}
 use Rattle.iscsi_answers.specs.declared.sequence.SequenceNumbers.{SequenceNumbers}
@@ -88,39 +88,44 @@ abbrev pub answer_to : TasksValue → TransferLimits → SerialNumber → ScsiCo
 answer_to k limits stat_sn command handed_over status sense bytes =
     command_answer limits (numbers k stat_sn) (answered_command command handed_over) status sense bytes
 
--- what a reply waits for, by its data: one that has some waits for nothing
-abbrev pub WaitsFor : (waits : DoneValue → Option Ticket → Type 0) → DoneValue → (payload : List ℕ) → Option Ticket → Type 0
-WaitsFor waits done [] ticket = waits done ticket
-WaitsFor waits done (byte ∷ bytes) ticket = ticket ≡ None
+-- the data that go out before a reply that is held
+abbrev pub data_of : TasksValue → TransferLimits → SerialNumber → ScsiCommand → (handed_over : ℕ) → (bytes : List ℕ) → List TargetPduValue
+data_of k limits stat_sn command handed_over bytes = data_before limits (numbers k stat_sn) (answered_command command handed_over) bytes
 
 -- a command is handed to the unit of its LUN with these data, once, and this is what the unit has replied to that very call, and what that waits
 -- for; or its LUN is no unit's number, this is what a unit that doesn't exist replies, it waits for nothing, and nothing happens at the service
-abbrev pub Replies : {S : Type 0} → (S → DoneValue → S → Type 0) → (DoneValue → Option Ticket → Type 0) → Nexus → S → (unit : Option ℕ)
-    → (cdb bytes : List ℕ) → Reply → Option Ticket → S → Type 0
+abbrev pub Replies : {S : Type 0} → (S → DoneValue → S → Type 0) → (DoneValue → Option ReplyTicket → Type 0) → Nexus → S → (unit : Option ℕ)
+    → (cdb bytes : List ℕ) → Reply → Option ReplyTicket → S → Type 0
 Replies notes waits n s (Some unit) cdb bytes reply ticket t =
-    (done : DoneValue) × IsAnswer done (Some n) unit (event.Command cdb bytes) × notes s done t × (reply ≡ done.reply)
-    × WaitsFor waits done done.reply.payload ticket
+    (done : DoneValue) × IsAnswer done (Some n) unit (event.Command cdb bytes) × notes s done t × (reply ≡ done.reply) × waits done ticket
 Replies notes waits n s None cdb bytes reply ticket t = AnswersAbsent cdb reply × (ticket ≡ None) × (t ≡ s)
 
--- a reply as it is held: it has no data
-abbrev pub held_reply : Reply → (handed_over : ℕ) → UnitReply
-held_reply reply handed_over = record { handed_over = handed_over; status = reply.status; sense = reply.sense }
+-- a reply as it is held, behind its data, which went out in so many Data-In
+abbrev pub held_reply : Reply → (handed_over data_ins : ℕ) → UnitReply
+held_reply reply handed_over data_ins = record {
+  handed_over = handed_over;
+  status = reply.status;
+  sense = reply.sense;
+  data_length = length reply.payload;
+  data_ins = data_ins;
+}
 
--- a reply that waits for nothing answers the command in hand at once, with the numbers of the tasks behind it; one that waits is held, and nothing
--- is said yet
-abbrev pub AnswersOrHolds : TasksValue → ScsiCommand → (handed_over : ℕ) → Reply → Option Ticket → (said : List TargetPduValue) → TasksValue
+-- a reply that waits for nothing answers the command in hand at once, with the numbers of the tasks behind it; of one that waits the data are sent,
+-- and it is held
+abbrev pub AnswersOrHolds : TasksValue → ScsiCommand → (handed_over : ℕ) → Reply → Option ReplyTicket → (said : List TargetPduValue) → TasksValue
     → Type 0
 AnswersOrHolds k command handed_over reply None said k' =
     (limits : TransferLimits) × (stat_sn : SerialNumber) × (k' ≡ stepped k Answered)
     × (said ≡ answer_to k' limits stat_sn command handed_over reply.status reply.sense reply.payload)
 AnswersOrHolds k command handed_over reply (Some ticket) said k' =
-    (said ≡ []) × (k' ≡ stepped k (Held (held_reply reply handed_over) ticket))
+    (limits : TransferLimits) × (stat_sn : SerialNumber) × (said ≡ data_of k limits stat_sn command handed_over reply.payload)
+    × (k' ≡ stepped k (Held (held_reply reply handed_over (length said)) ticket))
 
 -- a command is executed with these data, and its reply answers it or is held
-pub record Executes {S : Type 0} (notes : S → DoneValue → S → Type 0) (waits : DoneValue → Option Ticket → Type 0) (n : Nexus) (s : S)
+pub record Executes {S : Type 0} (notes : S → DoneValue → S → Type 0) (waits : DoneValue → Option ReplyTicket → Type 0) (n : Nexus) (s : S)
     (k : TasksValue) (command : ScsiCommand) (bytes : List ℕ) (said : List TargetPduValue) (k' : TasksValue) (t : S) : Type 0 where
   pub reply : Reply
-  pub ticket : Option Ticket
+  pub ticket : Option ReplyTicket
   pub replied : Replies notes waits n s (unit_of command.lun) command.cdb bytes reply ticket t
   pub says : AnswersOrHolds k command (min (length bytes) 0xFFFFFFFF) reply ticket said k'
 
@@ -157,7 +162,7 @@ abbrev pub refusal : TasksValue → SerialNumber → RejectReason → (rejected 
 refusal k stat_sn reason rejected = rejection (numbers k stat_sn) reason rejected ∷ []
 
 -- what is to be done is done, and these PDUs are what is said; a command that is answered is in hand no longer
-abbrev pub Does : {S : Type 0} → (S → DoneValue → S → Type 0) → (DoneValue → Option Ticket → Type 0) → Nexus → S → TasksValue → Outcome → (said : List TargetPduValue) → TasksValue
+abbrev pub Does : {S : Type 0} → (S → DoneValue → S → Type 0) → (DoneValue → Option ReplyTicket → Type 0) → Nexus → S → TasksValue → Outcome → (said : List TargetPduValue) → TasksValue
     → S → Type 0
 Does notes waits n s k Nothing said k' t = (said ≡ []) × (k' ≡ k) × (t ≡ s)
 Does notes waits n s k (Execute command bytes) said k' t = Executes notes waits n s k command bytes said k' t
@@ -176,12 +181,12 @@ Tells k (Fail command fault) said = ⊥
 Tells k (Ask request) said = ⊥
 
 -- something happens to the tasks, and what that comes to is done
-abbrev pub Acts : {S : Type 0} → (S → DoneValue → S → Type 0) → (DoneValue → Option Ticket → Type 0) → Nexus → TasksValue → S → Act → (said : List TargetPduValue) → TasksValue → S
+abbrev pub Acts : {S : Type 0} → (S → DoneValue → S → Type 0) → (DoneValue → Option ReplyTicket → Type 0) → Nexus → TasksValue → S → Act → (said : List TargetPduValue) → TasksValue → S
     → Type 0
 Acts notes waits n k s act said k' t = Does notes waits n s (stepped k act) (outcome k act) said k' t
 
 -- what is to be done next is done, so many times
-unfoldable pub GoesOn : {S : Type 0} → (S → DoneValue → S → Type 0) → (DoneValue → Option Ticket → Type 0) → Nexus → (times : ℕ) → TasksValue → S
+unfoldable pub GoesOn : {S : Type 0} → (S → DoneValue → S → Type 0) → (DoneValue → Option ReplyTicket → Type 0) → Nexus → (times : ℕ) → TasksValue → S
     → (said : List TargetPduValue) → TasksValue → S → Type 0
 GoesOn notes waits n zero k s said k' t = (said ≡ []) × (k' ≡ k) × (t ≡ s)
 GoesOn {S} notes waits n (suc times) k s said k' t =

@@ -14,9 +14,9 @@ use Rattle.iscsi_tasks.specs.Values.{TasksValue}
 use Rattle.iscsi_tasks.specs.declared.held_reply.HeldReply.{HeldReply}
 use Rattle.judgement.specs.Replies.{AnswersAbsent}
 use Rattle.judgement.specs.declared.reply.Reply.{Reply}
-use Rattle.tickets.specs.declared.ticket.Ticket.{Ticket}
+use Rattle.tickets.specs.declared.ticket.ReplyTicket.{ReplyTicket}
 use Rattle.session.specs.Answering.{Calls}
-use Rattle.iscsi_session.specs.Executing.{WaitsFor, held_reply}
+use Rattle.iscsi_session.specs.Executing.{held_reply}
 use Rattle.iscsi_session.specs.Releasing.{Settlement}
 use Rattle.iscsi_session.specs.Talking.{Came, Ending, Event, Released, Told, Silence}
 
@@ -74,23 +74,23 @@ abbrev pub handed : List Executed → List (ℕ × EventValue)
 handed es = flat_map (λ e. call_for (unit_of e.command.lun) e.command.cdb e.bytes) es
 
 -- a command that was executed: the call by which it was handed to its unit, if its LUN is a unit's number; the reply to it, and the ticket that
--- this waits for, if it has to wait
+-- this waits for, if it has to wait, behind so many Data-In
 pub record CarriedOut : Type 0 where
   pub executed : Executed
   pub call : Option DoneValue
   pub reply : Reply
-  pub ticket : Option Ticket
+  pub ticket : Option ReplyTicket
+  pub data_ins : ℕ
 
-abbrev pub RepliesTo : (waits : DoneValue → Option Ticket → Type 0) → Executed → (unit : Option ℕ) → (call : Option DoneValue) → Reply
-    → Option Ticket → Type 0
+abbrev pub RepliesTo : (waits : DoneValue → Option ReplyTicket → Type 0) → Executed → (unit : Option ℕ) → (call : Option DoneValue) → Reply
+    → Option ReplyTicket → Type 0
 RepliesTo waits e (Some unit) (Some done) reply ticket =
-    (done.lun ≡ unit) × (done.asked ≡ event.Command e.command.cdb e.bytes) × (reply ≡ done.reply)
-    × WaitsFor waits done done.reply.payload ticket
+    (done.lun ≡ unit) × (done.asked ≡ event.Command e.command.cdb e.bytes) × (reply ≡ done.reply) × waits done ticket
 RepliesTo waits e None None reply ticket = AnswersAbsent e.command.cdb reply × (ticket ≡ None)
 RepliesTo waits e (Some unit) None reply ticket = ⊥
 RepliesTo waits e None (Some done) reply ticket = ⊥
 
-abbrev pub IsReplied : (waits : DoneValue → Option Ticket → Type 0) → CarriedOut → Type 0
+abbrev pub IsReplied : (waits : DoneValue → Option ReplyTicket → Type 0) → CarriedOut → Type 0
 IsReplied waits x = RepliesTo waits x.executed (unit_of x.executed.command.lun) x.call x.reply x.ticket
 
 -- the calls by which commands are handed over
@@ -111,13 +111,13 @@ abbrev pub calls_of : List CarriedOut → List DoneValue
 calls_of xs = flat_map (λ x. call_list x.call) xs
 
 -- the replies that wait
-abbrev pub held_if : Executed → Reply → Option Ticket → List HeldReply
-held_if e reply None = []
-held_if e reply (Some ticket) =
-    record { command = e.command; reply = held_reply reply (min (length e.bytes) 0xFFFFFFFF); ticket = ticket } ∷ []
+abbrev pub held_if : Executed → Reply → Option ReplyTicket → (data_ins : ℕ) → List HeldReply
+held_if e reply None data_ins = []
+held_if e reply (Some ticket) data_ins =
+    record { command = e.command; reply = held_reply reply (min (length e.bytes) 0xFFFFFFFF) data_ins; ticket = ticket } ∷ []
 
 abbrev pub held_of : List CarriedOut → List HeldReply
-held_of xs = flat_map (λ x. held_if x.executed x.reply x.ticket) xs
+held_of xs = flat_map (λ x. held_if x.executed x.reply x.ticket x.data_ins) xs
 
 -- the tickets that are settled, among acts and among what happens to a session
 abbrev pub settled_by : Act → List Settlement
@@ -147,7 +147,7 @@ settlements (Ending seconds ∷ es) = settlements es
 -- tasks execute and whose LUN is a unit's number, in the same order, each once and with the data that they have for it. Each command that is
 -- executed has the reply to its own call, and the replies that are held are those that wait for a ticket, in this order, each once; the tickets that
 -- are settled are these. What becomes of the replies that are held is for the laws of the tasks' acts to say
-pub record Hands {S : Type 0} (notes : S → DoneValue → S → Type 0) (waits : DoneValue → Option Ticket → Type 0) (n : Nexus) (k : TasksValue)
+pub record Hands {S : Type 0} (notes : S → DoneValue → S → Type 0) (waits : DoneValue → Option ReplyTicket → Type 0) (n : Nexus) (k : TasksValue)
     (s : S) (brings : List Act) (settles : List Settlement) (k' : TasksValue) (t : S) : Type 0 where
   pub acts : List Act
   pub calls : List DoneValue

@@ -13,7 +13,7 @@ use Rattle.iscsi_tasks.specs.Aborts.{without_unit}
 use Rattle.iscsi_tasks.specs.Commands.{is_taken, counted}
 use Rattle.iscsi_tasks.specs.Runs.{Commanded, DataCame}
 use Rattle.iscsi_tasks.specs.Values.{TasksValue}
-use Rattle.tickets.specs.declared.ticket.Ticket.{Ticket}
+use Rattle.tickets.specs.declared.ticket.ReplyTicket.{ReplyTicket}
 use Rattle.tickets.specs.declared.ticket.Outcome.{Outcome}
 use Rattle.iscsi_session.specs.Executing.{Acts, GoesOn}
 use Rattle.iscsi_session.specs.Managing.{ManagesTasks}
@@ -66,7 +66,7 @@ abbrev pub AddsPlain : (out out' : List ℕ) → Type 0
 AddsPlain out out' = (said : List TargetPduValue) × IsPlain said × (out' ≡ out ++ bytes_of_all said)
 
 -- a PDU of a task happens to the tasks
-abbrev pub TakesTask : {S : Type 0} → (S → DoneValue → S → Type 0) → (DoneValue → Option Ticket → Type 0) → (count : S → ℕ) → Nexus → InitiatorHeader → (payload : List ℕ)
+abbrev pub TakesTask : {S : Type 0} → (S → DoneValue → S → Type 0) → (DoneValue → Option ReplyTicket → Type 0) → (count : S → ℕ) → Nexus → InitiatorHeader → (payload : List ℕ)
     → TasksValue → S → (said : List TargetPduValue) → TasksValue → S → Type 0
 TakesTask notes waits count n (sent.ScsiCommand p) payload k s said k' t = Acts notes waits n k s (Commanded p payload) said k' t
 TakesTask notes waits count n (sent.DataOut p) payload k s said k' t = Acts notes waits n k s (DataCame p payload) said k' t
@@ -74,7 +74,7 @@ TakesTask notes waits count n (sent.TaskManagementRequest p) payload k s said k'
 TakesTask notes waits count n _ payload k s said k' t = ⊥
 
 -- and then those that wait go on: what a normal session does with it
-pub record Works {S : Type 0} (notes : S → DoneValue → S → Type 0) (waits : DoneValue → Option Ticket → Type 0) (count : S → ℕ) (n : Nexus) (h : InitiatorHeader) (payload : List ℕ)
+pub record Works {S : Type 0} (notes : S → DoneValue → S → Type 0) (waits : DoneValue → Option ReplyTicket → Type 0) (count : S → ℕ) (n : Nexus) (h : InitiatorHeader) (payload : List ℕ)
     (k : TasksValue) (s : S) (said : List TargetPduValue) (k' : TasksValue) (t : S) : Type 0 where
   pub tasks : TasksValue
   pub service : S
@@ -85,19 +85,19 @@ pub record Works {S : Type 0} (notes : S → DoneValue → S → Type 0) (waits 
   pub takes : TakesTask notes waits count n h payload k s first tasks service
   pub goes_on : GoesOn notes waits n times tasks service others k' t
 
--- without the commands that wait at these units, the first of them last
+-- without the commands that wait at these units and the replies that are held for them, the first of them last
 abbrev pub without_units : TasksValue → (units : List ℕ) → TasksValue
 without_units k [] = k
 without_units k (unit ∷ units) = without_unit (without_units k units) unit
 
--- of units that others have reset the commands that wait there go unexecuted, and those that waited behind them go on
-abbrev pub TakesResets : {S : Type 0} → (S → DoneValue → S → Type 0) → (DoneValue → Option Ticket → Type 0) → Nexus → (units : List ℕ) → TasksValue → S
+-- of units that others have reset the commands that wait there go unexecuted, replies are dropped, and what waited behind them goes on
+abbrev pub TakesResets : {S : Type 0} → (S → DoneValue → S → Type 0) → (DoneValue → Option ReplyTicket → Type 0) → Nexus → (units : List ℕ) → TasksValue → S
     → (said : List TargetPduValue) → TasksValue → S → Type 0
 TakesResets notes waits n units k s said k' t = (times : ℕ) × GoesOn notes waits n times (without_units k units) s said k' t
 
 -- the world of a normal session
-abbrev pub normal_world : {S : Type 0} → (S → DoneValue → S → Type 0) → (DoneValue → Option Ticket → Type 0) → (count : S → ℕ) → Nexus
-    → (resets ends : ℕ → Type 0) → (settles : Ticket → Outcome → Type 0) → World S
+abbrev pub normal_world : {S : Type 0} → (S → DoneValue → S → Type 0) → (DoneValue → Option ReplyTicket → Type 0) → (count : S → ℕ) → Nexus
+    → (resets ends : ℕ → Type 0) → (settles : ReplyTicket → Outcome → Type 0) → World S
 normal_world notes waits count n resets ends settles = world (Works notes waits count n) (TakesResets notes waits n) resets ends settles
 
 -- one PDU; what comes of one of a task `works` says

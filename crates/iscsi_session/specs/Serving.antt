@@ -15,7 +15,7 @@ use Rattle.iscsi_answers.specs.Written.{bytes_of_all}
 use Rattle.iscsi_tasks.specs.Next.{next_of}
 use Rattle.iscsi_tasks.specs.Values.{TasksValue, begun_tasks}
 use Rattle.iscsi_tasks.specs.declared.next_task.NextTask.TheVariants.{Idle}
-use Rattle.tickets.specs.declared.ticket.Ticket.{Ticket}
+use Rattle.tickets.specs.declared.ticket.ReplyTicket.{ReplyTicket}
 use Rattle.tickets.specs.declared.ticket.Outcome.{Outcome}
 use Rattle.session.specs.Serving.{IsLostBelow}
 use Rattle.iscsi_session.specs.Handing.{Hands, brought_in, settlements}
@@ -36,7 +36,7 @@ abbrev pub first_moment : {S : Type 0} → FullFeature → S → (pending : List
 first_moment begun s pending = record { tasks = first_tasks begun; service = s; pending = pending; out = [] }
 
 -- a normal session from the last request of its login on: PDUs, and then the nexus is lost at every unit, once
-pub record Holds {S : Type 0} (notes : S → DoneValue → S → Type 0) (waits : DoneValue → Option Ticket → Type 0) (count : S → ℕ) (resets ends : ℕ → Type 0) (settles : Ticket → Outcome → Type 0) (port : ℕ)
+pub record Holds {S : Type 0} (notes : S → DoneValue → S → Type 0) (waits : DoneValue → Option ReplyTicket → Type 0) (count : S → ℕ) (resets ends : ℕ → Type 0) (settles : ReplyTicket → Outcome → Type 0) (port : ℕ)
     (begun : FullFeature) (s : S) (pending : List ℕ) (left left' : Option (List ℕ)) (said : List TargetPduValue) (all : Bool) (t : S) : Type
     0 where
   pub normal : begun.session_type ≡ Normal
@@ -48,7 +48,7 @@ pub record Holds {S : Type 0} (notes : S → DoneValue → S → Type 0) (waits 
 
 -- that, or nothing at the service. Where it ends without a fault nothing is left to be done, all that was said is written, and the nexus was lost at
 -- every unit
-abbrev pub ServesBehind : {S A F : Type 0} → (S → DoneValue → S → Type 0) → (DoneValue → Option Ticket → Type 0) → (count : S → ℕ) → (resets ends : ℕ → Type 0) → (settles : Ticket → Outcome → Type 0) → (port : ℕ)
+abbrev pub ServesBehind : {S A F : Type 0} → (S → DoneValue → S → Type 0) → (DoneValue → Option ReplyTicket → Type 0) → (count : S → ℕ) → (resets ends : ℕ → Type 0) → (settles : ReplyTicket → Outcome → Type 0) → (port : ℕ)
     → FullFeature → S → (pending : List ℕ) → (left left' written written' : Option (List ℕ)) → Result A F → S → Type 0
 ServesBehind notes waits count resets ends settles port begun s pending left left' written written' result t =
     (t ≡ s) ⊎ ((said : List TargetPduValue) × (all : Bool)
@@ -59,7 +59,7 @@ ServesBehind notes waits count resets ends settles port begun s pending left lef
 -- what its tasks say, one after another; the commands that are handed to units are those that the tasks execute and whose LUN is a unit's number, in
 -- that order, each once and with the data that they have for it, all under the nexus that the login was let in as, and nothing but the PDUs has
 -- brought the tasks commands and data; a logout is asked for once at most; and at last the nexus is lost at every unit, once
-pub record IsServed {S : Type 0} (notes : S → DoneValue → S → Type 0) (waits : DoneValue → Option Ticket → Type 0) (count : S → ℕ) (resets ends : ℕ → Type 0) (settles : Ticket → Outcome → Type 0) (target : LoginTarget)
+pub record IsServed {S : Type 0} (notes : S → DoneValue → S → Type 0) (waits : DoneValue → Option ReplyTicket → Type 0) (count : S → ℕ) (resets ends : ℕ → Type 0) (settles : ReplyTicket → Outcome → Type 0) (target : LoginTarget)
     (challenge : Option Challenge) (port : ℕ) (s : S) (left left' : Option (List ℕ)) (said : List TargetPduValue) (all : Bool) (t : S) :
     Type 0 where
   pub begun : FullFeature
@@ -83,7 +83,7 @@ pub record IsServed {S : Type 0} (notes : S → DoneValue → S → Type 0) (wai
 
 -- that, or a connection that does nothing at the service: one that isn't let in, or a discovery session. Where it ends without a fault nothing
 -- is left to be done, all that was said is written, and the nexus was lost at every unit
-unfoldable pub Serves : {S A F : Type 0} → (S → DoneValue → S → Type 0) → (DoneValue → Option Ticket → Type 0) → (count : S → ℕ) → (resets ends : ℕ → Type 0) → (settles : Ticket → Outcome → Type 0) → LoginTarget
+unfoldable pub Serves : {S A F : Type 0} → (S → DoneValue → S → Type 0) → (DoneValue → Option ReplyTicket → Type 0) → (count : S → ℕ) → (resets ends : ℕ → Type 0) → (settles : ReplyTicket → Outcome → Type 0) → LoginTarget
     → Option Challenge → (port : ℕ) → S → (left left' written written' : Option (List ℕ)) → Result A F → S → Type 0
 Serves notes waits count resets ends settles target challenge port s left left' written written' result t =
     (t ≡ s) ⊎ ((said : List TargetPduValue) × (all : Bool)

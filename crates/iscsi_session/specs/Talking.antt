@@ -14,7 +14,7 @@ use Rattle.iscsi_tasks.specs.Values.{TasksValue}
 use Rattle.iscsi_tasks.specs.declared.next_task.NextTask.TheVariants.{Idle}
 use Rattle.iscsi_tasks.specs.Holding.{answers_due, holds_none}
 use Rattle.iscsi_tasks.specs.Runs.{Settled, stepped}
-use Rattle.tickets.specs.declared.ticket.Ticket.{Ticket}
+use Rattle.tickets.specs.declared.ticket.ReplyTicket.{ReplyTicket}
 use Rattle.tickets.specs.declared.ticket.Outcome.{Outcome}
 use Rattle.iscsi_session.specs.Executing.{numbers}
 use Rattle.iscsi_session.specs.Releasing.{SaysDue}
@@ -39,10 +39,10 @@ pub data Event : Type 0 where
   Silence : Event
   Told : (units : List ℕ) → Event
   Ending : (seconds : ℕ) → Event
-  Released : Ticket → Outcome → Event
+  Released : ReplyTicket → Outcome → Event
 
 -- what it is told is so
-abbrev pub IsSo : (resets ends : ℕ → Type 0) → (settles : Ticket → Outcome → Type 0) → Event → Type 0
+abbrev pub IsSo : (resets ends : ℕ → Type 0) → (settles : ReplyTicket → Outcome → Type 0) → Event → Type 0
 IsSo resets ends settles (Came p) = Unit {0}
 IsSo resets ends settles Silence = Unit {0}
 IsSo resets ends settles (Told units) = All resets units

@@ -7,7 +7,7 @@ ghost use Rattle.iscsi_session.specs.declared.claiming.Claim.TheVariants.{New, P
 use iscsi_login::FullFeature;
 use iscsi_pdu::LoginStatus;
 use scsi_nexus::Nexus;
-use tickets::{Outcome, Ticket};
+use tickets::{Outcome, ReplyTicket};
 
 /// What a session is known by beside its nexus, which stands for the initiator's name and the portal group.
 #[derive(Clone, Copy, PartialEq, Eq)]
@@ -24,7 +24,7 @@ pub struct SessionIdentity {
 pub trait SessionRegister {
     ghost use Rattle.std.specs.Prelude.{ℕ, IsTrue, IfSome};
     ghost use Rattle.tickets.specs.declared.ticket.Outcome.{Outcome};
-    ghost use Rattle.tickets.specs.declared.ticket.Ticket.{Ticket};
+    ghost use Rattle.tickets.specs.declared.ticket.ReplyTicket.{ReplyTicket};
 
     // That another session has reset a unit, as far as whoever keeps the register says what that means.
     ghost resets: { Self → ℕ → Type 0 } = { λ _ _. Unit {0} };
@@ -32,8 +32,8 @@ pub trait SessionRegister {
     // That all sessions are to end within so many seconds, in the same way.
     ghost ends: { Self → ℕ → Type 0 } = { λ _ _. Unit {0} };
 
-    // That keeping what a ticket is for ended so, in the same way.
-    ghost settles: { Self → Ticket → Outcome → Type 0 } = { λ _ _ _. Unit {0} };
+    // That what a ticket is for ended so, in the same way.
+    ghost settles: { Self → ReplyTicket → Outcome → Type 0 } = { λ _ _ _. Unit {0} };
 
     /// The session that lives as a nexus, if it is one of iSCSI.
     fn living(&self, nexus: Nexus) -> Option<SessionIdentity>;
@@ -60,8 +60,8 @@ pub trait SessionRegister {
     /// before commands are carried out of which others may have to be held.
     fn note_holding(&self, is_holding: bool);
 
-    /// How keeping what a held reply waits for ended, if it has. It is asked of each whenever a read has ended.
-    fn outcome_of(&self, ticket: Ticket) -> Option<Outcome>
+    /// How what a held reply waits for ended, if it has. It is asked of each whenever a read has ended.
+    fn outcome_of(&self, ticket: ReplyTicket) -> Option<Outcome>
         ensures { IfSome result (settles self.now ticket) };
 }
 

@@ -6,27 +6,29 @@ ghost use Rattle.iscsi_tasks.specs.Next.{next_of};
 ghost use Rattle.iscsi_tasks.specs.Runs.{Answered, Commanded, DataCame, Held, stepped};
 ghost use Rattle.iscsi_tasks.specs.declared.next_task.NextTask.TheVariants.{Idle};
 ghost use Rattle.iscsi_session.specs.Faults.{IsLater};
-ghost use Rattle.iscsi_session.specs.Executing.{Acts, Adds, Does, Executes, GoesOn, HasInHand, OrElse, Tells, WaitsFor};
-ghost use Rattle.iscsi_session.specs.Executing.{answer_to, demand, failure, held_reply, is_idle, next_outcome, outcome};
+ghost use Rattle.iscsi_session.specs.Executing.{Acts, Adds, Does, Executes, GoesOn, HasInHand, OrElse, Tells};
+ghost use Rattle.iscsi_session.specs.Executing.{answer_to, data_of, demand, failure, held_reply, is_idle, next_outcome, outcome};
 
 use crate::connection::Connection;
 use crate::fault::IscsiFault;
 use crate::keeping::KeepingService;
 use crate::requests::{BasicHeader, reject};
-use iscsi_answers::{AnsweredCommand, UnitAnswer, write_command_answer, write_ready_to_transfer};
+use iscsi_answers::{
+    AnsweredCommand, UnitAnswer, count_data_before, write_command_answer, write_data_before,
+    write_ready_to_transfer,
+};
 use iscsi_pdu::{DataOut, ScsiCommand, unit_of};
 use iscsi_tasks::{NextTask, TakenCommand, TakenData, TaskFault, TransferRequest, UnitReply};
 use judgement::{Reply, absent};
-use logical_unit::Done;
 use scsi_nexus::Nexus;
 use scsi_sense::{Sense, Status};
 use std::alloc::Global;
-use tickets::Ticket;
+use tickets::ReplyTicket;
 
 /// The sense key of a command that ends unexecuted since its data aren't right (SPC-4, "Sense key and additional sense code definitions").
 const ABORTED_COMMAND: u8 = 0x0B;
 
-/// Hands the command in hand to its unit with its data, and adds what answers it, or holds the reply until what it waits for is kept. A
+/// Hands the command in hand to its unit with its data, and adds what answers it, or holds the reply until what it waits for is settled. A
 /// command whose LUN is no unit's number is answered as a unit that doesn't exist answers it.
 fn execute<S: KeepingService>(
     alloc: Global,
@@ -46,11 +48,9 @@ fn execute<S: KeepingService>(
         Some(lun) => {
             let done = service.submit(alloc, nexus, lun, &command.cdb, bytes);
             let reply = &done.receipt().reply;
-            match ticket_for(service, &done, bytes.len()) {
+            match service.ticket_for(&done, bytes.len()) {
                 Some(ticket) => {
-                    let held = reply_to_hold(reply, handed_over(bytes));
-                    connection.tasks.hold(held, ticket);
-                    Ok(())
+                    hold_reply(connection, command, handed_over(bytes), reply, ticket)
                 }
                 None => answer_executed(connection, command, bytes, reply),
             }
@@ -62,17 +62,6 @@ fn execute<S: KeepingService>(
     }
 }
 
-/// What the reply to a command waits for with which so many bytes were sent: one with data waits for nothing.
-fn ticket_for<S: KeepingService>(service: &S, done: &Done<'_>, length: usize) -> Option<Ticket>
-    ensures { WaitsFor S.waits done.now done.now.reply.payload result }
-{
-    if done.receipt().reply.payload.bytes().is_empty() {
-        service.begin_keeping(done, length)
-    } else {
-        None
-    }
-}
-
 /// How many bytes of data a unit got, as answers tell it.
 fn handed_over(bytes: &[u8]) -> u32
     ensures { result ≡ min (length bytes.now) 0xFFFFFFFF }
@@ -80,14 +69,42 @@ fn handed_over(bytes: &[u8]) -> u32
     bytes.len().min(u32::MAX as usize) as u32
 }
 
-/// A reply without data, as it is held.
-fn reply_to_hold(reply: &Reply, handed_over: u32) -> UnitReply
-    ensures { result ≡ held_reply reply.now handed_over }
+/// Holds the reply to the command in hand, of whose data so many bytes were handed over, and adds the data that it has for the initiator: they
+/// wait for nothing.
+fn hold_reply(
+    connection: &mut Connection<'_>,
+    command: &ScsiCommand,
+    handed_over: u32,
+    reply: &Reply,
+    ticket: ReplyTicket,
+) -> Result<(), IscsiFault>
+    requires { is_some connection.old.tasks.in_hand ≡ true }
+    ensures fault { IfErr result IsLater }
+    ensures tasks { connection.new.tasks ≡ stepped connection.old.tasks (Held (held_reply reply.now handed_over (length
+        (data_of connection.old.tasks connection.old.limits connection.old.stat_sn command.now handed_over reply.now.payload))) ticket) }
+    ensures said { OnOk result (connection.new.out.items ≡ connection.old.out.items
+        ++ bytes_of_all (data_of connection.old.tasks connection.old.limits connection.old.stat_sn command.now handed_over reply.now.payload)) }
+{
+    let answered = AnsweredCommand::of(command, handed_over);
+    let bytes = reply.payload.bytes();
+    let (limits, numbers) = (connection.limits, connection.numbers());
+    let data_ins = count_data_before(limits, numbers, answered, bytes);
+    let held = reply_to_hold(reply, handed_over, data_ins);
+    connection.tasks.hold(held, ticket);
+    write_data_before(&mut connection.out, limits, numbers, answered, bytes)?;
+    Ok(())
+}
+
+/// A reply behind its data, which go out in so many Data-In, as it is held.
+fn reply_to_hold(reply: &Reply, handed_over: u32, data_ins: u32) -> UnitReply
+    ensures { result ≡ held_reply reply.now handed_over data_ins }
 {
     UnitReply {
         handed_over,
         status: reply.status,
         sense: reply.sense,
+        data_length: reply.payload.bytes().len() as u32,
+        data_ins,
     }
 }
 
@@ -128,23 +145,6 @@ fn answer_command(
         answer.now.status answer.now.sense answer.now.data.now)) }
 {
     connection.tasks.answered();
-    add_answer(connection, command, handed_over, answer)
-}
-
-/// Adds what answers a command that is neither in hand nor held any more, of whose data so many bytes were handed over.
-pub(crate) fn add_answer(
-    connection: &mut Connection<'_>,
-    command: &ScsiCommand,
-    handed_over: u32,
-    answer: &UnitAnswer<'_>,
-) -> Result<(), IscsiFault>
-    requires { length answer.now.data.now < 2 ^ 32 }
-    ensures fault { IfErr result IsLater }
-    ensures tasks { connection.new.tasks ≡ connection.old.tasks }
-    ensures answered { OnOk result (connection.new.out.items ≡ connection.old.out.items
-        ++ bytes_of_all (answer_to connection.old.tasks connection.old.limits connection.old.stat_sn command.now handed_over
-        answer.now.status answer.now.sense answer.now.data.now)) }
-{
     let answered = AnsweredCommand::of(command, handed_over);
     let numbers = connection.numbers();
     write_command_answer(

@@ -92,7 +92,8 @@ pub(crate) trait SessionKind<S>: Copy {
             × Adds result connection.old.out.items connection.new.out.items said) }
         ensures idle { next_of connection.old.tasks ≡ Idle → OnOk result (next_of connection.new.tasks ≡ Idle) };
 
-    /// Lets those commands go unexecuted that wait at a unit which another session has reset, and goes on with those behind them.
+    /// Lets those commands go unexecuted that wait at a unit which another session has reset, drops the replies that are held for it, and goes
+    /// on with the commands behind them.
     fn take_resets<G: SessionRegister>(
         self,
         alloc: Global,

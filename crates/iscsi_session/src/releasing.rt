@@ -8,11 +8,10 @@ ghost use Rattle.iscsi_session.specs.Releasing.{Releases, SaysDue, response_to};
 
 use crate::claiming::SessionRegister;
 use crate::connection::Connection;
-use crate::executing::add_answer;
 use crate::fault::IscsiFault;
-use iscsi_answers::{UnitAnswer, write_target_failure};
+use iscsi_answers::{AnsweredCommand, write_late_response, write_target_failure};
 use iscsi_tasks::{DueAnswer, Response};
-use tickets::Ticket;
+use tickets::ReplyTicket;
 
 /// Answers the commands whose replies waited for what is settled by now, and notes whether others still wait.
 pub(crate) fn release<G: SessionRegister>(
@@ -40,7 +39,7 @@ pub(crate) fn release<G: SessionRegister>(
 fn release_one<G: SessionRegister>(
     register: &G,
     connection: &mut Connection<'_>,
-    ticket: Ticket,
+    ticket: ReplyTicket,
 ) -> Result<(), IscsiFault>
     ensures fault { IfErr result IsLater }
     ensures released { (said : List TargetPduValue)
@@ -74,16 +73,22 @@ fn add_response(connection: &mut Connection<'_>, due: &DueAnswer) -> Result<(), 
     ensures fault { IfErr result IsLater }
     ensures tasks { connection.new.tasks ≡ connection.old.tasks }
     ensures said { OnOk result (connection.new.out.items ≡ connection.old.out.items
-        ++ bytes_of_all (response_to connection.old.tasks connection.old.limits connection.old.stat_sn due.now.command due.now.response)) }
+        ++ bytes_of_all (response_to connection.old.tasks connection.old.stat_sn due.now.command due.now.response)) }
 {
     match due.response {
         Response::Replied(reply) => {
-            let answer = UnitAnswer {
-                status: reply.status,
-                sense: reply.sense,
-                data: &[],
-            };
-            add_answer(connection, &due.command, reply.handed_over, &answer)
+            let numbers = connection.numbers();
+            write_late_response(
+                &mut connection.out,
+                numbers,
+                AnsweredCommand::of(&due.command, reply.handed_over),
+                reply.status,
+                reply.sense,
+                reply.data_length,
+                reply.data_ins,
+            )?;
+            connection.has_answered();
+            Ok(())
         }
         Response::TargetFailure => {
             let numbers = connection.numbers();

@@ -15,7 +15,7 @@ use Rattle.iscsi_tasks.specs.declared.taken.TakenCommand.{TakenCommand}
 use Rattle.iscsi_tasks.specs.declared.taken.TakenCommand.TheVariants as taken
 use Rattle.iscsi_tasks.specs.declared.taken.TakenData.{TakenData}
 use Rattle.iscsi_tasks.specs.declared.next_task.NextTask.TheVariants as found
-use Rattle.tickets.specs.declared.ticket.Ticket.{Ticket}
+use Rattle.tickets.specs.declared.ticket.ReplyTicket.{ReplyTicket}
 use Rattle.tickets.specs.declared.ticket.Outcome.{Outcome}
 use Rattle.iscsi_tasks.specs.declared.held_reply.UnitReply.{UnitReply}
 use Rattle.iscsi_tasks.specs.declared.held_reply.HeldReply.{HeldReply}
@@ -71,7 +71,7 @@ number_replies s b immediate = either_replies b s (counted s immediate) s (count
 
 -- ---- once
 
-replies_of : (t : Ticket) (o : Outcome) (rs : List HeldReply) → released_replies (map (release t o) rs) ≡ rs
+replies_of : (t : ReplyTicket) (o : Outcome) (rs : List HeldReply) → released_replies (map (release t o) rs) ≡ rs
 replies_of t o [] = refl
 replies_of t o (r ∷ rs) = ap (λ (xs : List HeldReply). r ∷ xs) (replies_of t o rs)
 
@@ -123,7 +123,7 @@ all_once weigh s (act ∷ acts) =
 
 -- ---- what is answered
 
-answers_of : (t : Ticket) (o : Outcome) (rs : List HeldReply) → map (answer_by o) rs ≡ answers (map (release t o) rs)
+answers_of : (t : ReplyTicket) (o : Outcome) (rs : List HeldReply) → map (answer_by o) rs ≡ answers (map (release t o) rs)
 answers_of t o [] = refl
 answers_of t o (r ∷ rs) = ap (λ (xs : List DueAnswer). answer_by o r ∷ xs) (answers_of t o rs)
 
@@ -197,7 +197,7 @@ next_hand : (s : TasksValue) (o : Option TaskValue) → Passes s [] (handed_next
 next_hand s None = keeps_hand s s refl
 next_hand s (Some t) = left_hand s t t.awaiting
 
-held_command : (s : TasksValue) (reply : UnitReply) (ticket : Ticket) (o : Option ScsiCommand)
+held_command : (s : TasksValue) (reply : UnitReply) (ticket : ReplyTicket) (o : Option ScsiCommand)
     → IsPartOf (map (λ r. r.command) (held_for reply ticket o) ++ []) (in_hand_of o ++ [])
 held_command s reply ticket None = tt
 held_command s reply ticket (Some c) = whole (c ∷ [])

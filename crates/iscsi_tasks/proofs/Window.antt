@@ -18,7 +18,7 @@ use Rattle.iscsi_tasks.specs.declared.fault.TasksFault.{TasksFault}
 use Rattle.iscsi_tasks.specs.declared.taken.TakenCommand.{TakenCommand}
 use Rattle.iscsi_tasks.specs.declared.taken.TakenCommand.TheVariants as taken
 use Rattle.iscsi_tasks.specs.declared.taken.TakenData.{TakenData}
-use Rattle.tickets.specs.declared.ticket.Ticket.{Ticket}
+use Rattle.tickets.specs.declared.ticket.ReplyTicket.{ReplyTicket}
 use Rattle.iscsi_tasks.specs.declared.held_reply.UnitReply.{UnitReply}
 use Rattle.iscsi_tasks.specs.declared.held_reply.HeldReply.{HeldReply}
 use Rattle.iscsi_tasks.specs.Limits.{most_under_way, most_waiting}
@@ -164,7 +164,7 @@ asked_waiting b s t u ts e same =
     ∙ ap (λ (xs : List TaskValue). weighed b (t.command ∷ commands (drop 1 xs))) e
     ∙ sym (by_commands b (t ∷ ts)) ∙ ap (waiting_of b) (sym e)
 
-held_grows : (b : Bool) (s : TasksValue) (reply : UnitReply) (ticket : Ticket) (o : Option ScsiCommand)
+held_grows : (b : Bool) (s : TasksValue) (reply : UnitReply) (ticket : ReplyTicket) (o : Option ScsiCommand)
     → held_of b (s.replies ++ held_for reply ticket o) ≤ hand_of b o + held_of b s.replies
 held_grows b s reply ticket None = omega (arith, ap (held_of b) (append-nil s.replies))
 held_grows b s reply ticket (Some c) = omega (arith, held-push b s.replies (record { command = c; reply = reply; ticket = ticket }))

@@ -1,7 +1,7 @@
 -- What becomes of the replies that a session holds.
 use Rattle.std.specs.Prelude.{◌≡◌, ◌⊎◌, true, List, [], ◌∷◌, ◌++◌, map, filter, Option, Some, None, if◌then◌else◌}
 use Rattle.iscsi_pdu.specs.declared.scsi_command.ScsiCommand.{ScsiCommand}
-use Rattle.tickets.specs.declared.ticket.Ticket.{Ticket}
+use Rattle.tickets.specs.declared.ticket.ReplyTicket.{ReplyTicket}
 use Rattle.tickets.specs.declared.ticket.Outcome.{Outcome}
 use Rattle.iscsi_tasks.specs.declared.held_reply.HeldReply.{HeldReply}
 use Rattle.iscsi_tasks.specs.declared.held_reply.DueAnswer.{DueAnswer}
@@ -30,10 +30,10 @@ held_in s (act ∷ acts) = held_by s act ++ held_in (stepped s act) acts
 -- a reply that leaves, and by what outcome
 pub record Release : Type 0 where
   pub held : HeldReply
-  pub settled : Ticket
+  pub settled : ReplyTicket
   pub outcome : Outcome
 
-abbrev pub release : Ticket → Outcome → HeldReply → Release
+abbrev pub release : ReplyTicket → Outcome → HeldReply → Release
 release settled outcome r = record { held = r; settled = settled; outcome = outcome }
 
 abbrev pub released_by : TasksValue → Act → List Release

@@ -8,6 +8,7 @@ use Rattle.iscsi_keys.specs.declared.parameters.SessionParameters.{SessionParame
 use Rattle.scsi_sense.specs.declared.status.Status.TheVariants.{Good}
 use Rattle.iscsi_tasks.specs.declared.sequence.DataSequence.{DataSequence}
 use Rattle.iscsi_tasks.specs.declared.held_reply.UnitReply.{UnitReply}
+use Rattle.tickets.specs.declared.ticket.ReplyTicket.{ReplyTicket}
 use Rattle.iscsi_tasks.specs.declared.held_reply.HeldReply.{HeldReply}
 use Rattle.iscsi_tasks.specs.Values.{TasksValue, begun_tasks}
 use Rattle.iscsi_tasks.specs.Commands.{begun_task}
@@ -77,10 +78,22 @@ abbrev pub handing : ScsiCommand → TasksValue
 handing c = record alone { in_hand = Some c }
 
 abbrev pub good : UnitReply
-good = record { handed_over = 4; status = Good; sense = None }
+good = record { handed_over = 4; status = Good; sense = None; data_length = 0; data_ins = 0 }
+
+-- for something that is to be kept, and for a record of unit 1 beside it
+abbrev pub ticket_for : (thing number : ℕ) → ReplyTicket
+ticket_for thing number = record { kept = Some (record { thing = thing; number = number }); handed_out = None }
+
+abbrev pub ticket_with_record : (thing number record_number : ℕ) → ReplyTicket
+ticket_with_record thing number record_number =
+    record { kept = Some (record { thing = thing; number = number }); handed_out = Some (record { lun = 1; number = record_number }) }
 
 abbrev pub reply_to : ScsiCommand → (thing number : ℕ) → HeldReply
-reply_to c thing number = record { command = c; reply = good; ticket = record { thing = thing; number = number } }
+reply_to c thing number = record { command = c; reply = good; ticket = ticket_for thing number }
+
+abbrev pub reply_with_record : ScsiCommand → (thing number record_number : ℕ) → HeldReply
+reply_with_record c thing number record_number =
+    record { command = c; reply = good; ticket = ticket_with_record thing number record_number }
 
 abbrev pub holding : List HeldReply → TasksValue
 holding replies = record alone { replies = replies }

@@ -8,7 +8,7 @@ use Rattle.iscsi_tasks.specs.declared.taken.TakenCommand.TheVariants as taken
 use Rattle.iscsi_tasks.specs.declared.fault.TasksFault.{TasksFault}
 use Rattle.iscsi_tasks.specs.declared.next_task.NextTask.{NextTask}
 use Rattle.iscsi_tasks.specs.declared.next_task.NextTask.TheVariants as found
-use Rattle.tickets.specs.declared.ticket.Ticket.{Ticket}
+use Rattle.tickets.specs.declared.ticket.ReplyTicket.{ReplyTicket}
 use Rattle.tickets.specs.declared.ticket.Outcome.{Outcome}
 use Rattle.iscsi_tasks.specs.declared.held_reply.UnitReply.{UnitReply}
 use Rattle.iscsi_tasks.specs.Values.{TaskValue, TasksValue}
@@ -29,8 +29,8 @@ pub data Act : Type 0 where
   Aborted : (unit tag : ℕ) → Act
   Dropped : (unit : ℕ) → Act
   Answered : Act
-  Held : UnitReply → Ticket → Act
-  Settled : Ticket → Outcome → Act
+  Held : UnitReply → ReplyTicket → Act
+  Settled : ReplyTicket → Outcome → Act
 
 abbrev pub stepped : TasksValue → Act → TasksValue
 stepped s (Numbered immediate cmd_sn) = if is_taken s immediate cmd_sn then counted s immediate else s

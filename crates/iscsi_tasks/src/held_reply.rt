@@ -1,9 +1,11 @@
+ghost use Rattle.std.specs.Prelude.{◌≡◌};
+ghost use Rattle.iscsi_tasks.specs.Holding.{is_same, is_same_record};
+
 use iscsi_pdu::{ScsiCommand, SerialNumber, TaskAttribute, unit_of};
 use scsi_sense::{Sense, Status};
-use tickets::{Outcome, Ticket};
+use tickets::{Outcome, RecordTicket, ReplyTicket, Ticket};
 
-/// What a unit has replied to a command that it has carried out. It has no data: a command that changes a tape or moves a volume has none to
-/// send.
+/// What a unit has replied to a command that it has carried out, but for the data, which were sent already.
 #[derive(Clone, Copy)]
 pub struct UnitReply {
     /// How many bytes of the command's data the unit got.
@@ -11,6 +13,10 @@ pub struct UnitReply {
     pub status: Status,
     /// With CHECK CONDITION alone.
     pub sense: Option<Sense>,
+    /// How many bytes of data the unit gave.
+    pub data_length: u32,
+    /// In how many Data-In they were sent.
+    pub data_ins: u32,
 }
 
 /// The reply to a command, which is held until what its ticket names is settled.
@@ -18,7 +24,7 @@ pub struct UnitReply {
 pub struct HeldReply {
     pub command: ScsiCommand,
     pub reply: UnitReply,
-    pub ticket: Ticket,
+    pub ticket: ReplyTicket,
 }
 
 /// How a command is answered whose reply was held.
@@ -43,10 +49,11 @@ impl HeldReply {
     ghost use Rattle.iscsi_tasks.specs.Holding.{answer_by, is_due};
 
     /// Whether the ticket that is settled is its own. Others of the same thing may have ended otherwise.
-    pub(crate) fn is_due(&self, settled: Ticket) -> bool
+    pub(crate) fn is_due(&self, settled: ReplyTicket) -> bool
         ensures { result ≡ is_due settled self.now }
     {
-        self.ticket.thing == settled.thing && self.ticket.number == settled.number
+        is_same(self.ticket.kept, settled.kept)
+            && is_same_record(self.ticket.handed_out, settled.handed_out)
     }
 
     /// Whether the LUN of its command names the unit.
@@ -80,6 +87,28 @@ impl HeldReply {
     }
 }
 
+/// Whether both are for the same thing as far as the same number, or for nothing.
+fn is_same(one: Option<Ticket>, other: Option<Ticket>) -> bool
+    ensures { result ≡ is_same one other }
+{
+    match (one, other) {
+        (Some(one), Some(other)) => one.thing == other.thing && one.number == other.number,
+        (None, None) => true,
+        (Some(_), None) | (None, Some(_)) => false,
+    }
+}
+
+/// Whether both are for the same record of the same unit, or for none.
+fn is_same_record(one: Option<RecordTicket>, other: Option<RecordTicket>) -> bool
+    ensures { result ≡ is_same_record one other }
+{
+    match (one, other) {
+        (Some(one), Some(other)) => one.lun == other.lun && one.number == other.number,
+        (None, None) => true,
+        (Some(_), None) | (None, Some(_)) => false,
+    }
+}
+
 /// A command that stands where there is none.
 fn blank_command() -> ScsiCommand {
     ScsiCommand {
@@ -105,8 +134,10 @@ impl Default for HeldReply {
                 handed_over: 0,
                 status: Status::Good,
                 sense: None,
+                data_length: 0,
+                data_ins: 0,
             },
-            ticket: Ticket::default(),
+            ticket: ReplyTicket::default(),
         }
     }
 }

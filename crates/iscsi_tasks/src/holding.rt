@@ -9,7 +9,7 @@ ghost use Rattle.iscsi_tasks.specs.Windows.{held_of};
 use crate::held_reply::{DueAnswer, HeldReply};
 use crate::waiting::is_of;
 use arrayvec::ArrayVec;
-use tickets::{Outcome, Ticket};
+use tickets::{Outcome, ReplyTicket};
 
 /// How many replies are held at most: of 32 commands with numbers, and of 32 for immediate delivery.
 pub const MOST_REPLIES: usize = 64;
@@ -46,7 +46,7 @@ pub(crate) fn is_held_at(replies: &[HeldReply], unit: u8, tag: u32) -> bool
 }
 
 /// What they wait for.
-pub(crate) fn tickets_of(replies: &[HeldReply]) -> ArrayVec<Ticket, MOST_REPLIES>
+pub(crate) fn tickets_of(replies: &[HeldReply]) -> ArrayVec<ReplyTicket, MOST_REPLIES>
     requires { length replies.now ≤ most_waiting }
     ensures { result.items ≡ map (λ r. r.ticket) replies.now }
 {
@@ -60,7 +60,7 @@ pub(crate) fn tickets_of(replies: &[HeldReply]) -> ArrayVec<Ticket, MOST_REPLIES
 /// The answers to those that wait for the ticket that is settled.
 pub(crate) fn answers_due(
     replies: &[HeldReply],
-    settled: Ticket,
+    settled: ReplyTicket,
     outcome: Outcome,
 ) -> ArrayVec<DueAnswer, MOST_REPLIES>
     requires { length replies.now ≤ most_waiting }
@@ -76,7 +76,7 @@ pub(crate) fn answers_due(
 }
 
 /// Removes those that wait for the ticket that is settled.
-pub(crate) fn drop_due(replies: &mut ArrayVec<HeldReply, MOST_REPLIES>, settled: Ticket)
+pub(crate) fn drop_due(replies: &mut ArrayVec<HeldReply, MOST_REPLIES>, settled: ReplyTicket)
     ensures { replies.new.items ≡ not_due settled replies.old.items }
 {
     replies.retain(|reply| !reply.is_due(settled));

@@ -14,7 +14,7 @@ ghost use Rattle.iscsi_tasks.specs.Aborts.{is_waiting_at, without_task, without_
 ghost use Rattle.iscsi_tasks.specs.Holding.{answers_due, with_held, without_due};
 ghost use Rattle.iscsi_tasks.specs.Next.{tag_after};
 ghost use Rattle.iscsi_tasks.specs.Rows.{sn, bursts, write, data_out, begun, tagged, urgent, alone, behind, handing, good, reply_to};
-ghost use Rattle.iscsi_tasks.specs.Rows.{holding};
+ghost use Rattle.iscsi_tasks.specs.Rows.{holding, reply_with_record, ticket_for, ticket_with_record};
 
 /// Worked rows: what writes wait for, and what is wrong with Data-Out.
 pub fn data_rows()
@@ -66,16 +66,20 @@ pub fn window_rows()
 
 /// Worked rows: replies that are held, of the volumes 7 and 8. A reply with LUN 0 is of unit 0.
 pub fn holding_rows()
-    ensures holds { with_held (handing (write 4 true)) good (record { thing = 7; number = 1 })
+    ensures holds { with_held (handing (write 4 true)) good (ticket_for 7 1)
         ≡ holding (reply_to (write 4 true) 7 1 ∷ []) }
-    ensures kept { answers_due (record { thing = 7; number = 2 }) Kept
+    ensures kept { answers_due (ticket_for 7 2) Kept
         (reply_to (write 4 true) 7 2 ∷ reply_to (write 4 true) 8 1 ∷ reply_to (write 4 true) 7 3 ∷ [])
         ≡ record { command = write 4 true; response = Replied good } ∷ [] }
-    ensures lost { answers_due (record { thing = 8; number = 1 }) Lost (reply_to (write 4 true) 7 2 ∷ reply_to (write 4 true) 8 1 ∷ [])
+    ensures lost { answers_due (ticket_for 8 1) Lost (reply_to (write 4 true) 7 2 ∷ reply_to (write 4 true) 8 1 ∷ [])
         ≡ record { command = write 4 true; response = TargetFailure } ∷ [] }
     ensures stay { without_due (holding (reply_to (write 4 true) 7 2 ∷ reply_to (write 4 true) 8 1 ∷ []))
-        (record { thing = 8; number = 1 })
+        (ticket_for 8 1)
         ≡ holding (reply_to (write 4 true) 7 2 ∷ []) }
+    ensures both { answers_due (ticket_with_record 7 2 9) Kept (reply_with_record (write 4 true) 7 2 9 ∷ [])
+        ≡ record { command = write 4 true; response = Replied good } ∷ [] }
+    ensures another_record { answers_due (ticket_with_record 7 2 9) Kept
+        (reply_to (write 4 true) 7 2 ∷ reply_with_record (write 4 true) 7 2 8 ∷ []) ≡ [] }
     ensures there { is_waiting_at (holding (reply_to (write 4 true) 7 1 ∷ [])) 0 1 ≡ true }
     ensures not_there { is_waiting_at (holding (reply_to (write 4 true) 7 1 ∷ [])) 1 1 ≡ false }
     ensures aborted { (without_task (holding (reply_to (write 4 true) 7 1 ∷ reply_to (tagged 2 (write 4 true)) 7 2 ∷ [])) 0 1).replies

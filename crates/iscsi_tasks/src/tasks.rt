@@ -12,7 +12,7 @@ use iscsi_keys::{SessionParameters, TARGET_MAX_RECV_DATA_SEGMENT_LENGTH};
 use iscsi_pdu::{DataOut, RESERVED_TAG, RejectReason, ScsiCommand, SerialNumber};
 use std::alloc::Global;
 use std::marker::Model;
-use tickets::{Outcome, Ticket};
+use tickets::{Outcome, ReplyTicket};
 
 /// How many commands that have used a number up wait, are in hand or have their replies held at most, and how many for immediate delivery;
 /// and how many an initiator may send ahead while there is none.
@@ -296,7 +296,7 @@ impl Tasks {
     }
 
     /// Holds the reply to the command in hand, behind the others.
-    pub fn hold(&mut self, reply: UnitReply, ticket: Ticket)
+    pub fn hold(&mut self, reply: UnitReply, ticket: ReplyTicket)
         requires { is_some self.old.in_hand ≡ true }
         ensures { self.new ≡ stepped self.old (Held reply ticket) }
     {
@@ -318,7 +318,7 @@ impl Tasks {
     }
 
     /// What the replies that are held wait for, in the order in which their commands were executed.
-    pub fn tickets(&self) -> ArrayVec<Ticket, MOST_REPLIES>
+    pub fn tickets(&self) -> ArrayVec<ReplyTicket, MOST_REPLIES>
         ensures { result.items ≡ map (λ r. r.ticket) self.now.replies }
     {
         tickets_of(self.replies.as_slice())
@@ -326,7 +326,11 @@ impl Tasks {
 
     /// Removes the replies that wait for the ticket that is settled, and says how their commands are answered, in the order in which
     /// they were executed.
-    pub fn settle(&mut self, settled: Ticket, outcome: Outcome) -> ArrayVec<DueAnswer, MOST_REPLIES>
+    pub fn settle(
+        &mut self,
+        settled: ReplyTicket,
+        outcome: Outcome,
+    ) -> ArrayVec<DueAnswer, MOST_REPLIES>
         ensures answers { result.items ≡ answers_due settled outcome self.old.replies }
         ensures state { self.new ≡ stepped self.old (Settled settled outcome) }
     {

@@ -84,7 +84,7 @@ impl<'a> Door<'a> {
         let _ = self.second.shutdown(Shutdown::Both);
     }
 
-    /// What its sessions do with replies that say that something is kept.
+    /// What its sessions do with replies that wait.
     pub(crate) fn replies(&self) -> Replies {
         match &self.entrance {
             Entrance::Socket(_) => Replies::InPlace,

@@ -1,6 +1,7 @@
 use crate::caretaker::Caretaker;
 use crate::end_notice::EndNotice;
 use crate::logged_in::{LoggedIn, shown_name};
+use crate::record_drain::RecordDrain;
 use crate::reset_counts::ResetCounts;
 use crate::session_flags::SessionFlags;
 use crate::teller::Teller;
@@ -13,7 +14,7 @@ use std::net::Shutdown;
 use std::os::unix::net::UnixStream;
 use std::sync::{Condvar, Mutex, Wait};
 use std::time::{Clock, Duration};
-use tickets::{Outcome, Ticket};
+use tickets::{Outcome, ReplyTicket};
 
 /// How many seconds a session is waited for whose place another one takes.
 const END_OF_SESSION: u64 = 5;
@@ -171,6 +172,8 @@ pub(crate) struct SessionsBeside<'a, C: Caretaker, R: Clock + Wait, E: Write> {
     pub rt: &'a R,
     pub sessions: &'a LiveSessions,
     pub caretaker: &'a C,
+    /// Where records are handed out, if they are.
+    pub drain: Option<&'a RecordDrain>,
     /// Those of the session that sees them so.
     pub flags: &'a SessionFlags,
     pub key: usize,
@@ -224,7 +227,19 @@ impl<'a, C: Caretaker, R: Clock + Wait, E: Write> SessionRegister for SessionsBe
         self.flags.note_holding(is_holding);
     }
 
-    fn outcome_of(&self, ticket: Ticket) -> Option<Outcome> {
-        self.caretaker.outcome_of(self.rt, ticket)
+    fn outcome_of(&self, ticket: ReplyTicket) -> Option<Outcome> {
+        if let (Some(drain), Some(record)) = (self.drain, ticket.handed_out) {
+            if drain.is_full(self.rt, record) {
+                return None;
+            }
+        }
+        let outcome = match ticket.kept {
+            Some(kept) => self.caretaker.outcome_of(self.rt, kept)?,
+            None => Outcome::Kept,
+        };
+        if ticket.handed_out.is_some() {
+            self.flags.note_paced();
+        }
+        Some(outcome)
     }
 }

@@ -3,11 +3,12 @@
 use crate::handed_out::HandedOut;
 use std::sync::atomic::{AtomicBool, Ordering};
 use std::sync::{Condvar, Mutex, Wait};
+use tickets::RecordTicket;
 
 /// A unit with so many records hands them out within a session.
 const MANY: u64 = 4096;
 
-/// A command whose unit has so many waits for the thread that writes.
+/// Where a unit has so many, its hosts wait for the thread that writes.
 const MOST: u64 = 8192;
 
 /// What the thread that writes is at.
@@ -43,7 +44,7 @@ impl DrainState {
 }
 
 /// Where workers ask that records be handed out, and one thread does it: no worker writes, and so none is held up by who reads,
-/// but where a unit has very many records.
+/// but where a unit has very many records. Then a session of frames waits, and one of iSCSI holds its replies.
 #[derive(Drop)]
 pub struct RecordDrain {
     handed_out: HandedOut,
@@ -98,19 +99,27 @@ impl RecordDrain {
         self.asked.notify_all();
     }
 
-    /// Asks that the records so far be handed out, within a session, where the unit has many, up to the one of this number.
-    /// Waits only where they are very many, until they are fewer or couldn't be written.
-    pub(crate) fn ask_within_session<R: Wait>(&self, rt: &R, lun: u8, number: u64) {
-        if !self.has_many(lun, number) {
-            return;
+    /// Asks that the records so far be handed out, within a session, where a unit has many, up to this one. Whether the unit is full.
+    pub(crate) fn ask_within_session<R: Wait>(&self, rt: &R, record: RecordTicket) -> bool {
+        if !self.has_many(record.lun, record.number) {
+            return false;
         }
         self.ask(rt);
-        if self.handed_out.waiting(lun, number) >= MOST {
-            let state = self.state.lock(rt);
-            let _state = self.went_on.wait_while(rt, state, |state| {
-                state.is_under_way() && self.handed_out.waiting(lun, number) >= MOST
-            });
-        }
+        self.is_full(rt, record)
+    }
+
+    /// Whether very many records of a unit wait, up to this one, and are being handed out or will be.
+    pub(crate) fn is_full<R: Wait>(&self, rt: &R, record: RecordTicket) -> bool {
+        self.handed_out.waiting(record.lun, record.number) >= MOST
+            && self.state.lock(rt).is_under_way()
+    }
+
+    /// Waits until they are fewer, or couldn't be written.
+    pub(crate) fn await_room<R: Wait>(&self, rt: &R, record: RecordTicket) {
+        let state = self.state.lock(rt);
+        let _state = self.went_on.wait_while(rt, state, |state| {
+            state.is_under_way() && self.handed_out.waiting(record.lun, record.number) >= MOST
+        });
     }
 
     /// Nobody will ask any more: what is due is still handed out.

@@ -130,6 +130,7 @@ fn serve_session<
                 rt: service.rt,
                 sessions,
                 caretaker: service.caretaker,
+                drain: service.drain,
                 flags: service.flags,
                 key: visit.key,
                 number: visit.number,

@@ -1,5 +1,5 @@
 use mio::Waker;
-use std::sync::atomic::{AtomicBool, Ordering};
+use std::sync::atomic::{AtomicBool, AtomicU32, Ordering};
 use std::sync::{Mutex, Wait};
 
 /// What is known of the session that a worker serves, for its reader, its writer, and the threads that keep tapes.
@@ -15,6 +15,8 @@ pub(crate) struct SessionFlags {
     is_holding: AtomicBool,
     /// Whether the session has held a reply since it looked around the last time.
     is_new: AtomicBool,
+    /// How many records the session has left at units that were full, but for those whose replies were sent.
+    unpaced: AtomicU32,
     /// By which the thread of the session is woken while it waits for its host.
     waker: Mutex<Option<Waker>>,
 }
@@ -27,6 +29,7 @@ impl SessionFlags {
             is_kept: AtomicBool::new(true),
             is_holding: AtomicBool::new(false),
             is_new: AtomicBool::new(false),
+            unpaced: AtomicU32::new(0),
             waker: Mutex::new(None),
         }
     }
@@ -37,6 +40,7 @@ impl SessionFlags {
         self.is_kept.store(true, Ordering::SeqCst);
         self.is_holding.store(false, Ordering::SeqCst);
         self.is_new.store(false, Ordering::SeqCst);
+        self.unpaced.store(0, Ordering::SeqCst);
     }
 
     /// The session has ended: it holds nothing any more, and nobody wakes it.
@@ -84,6 +88,28 @@ impl SessionFlags {
     /// Whether the session has held a reply since this was asked the last time.
     pub fn take_new(&self) -> bool {
         self.is_new.swap(false, Ordering::SeqCst)
+    }
+
+    /// The session has left a record at a unit that is full.
+    pub fn note_unpaced(&self) {
+        self.unpaced.fetch_add(1, Ordering::SeqCst);
+    }
+
+    /// A reply is sent that has waited for such a record. The session's own thread alone counts.
+    pub fn note_paced(&self) {
+        let count = self.unpaced();
+        self.unpaced
+            .store(count.saturating_sub(1), Ordering::SeqCst);
+    }
+
+    /// It counts anew.
+    pub fn forget_unpaced(&self) {
+        self.unpaced.store(0, Ordering::SeqCst);
+    }
+
+    /// How many such records it has left whose replies weren't sent.
+    pub fn unpaced(&self) -> u32 {
+        self.unpaced.load(Ordering::SeqCst)
     }
 
     /// By which the session is woken from now on.

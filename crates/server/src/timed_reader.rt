@@ -12,7 +12,7 @@ use std::time::{Clock, Duration, Instant};
 /// How often one read may be cut short by a signal.
 const MOST_SIGNALS: u32 = 1000;
 
-/// After how many milliseconds at most a session looks around that holds replies and can't be woken.
+/// After how many milliseconds at most a session looks around that holds replies and isn't woken.
 const GLANCE: u64 = 20;
 
 /// How long a connection is waited for. `None`: for ever.
@@ -43,7 +43,7 @@ enum WaitEnd {
 /// fails, and so do all that follow. One by which nothing has come for as long as until a ping fails by `TimedOut`, which no other
 /// does, and one that is given up before, so that its session may look around, by `Interrupted`.
 ///
-/// While the session holds replies a read is given up too once a keeper of tapes wakes it.
+/// While the session holds replies a read is given up too once it is woken, since something is settled.
 #[derive(Drop)]
 pub(crate) struct TimedReader<'a, R: Clock + PollSource + Wait> {
     rt: &'a R,
@@ -197,7 +197,7 @@ impl<'a, R: Clock + PollSource + Wait> TimedReader<'a, R> {
         }
         let wait = self.due_wait()?;
         let begun = Instant::now(self.rt)?;
-        match self.wait_for(wait) {
+        match self.wait_for(shorter(wait, self.glance())) {
             // The stream's own limit holds too: what is reported may be gone once it is read.
             WaitEnd::HasInput => self.read_within(buffer, wait),
             // A wake ends a wait early, so that the whole of it isn't what has gone by.
@@ -209,6 +209,16 @@ impl<'a, R: Clock + PollSource + Wait> TimedReader<'a, R> {
                 let glance = Some(Duration::from_millis(GLANCE));
                 self.read_within(buffer, shorter(wait, glance))
             }
+        }
+    }
+
+    /// After how long a session looks around that waits for records to be handed out: nobody wakes it for that, since who writes them knows
+    /// no sessions. `None`: it needn't.
+    fn glance(&self) -> Option<Duration> {
+        if self.flags.unpaced() > 0 {
+            Some(Duration::from_millis(GLANCE))
+        } else {
+            None
         }
     }
 

@@ -17,25 +17,29 @@ use std::io::Write;
 use std::marker::Model;
 use std::sync::Wait;
 use tape_keeper::GoodCommand;
-use tickets::{Outcome, Ticket};
+use tickets::{Outcome, RecordTicket, ReplyTicket, Ticket};
 
 /// A seat that has noted so many calls since they were settled is settled again.
 const MANY: usize = 4096;
+
+/// How many records a session of iSCSI may leave at units that are full, but for those whose replies were sent, before it waits itself: as
+/// many as replies may be held, and some resets.
+const MOST_UNPACED: u32 = 96;
 
 /// As `WorkerService::tend`, where records are handed out.
 fn tend_with<S: SeatService, R: Wait>(
     rt: &R,
     service: &mut S,
     drain: &RecordDrain,
-    lun: u8,
-    number: u64,
-)
+    record: RecordTicket,
+) -> bool
     ensures { MaySettle S.settles service.old service.new }
 {
-    drain.ask_within_session(rt, lun, number);
+    let is_full = drain.ask_within_session(rt, record);
     if service.noted() >= MANY {
         settle_with(service, drain);
     }
+    is_full
 }
 
 /// As `WorkerService::tidy`, where records are handed out.
@@ -55,10 +59,18 @@ fn settle_with<S: SeatService>(service: &mut S, drain: &RecordDrain)
     };
 }
 
-/// What a session does with a reply that says that something is kept, until it is.
+/// The last record that a call left at its unit. With number 0 there is none.
+fn record_of(done: &Done<'_>) -> RecordTicket {
+    RecordTicket {
+        lun: done.lun(),
+        number: done.receipt().reply.number,
+    }
+}
+
+/// What a session does with a reply that waits, for something to be kept or for records to be handed out.
 #[derive(Clone, Copy)]
 pub(crate) enum Replies {
-    /// It waits, and answers nothing else meanwhile: a session of frames, whose host reads one reply after another.
+    /// It waits itself, and answers nothing else meanwhile: a session of frames, whose host reads one reply after another.
     InPlace,
     /// It holds the reply and goes on: a session of iSCSI.
     Held,
@@ -72,6 +84,8 @@ pub(crate) struct SessionSoFar {
     pub nexus: Option<Nexus>,
     /// How many commands it has sent.
     pub commands: u64,
+    /// The last record that it has left at a unit which was full by it.
+    pub awaited: Option<RecordTicket>,
 }
 
 impl SessionSoFar {
@@ -87,6 +101,7 @@ impl SessionSoFar {
             replies,
             nexus: None,
             commands: 0,
+            awaited: None,
         }
     }
 }
@@ -117,7 +132,7 @@ impl<'a, S: SeatService, C: Caretaker, R: Wait, E: Write> Model for WorkerServic
 
 impl<'a, S: SeatService, C: Caretaker, R: Wait, E: Write> WorkerService<'a, S, C, R, E> {
     ghost use Rattle.std.specs.Prelude.{◌≡◌};
-    ghost use Rattle.server.specs.Keeping.{WaitsWhereKept};
+    ghost use Rattle.server.specs.Keeping.{KeepsWhereSaid};
 
     /// Tells of a command that was BUSY, and whether for want of a slot.
     fn tell_busy(&self, nexus: Nexus, lun: u8) {
@@ -132,7 +147,7 @@ impl<'a, S: SeatService, C: Caretaker, R: Wait, E: Write> WorkerService<'a, S, C
     /// Begins to keep what a command left, if it was GOOD, and with which so many bytes were sent, and gives the ticket that its reply
     /// has to wait for.
     fn begin_to_keep(&self, done: &Done<'_>, length: usize) -> Option<Ticket>
-        ensures { WaitsWhereKept C.says_kept done.now result }
+        ensures { KeepsWhereSaid C.says_kept done.now result }
     {
         if done.receipt().reply.status != Status::Good {
             return None;
@@ -180,24 +195,74 @@ impl<'a, S: SeatService, C: Caretaker, R: Wait, E: Write> WorkerService<'a, S, C
         }
     }
 
-    /// Asks that records be handed out where the unit has many, up to the one of this number, and settles the seat where it has
-    /// noted many calls.
-    fn tend(&mut self, lun: u8, number: u64)
+    /// Asks that records be handed out where the unit has many, up to this one, and settles the seat where it has noted many calls. Whether
+    /// the unit is full.
+    fn tend(&mut self, record: RecordTicket) -> bool
         ensures { MaySettle S.settles self.old self.new }
     {
         match self.drain {
-            Some(drain) => tend_with(self.rt, &mut self.seat_service, drain, lun, number),
+            Some(drain) => tend_with(self.rt, &mut self.seat_service, drain, record),
+            None => false,
+        }
+    }
+
+    /// Waits until the unit of a record isn't full any more.
+    fn await_room(&self, record: RecordTicket) {
+        match self.drain {
+            Some(drain) => drain.await_room(self.rt, record),
             None => {}
         }
     }
 
-    /// Asks behind a session that all records be handed out, and settles the seat.
+    /// Behind a record by which a unit is full a session of frames waits. One of iSCSI goes on, and its reply waits: but task management drops
+    /// replies, and a reset and a loss have none. So that their records have a bound too, it waits once it has left many.
+    fn pace(&mut self, record: RecordTicket)
+        ensures { self.new ≡ self.old }
+    {
+        self.session.awaited = Some(record);
+        match self.session.replies {
+            Replies::InPlace => self.await_room(record),
+            Replies::Held => {
+                if self.flags.unpaced() >= MOST_UNPACED {
+                    self.await_room(record);
+                    self.flags.forget_unpaced();
+                }
+            }
+        }
+    }
+
+    /// Behind the loss of its nexus a session of frames waits too. One of iSCSI doesn't: others may wait for its end.
+    fn end_behind(&mut self, record: RecordTicket)
+        ensures { self.new ≡ self.old }
+    {
+        self.session.awaited = Some(record);
+        match self.session.replies {
+            Replies::InPlace => self.await_room(record),
+            Replies::Held => {}
+        }
+    }
+
+    /// Asks behind a session that all records be handed out, and settles the seat. Where it has left records at a unit that is full, it waits
+    /// before the next session.
     pub fn tidy(&mut self)
         ensures { MaySettle S.settles self.old self.new }
     {
         match self.drain {
             Some(drain) => tidy_with(self.rt, &mut self.seat_service, drain),
             None => {}
+        }
+        if let Some(record) = self.session.awaited {
+            self.await_room(record);
+        }
+    }
+
+    /// The record of a command whose unit is full by it.
+    fn record_to_await(&self, done: &Done<'_>) -> Option<RecordTicket> {
+        let record = record_of(done);
+        if self.drain?.is_full(self.rt, record) {
+            Some(record)
+        } else {
+            None
         }
     }
 
@@ -234,7 +299,10 @@ impl<'a, S: SeatService, C: Caretaker, R: Wait, E: Write> Service
             Status::Good => self.keep_in_place(&done, bytes.len()),
             Status::CheckCondition | Status::ReservationConflict => {}
         }
-        self.tend(lun, reply.number);
+        let record = record_of(&done);
+        if self.tend(record) {
+            self.pace(record);
+        }
         done
     }
 
@@ -245,13 +313,20 @@ impl<'a, S: SeatService, C: Caretaker, R: Wait, E: Write> Service
         if reply.status == Status::Good {
             self.resets.add(lun);
         }
-        self.tend(lun, reply.number);
+        let record = record_of(&done);
+        if self.tend(record) {
+            self.flags.note_unpaced();
+            self.pace(record);
+        }
         done
     }
 
     fn lose(&mut self, alloc: Global, nexus: Nexus, lun: u8) -> Done<'static> {
         let done = self.seat_service.lose(alloc, nexus, lun);
-        self.tend(lun, done.receipt().reply.number);
+        let record = record_of(&done);
+        if self.tend(record) {
+            self.end_behind(record);
+        }
         done
     }
 
@@ -279,9 +354,16 @@ impl<'a, S: SeatService, C: Caretaker, R: Wait, E: Write> KeepingService
 
     ghost waits = { WaitsWhereKept C.says_kept };
 
-    fn begin_keeping(&self, done: &Done<'_>, length: usize) -> Option<Ticket> {
-        let ticket = self.begin_to_keep(done, length)?;
+    fn ticket_for(&self, done: &Done<'_>, length: usize) -> Option<ReplyTicket> {
+        let kept = self.begin_to_keep(done, length);
+        let handed_out = self.record_to_await(done);
+        if kept.is_none() && handed_out.is_none() {
+            return None;
+        }
+        if handed_out.is_some() {
+            self.flags.note_unpaced();
+        }
         self.flags.hold();
-        Some(ticket)
+        Some(ReplyTicket { kept, handed_out })
     }
 }

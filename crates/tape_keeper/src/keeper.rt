@@ -29,7 +29,7 @@ pub struct GoodCommand {
     pub length: usize,
 }
 
-/// Where a keeper works. Each place has a thread of its own, so that a disk that is slow with one volume holds up no other.
+/// Where a keeper works. Each place has a thread of its own, so that a disk that is slow with one volume holds up none in another drive.
 #[derive(Clone, Copy)]
 pub enum KeepPlace {
     /// Volumes that were moved, and where all of them lie.

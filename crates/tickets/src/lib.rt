@@ -7,4 +7,4 @@ mod ticket;
 
 pub use laws::{answered_once_settled, kept_stays_kept, progress_rows};
 pub use progress::Progress;
-pub use ticket::{Outcome, Ticket};
+pub use ticket::{Outcome, RecordTicket, ReplyTicket, Ticket};

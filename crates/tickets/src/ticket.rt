@@ -7,6 +7,24 @@ pub struct Ticket {
     pub number: u64,
 }
 
+/// A record that waits to be handed out.
+#[derive(Clone, Copy, Default)]
+pub struct RecordTicket {
+    /// The logical unit number of its unit.
+    pub lun: u8,
+    /// Its number at the unit.
+    pub number: u64,
+}
+
+/// What the reply to a command waits for.
+#[derive(Clone, Copy, Default)]
+pub struct ReplyTicket {
+    /// What is to be kept, if something is.
+    pub kept: Option<Ticket>,
+    /// Up to which record of a unit all are to be handed out but as many as may wait, if some are.
+    pub handed_out: Option<RecordTicket>,
+}
+
 /// How keeping something ended, as far as a ticket.
 #[derive(Clone, Copy)]
 pub enum Outcome {

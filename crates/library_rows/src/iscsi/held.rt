@@ -29,7 +29,7 @@ struct Row {
     ended: Ended,
 }
 
-const SETTLEMENTS: [Row; 10] = [
+const SETTLEMENTS: [Row; 11] = [
     Row {
         shows: "a filemark is answered once it is kept, and all else before",
         steps: &[
@@ -169,14 +169,31 @@ const SETTLEMENTS: [Row; 10] = [
         ended: Ended::Closed,
     },
     Row {
-        shows: "a reply with data is not held",
-        steps: &[Step::Sent(&[Request::Inquiry(1, 3), Request::Logout(0x51)])],
+        shows: "the data of a reply that is held are sent at once, with the numbers of that moment, and its status once it is settled",
+        steps: &[
+            Step::Sent(&[Request::Inquiry(1, 3), Request::Nop(0x51)]),
+            Step::Settled(&[Settlement::Kept(9, 1)]),
+        ],
         told: &[
-            (Answer::Data, 1, [1, 2, 33]),
-            (Answer::LoggedOut, 0x51, [2, 2, 33]),
+            (Answer::Data, 1, [0, 2, 32]),
+            (Answer::Nop, 0x51, [1, 2, 32]),
+            (Answer::GoodBehindData, 1, [2, 2, 33]),
         ],
         handed: &[(0x12, 3, 1)],
-        ended: Ended::Logout,
+        ended: Ended::Closed,
+    },
+    Row {
+        shows: "where it is lost that is a target failure behind the data",
+        steps: &[
+            Step::Sent(&[Request::Inquiry(1, 3)]),
+            Step::Settled(&[Settlement::Lost(9, 1)]),
+        ],
+        told: &[
+            (Answer::Data, 1, [0, 2, 32]),
+            (Answer::Failure, 1, [1, 2, 33]),
+        ],
+        handed: &[(0x12, 3, 1)],
+        ended: Ended::Closed,
     },
 ];
 
@@ -516,7 +533,7 @@ const ASKING: &[Step] = &[
 ];
 
 #[test]
-fn each_reply_without_data_is_asked_for_once(rt: HostRuntime) {
+fn each_reply_is_asked_for_once(rt: HostRuntime) {
     let alloc = rt.alloc();
     let target = target(&rt, alloc);
     let keeper = Keeper::new();
@@ -524,7 +541,7 @@ fn each_reply_without_data_is_asked_for_once(rt: HostRuntime) {
     let mut told = Vec::new(alloc);
     let _ = served(alloc, &target, &mut units, ASKING, &mut told);
     let asked = units.asked.try_borrow().expect(&rt, "no other use");
-    let expected = [(0x10, 0), (0x10, 4), (0x0A, 4)];
+    let expected = [(0x10, 0), (0x10, 4), (0x12, 0), (0x0A, 4)];
     assert_list(&rt, asked.as_slice(), &expected, "with how many bytes");
 }
 

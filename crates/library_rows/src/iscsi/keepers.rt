@@ -10,7 +10,7 @@ use session::{Service, SessionFault};
 use std::alloc::Global;
 use std::cell::{Cell, RefCell};
 use tape_server::TapeDrive;
-use tickets::{Outcome, Progress, Ticket};
+use tickets::{Outcome, Progress, ReplyTicket, Ticket};
 
 /// How many units there are. The last of them is absent.
 pub(super) const UNITS: u8 = 4;
@@ -129,7 +129,8 @@ impl SessionRegister for Keeper {
         self.is_holding.set(is_holding);
     }
 
-    fn outcome_of(&self, ticket: Ticket) -> Option<Outcome> {
+    fn outcome_of(&self, ticket: ReplyTicket) -> Option<Outcome> {
+        let ticket = ticket.kept?;
         if ticket.thing == 2 {
             self.settle_all(self.meanwhile.get());
             self.meanwhile.set(&[]);
@@ -244,7 +245,7 @@ impl Service for Units<'_> {
 impl KeepingService for Units<'_> {
     ghost waits = { λ _ _. Unit {0} };
 
-    fn begin_keeping(&self, done: &Done<'_>, length: usize) -> Option<Ticket> {
+    fn ticket_for(&self, done: &Done<'_>, length: usize) -> Option<ReplyTicket> {
         let operation = match done.asked() {
             EventKind::Command { cdb, .. } => operation_of(cdb),
             EventKind::Loss | EventKind::Reset => 0xFF,
@@ -252,6 +253,10 @@ impl KeepingService for Units<'_> {
         if let Ok(mut asked) = self.asked.try_borrow_mut() {
             let _ = asked.push((operation, length));
         }
-        self.ticket_of(operation, done.lun())
+        let kept = self.ticket_of(operation, done.lun())?;
+        Some(ReplyTicket {
+            kept: Some(kept),
+            handed_out: None,
+        })
     }
 }

@@ -6,7 +6,7 @@ use iscsi_session::{Arrival, Portal, SessionIdentity, SessionRegister, serve};
 use scsi_nexus::Nexus;
 use std::alloc::Global;
 use std::process::Abort;
-use tickets::{Outcome, Ticket};
+use tickets::{Outcome, ReplyTicket};
 
 /// No other session lives, none is to end, and none has reset a unit.
 #[derive(Drop)]
@@ -35,7 +35,7 @@ impl SessionRegister for Alone {
 
     fn note_holding(&self, _is_holding: bool) {}
 
-    fn outcome_of(&self, _ticket: Ticket) -> Option<Outcome> {
+    fn outcome_of(&self, _ticket: ReplyTicket) -> Option<Outcome> {
         Some(Outcome::Kept)
     }
 }

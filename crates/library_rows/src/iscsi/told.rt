@@ -19,8 +19,10 @@ pub(super) enum Answer {
     Check,
     /// SCSI Response with target failure.
     Failure,
-    /// Data-In with GOOD, of 36 bytes.
+    /// Data-In of 36 bytes, without a status.
     Data,
+    /// SCSI Response with GOOD behind it.
+    GoodBehindData,
     /// A task management function is complete.
     Complete,
     /// There is no such task.
@@ -42,7 +44,8 @@ impl Answer {
             Answer::BusyWithoutData => [0x21, 0x82, 0, 0x08],
             Answer::Check => [0x21, 0x80, 0, 0x02],
             Answer::Failure => [0x21, 0x80, 0x01, 0],
-            Answer::Data => [0x25, 0x81, 0, 0],
+            Answer::Data => [0x25, 0x80, 0, 0],
+            Answer::GoodBehindData => [0x21, 0x80, 0, 0],
             Answer::Complete => [0x22, 0x80, 0, 0],
             Answer::NoTask => [0x22, 0x80, 0x01, 0],
             Answer::LoggedOut => [0x26, 0x80, 0, 0],
@@ -62,6 +65,7 @@ impl Answer {
             | Answer::Busy
             | Answer::BusyWithoutData
             | Answer::Failure
+            | Answer::GoodBehindData
             | Answer::Complete
             | Answer::NoTask
             | Answer::LoggedOut => 0,
@@ -78,11 +82,26 @@ impl Answer {
             | Answer::Check
             | Answer::Failure
             | Answer::Data
+            | Answer::GoodBehindData
             | Answer::Complete
             | Answer::NoTask
             | Answer::LoggedOut
             | Answer::TagInUse
             | Answer::Crowded => 0,
+        }
+    }
+
+    /// How many Data-In went before it.
+    fn data_ins(self) -> u32 {
+        u32::from(matches!(self, Answer::GoodBehindData))
+    }
+
+    /// Its StatSN, where it takes one up or tells the next.
+    fn stat_sn(self, number: u32) -> u32 {
+        if matches!(self, Answer::Data) {
+            0
+        } else {
+            number
         }
     }
 
@@ -96,6 +115,7 @@ impl Answer {
             | Answer::Check
             | Answer::Failure
             | Answer::Data
+            | Answer::GoodBehindData
             | Answer::Complete
             | Answer::NoTask
             | Answer::LoggedOut => u32::from(tag),
@@ -107,13 +127,15 @@ impl Answer {
 /// and its MaxCmdSN.
 pub(super) type Told = (Answer, u8, [u8; 3]);
 
-/// The fields of a PDU of a target: bytes 0 to 3, the length of its data, its tag, StatSN, ExpCmdSN and MaxCmdSN, and the residual count.
+/// The fields of a PDU of a target: bytes 0 to 3, the length of its data, its tag, StatSN, ExpCmdSN and MaxCmdSN, ExpDataSN or DataSN, and
+/// the residual count.
 #[derive(Clone, Copy, PartialEq, Eq, Debug)]
 pub(super) struct Fields {
     start: [u8; 4],
     length: usize,
     tag: u32,
     numbers: [u32; 3],
+    data_sn: u32,
     residual: u32,
 }
 
@@ -137,6 +159,7 @@ fn fields_at(bytes: &[u8], length: usize) -> Fields {
             number_at(bytes, 28),
             number_at(bytes, 32),
         ],
+        data_sn: number_at(bytes, 36),
         residual: number_at(bytes, 44),
     }
 }
@@ -183,10 +206,11 @@ fn fields_of(told: &Told, first: u32) -> Fields {
         length: answer.length(),
         tag: answer.tag(tag),
         numbers: [
-            first.wrapping_add(u32::from(stat_sn)),
+            answer.stat_sn(first.wrapping_add(u32::from(stat_sn))),
             u32::from(exp_cmd_sn),
             u32::from(max_cmd_sn),
         ],
+        data_sn: answer.data_ins(),
         residual: answer.residual(),
     }
 }

@@ -8,7 +8,7 @@ use scsi_cdb::Kind;
 use scsi_nexus::Nexus;
 use session::{Directory, Service, SessionFault, serve};
 use std::alloc::Global;
-use tickets::Ticket;
+use tickets::ReplyTicket;
 
 const A: Nexus = Nexus {
     sas: 0x5000_0000_0000_000A,
@@ -73,7 +73,7 @@ impl KeepingService for Empty {
 
     ghost waits = { λ _ ticket. ticket ≡ None };
 
-    fn begin_keeping(&self, _done: &Done<'_>, _length: usize) -> Option<Ticket> {
+    fn ticket_for(&self, _done: &Done<'_>, _length: usize) -> Option<ReplyTicket> {
         None
     }
 }

@@ -5,7 +5,7 @@ use Rattle.iscsi_session.proofs.releasing.add_due.Goals as goal
 
 pub returns-in_err-add_response-clause-said : goal.returns-in_err-add_response-clause-said
 returns-in_err-add_response-clause-said c =
-    let any = says_something c.args.connection.now.tasks c.args.connection.now.limits c.args.connection.now.stat_sn c.args.due.now in
+    let any = says_something c.args.connection.now.tasks c.args.connection.now.stat_sn c.args.due.now in
     (any.0, any.1, adds_nothing c.from_residual.result _ _ any.0 c.from_residual.ensures.0)
 
 pub answers-preserved : goal.answers-preserved
@@ -13,7 +13,7 @@ answers-preserved c =
     let so = c.answers.invariant in
     let old = c.answers.connection in (
       _,
-      due_more c.args.connection.now.tasks old.tasks old.limits old.stat_sn c.args.due.now c.answers.answer-index _ so.0 (omega (arith, c.answers-test.true)) so.2 so.1,
+      due_more c.args.connection.now.tasks old.tasks old.stat_sn c.args.due.now c.answers.answer-index _ so.0 (omega (arith, c.answers-test.true)) so.2 so.1,
       c.in_ok-add_response.ensures.tasks ∙ so.2,
       said_more so.0 _ _ _ _ so.3 c.in_ok-add_response.ensures.said,
     )

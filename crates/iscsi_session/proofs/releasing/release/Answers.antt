@@ -5,7 +5,7 @@ use Rattle.iscsi_session.proofs.releasing.release.Goals as goal
 
 pub returns-then-holds_none-clause-released : goal.returns-then-holds_none-clause-released
 returns-then-holds_none-clause-released g c =
-    ([], releases_none (g.G.SessionRegister.settles c.args.register.now) _, sym (append-nil c.args.connection.old.out.items))
+    ([], releases_none (g.G.SessionRegister.settles c.args.register.now) _, sym (append-nil c.args.connection.now.out.items))
 
 pub returns-in_err-release_one-clause-released : goal.returns-in_err-release_one-clause-released
 returns-in_err-release_one-clause-released g c =
