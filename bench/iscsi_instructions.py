@@ -24,7 +24,7 @@ def instructions(program, count):
     """Those of a server with one session of so many commands. It ends with its standard input."""
     with tempfile.TemporaryDirectory() as room, open(f"{room}/told", "w+", encoding="utf-8") as told:
         words = ["valgrind", "--tool=callgrind", "--callgrind-out-file=/dev/null", program, "serve", "--socket", f"{room}/socket"]
-        words += ["--iscsi", "127.0.0.1:0", "--any-host", "--target-name", initiator.TARGET, "--idle-ping", "0"]
+        words += ["--iscsi", "127.0.0.1:0", "--any-host", "--target-name", initiator.TARGET, "--idle-ping", "0", "--keep-records"]
         with subprocess.Popen(words, stdin=subprocess.PIPE, stdout=subprocess.DEVNULL, stderr=told) as server:
             port = None
             while port is None:

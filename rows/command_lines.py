@@ -59,6 +59,7 @@ SERVE_REFUSED = [
     ("vtl serve --socket s --workers 65", 2, "65 is not in 1..=64"),
     ("vtl serve --socket s --workers 2 --sessions 2", 2, "cannot be used with"),
     ("vtl serve --socket s --drain --spans", 2, "cannot be used with"),
+    ("vtl serve --socket s --drain --keep-records", 2, "cannot be used with"),
     ("vtl serve --socket s --sessions 0", 2, "0 is not in 1..=64"),
     ("vtl serve --socket s --sessions 65", 2, "65 is not in 1..=64"),
     ("vtl serve --socket s --grace 3601", 2, "3601 is not in 0..=3600"),
@@ -105,14 +106,19 @@ PORTALS_REFUSED = [
         "vtl: no SAS address behind the name of a host: say its 16 hexadecimal digits: iqn.2026-11.a:b=500000000000000",
     ),
     (
-        f"{AT_1} --host iqn.2026-11.a:B=500000000000000a",
+        f"{AT_1} --host iqn.2026-11.a:b+c=500000000000000a",
         2,
-        "vtl: no iSCSI name: say one in small letters, as iqn.2026-11.example:a: iqn.2026-11.a:B=500000000000000a",
+        "vtl: no iSCSI name: say one in small letters, as iqn.2026-11.example:a: iqn.2026-11.a:b+c=500000000000000a",
     ),
     (
         f"{AT_1} --host {HOST_A} --host iqn.2026-11.a:b=500000000000000b",
         2,
         "vtl: a name is let in twice: say it once, with one SAS address: iqn.2026-11.a:b=500000000000000b",
+    ),
+    (
+        f"{AT_1} --host {HOST_A} --host iqn.2026-11.A:B=500000000000000b",
+        2,
+        "vtl: a name is let in twice: say it once, with one SAS address: iqn.2026-11.A:B=500000000000000b",
     ),
     (
         f"{AT_1} --host {HOST_A} --host iqn.2026-11.a:c=500000000000000A",

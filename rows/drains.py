@@ -56,6 +56,15 @@ def at_the_drive(server: Server) -> None:
     session(server, LOGIN_OF_A, DRIVE_READY)
 
 
+def by_itself(tried: Tried) -> None:
+    with Server(tried, "--iscsi", "127.0.0.1:0", "--any-host", "--workers", "1", keeps=False) as server:
+        at_the_drive(server)
+        server.await_lines(lambda lines: len(lines) >= len(OF_THE_DRIVE))
+        server.end()
+        server.ends()
+        same_lines(server.lines(), OF_THE_DRIVE)
+
+
 def at_the_changer(server: Server) -> None:
     session(server, LOGIN_OF_B, READY)
 
@@ -237,6 +246,7 @@ ROWS = [
     Row("stalled", "a reader that stalls holds up no session; once it reads on, all lines are there, once and in order", stalled),
     Row("long", "a unit with 4,096 records hands them out within a session; its lines stand in the order of their numbers", long),
     Row("drained", TWO_SESSIONS, drained),
+    Row("by-itself", "a server with a portal hands its records out, those of the socket too", by_itself),
     *(Row(f"kept-{number}", KEEPS, kept_behind(size)) for number, size in enumerate(SIZES, 1)),
     Row("lost", LOSES, lost(KEPT)),
     Row("lost-of-the-drive", LOSES, lost(LOST_OF_THE_DRIVE)),

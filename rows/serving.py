@@ -124,19 +124,26 @@ class Told:
             holds("what is told", self.text, words)
 
 
+# What says of portals' records whether they are kept.
+KEEP_OR_NOT = {"--drain", "--spans", "--sessions"}
+
+
 class Server:
     """The program that serves, at a socket unless it is only at portals, and waits for its hosts for ever, or as is usual, but for the times that
-    are given. Its lines go to a file, which may grow to so many bytes, or to where `output` says."""
+    are given. Its lines go to a file, which may grow to so many bytes, or to where `output` says. With portals it keeps its records to the end
+    too, where nothing else is said."""
 
     def __init__(
             self, tried: Tried, *words: str, output: int | None = None, room: int | None = None, has_socket: bool = True,
-            is_patient: bool = True, **times: int):
+            is_patient: bool = True, keeps: bool = True, **times: int):
         self.path = tried.path("socket")
         self.lines_path = tried.path("lines")
         options = (PATIENT if is_patient else {}) | {f"--{name.replace('_', '-')}": seconds for name, seconds in times.items()}
         waits = [str(word) for option in options.items() for word in option]
         place = ["--socket", self.path] if has_socket else []
-        command = [tried.program, "serve", *place, *words, *waits]
+        # With portals it would hand them out otherwise.
+        kept = ["--keep-records"] if keeps and "--iscsi" in words and not KEEP_OR_NOT & set(words) else []
+        command = [tried.program, "serve", *place, *words, *kept, *waits]
         self.room = room
         with open(self.lines_path, "wb") as lines:
             # The signal for a file that may grow no further would end it, unless it is ignored, as Python does.

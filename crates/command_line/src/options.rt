@@ -290,7 +290,7 @@ pub(crate) const ISCSI: [OptionRow; 6] = [
 ];
 
 /// When and how the records of a served library are printed.
-pub(crate) const RECORDS: [OptionRow; 2] = [
+pub(crate) const RECORDS: [OptionRow; 3] = [
     OptionRow {
         name: "spans",
         value: OptionValue::Switch,
@@ -306,7 +306,16 @@ pub(crate) const RECORDS: [OptionRow; 2] = [
         excludes: Some("spans"),
         needs: None,
         help: "Prints the records after each session, and within one whenever a unit has 4,096 of them, and keeps them no longer; \
-            without it the server keeps all, some 255 bytes a command, so a long-lived server wants it",
+            without it the server keeps all, some 255 bytes a command, so a long-lived server wants it; where a portal is served, and none of \
+            --keep-records, --spans and --sessions is said, it is so by itself",
+    },
+    OptionRow {
+        name: "keep-records",
+        value: OptionValue::Switch,
+        presence: Presence::Optional,
+        excludes: Some("drain"),
+        needs: None,
+        help: "Keeps the records to the end where a portal is served too",
     },
 ];
 

@@ -280,6 +280,7 @@ fn serve_options_of(
 {
     let socket = text_of(alloc, command.get_str("socket"))?;
     let iscsi = iscsi_options_of(alloc, command)?;
+    let drain = is_drained(command, iscsi.is_some());
     if socket.is_none() && iscsi.is_none() {
         return Err(CommandLineFault::Options(OptionFault::NoPlace));
     }
@@ -298,10 +299,18 @@ fn serve_options_of(
         media,
         memory: memory_of(alloc, command)?,
         until,
-        drain: command.get_flag("drain"),
+        drain,
         times: times_of(command),
         log: command.get_flag("log"),
     })
+}
+
+/// Whether records are handed out while a library is served. A server with portals serves for long, and would keep them for ever.
+fn is_drained(command: &ArgMatches, has_portals: bool) -> bool {
+    let is_kept = command.get_flag("keep-records")
+        || command.get_flag("spans")
+        || command.get_one::<u8>("sessions").is_some();
+    command.get_flag("drain") || has_portals && !is_kept
 }
 
 /// What initiators of iSCSI come to, if they are to.
