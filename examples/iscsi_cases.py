@@ -4,7 +4,7 @@ import struct
 
 from initiator import (
     CHANGER, ASYNC, BURST, CHECK_CONDITION, COMMAND, CONTINUES, DATA_OUT, FILEMARK, FINAL, GOOD, IMMEDIATE, INQUIRY, INVALID_FIELD, KEYS, NONE,
-    NOP_IN, NOP_OUT, OPERATIONAL, PROTOCOL_ERROR, R2T, READS, READY, REJECT, RESPONSE, REWIND, SNACK, TARGET, TEXT, TEXT_ANSWER,
+    NOP_IN, NOP_OUT, OPERATIONAL, PROTOCOL_ERROR, R2T, READS, READY, REJECT, RESPONSE, REWIND, SNACK, SNACK_REJECT, TARGET, TEXT, TEXT_ANSWER,
     TO_FULL, TRANSIT, UNSUPPORTED, WRITES, Wire, login_keys, login_pdu, pdu, text_of, unit, write_of)
 
 # A drive for the host that behaves, one for the others, and one for those whose connections are reset; and no unit.
@@ -253,7 +253,7 @@ def sends_what_a_target_sends(session):
     for opcode in (SNACK, 0x11, 0x1C, NOP_IN, RESPONSE, R2T, ASYNC, REJECT):
         session.send(pdu(opcode | IMMEDIATE, FINAL, session.next_tag(), session.fields(NONE, True)))
         answer = session.receive()
-        session.check(answer.opcode == REJECT and answer.head[2] in (UNSUPPORTED, PROTOCOL_ERROR), f"opcode {opcode:02x}h isn't rejected")
+        session.check(answer.opcode == REJECT and answer.head[2] in (SNACK_REJECT, UNSUPPORTED, PROTOCOL_ERROR), f"opcode {opcode:02x}h isn't rejected")
         session.check(answer.data[:1] == bytes([opcode | IMMEDIATE]), "the Reject hasn't the header")
 
 

@@ -23,7 +23,7 @@ INITIATOR_ERROR, AUTHENTICATION_FAILURE, AUTHORIZATION_FAILURE, NOT_FOUND, UNSUP
 TOO_MANY_CONNECTIONS, MISSING_PARAMETER, TYPE_NOT_SUPPORTED, NO_SUCH_SESSION, INVALID_DURING_LOGIN = 0x0206, 0x0207, 0x0209, 0x020A, 0x020B
 TARGET_ERROR, OUT_OF_RESOURCES = 0x0300, 0x0302
 # Reasons of a Reject.
-PROTOCOL_ERROR, INVALID_FIELD = 0x04, 0x09
+SNACK_REJECT, PROTOCOL_ERROR, INVALID_FIELD = 0x03, 0x04, 0x09
 # Responses to task management functions, and these.
 COMPLETE, NO_TASK, NO_LUN, REASSIGNMENT, UNSUPPORTED = 0x00, 0x01, 0x02, 0x04, 0x05
 ABORT_TASK, ABORT_TASK_SET, CLEAR_ACA, CLEAR_TASK_SET, UNIT_RESET, WARM_RESET, COLD_RESET, REASSIGN = range(1, 9)
@@ -107,6 +107,11 @@ def text(number: int, data: bytes = b"", transfer: int = NONE, flags: int = FINA
 
 def nop_out(tag: int, number: int, data: bytes = b"", now: bool = False) -> bytes:
     return pdu(0x40 if now else 0x00, FINAL, "", tag, (NONE, number, 1), data)
+
+
+def snack(tag: int) -> bytes:
+    """A SNACK Request, which uses no number up."""
+    return pdu(0x10, FINAL, "", tag, (NONE, 0, 1))
 
 
 def logout(tag: int, number: int, now: bool = False, cid: int = 2) -> bytes:

@@ -4,8 +4,8 @@ import socket
 from exchanges import ACCEPTED, DRIVE_READY, LOGGED_OUT, LOGOUT, NO_UNIT, READY
 from exchanges import login as frame_of_login
 from portal_pdus import (
-    CHANGER, DRIVE, GROUP, NAMES, NOWHERE, NO_SUCH_UNIT, OPERATIONAL, OUT_OF_RESOURCES, POWER_ON, TO_FULL, checked, data_with_good, good,
-    inquiry, let_on, logged_out, login, logout, ping, ready, refused, write)
+    CHANGER, DRIVE, GROUP, NAMES, NOWHERE, NO_SUCH_UNIT, OPERATIONAL, OUT_OF_RESOURCES, POWER_ON, SNACK_REJECT, TO_FULL, checked,
+    data_with_good, good, inquiry, let_on, logged_out, login, logout, ping, ready, refused, rejected, snack, write)
 from portal_scenes import CUT, OUT, REFUSALS, SILENT, TEST, WRITE, Scene, Table, begins, gets, sends, sends_by, under
 from portal_stage import Stage, Step, address_of
 from serving import same
@@ -61,6 +61,9 @@ class AtTheSocket:
 # How answers to commands begin.
 FIRST_CHECKED, GOOD = bytes([0x82, 0x02]), bytes([0x82, 0x00])
 OTHER = AtTheSocket()
+SNACKS = [Scene("a SNACK is rejected, and the session goes on", [
+    *begins(), sends(snack(7)), gets(rejected(SNACK_REJECT, (3, 1, 32), snack(7))), sends(ready(2, 1)), gets(good(2, (4, 2, 33)))],
+    drive=[TEST])]
 CUT_SHORT = [Scene("a session ends within a PDU", [*begins(), sends(ready(2, 1)[:20])], ended=CUT)]
 
 NO_ROOM = f"login refused: {REFUSALS[OUT_OF_RESOURCES]}"
@@ -83,4 +86,4 @@ PART = [Scene(
 TABLES = [
     *(Table(f"a silence, {number}", [scene], times={"idle_ping": 3}) for number, scene in enumerate(SILENCES, 1)),
     Table("a longer silence", LONGER, times={"idle_ping": 5}),
-    Table("a part of a login", PART, times={"login_timeout": 1}), Table("whole sessions", [*WHOLE, *CUT_SHORT, *BEFORE_IT])]
+    Table("a part of a login", PART, times={"login_timeout": 1}), Table("whole sessions", [*WHOLE, *SNACKS, *CUT_SHORT, *BEFORE_IT])]

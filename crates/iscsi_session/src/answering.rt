@@ -14,7 +14,7 @@ use crate::fault::IscsiFault;
 use crate::kinds::SessionKind;
 use crate::requests::{BasicHeader, take_logout, take_nop_out, take_unsupported, turn_down};
 use crate::texts::take_text;
-use iscsi_pdu::RejectReason::{CommandNotSupported, ProtocolError};
+use iscsi_pdu::RejectReason::{ProtocolError, SnackReject};
 use iscsi_pdu::{InitiatorHeader, InitiatorPdu};
 use std::alloc::Global;
 
@@ -55,6 +55,6 @@ pub(crate) fn answer<S, K: SessionKind<S>, G: SessionRegister>(
             take_unsupported(connection, request.immediate, request.cmd_sn, header)
         }
         InitiatorHeader::LoginRequest(_) => turn_down(connection, ProtocolError, header),
-        InitiatorHeader::SnackRequest(_) => turn_down(connection, CommandNotSupported, header),
+        InitiatorHeader::SnackRequest(_) => turn_down(connection, SnackReject, header),
     }
 }
