@@ -79,6 +79,9 @@ LOGINS = [
         ended=ANOTHER_CAME, drive=None),
     Scene("another pdu before a login is not answered: a NOP-Out before any request", [sends(nop_out(2, 1, now=True))],
           ended=ANOTHER_CAME, drive=None),
+    login_scene("an empty item at the end is none", Turn(TO_FULL, NAMES + b"\0", GROUP)),
+    login_scene(
+        "names are the same in capital letters", Turn(TO_FULL, NAMES.replace(b"example", b"EXAMPLE").replace(b"localhost", b"LocalHost"), GROUP)),
     # By the second portal.
     login_scene(
         "a login through both stages reaches full feature", Turn(ON, FIRST, text_of(b"TargetPortalGroupTag=2", b"AuthMethod=None")),
@@ -98,6 +101,7 @@ ANY_HOST = [
         "a login may begin with operational keys: operational keys first, a key of its own, and any other host",
         b"iqn.2007-10.com.github:sahlberg:libiscsi:a", "533fc58f33edc169"),
     as_any_host("any other host", b"iqn.2026-11.localhost:b", "5681b2431e96440a"),
+    as_any_host("the same in capital letters", b"IQN.2026-11.LocalHost:B", "5681b2431e96440a"),
     login_scene(
         "no name is none",
         Turn(TO_FULL, text_of(b"InitiatorName=", OF_TARGET, NORMAL), back=OPERATIONAL, status=AUTHORIZATION_FAILURE)),

@@ -72,6 +72,11 @@ SECRETS = {
         ", line 3: say NAME USER SECRET"),
     "eleven-bytes": Secrets(
         "a secret of eleven bytes is too short", 0o600, "# none\n\niqn.a user eleven-byte", ", line 3: a secret has 12 to 128 bytes"),
+    "no-name": Secrets(
+        "a line without an iSCSI name isn't taken", 0o600, "# none\n\niqn.a user a-secret-of-16-b", ", line 3: NAME is no iSCSI name"),
+    "shared-secret": Secrets(
+        "a secret of both directions isn't taken, and isn't told", 0o600,
+        "iqn.2026-11.a:b user a-secret-of-16-b target a-secret-of-16-b", ", line 1: the target has the secret of the host"),
     "short-secret-of-the-target": Secrets(
         "nor is a short one of the target taken", 0o600, "# none\n\niqn.a user a-secret-of-16-b target short",
         ", line 3: a secret has 12 to 128 bytes"),

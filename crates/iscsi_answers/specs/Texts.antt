@@ -2,6 +2,7 @@
 use Rattle.std.specs.Prelude.{ℕ, ◌+◌, ◌==◌, ◌&&◌, nat_le, zero, suc, Bool, List, [], ◌∷◌, ◌++◌, length, codes, string_bytes, Option, Some, None, is_some, if◌then◌else◌}
 use Rattle.std.specs.List.{flat_map}
 use Rattle.std.specs.Str.{bytes_eq}
+use Rattle.iscsi_keys.specs.IscsiNames.{is_same_name}
 use Rattle.std.specs.Fmt.{decimal}
 use Rattle.iscsi_keys.specs.Numbers.{number_in}
 use Rattle.iscsi_keys.specs.Texts.{ItemValue, End, Pair, Invalid, first_item, item_bytes}
@@ -30,7 +31,7 @@ abbrev pub send_targets : (discovery : Bool) → (name targets value : List ℕ)
 send_targets discovery name targets value =
     if names_all discovery value then targets
     else if is_misplaced discovery value then item_bytes (codes "SendTargets") (codes "Reject")
-    else if bytes_eq value name then targets
+    else if is_same_name value name then targets
     else []
 
 -- the length that the initiator declares anew, from 512 to 16,777,215 bytes

@@ -2,7 +2,7 @@ ghost use Rattle.std.specs.Prelude.{◌≡◌, ◌≤◌, ◌++◌, length, OnOk
 ghost use Rattle.iscsi_answers.specs.Texts.{text_items, text_item, send_targets, new_length, target_items, names_all, is_misplaced, declared_length};
 
 use crate::send_targets::{Portals, write_pair, write_target};
-use iscsi_keys::{TextItem, first_item, number_in};
+use iscsi_keys::{TextItem, first_item, is_same_name, number_in};
 use std::alloc::AllocError;
 
 /// Adds the text that answers a text request, key by key: `SendTargets`, a length declared anew, which isn't answered where it is in
@@ -62,7 +62,7 @@ fn write_targets(
         write_target(out, portals)
     } else if is_misplaced(discovery, value) {
         write_pair(out, b"SendTargets", b"Reject")
-    } else if value == portals.name {
+    } else if is_same_name(value, portals.name) {
         write_target(out, portals)
     } else {
         Ok(())

@@ -1,7 +1,9 @@
 -- The text of a secrets file: a line a host, NAME USER SECRET, or that and TARGET-USER TARGET-SECRET (profile).
-use Rattle.std.specs.Prelude.{◌≡◌, ℕ, zero, suc, ◌+◌, ◌==◌, ◌&&◌, ◌||◌, not, nat_le, Bool, List, [], ◌∷◌, ◌++◌, length, take, drop, slice_index, map, Option, Some, None, Result, Ok, Err, if◌then◌else◌}
+use Rattle.std.specs.Prelude.{◌≡◌, ℕ, zero, suc, ◌+◌, ◌==◌, ◌&&◌, ◌||◌, not, nat_le, Bool, true, false, List, [], ◌∷◌, ◌++◌, length, take, drop, slice_index, map, Option, Some, None, Result, Ok, Err, if◌then◌else◌}
 use Rattle.std.specs.List.{position}
 use Rattle.std.specs.Option.{option_map}
+use Rattle.std.specs.Str.{bytes_eq}
+use Rattle.iscsi_keys.specs.IscsiNames.{is_iscsi_name}
 use denote.Ref.{Bor}
 use Rattle.iscsi_chap.specs.declared.entry.Credentials.{Credentials}
 use Rattle.iscsi_chap.specs.declared.entry.ChapEntry.{ChapEntry}
@@ -10,7 +12,7 @@ use Rattle.iscsi_chap.specs.declared.fields.CredentialsFields.{CredentialsFields
 use Rattle.iscsi_chap.specs.declared.fields.Fields.{Fields}
 use Rattle.iscsi_chap.specs.declared.words.Word as cut
 use Rattle.iscsi_chap.specs.declared.secrets_fault.LineFault.{LineFault}
-use Rattle.iscsi_chap.specs.declared.secrets_fault.LineFault.TheVariants.{FieldCount, SecretLength}
+use Rattle.iscsi_chap.specs.declared.secrets_fault.LineFault.TheVariants.{FieldCount, Name, SecretLength, SameSecret}
 use Rattle.iscsi_chap.specs.declared.secrets_fault.SecretsFault.{SecretsFault}
 use Rattle.iscsi_chap.specs.declared.secrets_fault.SecretsFault.TheVariants.{Line, NoMemory}
 
@@ -95,13 +97,22 @@ words_of line = words_within 6 line
 abbrev pub is_secret : List ℕ → Bool
 is_secret secret = nat_le 12 (length secret) && nat_le (length secret) 128
 
-abbrev pub checked_target : (entry : EntryValue) → Option CredentialsValue → Result (Option EntryValue) LineFault
-checked_target entry None = Ok (Some entry)
-checked_target entry (Some target) = if is_secret target.secret then Ok (Some entry) else Err SecretLength
+abbrev pub has_secret : Option CredentialsValue → Bool
+has_secret None = true
+has_secret (Some target) = is_secret target.secret
+
+-- which the target may not share with the host (RFC 7143, "CHAP Considerations")
+abbrev pub is_shared : (own : CredentialsValue) → Option CredentialsValue → Bool
+is_shared own None = false
+is_shared own (Some target) = bytes_eq target.secret own.secret
 
 abbrev pub checked : (host : List ℕ) → (own : CredentialsValue) → (target : Option CredentialsValue) → Result (Option EntryValue) LineFault
 checked host own target =
-    if is_secret own.secret then checked_target (record { host = host; own = own; target = target }) target else Err SecretLength
+    if not (is_secret own.secret) then Err SecretLength
+    else if not (has_secret target) then Err SecretLength
+    else if not (is_iscsi_name host) then Err Name
+    else if is_shared own target then Err SameSecret
+    else Ok (Some (record { host = host; own = own; target = target }))
 
 abbrev pub credentials : (user secret : List ℕ) → CredentialsValue
 credentials user secret = record { user = user; secret = secret }

@@ -1,11 +1,9 @@
-ghost use Rattle.std.specs.Prelude.{◌≡◌};
+ghost use Rattle.std.specs.Prelude.{◌≡◌, ◌≤◌, length};
 ghost use Rattle.iscsi_chap.specs.Accesses.{sas_of_name, sas_of_admission};
 
 use byteorder::{BigEndian, ByteOrder};
+use iscsi_keys::{LONGEST_NAME, is_same_name};
 use sha2::{Digest, Sha256};
-
-/// The most bytes of an iSCSI name (RFC 7143, "iSCSI Names").
-pub const LONGEST_NAME: usize = 223;
 
 /// An initiator that is let in by its name.
 #[derive(Drop)]
@@ -19,7 +17,7 @@ pub struct Host {
 /// Who is let in.
 #[derive(Drop)]
 pub struct Access {
-    /// Those who are let in by name; of two with one name the first counts.
+    /// Those who are let in by name, in letters of either case; of two with one name the first counts.
     pub hosts: Vec<Host>,
     /// Whether every other name is let in too.
     pub any_host: bool,
@@ -45,12 +43,18 @@ impl Admission {
     }
 }
 
-/// The SAS address that a name stands for: its first digit is 5, and the others are the first 60 bits of the name's SHA-256.
+/// The SAS address that a name stands for: its first digit is 5, and the others are the first 60 bits of the SHA-256 of the name in small
+/// letters.
 #[tactic(auto, unfolding(crate::specs::Accesses::sas_of_name))]
 fn sas_of_name(name: &[u8]) -> u64
+    requires { length name.now ≤ 223 }
     ensures { result ≡ sas_of_name name.now }
 {
-    let digest = Sha256::digest(name);
+    let mut buffer = [0; LONGEST_NAME];
+    let (folded, _) = buffer.split_at_mut(name.len());
+    folded.copy_from_slice(name);
+    folded.make_ascii_lowercase();
+    let digest = Sha256::digest(folded);
     NAA + BigEndian::read_u64(&digest) / 16
 }
 
@@ -71,10 +75,11 @@ impl Access {
     }
 
     fn admit_by_list(&self, name: &[u8]) -> Option<Admission>
+        requires { length name.now ≤ 223 }
         ensures { result ≡ admitted_among self.now.any_host self.now.hosts.items name.now }
     {
         for host in &self.hosts {
-            if host.name.as_slice() == name {
+            if is_same_name(host.name.as_slice(), name) {
                 return Some(Admission::Listed(host.sas));
             }
         }

@@ -1,6 +1,8 @@
 ghost use Rattle.std.specs.Prelude.{◌≡◌};
 ghost use Rattle.std.specs.Option.{option_copied};
 
+use iscsi_keys::is_same_name;
+
 /// By which one side shows who it is.
 #[derive(Drop)]
 pub struct Credentials {
@@ -34,7 +36,7 @@ impl ChapSecrets {
         ensures { option_copied result ≡ entry_among self.now.entries.items host.now user.now }
     {
         for entry in &self.entries {
-            if entry.host.as_slice() == host && entry.own.user.as_slice() == user {
+            if is_same_name(entry.host.as_slice(), host) && entry.own.user.as_slice() == user {
                 return Some(entry);
             }
         }

@@ -1,10 +1,11 @@
 ghost use Rattle.std.specs.Prelude.{◌≡◌, IfOk};
 ghost use Rattle.std.specs.Option.{option_map};
-ghost use Rattle.iscsi_chap.specs.Secrets.{line_entry, said_value, fields_value, entry_value, credentials_value, credentials_fields_value, is_secret, checked};
+ghost use Rattle.iscsi_chap.specs.Secrets.{line_entry, said_value, fields_value, entry_value, credentials_value, credentials_fields_value, is_secret, has_secret, is_shared, checked};
 
 use crate::entry::{ChapEntry, Credentials};
 use crate::secrets_fault::LineFault;
 use crate::words::first_word;
+use iscsi_keys::is_iscsi_name;
 use std::alloc::{AllocError, Global};
 
 /// The fewest bytes of a secret, and the most.
@@ -61,7 +62,7 @@ pub(crate) fn fields_in(line: &[u8]) -> Result<Option<Fields<'_>>, LineFault>
     checked(host.text, own, Some(target))
 }
 
-/// An entry, where its secrets have their lengths.
+/// An entry, where its host has an iSCSI name, and its secrets have their lengths and differ.
 fn checked<'a>(
     host: &'a [u8],
     own: CredentialsFields<'a>,
@@ -69,13 +70,14 @@ fn checked<'a>(
 ) -> Result<Option<Fields<'a>>, LineFault>
     ensures { said_value result ≡ checked host.now (credentials_fields_value own.entry) (option_map credentials_fields_value target.entry) }
 {
-    if !is_secret(own.secret) {
+    if !is_secret(own.secret) || !has_secret(target) {
         return Err(LineFault::SecretLength);
     }
-    if let Some(target) = target
-        && !is_secret(target.secret)
-    {
-        return Err(LineFault::SecretLength);
+    if !is_iscsi_name(host) {
+        return Err(LineFault::Name);
+    }
+    if is_shared(own, target) {
+        return Err(LineFault::SameSecret);
     }
     Ok(Some(Fields { host, own, target }))
 }
@@ -84,6 +86,25 @@ fn is_secret(secret: &[u8]) -> bool
     ensures { result ≡ is_secret secret.now }
 {
     SHORTEST_SECRET <= secret.len() && secret.len() <= LONGEST_SECRET
+}
+
+fn has_secret(target: Option<CredentialsFields<'_>>) -> bool
+    ensures { result ≡ has_secret (option_map credentials_fields_value target.entry) }
+{
+    match target {
+        Some(target) => is_secret(target.secret),
+        None => true,
+    }
+}
+
+/// Whether the target has the host's secret.
+fn is_shared(own: CredentialsFields<'_>, target: Option<CredentialsFields<'_>>) -> bool
+    ensures { result ≡ is_shared (credentials_fields_value own.entry) (option_map credentials_fields_value target.entry) }
+{
+    match target {
+        Some(target) => target.secret == own.secret,
+        None => false,
+    }
 }
 
 /// A copy of an entry.

@@ -22,7 +22,7 @@ mod session_type;
 mod sha256_digest;
 mod words;
 
-pub use access::{Access, Admission, Host, LONGEST_NAME};
+pub use access::{Access, Admission, Host};
 pub use algorithm::{ChapAlgorithm, chosen_algorithm};
 pub use authentication::Authentication;
 pub use binary::{LONGEST_BINARY, binary_in, write_hexadecimal};

@@ -6,9 +6,15 @@ pub enum LineFault {
     /// Not `NAME USER SECRET`, nor that with `TARGET-USER TARGET-SECRET` behind it.
     #[error("expected NAME USER SECRET, or NAME USER SECRET TARGET-USER TARGET-SECRET")]
     FieldCount,
+    /// No iSCSI name.
+    #[error("expected an iSCSI name as NAME")]
+    Name,
     /// A secret of less than 12 bytes, or of more than 128.
     #[error("a secret has 12 to 128 bytes")]
     SecretLength,
+    /// The same secret for both directions (RFC 7143, "CHAP Considerations").
+    #[error("the target has the secret of the host")]
+    SameSecret,
 }
 
 /// Why a secrets file isn't taken.

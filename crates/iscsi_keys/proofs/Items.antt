@@ -1,7 +1,7 @@
 -- An item that is written is read again.
-use Rattle.std.proofs.Common.{◌≡◌, ℕ, ◌+◌, ◌<◌, ltb, eqb, not, true, false, List, [], ◌∷◌, ◌++◌, length, take, drop, Option, Some, refl, sym, ap, ◌∙◌, append_assoc, length-append, arith}
+use Rattle.std.proofs.Common.{◌≡◌, ℕ, ◌+◌, ◌&&◌, Bool, ltb, eqb, not, true, false, List, [], ◌∷◌, ◌++◌, length, take, drop, Option, Some, refl, sym, ap, ◌∙◌, append_assoc, length-append, arith}
 use Rattle.std.specs.List.{position, position_or_len, list_all}
-use Rattle.std.proofs.lemmas.Bool.{and_parts, lt-ltb, eq-eqb, ne_eqb}
+use Rattle.std.proofs.lemmas.Bool.{and_parts, lt-ltb, eq-eqb}
 use Rattle.std.proofs.lemmas.List.{take_at, drop_at}
 use Rattle.iscsi_keys.specs.Texts.{HasNo, Pair, item_bytes, item_at, pair_at, first_item}
 
@@ -36,15 +36,25 @@ both b (x ∷ xs) ys h i =
 whole : (key value rest : List ℕ) → item_bytes key value ++ rest ≡ (key ++ 61 ∷ value) ++ 0 ∷ rest
 whole key value rest = simp append_assoc
 
-item_there : (text : List ℕ) → 0 < length text → first_item text ≡ item_at (position (λ c. eqb c 0) text) text
-item_there text some = let none : eqb (length text) 0 ≡ false = ne_eqb _ _ (λ e. omega (arith, e)) in rw none refl
+-- an item isn't of NULs alone
+and_false : (b : Bool) → (b && false) ≡ false
+and_false true = refl
+and_false false = refl
+
+not_nuls : (key rest : List ℕ) → list_all (λ c. eqb c 0) (key ++ 61 ∷ rest) ≡ false
+not_nuls [] rest = refl
+not_nuls (k ∷ key) rest = ap (λ (b : Bool). eqb k 0 && b) (not_nuls key rest) ∙ and_false (eqb k 0)
+
+item_there : (text : List ℕ) → list_all (λ c. eqb c 0) text ≡ false → first_item text ≡ item_at (position (λ c. eqb c 0) text) text
+item_there text some = rw some refl
 
 pub item_again : (key value rest : List ℕ) → HasNo 0 key → HasNo 61 key → HasNo 0 value → first_item (item_bytes key value ++ rest) ≡ Pair key value rest
 item_again key value rest h i j =
     let item : List ℕ = key ++ 61 ∷ value in
     let clean : HasNo 0 (key ++ 61 ∷ value) = both 0 key (61 ∷ value) h j in
     ap first_item (whole key value rest)
-    ∙ item_there ((key ++ 61 ∷ value) ++ 0 ∷ rest) (omega (arith, length-append (key ++ 61 ∷ value) (0 ∷ rest)))
+    ∙ item_there ((key ++ 61 ∷ value) ++ 0 ∷ rest)
+    (ap (list_all (λ c. eqb c 0)) (append_assoc key (61 ∷ value) (0 ∷ rest)) ∙ not_nuls key (value ++ 0 ∷ rest))
     ∙ ap (λ (o : Option ℕ). item_at o ((key ++ 61 ∷ value) ++ 0 ∷ rest)) (found_behind 0 (key ++ 61 ∷ value) rest clean)
     ∙ ap (λ (xs : List ℕ). pair_at (position (λ c. eqb c 61) xs) xs (drop (length (key ++ 61 ∷ value) + 1) ((key ++ 61 ∷ value) ++ 0 ∷ rest))) (before 0 (key ++ 61 ∷ value) rest)
     ∙ ap (λ (xs : List ℕ). pair_at (position (λ c. eqb c 61) (key ++ 61 ∷ value)) (key ++ 61 ∷ value) xs) (behind 0 (key ++ 61 ∷ value) rest)

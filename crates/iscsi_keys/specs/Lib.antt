@@ -1,4 +1,5 @@
 pub mod Limits
+pub mod IscsiNames
 pub mod Keys
 pub mod Words
 pub mod Numbers

@@ -20,8 +20,9 @@ abbrev pub item_at : Option ℕ → (text : List ℕ) → ItemValue
 item_at None text = Invalid NoNul
 item_at (Some n) text = pair_at (position (λ b. b == 61) (take n text)) (take n text) (drop (n + 1) text)
 
+-- NULs alone end a text too: some initiators fill it up with them (profile)
 abbrev pub first_item : (text : List ℕ) → ItemValue
-first_item text = if length text == 0 then End else item_at (position (λ b. b == 0) text) text
+first_item text = if list_all (λ b. b == 0) text then End else item_at (position (λ b. b == 0) text) text
 
 abbrev pub item_value : declared.TextItem → ItemValue
 item_value item.End = End

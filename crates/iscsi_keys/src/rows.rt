@@ -1,6 +1,7 @@
-ghost use Rattle.std.specs.Prelude.{◌≡◌, ◌∷◌, ◌++◌, [], true, false, Some, None, Ok, Err, codes};
+ghost use Rattle.std.specs.Prelude.{◌≡◌, ◌∷◌, ◌++◌, [], true, false, Some, None, Ok, Err, codes, replicate};
 ghost use Rattle.iscsi_keys.specs.Answers.{answer_to};
 ghost use Rattle.iscsi_keys.specs.Negotiations.{answered, after, begun};
+ghost use Rattle.iscsi_keys.specs.IscsiNames.{is_iscsi_name, is_same_name};
 ghost use Rattle.iscsi_keys.specs.Numbers.{number_in};
 ghost use Rattle.iscsi_keys.specs.Texts.{first_item, End, Pair, Invalid};
 ghost use Rattle.iscsi_keys.specs.Rows.{normal, by_chap, discovery, answer_for, offered, initiator_offers};
@@ -33,7 +34,9 @@ pub fn text_rows()
     ensures equals_in_the_value { first_item (codes "A=b=c" ++ 0 ∷ []) ≡ Pair (codes "A") (codes "b=c") [] }
     ensures no_nul { first_item (codes "A=b") ≡ Invalid NoNul }
     ensures no_equals { first_item (codes "Ab" ++ 0 ∷ codes "C=d" ++ 0 ∷ []) ≡ Invalid NoEquals }
-    ensures nul_alone { first_item (0 ∷ []) ≡ Invalid NoEquals }
+    ensures nul_alone { first_item (0 ∷ []) ≡ End }
+    ensures nuls { first_item (0 ∷ 0 ∷ []) ≡ End }
+    ensures nul_before_an_item { first_item (0 ∷ codes "A=b" ++ 0 ∷ []) ≡ Invalid NoEquals }
 {}
 
 /// Worked rows: each key in its range, at its ends, out of it, and malformed.
@@ -96,4 +99,29 @@ pub fn negotiation_rows()
     ensures first_burst_before_burst { (after (begun normal) (offered (codes "FirstBurstLength") (codes "262144") ∷ offered (codes "MaxBurstLength") (codes "8192") ∷ [])).parameters.first_burst_length ≡ 8192 }
     ensures agreed { (after (begun normal) initiator_offers).parameters
         ≡ record { max_send_data_segment_length = 262144; max_burst_length = 1048576; first_burst_length = 262144; initial_r2t = false; immediate_data = true; default_time2wait = 2 } }
+{}
+
+/// Worked rows: the names of RFC 7143, "iSCSI Names", and what is none.
+pub fn name_rows()
+    ensures qualified { is_iscsi_name (codes "iqn.2001-04.com.example:storage:diskarrays-sn-a8675309") ≡ true }
+    ensures authority_alone { is_iscsi_name (codes "iqn.2001-04.com.example") ≡ true }
+    ensures identifier { is_iscsi_name (codes "eui.02004567A425678D") ≡ true }
+    ensures network_address { is_iscsi_name (codes "naa.52004567BA64678D") ≡ true }
+    ensures long_network_address { is_iscsi_name (codes "naa.62004567BA64678D0123456789ABCDEF") ≡ true }
+    ensures nothing { is_iscsi_name [] ≡ false }
+    ensures other_type { is_iscsi_name (codes "wwn.2001-04.com.example") ≡ false }
+    ensures no_date { is_iscsi_name (codes "iqn.com.example:host") ≡ false }
+    ensures no_authority { is_iscsi_name (codes "iqn.2001-04.") ≡ false }
+    ensures capital_letter { is_iscsi_name (codes "iqn.2001-04.com.example:Host") ≡ true }
+    ensures low_line { is_iscsi_name (codes "iqn.2001-04.com.example:a_b") ≡ true }
+    ensures long_identifier { is_iscsi_name (codes "eui.62004567BA64678D0123456789ABCDEF") ≡ false }
+    ensures no_digit { is_iscsi_name (codes "naa.52004567BA64678G") ≡ false }
+    ensures longest { is_iscsi_name (codes "iqn.2001-04.com.example:" ++ replicate 199 97) ≡ true }
+    ensures too_long { is_iscsi_name (codes "iqn.2001-04.com.example:" ++ replicate 200 97) ≡ false }
+    ensures capital_type { is_iscsi_name (codes "IQN.2001-04.com.example") ≡ true }
+    ensures capital_network_address { is_iscsi_name (codes "NAA.52004567BA64678D") ≡ true }
+    ensures same { is_same_name (codes "iqn.2001-04.com.example:Host_1") (codes "IQN.2001-04.com.example:hOST_1") ≡ true }
+    ensures another { is_same_name (codes "iqn.2001-04.com.example:a") (codes "iqn.2001-04.com.example:b") ≡ false }
+    ensures longer { is_same_name (codes "iqn.2001-04.com.example") (codes "iqn.2001-04.com.example:") ≡ false }
+    ensures space { is_iscsi_name (codes "iqn.2001-04.com.example:a b") ≡ false }
 {}

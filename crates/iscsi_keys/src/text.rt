@@ -1,11 +1,11 @@
 ghost use Rattle.std.specs.Prelude.{◌≡◌, ◌==◌, ◌<◌, ◌+◌, ◌^◌, ◌++◌, length, vec_len, vec_capacity, IfSome, OnOk, OnErr};
-ghost use Rattle.std.specs.List.{position};
+ghost use Rattle.std.specs.List.{list_all, position};
 ghost use Rattle.iscsi_keys.specs.Texts.{first_item, item_value, item_bytes, IsShorter};
 
 use crate::fault::TextFault;
 use std::alloc::AllocError;
 
-/// What a text begins with: a key with its value, up to a NUL, and the rest behind it (RFC 7143, "Text Format").
+/// What a text begins with: a key with its value, up to a NUL, and the rest behind it (RFC 7143, "Text Format"). NULs alone are its end.
 #[derive(Clone, Copy)]
 pub enum TextItem<'a> {
     End,
@@ -22,7 +22,7 @@ pub fn first_item(text: &[u8]) -> TextItem<'_>
     ensures item { item_value result ≡ first_item text.now }
     ensures shorter { IsShorter (length text.now) result }
 {
-    if text.is_empty() {
+    if are_nuls(text) {
         return TextItem::End;
     }
     let Some(end) = place_of(text, 0) else {
@@ -37,6 +37,13 @@ pub fn first_item(text: &[u8]) -> TextItem<'_>
         value: &item[equals + 1..],
         rest: &text[end + 1..],
     }
+}
+
+/// Whether there are NULs alone, or nothing.
+fn are_nuls(text: &[u8]) -> bool
+    ensures { result ≡ list_all (λ b. b == 0) text.now }
+{
+    text.iter().all(|byte| *byte == 0)
 }
 
 /// Where the first such byte stands.

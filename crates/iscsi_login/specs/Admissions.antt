@@ -1,6 +1,6 @@
 -- Who is let in, to which target and for what, by the texts of a login.
 use Rattle.std.specs.Prelude.{ℕ, Bool, true, false, ◌&&◌, ◌==◌, List, slice_set, Option, Some, None, Result, Ok, Err, if◌then◌else◌}
-use Rattle.std.specs.Str.{bytes_eq}
+use Rattle.iscsi_keys.specs.IscsiNames.{is_same_name}
 use Rattle.iscsi_pdu.specs.declared.login_status.LoginStatus.{LoginStatus}
 use Rattle.iscsi_pdu.specs.declared.login_status.LoginStatus.TheVariants as status
 use Rattle.iscsi_keys.specs.Negotiations.{begun}
@@ -31,7 +31,7 @@ terms_of target session_type = record { discovery = is_discovery session_type; m
 abbrev pub target_fault : LoginTarget → SessionType → (wanted : Option (List ℕ)) → Option LoginStatus
 target_fault target Normal None = Some status.MissingParameter
 target_fault target Discovery None = None
-target_fault target session_type (Some name) = if bytes_eq name target.name.items then None else Some status.NotFound
+target_fault target session_type (Some name) = if is_same_name name target.name.items then None else Some status.NotFound
 
 abbrev pub unless_target_fault : LoginTarget → SessionType → Admission → Option LoginStatus → Result Admitted LoginStatus
 unless_target_fault target session_type admission (Some fault) = Err fault
@@ -78,7 +78,7 @@ is_initiator_again target admission (Some name) = is_admitted_again (admitted ta
 
 abbrev pub is_target_again : LoginTarget → (again : Option (List ℕ)) → Bool
 is_target_again target None = true
-is_target_again target (Some name) = bytes_eq name target.name.items
+is_target_again target (Some name) = is_same_name name target.name.items
 
 abbrev pub is_same_type : Option SessionType → SessionType → Bool
 is_same_type (Some Normal) Normal = true

@@ -6,7 +6,7 @@ use crate::names::{declared_value, session_type_in};
 use crate::offers::negotiated_by;
 use crate::target::LoginTarget;
 use iscsi_chap::{Admission, SessionType};
-use iscsi_keys::{Key, Negotiation, Terms};
+use iscsi_keys::{Key, Negotiation, Terms, is_same_name};
 use iscsi_pdu::LoginStatus;
 
 /// A login whose initiator was let in by its name.
@@ -74,7 +74,7 @@ fn target_fault(
         (None, SessionType::Normal) => Some(LoginStatus::MissingParameter),
         (None, SessionType::Discovery) => None,
         (Some(name), _) => {
-            if name == target.name.as_slice() {
+            if is_same_name(name, target.name.as_slice()) {
                 None
             } else {
                 Some(LoginStatus::NotFound)
@@ -127,7 +127,7 @@ fn is_target_again(target: &LoginTarget, again: Option<&[u8]>) -> bool
 {
     match again {
         None => true,
-        Some(name) => name == target.name.as_slice(),
+        Some(name) => is_same_name(name, target.name.as_slice()),
     }
 }
 

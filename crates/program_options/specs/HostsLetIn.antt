@@ -1,12 +1,11 @@
 -- Which initiators of iSCSI are let in by name, and as whom (profile).
 use Rattle.std.specs.Prelude.{ℕ, ◌+◌, ◌==◌, nat_le, Bool, List, length, take, drop, position, Option, Some, None, Result, Ok, Err, if◌then◌else◌}
 use Rattle.std.specs.List.{list_any}
-use Rattle.std.specs.Str.{bytes_eq}
 use Rattle.program_options.specs.declared.named_host.NamedHost.{NamedHost}
 use Rattle.program_options.specs.declared.option_fault.OptionFault.{OptionFault}
 use Rattle.program_options.specs.declared.option_fault.OptionFault.TheVariants.{BadHost, BadName, BadSas, ManyHosts, NameTwice, SasTwice}
 use Rattle.program_options.specs.Hosts.{sas_in}
-use Rattle.program_options.specs.IscsiNames.{is_iscsi_name}
+use Rattle.iscsi_keys.specs.IscsiNames.{is_iscsi_name, is_same_name}
 
 -- an iSCSI name, and the SAS address that it stands for
 pub record HostValue : Type 0 where
@@ -26,7 +25,7 @@ abbrev pub host_in : List ℕ → Result HostValue OptionFault
 host_in text = host_at (position (λ b. b == 61) text) text
 
 abbrev pub has_name : (name : List ℕ) → NamedHost → Bool
-has_name name host = bytes_eq host.name.items name
+has_name name host = is_same_name host.name.items name
 
 -- 64 at most, each with a name and an address of its own
 abbrev pub judged : List NamedHost → Result HostValue OptionFault → Result HostValue OptionFault

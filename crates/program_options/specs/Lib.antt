@@ -2,7 +2,6 @@ pub mod CommandLineFaults
 pub mod Faults
 pub mod Hosts
 pub mod HostsLetIn
-pub mod IscsiNames
 pub mod ListenFaults
 pub mod Options
 pub mod Portals

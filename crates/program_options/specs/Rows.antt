@@ -1,6 +1,6 @@
--- Worked rows: addresses and names of hosts, who is let in, what is said of each fault, how the program ends where its command line names no
+-- Worked rows: addresses of hosts, who is let in, what is said of each fault, how the program ends where its command line names no
 -- task, who serves, how long hosts are waited for, and what libraries and volumes are made of.
-use Rattle.std.specs.Prelude.{◌≡◌, ◌++◌, true, false, [], replicate, Some, None, Ok, Err, codes}
+use Rattle.std.specs.Prelude.{◌≡◌, [], Some, None, Ok, Err, codes}
 use Rattle.clap.specs.declared.error.kind.ErrorKind.TheVariants.{DisplayHelp, DisplayVersion, UnknownArgument, ValueValidation, MissingSubcommand}
 use Rattle.program_options.specs.CommandLineFaults.{refusal_status, command_line_status, command_line_text}
 use Rattle.program_options.specs.declared.command_line_fault.CommandLineFault.TheVariants.{NotText, Options, NoMemory}
@@ -8,7 +8,6 @@ use Rattle.program_options.specs.declared.option_fault.OptionFault.TheVariants.{
 use Rattle.program_options.specs.Faults.{option_fault_text, option_status}
 use Rattle.program_options.specs.Hosts.{nexus_by, sas_in}
 use Rattle.program_options.specs.HostsLetIn.{host_in, judged}
-use Rattle.program_options.specs.IscsiNames.{is_iscsi_name}
 use Rattle.program_options.specs.Options.{options_of}
 use Rattle.program_options.specs.ServeTimes.{nanos_of, timeout_nanos}
 use Rattle.program_options.specs.ServeUntil.{sessions_of, workers_of}
@@ -60,24 +59,6 @@ pub record TimesWaited : Type 0 where
   pub never : timeout_nanos 0 ≡ None
   pub ten_seconds : timeout_nanos 10 ≡ Some 10_000_000_000
   pub half_a_minute : timeout_nanos 30 ≡ Some 30_000_000_000
-
--- those of RFC 7143, "iSCSI Names", and what is none
-pub record NamesTaken : Type 0 where
-  pub qualified : is_iscsi_name (codes "iqn.2001-04.com.example:storage:diskarrays-sn-a8675309") ≡ true
-  pub authority_alone : is_iscsi_name (codes "iqn.2001-04.com.example") ≡ true
-  pub identifier : is_iscsi_name (codes "eui.02004567A425678D") ≡ true
-  pub network_address : is_iscsi_name (codes "naa.52004567BA64678D") ≡ true
-  pub long_network_address : is_iscsi_name (codes "naa.62004567BA64678D0123456789ABCDEF") ≡ true
-  pub nothing : is_iscsi_name [] ≡ false
-  pub other_type : is_iscsi_name (codes "wwn.2001-04.com.example") ≡ false
-  pub no_date : is_iscsi_name (codes "iqn.com.example:host") ≡ false
-  pub no_authority : is_iscsi_name (codes "iqn.2001-04.") ≡ false
-  pub capital_letter : is_iscsi_name (codes "iqn.2001-04.com.example:Host") ≡ false
-  pub low_line : is_iscsi_name (codes "iqn.2001-04.com.example:a_b") ≡ false
-  pub long_identifier : is_iscsi_name (codes "eui.62004567BA64678D0123456789ABCDEF") ≡ false
-  pub no_digit : is_iscsi_name (codes "naa.52004567BA64678G") ≡ false
-  pub longest : is_iscsi_name (codes "iqn.2001-04.com.example:" ++ replicate 199 97) ≡ true
-  pub too_long : is_iscsi_name (codes "iqn.2001-04.com.example:" ++ replicate 200 97) ≡ false
 
 pub record HostsLetIn : Type 0 where
   pub host : judged [] (host_in (codes "iqn.2026-11.a:b=500000000000000a")) ≡ Ok (record { name = codes "iqn.2026-11.a:b"; sas = 0x500000000000000A })

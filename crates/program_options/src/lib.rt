@@ -5,7 +5,6 @@
 mod command_line_fault;
 mod given_library;
 mod host;
-mod iscsi_name;
 mod laws;
 mod library_options;
 mod listen_fault;
@@ -20,7 +19,7 @@ mod without_library;
 pub use command_line_fault::CommandLineFault;
 pub use given_library::GivenLibrary;
 pub use host::nexus_of;
-pub use iscsi_name::is_iscsi_name;
+pub use iscsi_keys::is_iscsi_name;
 pub use laws::worked_rows;
 pub use library_options::{LibraryOptions, MAX_READS};
 pub use listen_fault::ListenFault;

@@ -4,8 +4,8 @@ ghost use Rattle.program_options.specs.Hosts.{sas_in};
 ghost use Rattle.program_options.specs.HostsLetIn.{has_name, host_by, host_in, judged};
 
 use crate::host::sas_of;
-use crate::iscsi_name::is_iscsi_name;
 use crate::option_fault::OptionFault;
+use iscsi_keys::{is_iscsi_name, is_same_name};
 use std::alloc::{AllocError, Global};
 
 /// The most initiators that are let in by name (profile).
@@ -93,7 +93,9 @@ fn host_by<'a>(name: &'a [u8], digits: &[u8]) -> Result<HostText<'a>, OptionFaul
 fn has_name(hosts: &[NamedHost], name: &[u8]) -> bool
     ensures { result ≡ list_any (has_name name.now) hosts.now }
 {
-    hosts.iter().any(|host| host.name.as_slice() == name)
+    hosts
+        .iter()
+        .any(|host| is_same_name(host.name.as_slice(), name))
 }
 
 fn has_sas(hosts: &[NamedHost], sas: u64) -> bool

@@ -83,7 +83,9 @@ fn line_words(fault: LineFault) -> &'static str
     match fault {
         LineFault::FieldCount =>
             "say NAME USER SECRET, or NAME USER SECRET TARGET-USER TARGET-SECRET",
+        LineFault::Name => "NAME is no iSCSI name: say one as iqn.2026-11.example:a",
         LineFault::SecretLength => "a secret has 12 to 128 bytes",
+        LineFault::SameSecret => "the target has the secret of the host: say another",
     }
 }
 

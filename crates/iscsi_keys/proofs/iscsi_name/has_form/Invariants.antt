@@ -1,7 +1,7 @@
 use Rattle.std.proofs.Common.{◌≡◌, drop}
 use lib.Pointwise.{pointwise}
-use Rattle.program_options.specs.IscsiNames.{fits}
-use Rattle.program_options.proofs.iscsi_name.has_form.Given as goal
+use Rattle.iscsi_keys.specs.IscsiNames.{fits}
+use Rattle.iscsi_keys.proofs.iscsi_name.has_form.Given as goal
 
 -- what is left is to have the form that is left
 abbrev pub invariant-loop-place : goal.invariant-loop-place

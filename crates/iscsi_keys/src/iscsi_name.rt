@@ -1,18 +1,24 @@
 ghost use Rattle.std.specs.Prelude.{◌≡◌};
 ghost use Rattle.std.specs.List.{list_all};
-ghost use lib.Pointwise.{pointwise};
 ghost use Rattle.std.specs.Char.{is_ascii_hexdigit};
-ghost use Rattle.program_options.specs.IscsiNames.{fits, identifies, is_identifier, is_iscsi_name, is_name_byte, is_qualified};
+ghost use Rattle.iscsi_keys.specs.IscsiNames.{fits, has_form, identifies, is_identifier, is_iscsi_name, is_name_byte, is_qualified, is_same_name};
 
 /// The most bytes of an iSCSI name (RFC 7143, "iSCSI Names").
-const LONGEST_NAME: usize = 223;
+pub const LONGEST_NAME: usize = 223;
 
-/// Whether text is an iSCSI name: of type `iqn.`, `eui.` or `naa.` (RFC 7143, "iSCSI Names"), of ASCII alone and, but for hexadecimal
-/// digits, in small letters (profile).
+/// Whether text is an iSCSI name, in letters of either case: of type `iqn.`, `eui.` or `naa.` (RFC 7143, "iSCSI Names"), of ASCII alone
+/// (profile).
 pub fn is_iscsi_name(name: &[u8]) -> bool
     ensures { result ≡ is_iscsi_name name.now }
 {
     name.len() <= LONGEST_NAME && (is_qualified(name) || is_identifier(name))
+}
+
+/// Whether both are the same name, whichever case their letters have.
+pub fn is_same_name(one: &[u8], other: &[u8]) -> bool
+    ensures { result ≡ is_same_name one.now other.now }
+{
+    one.eq_ignore_ascii_case(other)
 }
 
 fn is_qualified(name: &[u8]) -> bool
@@ -25,9 +31,9 @@ fn is_qualified(name: &[u8]) -> bool
     has_form(head, b"iqn.0000-00.") && are_name_bytes(rest)
 }
 
-/// Whether each byte is as its place in a form, in which 0 stands for any digit.
+/// Whether each byte is as its place in a form, in which 0 stands for any digit, and a small letter for itself in either case.
 fn has_form(text: &[u8], form: &[u8]) -> bool
-    ensures { result ≡ pointwise fits form.now text.now }
+    ensures { result ≡ has_form text.now form.now }
 {
     let mut left = text;
     for place in form {
@@ -45,7 +51,7 @@ fn fits(place: u8, byte: u8) -> bool
     if place == b'0' {
         byte.is_ascii_digit()
     } else {
-        place == byte
+        place == byte.to_ascii_lowercase()
     }
 }
 
@@ -58,11 +64,7 @@ fn are_name_bytes(bytes: &[u8]) -> bool
 fn is_name_byte(byte: u8) -> bool
     ensures { result ≡ is_name_byte byte }
 {
-    byte.is_ascii_lowercase()
-        || byte.is_ascii_digit()
-        || byte == b'-'
-        || byte == b'.'
-        || byte == b':'
+    byte.is_ascii_alphanumeric() || byte == b'-' || byte == b'.' || byte == b':' || byte == b'_'
 }
 
 fn is_identifier(name: &[u8]) -> bool
@@ -78,8 +80,8 @@ fn is_identifier(name: &[u8]) -> bool
 fn identifies(kind: &[u8], digits: &[u8]) -> bool
     ensures { result ≡ identifies kind.now digits.now }
 {
-    let is_naa = kind == b"naa.".as_slice();
-    let has_size = digits.len() == 16 && (kind == b"eui.".as_slice() || is_naa)
+    let is_naa = has_form(kind, b"naa.");
+    let has_size = digits.len() == 16 && (has_form(kind, b"eui.") || is_naa)
         || digits.len() == 32 && is_naa;
     has_size && are_hexadecimal(digits)
 }
