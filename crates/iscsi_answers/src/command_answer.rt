@@ -64,8 +64,11 @@ pub fn write_command_answer(
     requires { length answer.now.data.now < 2 ^ 32 }
     ensures { OnOk result (out.new.items ≡ out.old.items ++ bytes_of_all (command_answer limits numbers command answer.now.status answer.now.sense answer.now.data.now)) }
 {
-    let bytes = sent(command, answer.data);
-    if answer.status == Status::Good && !bytes.is_empty() {
+    if sent(command, answer.data).is_empty() {
+        let given = answer.data.len() as u32;
+        return write_late_response(out, numbers, command, answer.status, answer.sense, given, 0);
+    }
+    if answer.status == Status::Good {
         write_with_data(out, limits, numbers, command, answer)
     } else {
         write_with_response(out, limits, numbers, command, answer)
@@ -98,7 +101,7 @@ fn write_with_data(
     Ok(())
 }
 
-/// Adds the data, if some are sent, and a response.
+/// Adds the data, and a response.
 fn write_with_response(
     out: &mut Vec<u8>,
     limits: TransferLimits,

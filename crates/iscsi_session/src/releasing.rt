@@ -6,9 +6,9 @@ ghost use Rattle.iscsi_session.specs.Faults.{IsLater};
 ghost use Rattle.iscsi_session.specs.Executing.{Adds};
 ghost use Rattle.iscsi_session.specs.Releasing.{Releases, SaysDue, response_to};
 
-use crate::claiming::SessionRegister;
 use crate::connection::Connection;
 use crate::fault::IscsiFault;
+use crate::register::SessionRegister;
 use iscsi_answers::{AnsweredCommand, write_late_response, write_target_failure};
 use iscsi_tasks::{DueAnswer, Response};
 use tickets::ReplyTicket;
@@ -27,6 +27,19 @@ pub(crate) fn release<G: SessionRegister>(
         register.note_holding(false);
         return Ok(());
     }
+    release_held(register, connection)
+}
+
+/// The same where some are held. What this takes of the stack is cleared at each call, and so it is none that each command makes.
+fn release_held<G: SessionRegister>(
+    register: &G,
+    connection: &mut Connection<'_>,
+) -> Result<(), IscsiFault>
+    ensures fault { IfErr result IsLater }
+    ensures released { (said : List TargetPduValue)
+        × Releases (G.settles register.now) connection.old.tasks said connection.new.tasks
+        × Adds result connection.old.out.items connection.new.out.items said }
+{
     let tickets = connection.tasks.tickets();
     'tickets: for ticket in tickets.as_slice() {
         release_one(register, connection, *ticket)?;

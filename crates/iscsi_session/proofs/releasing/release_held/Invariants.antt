@@ -2,7 +2,7 @@ use Rattle.std.proofs.Common.{◌≡◌, ◌++◌, List}
 use Rattle.iscsi_pdu.specs.Pdus.{TargetPduValue}
 use Rattle.iscsi_answers.specs.Written.{bytes_of_all}
 use Rattle.iscsi_session.specs.Releasing.{Releases}
-use Rattle.iscsi_session.proofs.releasing.release.Given as goal
+use Rattle.iscsi_session.proofs.releasing.release_held.Given as goal
 
 -- the tickets that were settled so far, and what was added
 abbrev pub invariant-tickets : goal.invariant-tickets
