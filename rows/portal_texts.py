@@ -5,10 +5,17 @@ from portal_pdus import (
 from portal_scenes import OUT, Scene, Table, Turn, begins, gets, sends, turn, under
 from portal_stage import Pdu, Stage
 
+
+def keys(count: int) -> bytes:
+    """A text of so many keys."""
+    return text_of(*(b"X-%02d=1" % number for number in range(count)))
+
+
 # Its answers have 570 bytes, of which the first 512 end before the NUL of the 27th.
-MANY = text_of(*(b"X-%02d=1" % number for number in range(30)))
+MANY = keys(30)
 ALL_ANSWERS = text_of(*(b"X-%02d=NotUnderstood" % number for number in range(30)))
 MANY_ANSWERS, OTHER_ANSWERS = ALL_ANSWERS[:512], ALL_ANSWERS[512:]
+LENGTHS = text_of(b"MaxRecvDataSegmentLength=512", b"MaxRecvDataSegmentLength=1024")
 
 
 def found(at: At) -> Pdu:
@@ -120,6 +127,33 @@ SCENES = [
             gets(
                 text_answer((3, 2, 33), transfer=1, flags=MORE), text_answer((4, 3, 34), transfer=1, flags=MORE), text_answer((5, 4, 35)),
                 text_answer((6, 5, 36), MANY_ANSWERS, transfer=1, flags=CONTINUES))])),
+    *under(
+        "a text has a key once",
+        Scene("a key twice", [
+            *begins(),
+            sends(text(1, b"X-a=1\0X-b=1\0X-a=1\0"), text(2, b"X-a=1\0")),
+            gets(
+                rejected(PROTOCOL_ERROR, (3, 2, 33), text(1, b"X-a=1\0X-b=1\0X-a=1\0")),
+                text_answer((4, 3, 34), b"X-a=NotUnderstood\0"))]),
+        Scene("a key that is known twice, and nothing of it counts", [
+            *begins(),
+            sends(text(1, LENGTHS), text(2, MANY)),
+            gets(rejected(PROTOCOL_ERROR, (3, 2, 33), text(1, LENGTHS)), text_answer((4, 3, 34), ALL_ANSWERS))]),
+        Scene("a key twice in pieces, and the text is forgotten", [
+            *begins(),
+            sends(text(1, b"X-a=1\0X-", flags=CONTINUES), text(2, b"a=2\0", transfer=1), text(3, transfer=1)),
+            gets(
+                text_answer((3, 2, 33), transfer=1, flags=MORE), rejected(PROTOCOL_ERROR, (4, 3, 34), text(2, b"a=2\0", transfer=1)),
+                rejected(PROTOCOL_ERROR, (5, 4, 35), text(3, transfer=1)))]),
+        Scene("a key in letters of the other case is another", [
+            *begins(),
+            sends(text(1, b"X-a=1\0X-A=1\0")), gets(text_answer((3, 2, 33), b"X-a=NotUnderstood\0X-A=NotUnderstood\0"))]),
+        Scene("64 keys, and 65", [
+            *begins(),
+            sends(text(1, keys(64)), text(2, keys(65))),
+            gets(
+                text_answer((3, 2, 33), text_of(*(b"X-%02d=NotUnderstood" % number for number in range(64)))),
+                rejected(PROTOCOL_ERROR, (4, 3, 34), text(2, keys(65))))])),
     *under(
         "a text has an end",
         Scene("a text of 65,537 bytes", [

@@ -1,3 +1,4 @@
 pub mod Answered
 pub mod Segments
 pub mod Carried
+pub mod Repeated

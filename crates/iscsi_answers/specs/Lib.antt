@@ -3,5 +3,7 @@ pub mod Single
 pub mod DataIns
 pub mod CommandAnswers
 pub mod Texts
+pub mod Repeats
 pub mod Laws
 pub mod Leaving
+pub mod Rows

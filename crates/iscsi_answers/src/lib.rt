@@ -9,6 +9,7 @@ mod data_in;
 mod laws;
 mod leaving;
 mod limits;
+mod repeats;
 mod send_targets;
 mod sequence;
 mod text;
@@ -23,9 +24,10 @@ pub use command_answer::{
     AnsweredCommand, UnitAnswer, count_data_before, write_command_answer, write_data_before,
     write_late_response,
 };
-pub use laws::{data_are_whole, residual_balances, residual_rows, segments_are_short};
+pub use laws::{data_are_whole, repeat_rows, residual_balances, residual_rows, segments_are_short};
 pub use leaving::seconds_to_leave;
 pub use limits::TransferLimits;
+pub use repeats::is_overdone;
 pub use send_targets::{PortalAddress, Portals};
 pub use sequence::SequenceNumbers;
 pub use text::{declared_length, write_text_answers};

@@ -8,7 +8,8 @@ use crate::fault::IscsiFault;
 use crate::portal::Portal;
 use crate::requests::{BasicHeader, turn_down};
 use iscsi_answers::{
-    Portals, TextTags, TransferLimits, declared_length, write_text_answers, write_text_response,
+    Portals, TextTags, TransferLimits, declared_length, is_overdone, write_text_answers,
+    write_text_response,
 };
 use iscsi_keys::Key;
 use iscsi_login::{SessionType, declared_value};
@@ -166,17 +167,18 @@ pub(crate) fn take_text(
         connection.open_text.forget();
         return turn_down(connection, RejectReason::ProtocolError, header);
     }
-    take_piece(connection, session_type, request, payload)?;
-    Ok(false)
+    take_piece(connection, session_type, request, header, payload)
 }
 
-/// Takes a piece of a text, and answers it: without a text as long as more is to come.
+/// Takes a piece of a text, and answers it: without a text as long as more is to come. A text that has a key twice is rejected, and
+/// forgotten (RFC 7143, "Text Mode Negotiation"), and so is one that has more keys than any (`is_overdone`).
 fn take_piece(
     connection: &mut Connection<'_>,
     session_type: SessionType,
     request: &TextRequest,
+    header: &BasicHeader,
     payload: &[u8],
-) -> Result<(), IscsiFault>
+) -> Result<bool, IscsiFault>
     requires { length connection.old.open_text.gathered + length payload.now ≤ 65536 }
     ensures fault { IfErr result IsLater }
     ensures tasks { connection.new.tasks ≡ connection.old.tasks }
@@ -184,8 +186,28 @@ fn take_piece(
 {
     connection.open_text.gather(payload)?;
     if request.continues {
-        return answer_text(connection, request);
+        answer_text(connection, request)?;
+        return Ok(false);
     }
+    if is_overdone(connection.open_text.gathered.as_slice()) {
+        connection.open_text.forget();
+        return turn_down(connection, RejectReason::ProtocolError, header);
+    }
+    answer_whole(connection, session_type, request)?;
+    Ok(false)
+}
+
+/// Answers a text that is whole, and goes by the length that it declares anew, if it does, from the next PDU on.
+fn answer_whole(
+    connection: &mut Connection<'_>,
+    session_type: SessionType,
+    request: &TextRequest,
+) -> Result<(), IscsiFault>
+    requires { length connection.old.open_text.gathered ≤ 65536 }
+    ensures fault { IfErr result IsLater }
+    ensures tasks { connection.new.tasks ≡ connection.old.tasks }
+    ensures said { OnOk result (AddsPlain connection.old.out.items connection.new.out.items) }
+{
     let declared = length_in(connection.open_text.gathered.as_slice());
     connection
         .open_text
