@@ -1,6 +1,8 @@
 """Units that another session resets where commands wait."""
 from exchanges import WAS_RESET
-from portal_pdus import BY_RESET, CHANGER, DRIVE, checked, data_out, good, nop_in, nop_out, ready, wanted, write
+from portal_pdus import (
+    ABORT_TASK, BY_RESET, CHANGER, COMPLETE, DRIVE, NOWHERE, NO_LUN, NO_TASK, checked, data_out, good, manage, managed, nop_in, nop_out, ready,
+    wanted, write)
 from portal_scenes import FIRST, RESET, TEST, WRITE, Scene, Table, begins, gets, sends, sends_first, sends_rest, under
 from portal_stage import Stage, Step
 from serving import same
@@ -49,6 +51,18 @@ SCENES = under(
     Scene("a command that comes behind the reset is executed", [
         *WRITE_WAITS, sends_first(12, DATA), resets(OF_DRIVE), sends_rest(12, DATA), sends(ready(3, 2)),
         gets(checked(3, (3, 3, 34), BY_RESET))], drive=[RESET, FIRST], tape=b""),
+    Scene("ABORT TASK finds ended what the reset has dropped, as often as it asks, and nothing else", [
+        *WRITE_WAITS, resets(OF_DRIVE),
+        sends(
+            manage(ABORT_TASK, 2, of=2), manage(ABORT_TASK, 2, of=2, tag=4), manage(ABORT_TASK, 2, of=9, tag=5),
+            manage(ABORT_TASK, 2, of=2, lun=CHANGER, tag=6), manage(ABORT_TASK, 2, of=2, lun=NOWHERE, tag=7)),
+        gets(
+            managed(COMPLETE, (3, 2, 33)), managed(COMPLETE, (4, 2, 33), 4), managed(NO_TASK, (5, 2, 33), 5),
+            managed(NO_TASK, (6, 2, 33), 6), managed(NO_LUN, (7, 2, 33), 7))], drive=[RESET], tape=b""),
+    Scene("ABORT TASK ends a write under the tag of one that the reset has dropped", [
+        *WRITE_WAITS, resets(OF_DRIVE), sends(write(2, 2)), gets(wanted(2, (3, 3, 33), transfer=1)),
+        sends(manage(ABORT_TASK, 3, of=2), data_out(2, b"abcd", 1), PING),
+        gets(managed(COMPLETE, (3, 3, 34)), nop_in(5, (4, 3, 34)))], drive=[RESET], tape=b""),
     Scene("a reset before all", [
         resets(OF_DRIVE), *begins(), sends(write(2, 1), DATA), gets(wanted(2, (3, 2, 32)), good(2, (3, 2, 33)))],
         drive=[WRITE], tape=b"abcd"),

@@ -19,7 +19,7 @@ use Rattle.iscsi_pdu.specs.declared.task_management.TaskManagementFunction.{Task
 use Rattle.iscsi_pdu.specs.declared.task_management.TaskManagementFunction.TheVariants as asked
 use Rattle.iscsi_pdu.specs.declared.task_management_request.TaskManagementRequest.{TaskManagementRequest}
 use Rattle.iscsi_pdu.specs.declared.task_management_result.TaskManagementResult.{TaskManagementResult}
-use Rattle.iscsi_tasks.specs.Aborts.{without_unit}
+use Rattle.iscsi_tasks.specs.Aborts.{reset_by_another}
 use Rattle.iscsi_tasks.specs.Commands.{after_command, command_answer, counted, is_taken}
 use Rattle.iscsi_tasks.specs.DataOuts.{data_answer}
 use Rattle.iscsi_tasks.specs.HeldRuns.{held_by, held_in}
@@ -71,7 +71,7 @@ brought_append (DataCame d payload ∷ xs) ys = ap (λ (l : List Act). DataCame 
 brought_append (Numbered immediate cmd_sn ∷ xs) ys = brought_append xs ys
 brought_append (AskedNext ∷ xs) ys = brought_append xs ys
 brought_append (Aborted unit tag ∷ xs) ys = brought_append xs ys
-brought_append (Dropped unit ∷ xs) ys = brought_append xs ys
+brought_append (Dropped unit by ∷ xs) ys = brought_append xs ys
 brought_append (Answered ∷ xs) ys = brought_append xs ys
 brought_append (Held reply ticket ∷ xs) ys = brought_append xs ys
 brought_append (Settled ticket outcome ∷ xs) ys = brought_append xs ys
@@ -210,7 +210,7 @@ act_executes k (DataCame d payload) = data_executes (data_answer k d (length pay
 act_executes k AskedNext = next_executes (next_of k)
 act_executes k (Numbered immediate cmd_sn) = refl
 act_executes k (Aborted unit tag) = refl
-act_executes k (Dropped unit) = refl
+act_executes k (Dropped unit by) = refl
 act_executes k Answered = refl
 act_executes k (Held reply ticket) = refl
 act_executes k (Settled ticket by) = refl
@@ -337,7 +337,7 @@ act_in_hand k (DataCame d payload) = data_in_hand (stepped k (DataCame d payload
 act_in_hand k AskedNext = next_in_hand k (slice_get k.waiting 0)
 act_in_hand k (Numbered immediate cmd_sn) = tt
 act_in_hand k (Aborted unit tag) = tt
-act_in_hand k (Dropped unit) = tt
+act_in_hand k (Dropped unit by) = tt
 act_in_hand k Answered = tt
 act_in_hand k (Held reply ticket) = tt
 act_in_hand k (Settled ticket by) = tt
@@ -403,8 +403,8 @@ units_hand : {S : Type 0} (notes : S → DoneValue → S → Type 0) (waits : Do
     → Hands notes waits n k s [] [] (without_units k units) s
 units_hand notes waits n k s [] = hands_none notes waits n k k s s refl refl
 units_hand {S} notes waits n k s (unit ∷ units) =
-    hands_then notes waits n k (without_units k units) (without_unit (without_units k units) unit) s s s [] [] [] [] (units_hand notes waits n k s units)
-    (acts_hands notes waits n (without_units k units) (without_unit (without_units k units) unit) s s (Dropped unit) [] refl refl (refl, refl, refl))
+    hands_then notes waits n k (without_units k units) (reset_by_another (without_units k units) unit) s s s [] [] [] [] (units_hand notes waits n k s units)
+    (acts_hands notes waits n (without_units k units) (reset_by_another (without_units k units) unit) s s (Dropped unit true) [] refl refl (refl, refl, refl))
 
 goes_hands : {S : Type 0} (notes : S → DoneValue → S → Type 0) (waits : DoneValue → Option ReplyTicket → Type 0) (n : Nexus) (times : ℕ) (k k' : TasksValue) (s t : S)
     (said : List TargetPduValue)
@@ -435,17 +435,17 @@ abort_hands notes waits n k k' s t unit tag steps still =
     still_hands notes waits n k k' s t (Aborted unit tag ∷ []) ([]) steps refl refl refl still refl
 
 drop_hands : {S : Type 0} (notes : S → DoneValue → S → Type 0) (waits : DoneValue → Option ReplyTicket → Type 0) (n : Nexus) (k k' : TasksValue) (s t : S) (unit : ℕ) → k' ≡ stepped k
-    (Dropped unit)
+    (Dropped unit false)
     → t ≡ s → Hands notes waits n k s [] [] k' t
 drop_hands notes waits n k k' s t unit steps still =
-    still_hands notes waits n k k' s t (Dropped unit ∷ []) ([]) steps refl refl refl still refl
+    still_hands notes waits n k k' s t (Dropped unit false ∷ []) ([]) steps refl refl refl still refl
 
 reset_hands : {S : Type 0} (notes : S → DoneValue → S → Type 0) (waits : DoneValue → Option ReplyTicket → Type 0) (n : Nexus) (k k' : TasksValue) (s t : S) (unit : ℕ)
     (result : TaskManagementResult)
-    → k' ≡ stepped k (Dropped unit) → Resets notes unit s t result
+    → k' ≡ stepped k (Dropped unit false) → Resets notes unit s t result
     → Hands notes waits n k s [] [] k' t
 reset_hands notes waits n k k' s t unit result steps so = record {
-  acts = Dropped unit ∷ [];
+  acts = Dropped unit false ∷ [];
   calls = so.0 ∷ [];
   run_is = steps;
   brought_is = refl;

@@ -28,7 +28,7 @@ brought (DataCame d payload ∷ acts) = DataCame d payload ∷ brought acts
 brought (Numbered immediate cmd_sn ∷ acts) = brought acts
 brought (AskedNext ∷ acts) = brought acts
 brought (Aborted unit tag ∷ acts) = brought acts
-brought (Dropped unit ∷ acts) = brought acts
+brought (Dropped unit by_another ∷ acts) = brought acts
 brought (Answered ∷ acts) = brought acts
 brought (Held reply ticket ∷ acts) = brought acts
 brought (Settled ticket outcome ∷ acts) = brought acts
@@ -127,7 +127,7 @@ settled_by (DataCame d payload) = []
 settled_by (Numbered immediate cmd_sn) = []
 settled_by AskedNext = []
 settled_by (Aborted unit tag) = []
-settled_by (Dropped unit) = []
+settled_by (Dropped unit by_another) = []
 settled_by Answered = []
 settled_by (Held reply ticket) = []
 

@@ -1,6 +1,6 @@
 -- What task management does (RFC 7143, "Task Management Function Request"). `notes s d t` says that a call with the answer d makes t of the
 -- service s.
-use Rattle.std.specs.Prelude.{◌≡◌, ℕ, zero, suc, nat_lt, MatchBool, List, [], ◌∷◌, Option, Some, None, if◌then◌else◌}
+use Rattle.std.specs.Prelude.{◌≡◌, ℕ, zero, suc, nat_lt, ◌||◌, MatchBool, List, [], ◌∷◌, Option, Some, None, if◌then◌else◌}
 use Rattle.scsi_sense.specs.declared.status.Status.{Status}
 use Rattle.scsi_sense.specs.declared.status.Status.TheVariants as status
 use Rattle.logical_unit.specs.Answers as event
@@ -17,7 +17,7 @@ use Rattle.iscsi_pdu.specs.declared.task_management_result.TaskManagementResult.
 use Rattle.iscsi_pdu.specs.declared.task_management_result.TaskManagementResult.TheVariants.{FunctionNotSupported, FunctionRejected}
 use Rattle.iscsi_tasks.specs.Values.{TasksValue}
 use Rattle.iscsi_tasks.specs.Commands.{is_taken, counted}
-use Rattle.iscsi_tasks.specs.Aborts.{is_waiting_at, without_task, without_unit}
+use Rattle.iscsi_tasks.specs.Aborts.{is_waiting_at, was_reset, without_task, without_unit}
 use Rattle.iscsi_answers.specs.Single.{task_management_answer}
 use Rattle.iscsi_session.specs.Executing.{numbers}
 
@@ -43,10 +43,15 @@ abbrev pub unit_below : (units : ℕ) → Option ℕ → Option ℕ
 unit_below units None = None
 unit_below units (Some unit) = if nat_lt unit units then Some unit else None
 
+-- a task is there that waits or whose reply is held; and one that a reset by another session has dropped has ended, as it should (SAM-5, "ABORT
+-- TASK"). The first goes first: only that one is dropped
+abbrev pub abort_result : TasksValue → (unit tag : ℕ) → TaskManagementResult
+abort_result k unit tag = if is_waiting_at k unit tag || was_reset k unit tag then FunctionComplete else TaskDoesNotExist
+
 -- a task at another unit isn't there, whatever its tag
 abbrev pub AbortsTask : TasksValue → (tag : ℕ) → Option ℕ → TasksValue → TaskManagementResult → Type 0
 AbortsTask k tag None k' result = (k' ≡ k) × (result ≡ LunDoesNotExist)
-AbortsTask k tag (Some unit) k' result = (k' ≡ without_task k unit tag) × (result ≡ (if is_waiting_at k unit tag then FunctionComplete else TaskDoesNotExist))
+AbortsTask k tag (Some unit) k' result = (k' ≡ without_task k unit tag) × (result ≡ abort_result k unit tag)
 
 abbrev pub AbortsTaskSet : TasksValue → Option ℕ → TasksValue → TaskManagementResult → Type 0
 AbortsTaskSet k None k' result = (k' ≡ k) × (result ≡ LunDoesNotExist)

@@ -9,7 +9,7 @@ use Rattle.iscsi_pdu.specs.declared.target_header.TargetHeader.{TargetHeader}
 use Rattle.iscsi_pdu.specs.declared.target_header.TargetHeader.TheVariants as said
 use Rattle.iscsi_pdu.specs.declared.serial_number.SerialNumber.{SerialNumber}
 use Rattle.iscsi_answers.specs.Written.{bytes_of_all}
-use Rattle.iscsi_tasks.specs.Aborts.{without_unit}
+use Rattle.iscsi_tasks.specs.Aborts.{reset_by_another}
 use Rattle.iscsi_tasks.specs.Commands.{is_taken, counted}
 use Rattle.iscsi_tasks.specs.Runs.{Commanded, DataCame}
 use Rattle.iscsi_tasks.specs.Values.{TasksValue}
@@ -85,10 +85,10 @@ pub record Works {S : Type 0} (notes : S → DoneValue → S → Type 0) (waits 
   pub takes : TakesTask notes waits count n h payload k s first tasks service
   pub goes_on : GoesOn notes waits n times tasks service others k' t
 
--- without the commands that wait at these units and the replies that are held for them, the first of them last
+-- without the commands that wait at these units and the replies that are held for them, which are known as reset, the first of them last
 abbrev pub without_units : TasksValue → (units : List ℕ) → TasksValue
 without_units k [] = k
-without_units k (unit ∷ units) = without_unit (without_units k units) unit
+without_units k (unit ∷ units) = reset_by_another (without_units k units) unit
 
 -- of units that others have reset the commands that wait there go unexecuted, replies are dropped, and what waited behind them goes on
 abbrev pub TakesResets : {S : Type 0} → (S → DoneValue → S → Type 0) → (DoneValue → Option ReplyTicket → Type 0) → Nexus → (units : List ℕ) → TasksValue → S

@@ -2,14 +2,15 @@
 ghost use Rattle.std.specs.Prelude.{◌≡◌, List, IfErr, Some};
 ghost use Rattle.iscsi_pdu.specs.Pdus.{TargetPduValue};
 ghost use Rattle.iscsi_pdu.specs.Luns as luns;
+ghost use Rattle.iscsi_tasks.specs.Aborts.{without_task};
 ghost use Rattle.iscsi_session.specs.Faults.{IsLater};
 ghost use Rattle.iscsi_session.specs.Executing.{Adds};
 ghost use Rattle.iscsi_session.specs.Managing.{AbortsTask, AbortsTaskSet, Manages, ManagesTasks, Resets, ResetsBelow, ResetsUnit};
-ghost use Rattle.iscsi_session.specs.Managing.{reset_result, unit_below};
+ghost use Rattle.iscsi_session.specs.Managing.{abort_result, reset_result, unit_below};
 
-use crate::claiming::SessionRegister;
 use crate::connection::Connection;
 use crate::fault::IscsiFault;
+use crate::register::SessionRegister;
 use iscsi_answers::write_task_management_response;
 use iscsi_pdu::{TaskManagementFunction, TaskManagementRequest, TaskManagementResult, unit_of};
 use iscsi_tasks::Tasks;
@@ -91,9 +92,21 @@ fn abort_task(tasks: &mut Tasks, tag: u32, unit: Option<u8>) -> TaskManagementRe
     ensures { AbortsTask tasks.old tag unit tasks.new result }
 {
     match unit {
-        Some(unit) if tasks.abort_task(unit, tag) => TaskManagementResult::FunctionComplete,
-        Some(_) => TaskManagementResult::TaskDoesNotExist,
+        Some(unit) => abort_task_at(tasks, tag, unit),
         None => TaskManagementResult::LunDoesNotExist,
+    }
+}
+
+/// Ends a task, and says whether it was there. One that a reset by another session has dropped has ended already.
+fn abort_task_at(tasks: &mut Tasks, tag: u32, unit: u8) -> TaskManagementResult
+    ensures tasks { tasks.new ≡ without_task tasks.old unit tag }
+    ensures result { result ≡ abort_result tasks.old unit tag }
+{
+    let was_reset = tasks.was_reset(unit, tag);
+    if tasks.abort_task(unit, tag) || was_reset {
+        TaskManagementResult::FunctionComplete
+    } else {
+        TaskManagementResult::TaskDoesNotExist
     }
 }
 

@@ -178,7 +178,7 @@ step_bounded s AskedNext b = next_bounded s s.waiting refl b
 step_bounded s (Aborted unit tag) b =
     either_bounded (is_waiting_at s unit tag) (without_named s unit tag) s
     (filter_bounded (λ (t : TaskValue). not (is_named unit tag t)) s.waiting b) b
-step_bounded s (Dropped unit) b = filter_bounded (λ (t : TaskValue). not (is_at unit t)) s.waiting b
+step_bounded s (Dropped unit by) b = filter_bounded (λ (t : TaskValue). not (is_at unit t)) s.waiting b
 step_bounded s Answered b = b
 step_bounded s (Held reply ticket) b = b
 step_bounded s (Settled ticket outcome) b = b

@@ -24,7 +24,7 @@ use Rattle.iscsi_tasks.specs.Values.{TaskValue, TasksValue}
 use Rattle.iscsi_tasks.specs.Commands.{is_taken, counted, after_command, command_answer, is_waiting}
 use Rattle.iscsi_tasks.specs.DataOuts.{tasks_after, data_answer, after_data}
 use Rattle.iscsi_tasks.specs.Next.{is_whole, handed, request, next_at, next_for, left_at, left_for, without_first, with_first_asked}
-use Rattle.iscsi_tasks.specs.Aborts.{is_reply_at, is_reply_named, is_waiting_at, without_named, without_task, without_unit}
+use Rattle.iscsi_tasks.specs.Aborts.{is_reply_at, is_reply_named, is_waiting_at, without_named, without_task, without_unit, reset_by_another}
 use Rattle.iscsi_tasks.specs.Holding.{answer_by, due, held_for, is_due}
 use Rattle.iscsi_tasks.specs.Runs.{Act, Numbered, Commanded, DataCame, AskedNext, Aborted, Dropped, Answered, Held, Settled, stepped, run}
 use Rattle.iscsi_tasks.specs.Runs.{handed_next, handed_at_once, handed_by, handed_out, IsPartOf}
@@ -98,7 +98,7 @@ step_once weigh s (Commanded c payload) = quiet weigh s.replies _ (command_repli
 step_once weigh s (DataCame d payload) = quiet weigh s.replies _ (data_replies s d payload (data_answer s d (length payload)))
 step_once weigh s AskedNext = quiet weigh s.replies _ (next_replies s (slice_get s.waiting 0))
 step_once weigh s (Aborted unit tag) = abort_once weigh s unit tag (is_waiting_at s unit tag)
-step_once weigh s (Dropped unit) = omega (arith, parted weigh (is_reply_at unit) s.replies)
+step_once weigh s (Dropped unit by) = omega (arith, parted weigh (is_reply_at unit) s.replies)
 step_once weigh s Answered = quiet weigh s.replies _ refl
 step_once weigh s (Held reply ticket) = omega (arith, sum_by-append weigh s.replies (held_for reply ticket s.in_hand))
 step_once weigh s (Settled t o) = omega (arith, ap (sum_by weigh) (replies_of t o (due t s.replies)), parted weigh (is_due t) s.replies)
@@ -133,7 +133,7 @@ step_said s (Commanded c payload) = refl
 step_said s (DataCame d payload) = refl
 step_said s AskedNext = refl
 step_said s (Aborted unit tag) = refl
-step_said s (Dropped unit) = refl
+step_said s (Dropped unit by) = refl
 step_said s Answered = refl
 step_said s (Held reply ticket) = refl
 step_said s (Settled t o) = answers_of t o (due t s.replies)
@@ -211,7 +211,7 @@ step_hand s (DataCame d payload) = keeps_hand s (stepped s (DataCame d payload))
 step_hand s AskedNext = next_hand s (slice_get s.waiting 0)
 step_hand s (Aborted unit tag) =
     keeps_hand s (stepped s (Aborted unit tag)) (either_hand (is_waiting_at s unit tag) s (without_named s unit tag) s refl refl)
-step_hand s (Dropped unit) = keeps_hand s (stepped s (Dropped unit)) refl
+step_hand s (Dropped unit by) = keeps_hand s (stepped s (Dropped unit by)) refl
 step_hand s Answered = tt
 step_hand s (Held reply ticket) = held_command s reply ticket s.in_hand
 step_hand s (Settled ticket outcome) = keeps_hand s (stepped s (Settled ticket outcome)) refl
@@ -274,7 +274,7 @@ step_in_time s (Commanded c payload) acts = tt
 step_in_time s (DataCame d payload) acts = tt
 step_in_time s AskedNext acts = tt
 step_in_time s (Aborted unit tag) acts = tt
-step_in_time s (Dropped unit) acts = tt
+step_in_time s (Dropped unit by) acts = tt
 step_in_time s Answered acts = tt
 step_in_time s (Held reply ticket) acts = tt
 step_in_time s (Settled t o) acts =
@@ -317,7 +317,7 @@ step_among P s (Commanded c payload) h k = same_all P s.replies _ (command_repli
 step_among P s (DataCame d payload) h k = same_all P s.replies _ (data_replies s d payload (data_answer s d (length payload))) h
 step_among P s AskedNext h k = same_all P s.replies _ (next_replies s (slice_get s.waiting 0)) h
 step_among P s (Aborted unit tag) h k = abort_among P s unit tag (is_waiting_at s unit tag) h
-step_among P s (Dropped unit) h k = all_filtered P (λ (r : HeldReply). not (is_reply_at unit r)) s.replies h
+step_among P s (Dropped unit by) h k = all_filtered P (λ (r : HeldReply). not (is_reply_at unit r)) s.replies h
 step_among P s Answered h k = h
 step_among P s (Held reply ticket) h k = all_both P s.replies (held_for reply ticket s.in_hand) h k
 step_among P s (Settled t o) h k = all_filtered P (λ (r : HeldReply). not (is_due t r)) s.replies h
@@ -329,7 +329,7 @@ leave_among P s (Commanded c payload) h = tt
 leave_among P s (DataCame d payload) h = tt
 leave_among P s AskedNext h = tt
 leave_among P s (Aborted unit tag) h = tt
-leave_among P s (Dropped unit) h = tt
+leave_among P s (Dropped unit by) h = tt
 leave_among P s Answered h = tt
 leave_among P s (Held reply ticket) h = tt
 leave_among P s (Settled t o) h = all_mapped (λ e. P e.held) (release t o) (due t s.replies) (all_filtered P (is_due t) s.replies h)
@@ -372,3 +372,8 @@ pub unit_gone : (s : TasksValue) (unit : ℕ) (acts : List Act)
     → AllByRecursion (λ r. is_reply_at unit r ≡ false) (held_in (without_unit s unit) acts)
     → AllByRecursion (λ e. is_reply_at unit e.held ≡ false) (released (without_unit s unit) acts)
 unit_gone s unit acts h = all_among (λ r. is_reply_at unit r ≡ false) (without_unit s unit) acts (without (is_reply_at unit) s.replies) h
+
+pub reset_gone : (s : TasksValue) (unit : ℕ) (acts : List Act)
+    → AllByRecursion (λ r. is_reply_at unit r ≡ false) (held_in (reset_by_another s unit) acts)
+    → AllByRecursion (λ e. is_reply_at unit e.held ≡ false) (released (reset_by_another s unit) acts)
+reset_gone s unit acts h = all_among (λ r. is_reply_at unit r ≡ false) (reset_by_another s unit) acts (without (is_reply_at unit) s.replies) h

@@ -159,7 +159,7 @@ step_keeps s (Commanded c payload) none = commanded_keeps s c payload (command_a
 step_keeps s (DataCame d payload) none = same _ _ (data_orders s d payload (data_answer s d (length payload)))
 step_keeps s AskedNext none = next_keeps s s.waiting refl
 step_keeps s (Aborted unit tag) none = absurd none
-step_keeps s (Dropped unit) none = absurd none
+step_keeps s (Dropped unit by) none = absurd none
 step_keeps s Answered none = same _ _ refl
 step_keeps s (Held reply ticket) none = same _ _ refl
 step_keeps s (Settled ticket outcome) none = same _ _ refl
@@ -169,7 +169,7 @@ step_kept s act none = kept_order (handed_by s act) (commands (stepped s act).wa
 
 step_orders : (s : TasksValue) (act : Act) → Orders (handed_by s act) (commands (stepped s act).waiting) (commands s.waiting) (taken_by s act)
 step_orders s (Aborted unit tag) = fewer _ _ (aborted_part s unit tag (is_waiting_at s unit tag))
-step_orders s (Dropped unit) = fewer _ _ (part_filter (λ (t : TaskValue). t.command) (λ (t : TaskValue). not (is_at unit t)) s.waiting)
+step_orders s (Dropped unit by) = fewer _ _ (part_filter (λ (t : TaskValue). t.command) (λ (t : TaskValue). not (is_at unit t)) s.waiting)
 step_orders s (Numbered immediate cmd_sn) = step_kept s (Numbered immediate cmd_sn) tt
 step_orders s (Commanded c payload) = step_kept s (Commanded c payload) tt
 step_orders s (DataCame d payload) = step_kept s (DataCame d payload) tt
@@ -221,7 +221,7 @@ executed_step s (Commanded c payload) = executed_at_once c payload (command_answ
 executed_step s (DataCame d payload) = tt
 executed_step s AskedNext = executed_next (next_for s (slice_get s.waiting 0))
 executed_step s (Aborted unit tag) = tt
-executed_step s (Dropped unit) = tt
+executed_step s (Dropped unit by) = tt
 executed_step s Answered = tt
 executed_step s (Held reply ticket) = tt
 executed_step s (Settled ticket outcome) = tt

@@ -56,7 +56,7 @@ pieces_of-append tag (DataCame d payload ∷ h) g = piece-append (d.initiator_ta
 pieces_of-append tag (Numbered immediate cmd_sn ∷ h) g = pieces_of-append tag h g
 pieces_of-append tag (AskedNext ∷ h) g = pieces_of-append tag h g
 pieces_of-append tag (Aborted unit aborted ∷ h) g = pieces_of-append tag h g
-pieces_of-append tag (Dropped unit ∷ h) g = pieces_of-append tag h g
+pieces_of-append tag (Dropped unit by ∷ h) g = pieces_of-append tag h g
 pieces_of-append tag (Answered ∷ h) g = pieces_of-append tag h g
 pieces_of-append tag (Held reply ticket ∷ h) g = pieces_of-append tag h g
 pieces_of-append tag (Settled ticket outcome ∷ h) g = pieces_of-append tag h g
@@ -250,7 +250,7 @@ step_has h s (Aborted unit tag) has = aborted_has _ s unit tag (is_waiting_at s 
 step_has h s Answered has = all_keep h _ s.waiting has
 step_has h s (Held reply ticket) has = all_keep h _ s.waiting has
 step_has h s (Settled ticket outcome) has = all_keep h _ s.waiting has
-step_has h s (Dropped unit) has = filter_has _ (λ (t : TaskValue). not (is_at unit t)) s.waiting (all_keep h _ s.waiting has)
+step_has h s (Dropped unit by) has = filter_has _ (λ (t : TaskValue). not (is_at unit t)) s.waiting (all_keep h _ s.waiting has)
 
 -- ---- what is executed
 
@@ -344,7 +344,7 @@ step_made h s (Commanded c payload) has = at_once_made s.limit h c payload (comm
 step_made h s (DataCame d payload) has = tt
 step_made h s AskedNext has = next_made h s s.waiting has
 step_made h s (Aborted unit tag) has = tt
-step_made h s (Dropped unit) has = tt
+step_made h s (Dropped unit by) has = tt
 step_made h s Answered has = tt
 step_made h s (Held reply ticket) has = tt
 step_made h s (Settled ticket outcome) has = tt
@@ -387,7 +387,7 @@ limit_stays s (DataCame d payload) = data_limit s d payload (data_answer s d (le
 limit_stays s AskedNext = next_limit s (slice_get s.waiting 0)
 limit_stays s (Aborted unit tag) =
     either_limit (is_waiting_at s unit tag) s (without_named s unit tag) s refl refl
-limit_stays s (Dropped unit) = refl
+limit_stays s (Dropped unit by) = refl
 limit_stays s Answered = refl
 limit_stays s (Held reply ticket) = refl
 limit_stays s (Settled ticket outcome) = refl

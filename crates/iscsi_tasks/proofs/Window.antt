@@ -339,8 +339,8 @@ named_fewer b s unit tag =
           (is_reply_named unit tag r)) s.replies,
     )
 
-unit_fewer : (b : Bool) (s : TasksValue) (unit : ℕ) → under_way b (stepped s (Dropped unit)) ≤ under_way b s
-unit_fewer b s unit =
+unit_fewer : (b : Bool) (s : TasksValue) (unit : ℕ) (by : Bool) → under_way b (stepped s (Dropped unit by)) ≤ under_way b s
+unit_fewer b s unit by =
     omega (
       arith,
       filter_waiting b (λ (t : TaskValue). not (is_at unit t)) s.waiting,
@@ -357,7 +357,7 @@ step_moves s AskedNext = next_moves s s.waiting refl
 step_moves s (Aborted unit tag) =
     either_moves s (is_waiting_at s unit tag) (without_named s unit tag) s (stays s (without_named s unit tag) refl
     (λ b. named_fewer b s unit tag)) (still s)
-step_moves s (Dropped unit) = stays s (stepped s (Dropped unit)) refl (λ b. unit_fewer b s unit)
+step_moves s (Dropped unit by) = stays s (stepped s (Dropped unit by)) refl (λ b. unit_fewer b s unit by)
 step_moves s Answered = stays s (stepped s Answered) refl (λ b. omega arith)
 step_moves s (Held reply ticket) = stays s (with_held s reply ticket) refl (λ b. omega (arith, held_grows b s reply ticket s.in_hand))
 step_moves s (Settled ticket outcome) =

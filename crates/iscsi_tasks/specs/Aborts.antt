@@ -1,9 +1,10 @@
 -- Tasks that end without having been answered (RFC 7143, "Task Management Function Request").
-use Rattle.std.specs.Prelude.{ℕ, ◌==◌, Bool, false, not, ◌&&◌, ◌||◌, List, [], ◌∷◌, filter, Option, Some, None, if◌then◌else◌}
+use Rattle.std.specs.Prelude.{ℕ, ◌==◌, nat_lt, Bool, false, not, ◌&&◌, ◌||◌, List, [], ◌∷◌, ◌++◌, length, drop, filter, Option, Some, None, if◌then◌else◌}
 use Rattle.std.specs.List.{list_any}
 use Rattle.iscsi_pdu.specs.Luns.{unit_of}
 use Rattle.iscsi_tasks.specs.Values.{TaskValue, TasksValue}
 use Rattle.iscsi_tasks.specs.declared.held_reply.HeldReply.{HeldReply}
+use Rattle.iscsi_tasks.specs.declared.reset_tasks.ResetTask.{ResetTask}
 use Rattle.iscsi_tasks.specs.Commands.{has_tag, remembered}
 use Rattle.iscsi_tasks.specs.Holding.{is_reply_to}
 
@@ -53,3 +54,36 @@ without_unit s unit = record s {
   replies = filter (λ r. not (is_reply_at unit r)) s.replies;
   passed_over = remembered_at unit s.passed_over s.waiting;
 }
+
+-- ---- tasks that a reset by another session has dropped
+
+abbrev pub reset_task : (unit tag : ℕ) → ResetTask
+reset_task unit tag = record { unit = unit; initiator_task_tag = tag }
+
+-- the last 32 of them are known
+abbrev pub noted : List ResetTask → ResetTask → List ResetTask
+noted tasks t = if nat_lt (length tasks) 32 then tasks ++ t ∷ [] else drop 1 tasks ++ t ∷ []
+
+abbrev pub noted_replies : (unit : ℕ) → List ResetTask → List HeldReply → List ResetTask
+noted_replies unit tasks [] = tasks
+noted_replies unit tasks (r ∷ rs) =
+    noted_replies unit (if is_reply_at unit r then noted tasks (reset_task unit r.command.initiator_task_tag) else tasks) rs
+
+abbrev pub noted_waiting : (unit : ℕ) → List ResetTask → List TaskValue → List ResetTask
+noted_waiting unit tasks [] = tasks
+noted_waiting unit tasks (t ∷ ts) =
+    noted_waiting unit (if is_at unit t then noted tasks (reset_task unit (tag_of t)) else tasks) ts
+
+-- those at the unit: what waits has come behind the commands whose replies are held
+abbrev pub noted_at : TasksValue → (unit : ℕ) → List ResetTask
+noted_at s unit = noted_waiting unit (noted_replies unit s.reset_tasks s.replies) s.waiting
+
+-- they are dropped, and known
+abbrev pub reset_by_another : TasksValue → (unit : ℕ) → TasksValue
+reset_by_another s unit = record (without_unit s unit) { reset_tasks = noted_at s unit }
+
+abbrev pub is_task : (unit tag : ℕ) → ResetTask → Bool
+is_task unit tag t = (t.unit == unit) && (t.initiator_task_tag == tag)
+
+abbrev pub was_reset : TasksValue → (unit tag : ℕ) → Bool
+was_reset s unit tag = list_any (is_task unit tag) s.reset_tasks

@@ -1,7 +1,7 @@
 -- SCSI Commands, as they come (RFC 7143, "Command Numbering and Acknowledging", "SCSI Command").
-use Rattle.std.specs.Prelude.{ℕ, ◌+◌, ◌≤◌, ◌==◌, nat_lt, nat_le, Bool, true, false, not, ◌&&◌, ◌||◌, List, [], ◌∷◌, ◌++◌, length, drop}
-use Rattle.std.specs.Prelude.{position, is_some, Some, Result, Ok, Err, if◌then◌else◌}
-use Rattle.iscsi_pdu.specs.SerialNumbers.{next}
+use Rattle.std.specs.Prelude.{ℕ, ◌+◌, ◌-◌, ◌≤◌, ◌==◌, nat_lt, nat_le, Bool, true, false, not, ◌&&◌, ◌||◌, List, [], ◌∷◌, ◌++◌, length, max, drop}
+use Rattle.std.specs.Prelude.{position, is_some, Option, Some, None, Result, Ok, Err, if◌then◌else◌}
+use Rattle.iscsi_pdu.specs.SerialNumbers.{distance, next}
 use Rattle.iscsi_pdu.specs.declared.serial_number.SerialNumber.{SerialNumber}
 use Rattle.iscsi_pdu.specs.declared.scsi_command.ScsiCommand.{ScsiCommand}
 use Rattle.iscsi_pdu.specs.declared.reject_reason.RejectReason.TheVariants.{TaskInProgress, TooManyImmediateCommands}
@@ -28,7 +28,7 @@ is_taken s immediate cmd_sn = immediate || ((cmd_sn.number == s.exp_cmd_sn.numbe
 
 -- immediate delivery uses no number up
 abbrev pub counted : TasksValue → (immediate : Bool) → TasksValue
-counted s immediate = if immediate then s else record s { exp_cmd_sn = next s.exp_cmd_sn }
+counted s immediate = if immediate then s else record s { exp_cmd_sn = next s.exp_cmd_sn; ahead = s.ahead - 1 }
 
 abbrev pub has_tag : (tag : ℕ) → TaskValue → Bool
 has_tag tag t = t.command.initiator_task_tag == tag
@@ -97,8 +97,18 @@ command_answer s c payload =
 abbrev pub remembered : (tags : List ℕ) → (tag : ℕ) → List ℕ
 remembered tags tag = if nat_lt (length tags) 64 then tags ++ tag ∷ [] else drop 1 tags ++ tag ∷ []
 
+-- how many numbers, from the one that is expected on, lead to one in the window: those before it haven't come. None lead to one beyond
+abbrev pub numbers_to : TasksValue → (cmd_sn : SerialNumber) → ℕ
+numbers_to s cmd_sn =
+    if nat_lt (distance s.exp_cmd_sn cmd_sn) (most_under_way - pending s) then distance s.exp_cmd_sn cmd_sn + 1 else 0
+
+-- the number that is awaited where a command with one behind it has come, and was passed over for that
+abbrev pub missing_number : TasksValue → Option SerialNumber
+missing_number s = if nat_lt 0 s.ahead then Some s.exp_cmd_sn else None
+
 abbrev pub after_command : TasksValue → ScsiCommand → (payload : List ℕ) → Result TakenCommand TasksFault → TasksValue
-after_command s c payload (Ok PassedOver) = record s { passed_over = remembered s.passed_over c.initiator_task_tag }
+after_command s c payload (Ok PassedOver) =
+    record s { passed_over = remembered s.passed_over c.initiator_task_tag; ahead = max s.ahead (numbers_to s c.cmd_sn) }
 after_command s c payload (Ok (Rejected reason)) = counted s c.immediate
 after_command s c payload (Ok (Execute count)) = record (counted s c.immediate) { in_hand = Some c }
 after_command s c payload (Ok Waits) = record (counted s c.immediate) { waiting = s.waiting ++ begun_task s.parameters c payload ∷ [] }

@@ -62,7 +62,7 @@ answers es = map (λ e. answer_by e.outcome e.held) es
 -- the replies that task management drops
 abbrev pub dropped_by : TasksValue → Act → List HeldReply
 dropped_by s (Aborted unit tag) = if is_waiting_at s unit tag then filter (is_reply_named unit tag) s.replies else []
-dropped_by s (Dropped unit) = filter (is_reply_at unit) s.replies
+dropped_by s (Dropped unit by_another) = filter (is_reply_at unit) s.replies
 dropped_by s _ = []
 
 abbrev pub dropped : TasksValue → List Act → List HeldReply

@@ -1,5 +1,5 @@
 -- Values of worked rows.
-use Rattle.std.specs.Prelude.{ℕ, Bool, true, false, List, [], Some, None, replicate}
+use Rattle.std.specs.Prelude.{ℕ, ◌+◌, zero, suc, Bool, true, false, List, [], ◌∷◌, ◌++◌, Some, None, replicate}
 use Rattle.iscsi_pdu.specs.declared.serial_number.SerialNumber.{SerialNumber}
 use Rattle.iscsi_pdu.specs.declared.task_attribute.TaskAttribute.TheVariants.{Simple}
 use Rattle.iscsi_pdu.specs.declared.scsi_command.ScsiCommand.{ScsiCommand}
@@ -10,8 +10,9 @@ use Rattle.iscsi_tasks.specs.declared.sequence.DataSequence.{DataSequence}
 use Rattle.iscsi_tasks.specs.declared.held_reply.UnitReply.{UnitReply}
 use Rattle.tickets.specs.declared.ticket.ReplyTicket.{ReplyTicket}
 use Rattle.iscsi_tasks.specs.declared.held_reply.HeldReply.{HeldReply}
-use Rattle.iscsi_tasks.specs.Values.{TasksValue, begun_tasks}
+use Rattle.iscsi_tasks.specs.Values.{TaskValue, TasksValue, begun_tasks}
 use Rattle.iscsi_tasks.specs.Commands.{begun_task}
+use Rattle.iscsi_tasks.specs.Runs.{Answered, Commanded, run}
 
 abbrev pub sn : ℕ → SerialNumber
 sn n = record { number = n }
@@ -58,9 +59,12 @@ data_out tag number offset is_final = record {
 abbrev pub begun : DataSequence
 begun = record { target_transfer_tag = 5; end = 8; data_sn = sn 1 }
 
--- the same under another tag, or for immediate delivery
+-- the same under another tag or number, or for immediate delivery
 abbrev pub tagged : (tag : ℕ) → ScsiCommand → ScsiCommand
 tagged tag c = record c { initiator_task_tag = tag }
+
+abbrev pub at_number : (number : ℕ) → ScsiCommand → ScsiCommand
+at_number number c = record c { cmd_sn = sn number }
 
 abbrev pub urgent : ScsiCommand → ScsiCommand
 urgent c = record c { immediate = true }
@@ -97,3 +101,16 @@ reply_with_record c thing number record_number =
 
 abbrev pub holding : List HeldReply → TasksValue
 holding replies = record alone { replies = replies }
+
+-- behind commands without data with these numbers, each of which is answered if it is executed
+abbrev pub after_numbers : TasksValue → (numbers : List ℕ) → TasksValue
+after_numbers s [] = s
+after_numbers s (number ∷ numbers) = after_numbers (run s (Commanded (at_number number (write 0 true)) [] ∷ (Answered ∷ []))) numbers
+
+-- so many writes wait for their data, under the tags from 1 on
+abbrev pub waiting_tags : (count : ℕ) → List TaskValue
+waiting_tags zero = []
+waiting_tags (suc before) = waiting_tags before ++ begun_task (bursts true false) (tagged (before + 1) (write 4 true)) [] ∷ []
+
+abbrev pub with_tags : (count : ℕ) → TasksValue
+with_tags count = record alone { waiting = waiting_tags count }

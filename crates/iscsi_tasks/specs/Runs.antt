@@ -16,18 +16,19 @@ use Rattle.iscsi_tasks.specs.Writes.{wanted}
 use Rattle.iscsi_tasks.specs.Commands.{is_taken, counted, command_answer, after_command}
 use Rattle.iscsi_tasks.specs.DataOuts.{data_answer, after_data}
 use Rattle.iscsi_tasks.specs.Next.{next_of, after_next}
-use Rattle.iscsi_tasks.specs.Aborts.{without_task, without_unit}
+use Rattle.iscsi_tasks.specs.Aborts.{noted_at, without_task, without_unit}
 use Rattle.iscsi_tasks.specs.Holding.{with_held, without_due}
 
 -- what happens to the tasks: a PDU with a number comes, or a command, or data; what is next is asked for; a task or the tasks of a unit are
--- dropped; the command in hand is answered, or its reply is held; and a ticket is settled, by an outcome
+-- dropped, these by the session itself or by a reset of another; the command in hand is answered, or its reply is held; and a ticket is
+-- settled, by an outcome
 pub data Act : Type 0 where
   Numbered : (immediate : Bool) → (cmd_sn : SerialNumber) → Act
   Commanded : ScsiCommand → (payload : List ℕ) → Act
   DataCame : DataOut → (payload : List ℕ) → Act
   AskedNext : Act
   Aborted : (unit tag : ℕ) → Act
-  Dropped : (unit : ℕ) → Act
+  Dropped : (unit : ℕ) → (by_another : Bool) → Act
   Answered : Act
   Held : UnitReply → ReplyTicket → Act
   Settled : ReplyTicket → Outcome → Act
@@ -38,7 +39,8 @@ stepped s (Commanded c payload) = after_command s c payload (command_answer s c 
 stepped s (DataCame d payload) = after_data s d payload (data_answer s d (length payload))
 stepped s AskedNext = after_next s
 stepped s (Aborted unit tag) = without_task s unit tag
-stepped s (Dropped unit) = without_unit s unit
+stepped s (Dropped unit by_another) =
+    record (without_unit s unit) { reset_tasks = if by_another then noted_at s unit else s.reset_tasks }
 stepped s Answered = record s { in_hand = None }
 stepped s (Held reply ticket) = with_held s reply ticket
 stepped s (Settled ticket outcome) = without_due s ticket
@@ -109,7 +111,7 @@ taken_in s (act ∷ acts) = taken_by s act ++ taken_in (stepped s act) acts
 -- no command goes unexecuted by task management
 abbrev pub EndsNone : Act → Type 0
 EndsNone (Aborted unit tag) = ⊥
-EndsNone (Dropped unit) = ⊥
+EndsNone (Dropped unit by_another) = ⊥
 EndsNone _ = Unit {0}
 
 -- a list is another without some of its elements
@@ -134,7 +136,7 @@ pieces_of tag (DataCame d payload ∷ acts) = piece_if (d.initiator_task_tag == 
 pieces_of tag (Numbered immediate cmd_sn ∷ acts) = pieces_of tag acts
 pieces_of tag (AskedNext ∷ acts) = pieces_of tag acts
 pieces_of tag (Aborted unit aborted ∷ acts) = pieces_of tag acts
-pieces_of tag (Dropped unit ∷ acts) = pieces_of tag acts
+pieces_of tag (Dropped unit by_another ∷ acts) = pieces_of tag acts
 pieces_of tag (Answered ∷ acts) = pieces_of tag acts
 pieces_of tag (Held reply ticket ∷ acts) = pieces_of tag acts
 pieces_of tag (Settled ticket outcome ∷ acts) = pieces_of tag acts

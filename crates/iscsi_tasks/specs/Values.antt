@@ -5,6 +5,7 @@ use Rattle.iscsi_pdu.specs.declared.serial_number.SerialNumber.{SerialNumber}
 use Rattle.iscsi_keys.specs.declared.parameters.SessionParameters.{SessionParameters}
 use Rattle.iscsi_tasks.specs.declared.awaiting.Awaiting.{Awaiting}
 use Rattle.iscsi_tasks.specs.declared.held_reply.HeldReply.{HeldReply}
+use Rattle.iscsi_tasks.specs.declared.reset_tasks.ResetTask.{ResetTask}
 
 -- a command that waits: its data so far, and the R2TSN of its next R2T
 pub record TaskValue : Type 0 where
@@ -15,8 +16,9 @@ pub record TaskValue : Type 0 where
 
 -- what the session goes by; the most data that a unit takes of a command; the commands that wait, in the order in which they are
 -- executed; tags of commands that were passed over or aborted; the target transfer tag of the next R2T; the command in hand, which is
--- handed out to be executed or answered as failed, and isn't answered yet; and the replies that are held, in the order in which their
--- commands were executed
+-- handed out to be executed or answered as failed, and isn't answered yet; the replies that are held, in the order in which their
+-- commands were executed; the last tasks that resets by other sessions have dropped; and how many numbers, from the one that is expected on,
+-- lead to the furthest that was passed over since those before it hadn't come
 pub record TasksValue : Type 0 where
   pub parameters : SessionParameters
   pub limit : ℕ
@@ -26,6 +28,8 @@ pub record TasksValue : Type 0 where
   pub next_tag : ℕ
   pub in_hand : Option ScsiCommand
   pub replies : List HeldReply
+  pub reset_tasks : List ResetTask
+  pub ahead : ℕ
 
 -- before the first PDU
 abbrev pub begun_tasks : SessionParameters → (limit : ℕ) → SerialNumber → TasksValue
@@ -38,6 +42,8 @@ begun_tasks parameters limit exp_cmd_sn = record {
   next_tag = 0;
   in_hand = None;
   replies = [];
+  reset_tasks = [];
+  ahead = 0;
 }
 
 -- how many bytes of data they hold

@@ -10,7 +10,7 @@ ghost use Rattle.iscsi_tasks.specs.declared.held_reply.HeldReply.{HeldReply};
 ghost use Rattle.tickets.specs.declared.ticket.Outcome.{Outcome};
 ghost use Rattle.tickets.specs.declared.ticket.Outcome.TheVariants.{Lost};
 ghost use Rattle.iscsi_tasks.specs.declared.held_reply.Response.TheVariants.{TargetFailure};
-ghost use Rattle.iscsi_tasks.specs.Aborts.{is_at, is_named, is_reply_at, is_reply_named, is_waiting_at, without_task, without_unit};
+ghost use Rattle.iscsi_tasks.specs.Aborts.{is_at, is_named, is_reply_at, is_reply_named, is_waiting_at, reset_by_another, without_task, without_unit};
 ghost use Rattle.iscsi_tasks.specs.HeldRuns.{answers, dropped, held_in, in_hand, released, released_replies, said, IsInTime};
 ghost use Rattle.iscsi_tasks.specs.Holding.{answer_by};
 ghost use Rattle.iscsi_tasks.specs.Runs.{Act, run, stepped, commands, handed_out, taken_in, executed, EndsNone, IsPartOf, IsMadeOf};
@@ -23,10 +23,11 @@ pub fn commands_in_order()
     ensures executed { (s : TasksValue) (acts : List Act) → IsPartOf (map (λ e. e.command) (executed s acts)) (handed_out s acts) }
 {}
 
-/// Law: no command is handed out that was aborted, or that was dropped with its unit.
+/// Law: no command is handed out that was aborted, or that was dropped with its unit, by the session or by a reset of another.
 pub fn aborted_is_gone()
     ensures task { (s : TasksValue) (unit tag : ℕ) (acts : List Act) → is_waiting_at s unit tag ≡ true → IsPartOf (handed_out (without_task s unit tag) acts) (commands (filter (λ t. not (is_named unit tag t)) s.waiting) ++ taken_in (without_task s unit tag) acts) }
     ensures unit { (s : TasksValue) (unit : ℕ) (acts : List Act) → IsPartOf (handed_out (without_unit s unit) acts) (commands (filter (λ t. not (is_at unit t)) s.waiting) ++ taken_in (without_unit s unit) acts) }
+    ensures reset { (s : TasksValue) (unit : ℕ) (acts : List Act) → IsPartOf (handed_out (reset_by_another s unit) acts) (commands (filter (λ t. not (is_at unit t)) s.waiting) ++ taken_in (reset_by_another s unit) acts) }
 {}
 
 /// Law: whatever comes, a command that is executed has all of its data, put together of what came under its own tag, each piece
@@ -74,7 +75,7 @@ pub fn target_failures()
     ensures { (outcome : Outcome) (r : HeldReply) → (answer_by outcome r).response ≡ TargetFailure ↔ outcome ≡ Lost }
 {}
 
-/// Law: no reply leaves that was dropped with its task or its unit, unless one is held anew.
+/// Law: no reply leaves that was dropped with its task or its unit, by the session or by a reset of another, unless one is held anew.
 pub fn dropped_is_gone()
     ensures task { (s : TasksValue) (unit tag : ℕ) (acts : List Act) → is_waiting_at s unit tag ≡ true
         → AllByRecursion (λ r. is_reply_named unit tag r ≡ false) (held_in (without_task s unit tag) acts)
@@ -82,4 +83,7 @@ pub fn dropped_is_gone()
     ensures unit { (s : TasksValue) (unit : ℕ) (acts : List Act)
         → AllByRecursion (λ r. is_reply_at unit r ≡ false) (held_in (without_unit s unit) acts)
         → AllByRecursion (λ e. is_reply_at unit e.held ≡ false) (released (without_unit s unit) acts) }
+    ensures reset { (s : TasksValue) (unit : ℕ) (acts : List Act)
+        → AllByRecursion (λ r. is_reply_at unit r ≡ false) (held_in (reset_by_another s unit) acts)
+        → AllByRecursion (λ e. is_reply_at unit e.held ≡ false) (released (reset_by_another s unit) acts) }
 {}

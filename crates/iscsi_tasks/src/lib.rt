@@ -9,6 +9,7 @@ mod holding;
 mod laws;
 mod next_task;
 mod passed_over;
+mod reset_tasks;
 mod rows;
 mod sequence;
 mod taken;
@@ -24,7 +25,7 @@ pub use laws::{
     held_leave_once, released_in_time, target_failures, tasks_are_bounded, window_moves_on,
 };
 pub use next_task::{NextTask, TransferRequest};
-pub use rows::{data_rows, holding_rows, number_rows, window_rows};
+pub use rows::{data_rows, gap_rows, holding_rows, number_rows, reset_rows, window_rows};
 pub use taken::{TakenCommand, TakenData};
 pub use task::Task;
 pub use tasks::{MOST_HELD, Tasks, WINDOW};

@@ -9,11 +9,11 @@ ghost use Rattle.iscsi_tasks.specs.Limits.{most_held};
 ghost use Rattle.iscsi_tasks.specs.Values.{begun_tasks};
 ghost use Rattle.iscsi_tasks.specs.Writes.{wanted, first_awaited, data_fault};
 ghost use Rattle.iscsi_tasks.specs.Windows.{max_cmd_sn};
-ghost use Rattle.iscsi_tasks.specs.Commands.{is_taken, counted, command_answer};
-ghost use Rattle.iscsi_tasks.specs.Aborts.{is_waiting_at, without_task, without_unit};
+ghost use Rattle.iscsi_tasks.specs.Commands.{is_taken, counted, command_answer, missing_number};
+ghost use Rattle.iscsi_tasks.specs.Aborts.{is_waiting_at, reset_by_another, was_reset, without_task, without_unit};
 ghost use Rattle.iscsi_tasks.specs.Holding.{answers_due, with_held, without_due};
 ghost use Rattle.iscsi_tasks.specs.Next.{tag_after};
-ghost use Rattle.iscsi_tasks.specs.Rows.{sn, bursts, write, data_out, begun, tagged, urgent, alone, behind, handing, good, reply_to};
+ghost use Rattle.iscsi_tasks.specs.Rows.{after_numbers, with_tags, sn, bursts, write, data_out, begun, tagged, urgent, alone, behind, handing, good, reply_to};
 ghost use Rattle.iscsi_tasks.specs.Rows.{holding, reply_with_record, ticket_for, ticket_with_record};
 
 /// Worked rows: what writes wait for, and what is wrong with Data-Out.
@@ -86,4 +86,37 @@ pub fn holding_rows()
         ≡ reply_to (tagged 2 (write 4 true)) 7 2 ∷ [] }
     ensures reset { (without_unit (holding (reply_to (write 4 true) 7 1 ∷ [])) 0).replies ≡ [] }
     ensures another_unit { without_unit (holding (reply_to (write 4 true) 7 1 ∷ [])) 1 ≡ holding (reply_to (write 4 true) 7 1 ∷ []) }
+{}
+
+/// Worked rows: a gap in the numbers. Commands behind it are passed over, so that theirs are awaited too.
+pub fn gap_rows()
+    ensures at_first { missing_number alone ≡ None }
+    ensures in_order { missing_number (after_numbers alone (1 ∷ 2 ∷ [])) ≡ None }
+    ensures gap { missing_number (after_numbers alone (2 ∷ [])) ≡ Some (sn 1) }
+    ensures behind_one { missing_number (after_numbers alone (1 ∷ 3 ∷ [])) ≡ Some (sn 2) }
+    ensures came_late { missing_number (after_numbers alone (2 ∷ 1 ∷ [])) ≡ Some (sn 2) }
+    ensures closed { missing_number (after_numbers alone (2 ∷ 1 ∷ 2 ∷ [])) ≡ None }
+    ensures furthest { missing_number (after_numbers alone (4 ∷ 2 ∷ 1 ∷ 2 ∷ 3 ∷ [])) ≡ Some (sn 4) }
+    ensures a_second_time { missing_number (after_numbers alone (1 ∷ 1 ∷ [])) ≡ None }
+    ensures last { missing_number (after_numbers alone (32 ∷ [])) ≡ Some (sn 1) }
+    ensures beyond { missing_number (after_numbers alone (33 ∷ [])) ≡ None }
+    ensures last_behind_others { missing_number (after_numbers (with_tags 31) (1 ∷ [])) ≡ None }
+    ensures beyond_behind_others { missing_number (after_numbers (with_tags 31) (2 ∷ [])) ≡ None }
+    ensures round { missing_number (after_numbers (record alone { exp_cmd_sn = sn 0xFFFFFFFF }) (1 ∷ [])) ≡ Some (sn 0xFFFFFFFF) }
+{}
+
+/// Worked rows: tasks that a reset by another session drops. Of 33 the first is forgotten.
+pub fn reset_rows()
+    ensures waits { was_reset (with_tags 1) 0 1 ≡ false }
+    ensures dropped { was_reset (reset_by_another (with_tags 1) 0) 0 1 ≡ true }
+    ensures goes { (reset_by_another (with_tags 2) 0).waiting ≡ [] }
+    ensures another_tag { was_reset (reset_by_another (with_tags 1) 0) 0 2 ≡ false }
+    ensures another_unit { was_reset (reset_by_another (with_tags 1) 0) 1 1 ≡ false }
+    ensures elsewhere { reset_by_another (with_tags 1) 1 ≡ with_tags 1 }
+    ensures its_own { was_reset (without_unit (with_tags 1) 0) 0 1 ≡ false }
+    ensures held { was_reset (reset_by_another (holding (reply_to (write 4 true) 7 1 ∷ [])) 0) 0 1 ≡ true }
+    ensures as_many { was_reset (reset_by_another (with_tags 32) 0) 0 1 ≡ true }
+    ensures first { was_reset (reset_by_another (with_tags 33) 0) 0 1 ≡ false }
+    ensures second { was_reset (reset_by_another (with_tags 33) 0) 0 2 ≡ true }
+    ensures later { was_reset (reset_by_another (with_tags 33) 0) 0 33 ≡ true }
 {}

@@ -4,6 +4,7 @@ use crate::held_reply::{DueAnswer, HeldReply, UnitReply};
 use crate::holding::*;
 use crate::next_task::NextTask;
 use crate::passed_over::PassedOver;
+use crate::reset_tasks::{ResetTasks, note_replies_at, note_waiting_at};
 use crate::taken::{TakenCommand, TakenData};
 use crate::task::{Task, wanted};
 use crate::waiting::*;
@@ -44,6 +45,9 @@ pub struct Tasks {
     /// The command that is handed out and isn't answered yet.
     in_hand: Option<ScsiCommand>,
     replies: ArrayVec<HeldReply, MOST_REPLIES>,
+    reset_tasks: ResetTasks,
+    /// How many numbers, from the one that is expected on, lead to the furthest that was passed over since those before it hadn't come.
+    ahead: u32,
 }
 
 impl Model for Tasks {
@@ -61,6 +65,8 @@ impl Model for Tasks {
       next_tag = t.next_tag;
       in_hand = t.in_hand;
       replies = t.replies.items;
+      reset_tasks = t.reset_tasks;
+      ahead = t.ahead;
     } };
 
     ghost invariant = { λ t. IsInWindow (record {
@@ -72,22 +78,25 @@ impl Model for Tasks {
       next_tag = t.next_tag;
       in_hand = t.in_hand;
       replies = t.replies.items;
+      reset_tasks = t.reset_tasks;
+      ahead = t.ahead;
     }) };
 }
 
 impl Tasks {
-    ghost use Rattle.std.specs.Prelude.{◌≡◌, ◌≢◌, ◌≤◌, true, is_some, length, map, Err, IfOk, if◌then◌else◌};
+    ghost use Rattle.std.specs.Prelude.{◌≡◌, ◌≢◌, ◌≤◌, [], true, is_some, length, map, Ok, Err, IfOk, if◌then◌else◌};
     ghost use Rattle.iscsi_tasks.specs.declared.fault.TasksFault.TheVariants.{NoMemory};
+    ghost use Rattle.iscsi_tasks.specs.declared.taken.TakenCommand.TheVariants as taken;
     ghost use Rattle.iscsi_tasks.specs.Values.{begun_tasks};
     ghost use Rattle.iscsi_tasks.specs.Limits.{most_under_way};
     ghost use Rattle.iscsi_tasks.specs.Windows.{max_cmd_sn, under_way};
     ghost use Rattle.iscsi_tasks.specs.Holding.{answers_due, holds_none};
     ghost use Rattle.iscsi_tasks.specs.Runs.{Answered, Held, Settled, stepped};
-    ghost use Rattle.iscsi_tasks.specs.Commands.{is_taken, is_in_use, is_crowded, counted, is_at_once, command_answer, after_command};
+    ghost use Rattle.iscsi_tasks.specs.Commands.{is_taken, is_in_use, is_crowded, counted, is_at_once, command_answer, after_command, missing_number, numbers_to};
     ghost use Rattle.iscsi_tasks.specs.Commands.{IsWithin};
     ghost use Rattle.iscsi_tasks.specs.DataOuts.{data_answer, after_data};
     ghost use Rattle.iscsi_tasks.specs.Next.{next_of, after_next};
-    ghost use Rattle.iscsi_tasks.specs.Aborts.{is_waiting_at, without_task, without_unit};
+    ghost use Rattle.iscsi_tasks.specs.Aborts.{is_waiting_at, reset_by_another, was_reset, without_task, without_unit};
 
     /// Of a session that begins, whose units take so many bytes of data of a command at most.
     pub fn new(
@@ -107,6 +116,8 @@ impl Tasks {
             next_tag: 0,
             in_hand: None,
             replies: ArrayVec::new(),
+            reset_tasks: ResetTasks::new(),
+            ahead: 0,
         }
     }
 
@@ -173,6 +184,7 @@ impl Tasks {
     {
         if !immediate {
             self.exp_cmd_sn = self.exp_cmd_sn.next();
+            self.ahead = self.ahead.saturating_sub(1);
         }
     }
 
@@ -187,7 +199,7 @@ impl Tasks {
         ensures within { IfOk result (IsWithin (length payload.now)) }
     {
         if !self.is_taken(command.immediate, command.cmd_sn) {
-            self.passed_over.remember(command.initiator_task_tag);
+            self.pass_over(command);
             return Ok(TakenCommand::PassedOver);
         }
         if self.is_in_use(command.initiator_task_tag) {
@@ -208,6 +220,38 @@ impl Tasks {
         add(&mut self.waiting, task)?;
         self.count(command.immediate);
         Ok(TakenCommand::Waits)
+    }
+
+    /// Notes a command that is passed over, and how far it is ahead if the window is open for it.
+    fn pass_over(&mut self, command: &ScsiCommand)
+        ensures { self.new ≡ after_command self.old command.now [] (Ok taken.PassedOver) }
+    {
+        self.ahead = self.ahead.max(self.numbers_to(command.cmd_sn));
+        self.passed_over.remember(command.initiator_task_tag);
+    }
+
+    /// How many numbers, from the one that is expected on, lead to one in the window.
+    fn numbers_to(&self, cmd_sn: SerialNumber) -> u32
+        ensures { result ≡ numbers_to self.now cmd_sn }
+    {
+        let distance = self.exp_cmd_sn.distance_to(cmd_sn);
+        if distance < WINDOW - self.under_way(false) {
+            distance + 1
+        } else {
+            0
+        }
+    }
+
+    /// The number that is awaited, ExpCmdSN, where a SCSI Command whose number is behind it and in the window has come, and was passed over
+    /// for that; `None` once the numbers up to that command's have been taken (RFC 7143, "Command Numbering and Acknowledging").
+    pub fn missing_number(&self) -> Option<SerialNumber>
+        ensures { result ≡ missing_number self.now }
+    {
+        if self.ahead > 0 {
+            Some(self.exp_cmd_sn)
+        } else {
+            None
+        }
     }
 
     /// Whether a command with the tag waits, or its reply is held.
@@ -364,6 +408,22 @@ impl Tasks {
         remember_at(&mut self.passed_over, self.waiting.as_slice(), unit);
         drop_at(&mut self.waiting, unit);
         drop_replies_at(&mut self.replies, unit);
+    }
+
+    /// Does the same for a unit that another session has reset, and notes these commands: the last 32 of them are known.
+    pub fn reset_unit(&mut self, unit: u8)
+        ensures { self.new ≡ reset_by_another self.old unit }
+    {
+        note_replies_at(&mut self.reset_tasks, self.replies.as_slice(), unit);
+        note_waiting_at(&mut self.reset_tasks, self.waiting.as_slice(), unit);
+        self.drop_unit(unit);
+    }
+
+    /// Whether the command with the tag at a unit is one of the last that resets by other sessions have dropped.
+    pub fn was_reset(&self, unit: u8, initiator_task_tag: u32) -> bool
+        ensures { result ≡ was_reset self.now unit initiator_task_tag }
+    {
+        self.reset_tasks.has(unit, initiator_task_tag)
     }
 }
 

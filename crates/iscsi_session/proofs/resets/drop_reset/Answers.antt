@@ -1,7 +1,7 @@
 use Rattle.std.proofs.Common.{◌∷◌, [], refl, ap, ◌∙◌}
 use Rattle.std.proofs.lemmas.List.Elements.{All-cons, All-nil}
 use Rattle.iscsi_tasks.specs.Values.{TasksValue}
-use Rattle.iscsi_tasks.specs.Aborts.{without_unit}
+use Rattle.iscsi_tasks.specs.Aborts.{reset_by_another}
 use Rattle.iscsi_session.proofs.resets.drop_reset.Goals as goal
 use Rattle.iscsi_session.proofs.resets.drop_reset.Goals.{then-was_reset, else-was_reset}
 
@@ -14,7 +14,7 @@ units-preserved g c =
       | then-was_reset w ↦ (
         c.units.unit ∷ so.0,
         All-cons (g.G.SessionRegister.resets c.args.register.now) c.units.unit so.0 (c.was_reset.ensures w.if-was_reset.true) so.1,
-        w.tasks-is ∙ w.drop_unit.ensures ∙ ap (λ (k : TasksValue). without_unit k c.units.unit) so.2,
+        w.tasks-is ∙ w.reset_unit.ensures ∙ ap (λ (k : TasksValue). reset_by_another k c.units.unit) so.2,
       )
       | else-was_reset w ↦ (so.0, so.1, w.tasks-is ∙ so.2)
     ]

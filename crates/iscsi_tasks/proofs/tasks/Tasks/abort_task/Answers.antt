@@ -17,6 +17,8 @@ invariant_of-self c =
       next_tag = own.next_tag;
       in_hand = own.in_hand;
       replies = own.replies.items;
+      reset_tasks = own.reset_tasks;
+      ahead = own.ahead;
     } in
     let unit = c.args.unit in
     let tag = c.args.initiator_task_tag in

@@ -17,6 +17,8 @@ invariant_of-self c =
       next_tag = own.next_tag;
       in_hand = own.in_hand;
       replies = own.replies.items;
+      reset_tasks = own.reset_tasks;
+      ahead = own.ahead;
     } in
     filtered_within s (λ (t : TaskValue). not (is_at c.args.unit t)) (λ (r : HeldReply). not (is_reply_at c.args.unit r))
     c.drop_at.new.waiting.items c.drop_replies_at.new.replies.items c.remember_at.new.passed_over c.drop_at.ensures

@@ -15,5 +15,7 @@ push-requires c =
       next_tag = own.next_tag;
       in_hand = own.in_hand;
       replies = own.replies.items;
+      reset_tasks = own.reset_tasks;
+      ahead = own.ahead;
     } in
     (omega arith, room_to_hold s c.self.invariant (search rules))

@@ -40,6 +40,8 @@ returns-else-is_whole-clause-state c =
       next_tag = own.next_tag;
       in_hand = own.in_hand;
       replies = own.replies.items;
+      reset_tasks = own.reset_tasks;
+      ahead = own.ahead;
     } in
     asked_there s c.in-Some.task.now c.index_mut-task.result.now c.ask-request.new.self own.waiting.items c.tag_after-self-inside.result
     (c.in-Some.ensures.value ∙ ap (λ (ts : List TaskValue). slice_get ts 0) c.deref.ensures.value) c.index_mut-task.ensures.value c.ask-request.ensures.state c.in-Turn.ensures

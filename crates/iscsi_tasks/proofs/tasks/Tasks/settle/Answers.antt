@@ -18,6 +18,8 @@ invariant_of-self c =
       next_tag = own.next_tag;
       in_hand = own.in_hand;
       replies = own.replies.items;
+      reset_tasks = own.reset_tasks;
+      ahead = own.ahead;
     } in
     subst (λ (rs : List HeldReply). IsInWindow (record s { replies = rs })) (sym c.drop_due.ensures)
     (step_within s (Settled c.args.settled c.args.outcome) c.self.invariant)

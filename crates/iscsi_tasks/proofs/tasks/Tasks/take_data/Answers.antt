@@ -14,6 +14,8 @@ invariant_of-self-in-Some c =
       next_tag = own.next_tag;
       in_hand = own.in_hand;
       replies = own.replies.items;
+      reset_tasks = own.reset_tasks;
+      ahead = own.ahead;
     } in
     taken_within s c.args.data_out.now c.args.payload.now c.take_at.new.waiting.items c.take_at.result c.take_at.ensures.ok
     c.take_at.ensures.err

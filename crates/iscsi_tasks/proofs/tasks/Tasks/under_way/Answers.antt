@@ -16,5 +16,7 @@ waiting_of-requires c =
       next_tag = own.next_tag;
       in_hand = own.in_hand;
       replies = own.replies.items;
+      reset_tasks = own.reset_tasks;
+      ahead = own.ahead;
     } in
     subst (λ (ts : List TaskValue). length ts ≤ most_waiting) (sym c.as_slice.ensures.value) (few_waiting s c.self.invariant)
