@@ -1,13 +1,15 @@
 """Logins by CHAP, one way and both ways. The digests are those of hashlib."""
 import base64
 import hashlib
+import pathlib
 import re
 import typing
 
 from portal_pdus import (
     AUTHENTICATION_FAILURE, CONTINUES, GROUP, INITIATOR_ERROR, NAMES, ON, OPERATIONAL, SECURITY, SKIPS, TO_FULL, let_on, login, text_of)
 from portal_scenes import Scene, Table, Turn, login_scene, turn, under
-from portal_stage import Stage, Step
+from portal_stage import Initiator, Stage, Step
+from serving import Row, Server, Tried, Wrong, holds, lacks, refused, same
 
 # The host has two users, of which one has the target prove itself too; another host has one.
 USER, BOTH, OTHERS, TARGETS = b"the-hosts-secret", b"another-secret-1", b"the-others-secret", b"the-targets-secret"
@@ -221,4 +223,72 @@ WRONG_ANSWERS: list[tuple[str, Says]] = [
 DENIED_ALIKE = under("wrong answers are denied all alike", *(
     chap_scene(shows, BY_SHA256, answer(ON, says, back=SECURITY, status=AUTHENTICATION_FAILURE)) for shows, says in WRONG_ANSWERS))
 
-TABLES = [Table("hosts that prove themselves", [*LET_IN, *WRONG_WAYS, *DENIED_ALIKE], secrets=secrets)]
+# Of a target that takes SHA-256 alone.
+WITHOUT_MD5 = under(
+    "md5 is never taken where sha-256 alone is",
+    login_scene("MD5 alone is refused", BEGUN, Turn(SECURITY, text_of(b"CHAP_A=5"), status=AUTHENTICATION_FAILURE)),
+    login_scene("MD5 by a hexadecimal number is refused", BEGUN, Turn(SECURITY, text_of(b"CHAP_A=0x5"), status=AUTHENTICATION_FAILURE)),
+    login_scene("MD5 with unknown algorithms is refused", BEGUN, Turn(SECURITY, text_of(b"CHAP_A=6,5"), status=AUTHENTICATION_FAILURE)),
+    chap_scene("SHA-256 behind MD5", BY_SHA256, answer(ON, USER_PROOF), LAST),
+    chap_scene("SHA-256 before MD5", [*BY_SHA256[:2], challenged(SHA256, b"7,5")], answer(ON, USER_PROOF), LAST),
+    chap_scene("SHA-256 alone, both ways", [*BY_SHA256[:2], challenged(SHA256, b"7")], both_ways(SHA256), LAST),
+    chap_scene(
+        "a digest by MD5 for a challenge by SHA-256", BY_SHA256,
+        answer(ON, of_user(lambda challenge: hexadecimal(challenge.digest(algorithm=MD5))), back=SECURITY, status=AUTHENTICATION_FAILURE)))
+
+TABLES = [
+    Table("hosts that prove themselves", [*LET_IN, *WRONG_WAYS, *DENIED_ALIKE], secrets=secrets),
+    Table("hosts that prove themselves by SHA-256 alone", WITHOUT_MD5, words=["--chap-digests", "sha256"], secrets=secrets)]
+
+
+# What needs no scenes: servers of their own, and one that doesn't begin.
+
+AT_A_PORTAL = ["--iscsi", "127.0.0.1:0", "--any-host"]
+
+
+def file_of(tried: Tried, text: str) -> str:
+    """The file of secrets with this text."""
+    path = pathlib.Path(tried.path("secrets"))
+    path.touch(0o600)
+    path.write_text(text, encoding="utf-8")
+    return str(path)
+
+
+def challenge_at(server: Server) -> bytes:
+    """The bytes that one more initiator is challenged with."""
+    with Initiator(server.portal(), 1) as initiator:
+        initiator.send(login(SECURITY, NAMES + text_of(b"AuthMethod=CHAP", b"CHAP_A=7")))
+        told = initiator.gets_any()
+    found = re.search(rb"\0CHAP_C=0x([0-9a-f]{64})\0", told)
+    if found is None:
+        raise Wrong("the challenge", told, "CHAP_C of 32 bytes in hexadecimal")
+    return bytes.fromhex(found[1].decode())
+
+
+def challenges(tried: Tried) -> None:
+    """Two of a server, and two of the one that is started behind it (RFC 7143, "CHAP Considerations")."""
+    path = file_of(tried, f"{OTHER_HOST} other {OTHERS.decode()}\n")
+    seen: list[bytes] = []
+    for _ in range(2):
+        with Server(tried, *AT_A_PORTAL, "--chap", path, has_socket=False) as server:
+            seen += [challenge_at(server), challenge_at(server)]
+            server.end()
+            server.ends()
+    same(f"how many of the challenges {[one.hex() for one in seen]} differ", len(set(seen)), 4)
+
+
+def user_twice(tried: Tried) -> None:
+    """The names differ in their case alone, and no secret is told."""
+    first, second = f"{OTHER_HOST} user {USER.decode()}", f"{OTHER_HOST.upper()} user {BOTH.decode()}"
+    path = file_of(tried, f"{first}\n{OTHER_HOST} USER {OTHERS.decode()}\n# once more\n{second}\n")
+    status, told = refused(tried, *AT_A_PORTAL, "--chap", path, "--workers", "1")
+    same(f"the status behind {told!r}", status, 2)
+    holds("what is told", told, f"vtl: {path}, line 4: the host has a line with this user already\n")
+    for secret in (USER, OTHERS, BOTH):
+        lacks("what is told", told, secret.decode())
+
+
+ROWS = [
+    Row("chap-challenges", "no challenge comes twice, from one server or from the next", challenges),
+    Row("chap-user-twice", "a file of secrets with a host and user twice isn't taken", user_twice),
+]

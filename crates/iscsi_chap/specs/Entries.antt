@@ -1,11 +1,16 @@
 -- Who is let in by what secret.
-use Rattle.std.specs.Prelude.{ℕ, ◌&&◌, List, [], ◌∷◌, Option, Some, None, if◌then◌else◌}
+use Rattle.std.specs.Prelude.{ℕ, suc, ◌&&◌, Bool, List, [], ◌∷◌, Option, Some, None, if◌then◌else◌}
 use Rattle.std.specs.Str.{bytes_eq}
 use Rattle.iscsi_keys.specs.IscsiNames.{is_same_name}
 use Rattle.iscsi_chap.specs.declared.entry.ChapEntry.{ChapEntry}
 
--- the first of the host and the user
-abbrev pub entry_among : List ChapEntry → (host user : List ℕ) → Option ChapEntry
-entry_among [] host user = None
-entry_among (e ∷ others) host user =
-    if is_same_name e.host.items host && bytes_eq e.own.user.items user then Some e else entry_among others host user
+abbrev pub is_entry_of : ChapEntry → (host user : List ℕ) → Bool
+is_entry_of e host user = is_same_name e.host.items host && bytes_eq e.own.user.items user
+
+abbrev pub entry_from : (place : ℕ) → List ChapEntry → (host user : List ℕ) → Option (ℕ × ChapEntry)
+entry_from place [] host user = None
+entry_from place (e ∷ others) host user = if is_entry_of e host user then Some (place, e) else entry_from (suc place) others host user
+
+-- the first of the host and the user, and its place, counted from 0
+abbrev pub entry_among : List ChapEntry → (host user : List ℕ) → Option (ℕ × ChapEntry)
+entry_among entries host user = entry_from 0 entries host user

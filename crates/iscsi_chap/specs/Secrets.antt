@@ -1,9 +1,9 @@
 -- The text of a secrets file: a line a host, NAME USER SECRET, or that and TARGET-USER TARGET-SECRET (profile).
 use Rattle.std.specs.Prelude.{◌≡◌, ℕ, zero, suc, ◌+◌, ◌==◌, ◌&&◌, ◌||◌, not, nat_le, Bool, true, false, List, [], ◌∷◌, ◌++◌, length, take, drop, slice_index, map, Option, Some, None, Result, Ok, Err, if◌then◌else◌}
-use Rattle.std.specs.List.{position}
+use Rattle.std.specs.List.{position, list_any}
 use Rattle.std.specs.Option.{option_map}
 use Rattle.std.specs.Str.{bytes_eq}
-use Rattle.iscsi_keys.specs.IscsiNames.{is_iscsi_name}
+use Rattle.iscsi_keys.specs.IscsiNames.{is_iscsi_name, is_same_name}
 use denote.Ref.{Bor}
 use Rattle.iscsi_chap.specs.declared.entry.Credentials.{Credentials}
 use Rattle.iscsi_chap.specs.declared.entry.ChapEntry.{ChapEntry}
@@ -12,7 +12,7 @@ use Rattle.iscsi_chap.specs.declared.fields.CredentialsFields.{CredentialsFields
 use Rattle.iscsi_chap.specs.declared.fields.Fields.{Fields}
 use Rattle.iscsi_chap.specs.declared.words.Word as cut
 use Rattle.iscsi_chap.specs.declared.secrets_fault.LineFault.{LineFault}
-use Rattle.iscsi_chap.specs.declared.secrets_fault.LineFault.TheVariants.{FieldCount, Name, SecretLength, SameSecret}
+use Rattle.iscsi_chap.specs.declared.secrets_fault.LineFault.TheVariants.{FieldCount, Name, SecretLength, SameSecret, UserTwice}
 use Rattle.iscsi_chap.specs.declared.secrets_fault.SecretsFault.{SecretsFault}
 use Rattle.iscsi_chap.specs.declared.secrets_fault.SecretsFault.TheVariants.{Line, NoMemory}
 
@@ -147,28 +147,41 @@ abbrev pub rest_value : Option (Bor (List ℕ)) → Option (List ℕ)
 rest_value None = None
 rest_value (Some rest) = Some rest.now
 
--- what some lines say, and then what those behind them say
-abbrev pub with_front : List EntryValue → Result (List EntryValue) (ℕ × LineFault) → Result (List EntryValue) (ℕ × LineFault)
-with_front front (Ok others) = Ok (front ++ others)
-with_front front (Err fault) = Err fault
+-- names are the same in letters of either case (RFC 7143, "iSCSI Names"), users are so byte for byte
+abbrev pub is_value_of : EntryValue → (host user : List ℕ) → Bool
+is_value_of e host user = is_same_name e.host host && bytes_eq e.own.user user
 
-abbrev pub by_line : (number : ℕ) → Result (Option EntryValue) LineFault → Result (List EntryValue) (ℕ × LineFault) → Result (List EntryValue) (ℕ × LineFault)
-by_line number (Err fault) others = Err (number, fault)
-by_line number (Ok None) others = others
-by_line number (Ok (Some entry)) others = with_front (entry ∷ []) others
+-- what a line says behind entries: of a host and a user there is one
+abbrev pub behind_entries : (before : List EntryValue) → Result (Option EntryValue) LineFault → Result (Option EntryValue) LineFault
+behind_entries before (Ok (Some entry)) =
+    if list_any (λ e. is_value_of e entry.host entry.own.user) before then Err UserTwice else Ok (Some entry)
+behind_entries before (Ok None) = Ok None
+behind_entries before (Err fault) = Err fault
 
-abbrev pub lines_at : (others : Option (List ℕ) → Result (List EntryValue) (ℕ × LineFault)) → (number : ℕ) → Option (List ℕ) → Result (List EntryValue) (ℕ × LineFault)
-lines_at others number None = Ok []
-lines_at others number (Some text) = by_line number (line_entry (line_of text)) (others (rest_of text))
+abbrev pub line_behind : (before : List EntryValue) → (line : List ℕ) → Result (Option EntryValue) LineFault
+line_behind before line = behind_entries before (line_entry line)
 
--- the entries of so many lines, the first of them of this number, or the first line with a fault
-abbrev pub entries_within : ℕ → (number : ℕ) → Option (List ℕ) → Result (List EntryValue) (ℕ × LineFault)
-entries_within zero number text = Ok []
-entries_within (suc lines) number text = lines_at (entries_within lines (number + 1)) number text
+-- with what the lines behind this one say
+abbrev pub by_line : (others : List EntryValue → Result (List EntryValue) (ℕ × LineFault)) → (number : ℕ) → (before : List EntryValue) → Result (Option EntryValue) LineFault → Result (List EntryValue) (ℕ × LineFault)
+by_line others number before (Err fault) = Err (number, fault)
+by_line others number before (Ok None) = others before
+by_line others number before (Ok (Some entry)) = others (before ++ entry ∷ [])
+
+-- the entries before this text and those of so many lines of it, the first of them of this number, or the first line with a fault
+abbrev pub entries_within : ℕ → (number : ℕ) → (before : List EntryValue) → Option (List ℕ) → Result (List EntryValue) (ℕ × LineFault)
+entries_within zero number before text = Ok before
+entries_within (suc lines) number before None = Ok before
+entries_within (suc lines) number before (Some text) =
+    by_line (λ entries. entries_within lines (number + 1) entries (rest_of text)) number before (line_behind before (line_of text))
 
 -- but for the last line each has a line feed, so there is one line more than bytes at most
 abbrev pub secrets_in : (text : List ℕ) → Result (List EntryValue) (ℕ × LineFault)
-secrets_in text = entries_within (length text + 1) 1 (Some text)
+secrets_in text = entries_within (length text + 1) 1 [] (Some text)
+
+-- behind none of them stands another of its host and user
+abbrev pub HaveUsersOnce : List EntryValue → Type 0
+HaveUsersOnce [] = Unit {0}
+HaveUsersOnce (e ∷ others) = (list_any (λ f. is_value_of e f.host f.own.user) others ≡ false) × HaveUsersOnce others
 
 -- what a line says was added
 abbrev pub TakesLine : (old new : List EntryValue) → Result (Option EntryValue) LineFault → Type 0

@@ -1,19 +1,27 @@
+use crate::algorithm::ChapDigests;
 use crate::entry::ChapSecrets;
 use crate::phase::ChapPhase;
 use iscsi_keys::Word;
+
+/// By what an initiator shows under CHAP who it is.
+#[derive(Drop)]
+pub struct ChapAccess {
+    pub secrets: ChapSecrets,
+    pub digests: ChapDigests,
+}
 
 /// What an initiator must show of itself before it is let in.
 #[derive(Drop)]
 pub enum Authentication {
     /// Its name alone: AuthMethod None.
     None,
-    /// That it has the secret of its name: AuthMethod CHAP.
-    Chap(ChapSecrets),
+    /// That it has a secret of its name: AuthMethod CHAP.
+    Chap(ChapAccess),
 }
 
 impl Authentication {
     ghost use Rattle.std.specs.Prelude.{◌≡◌};
-    ghost use Rattle.iscsi_chap.specs.Authentications.{is_free, method_of};
+    ghost use Rattle.iscsi_chap.specs.Authentications.{is_free, proved_by, method_of};
 
     /// The authentication method that is asked for.
     pub fn method(&self) -> Word
@@ -32,6 +40,17 @@ impl Authentication {
         match self {
             Authentication::None => true,
             Authentication::Chap(_) => phase.is_passed(),
+        }
+    }
+
+    /// By which entry of the secrets an initiator that has come so far has shown who it is: its place among them. None where it has
+    /// nothing to show.
+    pub fn proved_by(&self, phase: ChapPhase) -> Option<usize>
+        ensures { result ≡ proved_by self.now phase }
+    {
+        match self {
+            Authentication::None => None,
+            Authentication::Chap(_) => phase.passed_by(),
         }
     }
 }

@@ -1,5 +1,5 @@
 ghost use Rattle.std.specs.Prelude.{◌≡◌};
-ghost use Rattle.std.specs.Option.{option_copied};
+ghost use Rattle.std.specs.Option.{option_map};
 
 use iscsi_keys::is_same_name;
 
@@ -21,23 +21,34 @@ pub struct ChapEntry {
     pub target: Option<Credentials>,
 }
 
+impl ChapEntry {
+    ghost use Rattle.iscsi_chap.specs.Entries.{is_entry_of};
+
+    /// Whether it is of the host, by a name in letters of either case, and of the user.
+    pub(crate) fn is_of(&self, host: &[u8], user: &[u8]) -> bool
+        ensures { result ≡ is_entry_of self.now host.now user.now }
+    {
+        is_same_name(self.host.as_slice(), host) && self.own.user.as_slice() == user
+    }
+}
+
 /// Who is let in by what secret. It can't be printed.
 #[derive(Drop)]
 pub struct ChapSecrets {
-    /// Of two with one host and one user the first counts.
+    /// No two of a file have one host and one user; of two elsewhere the first counts.
     pub entries: Vec<ChapEntry>,
 }
 
 impl ChapSecrets {
     ghost use Rattle.iscsi_chap.specs.Entries.{entry_among};
 
-    /// What the host shows of itself as the user, if it may.
-    pub fn entry(&self, host: &[u8], user: &[u8]) -> Option<&ChapEntry>
-        ensures { option_copied result ≡ entry_among self.now.entries.items host.now user.now }
+    /// What the host shows of itself as the user, if it may, and its place among the entries.
+    pub fn entry(&self, host: &[u8], user: &[u8]) -> Option<(usize, &ChapEntry)>
+        ensures { option_map (λ found. (found.0, found.1.now)) result ≡ entry_among self.now.entries.items host.now user.now }
     {
-        for entry in &self.entries {
-            if is_same_name(entry.host.as_slice(), host) && entry.own.user.as_slice() == user {
-                return Some(entry);
+        'entries: for (place, entry) in self.entries.iter().enumerate() {
+            if entry.is_of(host, user) {
+                return Some((place, entry));
             }
         }
         None

@@ -7,16 +7,27 @@ pub enum ChapPhase {
     Unasked,
     /// It has the challenge, to be answered by the algorithm.
     Challenged(ChapAlgorithm),
-    Passed,
+    /// It has shown that it has the secret of the entry at this place of the secrets.
+    Passed(usize),
 }
 
 impl ChapPhase {
     ghost use Rattle.std.specs.Prelude.{◌≡◌};
-    ghost use Rattle.iscsi_chap.specs.Authentications.{is_passed};
+    ghost use Rattle.iscsi_chap.specs.Authentications.{is_passed, passed_by};
 
     pub fn is_passed(self) -> bool
         ensures { result ≡ is_passed self }
     {
-        matches!(self, ChapPhase::Passed)
+        matches!(self, ChapPhase::Passed(_))
+    }
+
+    /// The place of the entry by which it has passed.
+    pub fn passed_by(self) -> Option<usize>
+        ensures { result ≡ passed_by self }
+    {
+        match self {
+            ChapPhase::Unasked | ChapPhase::Challenged(_) => None,
+            ChapPhase::Passed(place) => Some(place),
+        }
     }
 }

@@ -1,17 +1,18 @@
 ghost use Rattle.std.specs.Prelude.{◌≡◌, ◌==◌, ◌<◌, length, OnOk, IfErr, IfSome};
-ghost use Rattle.std.specs.List.{position};
-ghost use Rattle.iscsi_chap.specs.Secrets.{GivesSecrets, TakesLine, FailsAt, entry_values, line_entry, secrets_in, line_of, rest_of, rest_value};
+ghost use Rattle.std.specs.List.{position, list_any};
+ghost use Rattle.iscsi_chap.specs.Entries.{is_entry_of};
+ghost use Rattle.iscsi_chap.specs.Secrets.{GivesSecrets, TakesLine, FailsAt, entry_values, said_value, line_behind, secrets_in, line_of, rest_of, rest_value};
 
 use crate::entry::{ChapEntry, ChapSecrets};
-use crate::fields::{entry_of, fields_in};
-use crate::secrets_fault::SecretsFault;
+use crate::fields::{Fields, entry_of, fields_in};
+use crate::secrets_fault::{LineFault, SecretsFault};
 use std::alloc::Global;
 
 impl ChapSecrets {
     /// The entries of a secrets file, in the order of its lines, or its first line with a fault. A line is
     /// `NAME USER SECRET` or `NAME USER SECRET TARGET-USER TARGET-SECRET`, its words parted by spaces or tabs; a word that
-    /// begins with `#` begins a comment; a line without a word says nothing (profile). `NoMemory` may come in place of any
-    /// answer.
+    /// begins with `#` begins a comment; a line without a word says nothing, and no two lines have one
+    /// host and one user (profile). `NoMemory` may come in place of any answer.
     pub fn parse(alloc: Global, text: &[u8]) -> Result<ChapSecrets, SecretsFault>
         ensures { GivesSecrets result (secrets_in text.now) }
     {
@@ -50,12 +51,12 @@ fn line_end(text: &[u8]) -> Option<usize>
     text.iter().position(|byte| *byte == b'\n')
 }
 
-/// Adds the entry of a line, where it has one.
+/// Adds the entry of a line, where it has one and none so far has its host and user.
 fn take_line(entries: &mut Vec<ChapEntry>, number: usize, line: &[u8]) -> Result<(), SecretsFault>
-    ensures ok { OnOk result (TakesLine (entry_values entries.old.items) (entry_values entries.new.items) (line_entry line.now)) }
-    ensures err { IfErr result (λ fault. FailsAt number fault (line_entry line.now)) }
+    ensures ok { OnOk result (TakesLine (entry_values entries.old.items) (entry_values entries.new.items) (line_behind (entry_values entries.old.items) line.now)) }
+    ensures err { IfErr result (λ fault. FailsAt number fault (line_behind (entry_values entries.old.items) line.now)) }
 {
-    let fields = match fields_in(line) {
+    let fields = match fields_behind(entries.as_slice(), line) {
         Err(what) => return Err(SecretsFault::Line { number, what }),
         Ok(None) => return Ok(()),
         Ok(Some(fields)) => fields,
@@ -67,4 +68,25 @@ fn take_line(entries: &mut Vec<ChapEntry>, number: usize, line: &[u8]) -> Result
         Ok(()) => Ok(()),
         Err(_) => Err(SecretsFault::NoMemory),
     }
+}
+
+/// What a line says behind the entries: nothing, or an entry of a host and a user that none of them has.
+#[tactic(auto, using(crate::proofs::Users::any_of_values))]
+fn fields_behind<'a>(entries: &[ChapEntry], line: &'a [u8]) -> Result<Option<Fields<'a>>, LineFault>
+    ensures { said_value result ≡ line_behind (entry_values entries.now) line.now }
+{
+    let Some(fields) = fields_in(line)? else {
+        return Ok(None);
+    };
+    if has_user(entries, fields.host, fields.own.user) {
+        return Err(LineFault::UserTwice);
+    }
+    Ok(Some(fields))
+}
+
+/// Whether one of the entries is of the host and the user.
+fn has_user(entries: &[ChapEntry], host: &[u8], user: &[u8]) -> bool
+    ensures { result ≡ list_any (λ e. is_entry_of e host.now user.now) entries.now }
+{
+    entries.iter().any(|entry| entry.is_of(host, user))
 }

@@ -15,6 +15,9 @@ pub enum LineFault {
     /// The same secret for both directions (RFC 7143, "CHAP Considerations").
     #[error("the target has the secret of the host")]
     SameSecret,
+    /// A line before it has its host, by a name in letters of either case, and its user.
+    #[error("the host has a line with this user already")]
+    UserTwice,
 }
 
 /// Why a secrets file isn't taken.

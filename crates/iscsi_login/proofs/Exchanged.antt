@@ -111,13 +111,13 @@ started_shown target challenge texts group = record {
 }
 
 pub begins : (group : ℕ) (target : LoginTarget) (challenge : Option Challenge) (cs : List Coming) (f : FullFeature) → (exchanged target (started group challenge) cs).login ≡ Ended (ends.FullFeature f)
-    → IsLetIn target challenge (texts_of cs) f.admission f.session_type × AreInRange f.parameters
+    → IsLetIn target challenge (texts_of cs) f.admission f.session_type f.proved × AreInRange f.parameters
 begins group target challenge cs f e =
     let last : ExchangeValue = exchanged target (started group challenge) cs in
     let shown : ExchangeShown target challenge (texts_of cs) last =
     run_shown target challenge (texts_of cs) cs (started group challenge) [] (started_shown target challenge (texts_of cs) group) refl (λ t some. some) in
     let sound : Shown target (texts_of cs) last.name f.admission f.session_type × AreInRange f.parameters = subst (IsSoundLogin (Shown target (texts_of cs) last.name)) e shown.login.sound in
-    let end : IsAuthenticated target.authentication challenge last.name (texts_of cs) = subst (EndShown target.authentication challenge (texts_of cs) last.name) e shown.login.end in
+    let end : IsAuthenticated target.authentication challenge last.name f.proved (texts_of cs) = subst (EndShown target.authentication challenge (texts_of cs) last.name) e shown.login.end in
     (record { name = last.name; entered = sound.0; authenticated = end }, sound.1)
 
 -- ---- what is told

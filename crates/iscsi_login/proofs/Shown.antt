@@ -11,12 +11,14 @@ use Rattle.iscsi_chap.specs.Algorithms.{chosen_algorithm}
 use Rattle.iscsi_chap.specs.Entries.{entry_among}
 use Rattle.iscsi_chap.specs.declared.algorithm.ChapAlgorithm.{ChapAlgorithm}
 use Rattle.iscsi_chap.specs.declared.entry.ChapEntry.{ChapEntry}
-use Rattle.iscsi_chap.specs.declared.entry.ChapSecrets.{ChapSecrets}
+use Rattle.iscsi_chap.specs.declared.entry.Credentials.{Credentials}
+use Rattle.iscsi_chap.specs.declared.algorithm.ChapDigests.{ChapDigests}
+use Rattle.iscsi_chap.specs.declared.authentication.ChapAccess.{ChapAccess}
 use Rattle.iscsi_chap.specs.Authentications.{is_passed}
 use Rattle.iscsi_login.specs.Authentications.{is_agreed, may_go_on, shown_by, verdict_by}
 use Rattle.iscsi_login.specs.ChapKeys.{algorithm_key, identifier_key, challenge_key, name_key, response_key}
 use Rattle.iscsi_chap.specs.Responses.{is_digest, is_response}
-use Rattle.iscsi_login.specs.Chaps.{Verdict, silent, unproven, phase_after, says, says_challenge, says_response, says_any, challenged, asked_for, asked, shown, proven, answered_by, answered, chap_turn}
+use Rattle.iscsi_login.specs.Chaps.{Verdict, silent, unproven, phase_after, says, says_challenge, says_response, says_any, challenged, asked_for, asked, identifier_in, is_own, response_items, shown_as, shown, proven, answered_by, answered, chap_turn}
 use Rattle.iscsi_login.specs.Exchanges.{ExchangeValue}
 use Rattle.iscsi_login.specs.ExchangeRuns.{IsEntryOf, IsProof, IsAuthenticated}
 use Rattle.iscsi_login.specs.Names.{declared_as}
@@ -46,14 +48,14 @@ Shown target texts name a s = Any (λ (t : List ℕ). IsEntryOf target t name a 
 
 abbrev pub PhaseShown : Authentication → Option Challenge → (texts : List (List ℕ)) → (name : List ℕ) → ChapPhase → Type 0
 PhaseShown authentication.None challenge texts name p = Unit {0}
-PhaseShown (authentication.Chap secrets) challenge texts name phase.Unasked = Unit {0}
-PhaseShown (authentication.Chap secrets) challenge texts name (phase.Challenged algorithm) = Unit {0}
-PhaseShown (authentication.Chap secrets) challenge texts name phase.Passed = Any (IsProof secrets.entries.items challenge name) texts
+PhaseShown (authentication.Chap access) challenge texts name phase.Unasked = Unit {0}
+PhaseShown (authentication.Chap access) challenge texts name (phase.Challenged algorithm) = Unit {0}
+PhaseShown (authentication.Chap access) challenge texts name (phase.Passed place) = Any (IsProof access.secrets.entries.items challenge name place) texts
 
 abbrev pub EndShown : Authentication → Option Challenge → (texts : List (List ℕ)) → (name : List ℕ) → Login → Type 0
 EndShown au challenge texts name (Open l) = Unit {0}
 EndShown au challenge texts name (Ended (ends.Refused s)) = Unit {0}
-EndShown au challenge texts name (Ended (ends.FullFeature f)) = IsAuthenticated au challenge name texts
+EndShown au challenge texts name (Ended (ends.FullFeature f)) = IsAuthenticated au challenge name f.proved texts
 
 -- nobody has passed who wasn't let in
 abbrev pub FreshIn : Option Admitted → ChapPhase → Type 0
@@ -97,35 +99,42 @@ phase_in old v = phase_or old (phase_after v)
 
 pub open_phase : (au : Authentication) (challenge : Option Challenge) (texts : List (List ℕ)) (name : List ℕ) (p : ChapPhase) → is_passed p ≡ false → PhaseShown au challenge texts name p
 open_phase authentication.None challenge texts name p h = tt
-open_phase (authentication.Chap secrets) challenge texts name phase.Unasked h = tt
-open_phase (authentication.Chap secrets) challenge texts name (phase.Challenged algorithm) h = tt
-open_phase (authentication.Chap secrets) challenge texts name phase.Passed h = absurd cc
+open_phase (authentication.Chap access) challenge texts name phase.Unasked h = tt
+open_phase (authentication.Chap access) challenge texts name (phase.Challenged algorithm) h = tt
+open_phase (authentication.Chap access) challenge texts name (phase.Passed place) h = absurd cc
 
-pub any_phase : (secrets : ChapSecrets) (challenge : Option Challenge) (texts : List (List ℕ)) (name : List ℕ) (p : ChapPhase) → Any (IsProof secrets.entries.items challenge name) texts
-    → PhaseShown (authentication.Chap secrets) challenge texts name p
-any_phase secrets challenge texts name phase.Unasked w = tt
-any_phase secrets challenge texts name (phase.Challenged algorithm) w = tt
-any_phase secrets challenge texts name phase.Passed w = w
+pub shown_as_passes : (P : ChapPhase → Type 0) (old : ChapPhase) (place : ℕ) (algorithm : ChapAlgorithm) (challenge : Challenge) (target : Option Credentials) (identifier : Option ℕ) (bytes : Option (List ℕ))
+    → P old → P (phase.Passed place) → P (phase_in old (shown_as place algorithm challenge target identifier bytes))
+shown_as_passes P old place algorithm challenge None identifier bytes h i = h
+shown_as_passes P old place algorithm challenge (Some target) None bytes h i = h
+shown_as_passes P old place algorithm challenge (Some target) (Some identifier) None h i = h
+shown_as_passes P old place algorithm challenge (Some target) (Some identifier) (Some bytes) h i =
+    either_of (λ (v : Verdict). P (phase_in old v)) (is_own challenge bytes)
+    (Ok (record { phase = phase.Passed place; answer = response_items algorithm target identifier bytes })) unproven i h
 
-pub any_verdict : (secrets : ChapSecrets) (challenge : Option Challenge) (texts : List (List ℕ)) (name : List ℕ) (old : ChapPhase) (v : Verdict) → Any (IsProof secrets.entries.items challenge name) texts
-    → PhaseShown (authentication.Chap secrets) challenge texts name (phase_in old v)
-any_verdict secrets challenge texts name old (Ok step) w = any_phase secrets challenge texts name step.phase w
-any_verdict secrets challenge texts name old (Err fault) w = any_phase secrets challenge texts name old w
+-- who has proved the entry at a place passes by that place
+pub shown_passes : (P : ChapPhase → Type 0) (old : ChapPhase) (place : ℕ) (algorithm : ChapAlgorithm) (challenge : Challenge) (target : Option Credentials) (identifier bytes : Option (List ℕ))
+    → P old → P (phase.Passed place) → P (phase_in old (shown place algorithm challenge target identifier bytes))
+shown_passes P old place algorithm challenge target None None h i = i
+shown_passes P old place algorithm challenge target None (Some bytes) h i = h
+shown_passes P old place algorithm challenge target (Some identifier) None h i = h
+shown_passes P old place algorithm challenge target (Some identifier) (Some bytes) h i =
+    shown_as_passes P old place algorithm challenge target (identifier_in identifier) (binary_value bytes) h i
 
 pub challenged_open : (c : Option Challenge) (o : Option ChapAlgorithm) → is_passed (phase_in phase.Unasked (challenged c o)) ≡ false
 challenged_open c None = refl
 challenged_open None (Some algorithm) = refl
 challenged_open (Some asked) (Some algorithm) = refl
 
-pub asked_for_open : (c : Option Challenge) (agreed : Bool) (o : Option (List ℕ)) → is_passed (phase_in phase.Unasked (asked_for c agreed o)) ≡ false
-asked_for_open c agreed None = refl
-asked_for_open c agreed (Some list) =
-    either_of (λ (v : Verdict). is_passed (phase_in phase.Unasked v) ≡ false) agreed (challenged c (chosen_algorithm list)) unproven (challenged_open c (chosen_algorithm list)) refl
+pub asked_for_open : (digests : ChapDigests) (c : Option Challenge) (agreed : Bool) (o : Option (List ℕ)) → is_passed (phase_in phase.Unasked (asked_for digests c agreed o)) ≡ false
+asked_for_open digests c agreed None = refl
+asked_for_open digests c agreed (Some list) =
+    either_of (λ (v : Verdict). is_passed (phase_in phase.Unasked v) ≡ false) agreed (challenged c (chosen_algorithm digests list)) unproven (challenged_open c (chosen_algorithm digests list)) refl
 
-pub asked_open : (c : Option Challenge) (agreed : Bool) (text : List ℕ) → is_passed (phase_in phase.Unasked (asked c agreed text)) ≡ false
-asked_open c agreed text =
-    either_of (λ (v : Verdict). is_passed (phase_in phase.Unasked v) ≡ false) (says_response text) unproven (asked_for c agreed (declared_as text algorithm_key)) refl
-    (asked_for_open c agreed (declared_as text algorithm_key))
+pub asked_open : (digests : ChapDigests) (c : Option Challenge) (agreed : Bool) (text : List ℕ) → is_passed (phase_in phase.Unasked (asked digests c agreed text)) ≡ false
+asked_open digests c agreed text =
+    either_of (λ (v : Verdict). is_passed (phase_in phase.Unasked v) ≡ false) (says_response text) unproven (asked_for digests c agreed (declared_as text algorithm_key)) refl
+    (asked_for_open digests c agreed (declared_as text algorithm_key))
 
 pub same_bytes : (o : Option (List ℕ)) (digest : List ℕ) → is_digest o digest ≡ true → o ≡ Some digest
 same_bytes None digest h = absurd cc
@@ -134,16 +143,17 @@ same_bytes (Some bytes) digest h = ap (λ (xs : List ℕ). Some xs) ((bytes_eq-D
 pub here_in : (P : List ℕ → Type 0) (texts : List (List ℕ)) (text : List ℕ) → IsText texts text → P text → Any P texts
 here_in P texts text (k, x, lt, is, same) p = (k, x, lt, is, subst P (sym same) p)
 
-pub proven_shown : (secrets : ChapSecrets) (challenge : Option Challenge) (texts : List (List ℕ)) (name text : List ℕ) (algorithm : ChapAlgorithm) (asked : Challenge) (user response : List ℕ) (o : Option ChapEntry)
-    → challenge ≡ Some asked → declared_as text name_key ≡ Some user → declared_as text response_key ≡ Some response → entry_among secrets.entries.items name user ≡ o → IsText texts text
-    → PhaseShown (authentication.Chap secrets) challenge texts name (phase_in (phase.Challenged algorithm) (proven algorithm asked o response text))
-proven_shown secrets challenge texts name text algorithm asked user response None c n r e t = tt
-proven_shown secrets challenge texts name text algorithm asked user response (Some entry) c n r e t =
-    let passed : Verdict = shown algorithm asked entry.target (declared_as text identifier_key) (declared_as text challenge_key) in
-    either_if (λ (v : Verdict). PhaseShown (authentication.Chap secrets) challenge texts name (phase_in (phase.Challenged algorithm) v))
+pub proven_shown : (access : ChapAccess) (challenge : Option Challenge) (texts : List (List ℕ)) (name text : List ℕ) (algorithm : ChapAlgorithm) (asked : Challenge) (user response : List ℕ) (o : Option (ℕ × ChapEntry))
+    → challenge ≡ Some asked → declared_as text name_key ≡ Some user → declared_as text response_key ≡ Some response → entry_among access.secrets.entries.items name user ≡ o → IsText texts text
+    → PhaseShown (authentication.Chap access) challenge texts name (phase_in (phase.Challenged algorithm) (proven algorithm asked o response text))
+proven_shown access challenge texts name text algorithm asked user response None c n r e t = tt
+proven_shown access challenge texts name text algorithm asked user response (Some (place, entry)) c n r e t =
+    let passed : Verdict = shown place algorithm asked entry.target (declared_as text identifier_key) (declared_as text challenge_key) in
+    either_if (λ (v : Verdict). PhaseShown (authentication.Chap access) challenge texts name (phase_in (phase.Challenged algorithm) v))
     (is_response algorithm asked entry.own.secret.items response) passed unproven
-    (λ same. any_verdict secrets challenge texts name (phase.Challenged algorithm) passed
-    (here_in (IsProof secrets.entries.items challenge name) texts text t
+    (λ same. shown_passes (PhaseShown (authentication.Chap access) challenge texts name) (phase.Challenged algorithm) place algorithm asked entry.target
+    (declared_as text identifier_key) (declared_as text challenge_key) tt
+    (here_in (IsProof access.secrets.entries.items challenge name place) texts text t
     (record {
       asked = asked;
       algorithm = algorithm;
@@ -158,44 +168,45 @@ proven_shown secrets challenge texts name text algorithm asked user response (So
     })))
     tt
 
-pub answered_by_shown : (secrets : ChapSecrets) (challenge : Option Challenge) (texts : List (List ℕ)) (name text : List ℕ) (algorithm : ChapAlgorithm) (asked : Challenge) (user response : Option (List ℕ))
+pub answered_by_shown : (access : ChapAccess) (challenge : Option Challenge) (texts : List (List ℕ)) (name text : List ℕ) (algorithm : ChapAlgorithm) (asked : Challenge) (user response : Option (List ℕ))
     → challenge ≡ Some asked → declared_as text name_key ≡ user → declared_as text response_key ≡ response → IsText texts text
-    → PhaseShown (authentication.Chap secrets) challenge texts name (phase_in (phase.Challenged algorithm) (answered_by secrets.entries.items name asked algorithm text user response))
-answered_by_shown secrets challenge texts name text algorithm asked None None c n r t =
-    either_of (λ (v : Verdict). PhaseShown (authentication.Chap secrets) challenge texts name (phase_in (phase.Challenged algorithm) v)) (says_challenge text) unproven (silent (phase.Challenged algorithm)) tt tt
-answered_by_shown secrets challenge texts name text algorithm asked (Some user) (Some response) c n r t =
-    proven_shown secrets challenge texts name text algorithm asked user response (entry_among secrets.entries.items name user) c n r refl t
-answered_by_shown secrets challenge texts name text algorithm asked None (Some response) c n r t = tt
-answered_by_shown secrets challenge texts name text algorithm asked (Some user) None c n r t = tt
+    → PhaseShown (authentication.Chap access) challenge texts name (phase_in (phase.Challenged algorithm) (answered_by access.secrets.entries.items name asked algorithm text user response))
+answered_by_shown access challenge texts name text algorithm asked None None c n r t =
+    either_of (λ (v : Verdict). PhaseShown (authentication.Chap access) challenge texts name (phase_in (phase.Challenged algorithm) v)) (says_challenge text) unproven (silent (phase.Challenged algorithm)) tt tt
+answered_by_shown access challenge texts name text algorithm asked (Some user) (Some response) c n r t =
+    proven_shown access challenge texts name text algorithm asked user response (entry_among access.secrets.entries.items name user) c n r refl t
+answered_by_shown access challenge texts name text algorithm asked None (Some response) c n r t = tt
+answered_by_shown access challenge texts name text algorithm asked (Some user) None c n r t = tt
 
-pub answered_shown : (secrets : ChapSecrets) (challenge own : Option Challenge) (texts : List (List ℕ)) (name text : List ℕ) (algorithm : ChapAlgorithm) → own ≡ challenge → IsText texts text
-    → PhaseShown (authentication.Chap secrets) challenge texts name (phase_in (phase.Challenged algorithm) (answered secrets.entries.items name own algorithm text))
-answered_shown secrets challenge None texts name text algorithm same t = tt
-answered_shown secrets challenge (Some asked) texts name text algorithm same t =
-    either_of (λ (v : Verdict). PhaseShown (authentication.Chap secrets) challenge texts name (phase_in (phase.Challenged algorithm) v)) (says text algorithm_key) (Err status.InitiatorError)
-    (answered_by secrets.entries.items name asked algorithm text (declared_as text name_key) (declared_as text response_key)) tt
-    (answered_by_shown secrets challenge texts name text algorithm asked (declared_as text name_key) (declared_as text response_key) (sym same) refl refl t)
+pub answered_shown : (access : ChapAccess) (challenge own : Option Challenge) (texts : List (List ℕ)) (name text : List ℕ) (algorithm : ChapAlgorithm) → own ≡ challenge → IsText texts text
+    → PhaseShown (authentication.Chap access) challenge texts name (phase_in (phase.Challenged algorithm) (answered access.secrets.entries.items name own algorithm text))
+answered_shown access challenge None texts name text algorithm same t = tt
+answered_shown access challenge (Some asked) texts name text algorithm same t =
+    either_of (λ (v : Verdict). PhaseShown (authentication.Chap access) challenge texts name (phase_in (phase.Challenged algorithm) v)) (says text algorithm_key) (Err status.InitiatorError)
+    (answered_by access.secrets.entries.items name asked algorithm text (declared_as text name_key) (declared_as text response_key)) tt
+    (answered_by_shown access challenge texts name text algorithm asked (declared_as text name_key) (declared_as text response_key) (sym same) refl refl t)
 
-pub turn_shown : (secrets : ChapSecrets) (challenge own : Option Challenge) (texts : List (List ℕ)) (name text : List ℕ) (agreed : Bool) (old : ChapPhase) → own ≡ challenge → IsText texts text
-    → PhaseShown (authentication.Chap secrets) challenge texts name old → PhaseShown (authentication.Chap secrets) challenge texts name (phase_in old (chap_turn secrets.entries.items name own agreed old text))
+pub turn_shown : (access : ChapAccess) (challenge own : Option Challenge) (texts : List (List ℕ)) (name text : List ℕ) (agreed : Bool) (old : ChapPhase) → own ≡ challenge → IsText texts text
+    → PhaseShown (authentication.Chap access) challenge texts name old → PhaseShown (authentication.Chap access) challenge texts name (phase_in old (chap_turn access name own agreed old text))
 unfolding chap_turn
-turn_shown secrets challenge own texts name text agreed phase.Unasked same t h =
-    open_phase (authentication.Chap secrets) challenge texts name (phase_in phase.Unasked (asked own agreed text)) (asked_open own agreed text)
-turn_shown secrets challenge own texts name text agreed (phase.Challenged algorithm) same t h = answered_shown secrets challenge own texts name text algorithm same t
-turn_shown secrets challenge own texts name text agreed phase.Passed same t h =
-    either_of (λ (v : Verdict). PhaseShown (authentication.Chap secrets) challenge texts name (phase_in phase.Passed v)) (says_any text) (Err status.InitiatorError) (silent phase.Passed) h h
+turn_shown access challenge own texts name text agreed phase.Unasked same t h =
+    open_phase (authentication.Chap access) challenge texts name (phase_in phase.Unasked (asked access.digests own agreed text)) (asked_open access.digests own agreed text)
+turn_shown access challenge own texts name text agreed (phase.Challenged algorithm) same t h = answered_shown access challenge own texts name text algorithm same t
+turn_shown access challenge own texts name text agreed (phase.Passed place) same t h =
+    either_of (λ (v : Verdict). PhaseShown (authentication.Chap access) challenge texts name (phase_in (phase.Passed place) v)) (says_any text) (Err status.InitiatorError)
+    (silent (phase.Passed place)) h h
 
-pub by_request : (b : Bool) (secrets : ChapSecrets) (challenge : Option Challenge) (texts : List (List ℕ)) (name text : List ℕ) (chap : ChapState) (agreed : Bool) → chap.challenge ≡ challenge
-    → (b ≡ false → IsText texts text) → PhaseShown (authentication.Chap secrets) challenge texts name chap.phase
-    → PhaseShown (authentication.Chap secrets) challenge texts name (phase_in chap.phase (cond b (silent chap.phase) (chap_turn secrets.entries.items name chap.challenge agreed chap.phase text)))
-by_request true secrets challenge texts name text chap agreed same t h = h
-by_request false secrets challenge texts name text chap agreed same t h = turn_shown secrets challenge chap.challenge texts name text agreed chap.phase same (t refl) h
+pub by_request : (b : Bool) (access : ChapAccess) (challenge : Option Challenge) (texts : List (List ℕ)) (name text : List ℕ) (chap : ChapState) (agreed : Bool) → chap.challenge ≡ challenge
+    → (b ≡ false → IsText texts text) → PhaseShown (authentication.Chap access) challenge texts name chap.phase
+    → PhaseShown (authentication.Chap access) challenge texts name (phase_in chap.phase (cond b (silent chap.phase) (chap_turn access name chap.challenge agreed chap.phase text)))
+by_request true access challenge texts name text chap agreed same t h = h
+by_request false access challenge texts name text chap agreed same t h = turn_shown access challenge chap.challenge texts name text agreed chap.phase same (t refl) h
 
 -- what a text shows
 pub text_shown : (au : Authentication) (challenge : Option Challenge) (texts : List (List ℕ)) (name text : List ℕ) (chap : ChapState) (stays : Login) (r : LoginRequest) → chap.challenge ≡ challenge
     → (r.continues ≡ false → IsText texts text) → PhaseShown au challenge texts name chap.phase → PhaseShown au challenge texts name (phase_in chap.phase (shown_by au name chap stays r text))
 text_shown authentication.None challenge texts name text chap stays r same t h = tt
-text_shown (authentication.Chap secrets) challenge texts name text chap stays r same t h = by_request r.continues secrets challenge texts name text chap (is_agreed stays) same t h
+text_shown (authentication.Chap access) challenge texts name text chap stays r same t h = by_request r.continues access challenge texts name text chap (is_agreed stays) same t h
 
 pub going_on : (P : ChapPhase → Type 0) (au : Authentication) (old : ChapPhase) (stays : Login) (r : LoginRequest) (q : Result ChapPhase LoginStatus) → P old → P (phase_or old q) → P (phase_or old (verdict_by au stays r q))
 going_on P au old stays r (Err fault) h i = h
@@ -204,9 +215,9 @@ going_on P au old stays r (Ok p) h i = either_of (λ (w : Result ChapPhase Login
 -- a text that goes on shows nothing yet
 pub pending : (au : Authentication) (name text : List ℕ) (chap : ChapState) (stays : Login) (r : LoginRequest) → r.continues ≡ true → phase_in chap.phase (shown_by au name chap stays r text) ≡ chap.phase
 pending authentication.None name text chap stays r is = refl
-pending (authentication.Chap secrets) name text chap stays r is =
+pending (authentication.Chap access) name text chap stays r is =
     at_true (λ (v : Verdict). phase_in chap.phase v ≡ chap.phase) r.continues (silent chap.phase)
-    (chap_turn secrets.entries.items name chap.challenge (is_agreed stays) chap.phase text) is refl
+    (chap_turn access name chap.challenge (is_agreed stays) chap.phase text) is refl
 
 pub pending_at : (next : Login) (au : Authentication) (name text : List ℕ) (chap : ChapState) (stays : Login) (r : LoginRequest) → r.continues ≡ true → (judgement_at next au name chap stays r text).phase ≡ chap.phase
 pending_at (Ended (ends.Refused s)) au name text chap stays r is = refl

@@ -7,12 +7,12 @@ use Rattle.iscsi_pdu.specs.declared.login_status.LoginStatus.{LoginStatus}
 use Rattle.iscsi_pdu.specs.declared.login_status.LoginStatus.TheVariants as status
 use Rattle.iscsi_keys.specs.declared.key.Key.TheVariants as key
 use Rattle.iscsi_login.specs.Admissions.{admitted_by, names_free, offered_by, says_the_same}
-use Rattle.iscsi_chap.specs.Authentications.{is_free}
+use Rattle.iscsi_chap.specs.Authentications.{is_free, proved_by}
 use Rattle.iscsi_login.specs.Authentications.{shown_by, verdict_by}
 use Rattle.iscsi_login.specs.Chaps.{phase_after, shown}
 use Rattle.iscsi_login.specs.Exchanges.{ExchangeValue, refused_with, refused_after, is_out_of_turn, ready, name_unless, judged, turn_in, gone, taken_at, taken}
 use Rattle.iscsi_login.specs.ExchangeRuns.{IsEntryOf, IsAuthenticated}
-use Rattle.iscsi_login.specs.Logins.{stepped, unless_fault, request_fault, moved_if, moved_to, open_at}
+use Rattle.iscsi_login.specs.Logins.{stepped, unless_fault, request_fault, moved_if, moved_to, open_at, with_proof}
 use Rattle.iscsi_login.specs.Logins as logins
 use Rattle.iscsi_login.specs.Names.{declared}
 use Rattle.iscsi_login.specs.Runs.{IsEntry}
@@ -92,16 +92,18 @@ held_end au challenge texts name l target r text =
 -- ---- turns
 
 pub free_shown : (au : Authentication) (challenge : Option Challenge) (texts : List (List ℕ)) (name : List ℕ) (p : ChapPhase) → is_free au p ≡ true → PhaseShown au challenge texts name p
-    → IsAuthenticated au challenge name texts
+    → IsAuthenticated au challenge name (proved_by au p) texts
 free_shown authentication.None challenge texts name p h i = tt
-free_shown (authentication.Chap secrets) challenge texts name phase.Unasked h i = absurd cc
-free_shown (authentication.Chap secrets) challenge texts name (phase.Challenged algorithm) h i = absurd cc
-free_shown (authentication.Chap secrets) challenge texts name phase.Passed h i = i
+free_shown (authentication.Chap access) challenge texts name phase.Unasked h i = absurd cc
+free_shown (authentication.Chap access) challenge texts name (phase.Challenged algorithm) h i = absurd cc
+free_shown (authentication.Chap access) challenge texts name (phase.Passed place) h i = i
 
-pub any_end : (au : Authentication) (challenge : Option Challenge) (texts : List (List ℕ)) (name : List ℕ) (m : Login) → IsAuthenticated au challenge name texts → EndShown au challenge texts name m
-any_end au challenge texts name (Open l) h = tt
-any_end au challenge texts name (Ended (ends.Refused s)) h = tt
-any_end au challenge texts name (Ended (ends.FullFeature f)) h = h
+-- with what was proved it is shown for the session
+pub proof_shown : (target : LoginTarget) (challenge : Option Challenge) (texts : List (List ℕ)) (name : List ℕ) (p : ChapPhase) (m : Login) (proved : Option ℕ)
+    → IsAuthenticated target.authentication challenge name proved texts → IsSoundLogin (Shown target texts name) m → Fresh m p → LoginShown target challenge texts name p (with_proof m proved)
+proof_shown target challenge texts name p (Open l) proved h sound fresh = record { sound = sound; end = tt; fresh = fresh }
+proof_shown target challenge texts name p (Ended (ends.Refused s)) proved h sound fresh = record { sound = tt; end = tt; fresh = tt }
+proof_shown target challenge texts name p (Ended (ends.FullFeature f)) proved h sound fresh = record { sound = sound; end = h; fresh = tt }
 
 abbrev pub TurnShown : LoginTarget → Option Challenge → (texts : List (List ℕ)) → (name : List ℕ) → ChapPhase → Turn → Type 0
 TurnShown target challenge texts name p (Refuses s) = Unit {0}
@@ -124,9 +126,10 @@ pub by_turn : (target : LoginTarget) (challenge : Option Challenge) (texts : Lis
     → LoginShown target challenge texts name (phase_or old q) stays → TurnShown target challenge texts name (phase_or old q) (turn_by target.authentication q next stays count)
 by_turn target challenge texts name old (Err s) next stays count shown sound fresh i = tt
 by_turn target challenge texts name old (Ok p) next stays count shown sound fresh i =
-    either_if (TurnShown target challenge texts name p) (is_free target.authentication p) (turn_at next stays count) (Stays stays)
-    (λ is. at_shown target challenge texts name p next stays count
-    (record { sound = sound; end = any_end target.authentication challenge texts name next (free_shown target.authentication challenge texts name p is shown); fresh = fresh }) i)
+    let proved : Option ℕ = proved_by target.authentication p in
+    either_if (TurnShown target challenge texts name p) (is_free target.authentication p) (turn_at (with_proof next proved) stays count) (Stays stays)
+    (λ is. at_shown target challenge texts name p (with_proof next proved) stays count
+    (proof_shown target challenge texts name p next proved (free_shown target.authentication challenge texts name p is shown) sound fresh) i)
     i
 
 pub on_judged : (target : LoginTarget) (challenge : Option Challenge) (texts : List (List ℕ)) (name text : List ℕ) (chap : ChapState) (r : LoginRequest) (next stays : Login) (count : ℕ)

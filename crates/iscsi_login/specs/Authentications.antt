@@ -11,7 +11,6 @@ use Rattle.iscsi_chap.specs.Authentications.{is_passed}
 use Rattle.iscsi_login.specs.Chaps.{Verdict, silent, chap_turn}
 use Rattle.iscsi_login.specs.declared.admitted.Admitted.{Admitted}
 use Rattle.iscsi_chap.specs.declared.phase.ChapPhase.{ChapPhase}
-use Rattle.iscsi_chap.specs.declared.phase.ChapPhase.TheVariants as phase
 use Rattle.iscsi_login.specs.declared.chap.ChapState.{ChapState}
 use Rattle.iscsi_login.specs.declared.login.Login.{Login}
 use Rattle.iscsi_login.specs.declared.login.Login.TheVariants.{Open, Ended}
@@ -39,14 +38,14 @@ may_wait r agreed = is_security r.current_stage && (agreed || not r.transit)
 
 abbrev pub may_go_on : Authentication → (stays : Login) → LoginRequest → ChapPhase → Bool
 may_go_on authentication.None stays r p = true
-may_go_on (authentication.Chap secrets) stays r p = r.continues || is_passed p || may_wait r (is_agreed stays)
+may_go_on (authentication.Chap access) stays r p = r.continues || is_passed p || may_wait r (is_agreed stays)
 
 -- what a text shows, where `stays` is the login with it and without T; with C more of the text is to come
 abbrev pub shown_by : Authentication → (host : List ℕ) → ChapState → (stays : Login) → LoginRequest → (text : List ℕ) → Verdict
 shown_by authentication.None host chap stays r text = silent chap.phase
-shown_by (authentication.Chap secrets) host chap stays r text =
+shown_by (authentication.Chap access) host chap stays r text =
     if r.continues then silent chap.phase
-    else chap_turn secrets.entries.items host chap.challenge (is_agreed stays) chap.phase text
+    else chap_turn access host chap.challenge (is_agreed stays) chap.phase text
 
 -- the phase that the initiator has come to, where it may go on
 abbrev pub verdict_by : Authentication → (stays : Login) → LoginRequest → (shown : Result ChapPhase LoginStatus) → Result ChapPhase LoginStatus

@@ -1,6 +1,6 @@
 -- Authentication by CHAP (RFC 7143, "Challenge Handshake Authentication Protocol (CHAP)"; RFC 1994): the initiator offers
 -- algorithms, the target takes one and challenges, the initiator responds, and may challenge the target.
-use Rattle.std.specs.Prelude.{ℕ, Bool, false, not, nat_lt, nat_le, ◌&&◌, ◌||◌, List, [], ◌++◌, length, Option, Some, None, is_some, Result, Ok, Err, if◌then◌else◌}
+use Rattle.std.specs.Prelude.{ℕ, Bool, not, nat_lt, nat_le, ◌&&◌, ◌||◌, List, [], ◌++◌, length, Option, Some, None, is_some, Result, Ok, Err, if◌then◌else◌}
 use Rattle.std.specs.Fmt.{decimal}
 use Rattle.std.specs.Str.{bytes_eq}
 use Rattle.iscsi_pdu.specs.declared.login_status.LoginStatus.{LoginStatus}
@@ -13,6 +13,8 @@ use Rattle.iscsi_chap.specs.Digests.{chap_digest}
 use Rattle.iscsi_chap.specs.Entries.{entry_among}
 use Rattle.iscsi_chap.specs.Responses.{is_response}
 use Rattle.iscsi_chap.specs.declared.algorithm.ChapAlgorithm.{ChapAlgorithm}
+use Rattle.iscsi_chap.specs.declared.algorithm.ChapDigests.{ChapDigests}
+use Rattle.iscsi_chap.specs.declared.authentication.ChapAccess.{ChapAccess}
 use Rattle.iscsi_chap.specs.declared.entry.ChapEntry.{ChapEntry}
 use Rattle.iscsi_chap.specs.declared.entry.Credentials.{Credentials}
 use Rattle.iscsi_login.specs.ChapKeys.{algorithm_key, identifier_key, challenge_key, name_key, response_key}
@@ -69,14 +71,14 @@ challenged None (Some algorithm) = Err status.TargetError
 challenged (Some challenge) (Some algorithm) =
     Ok (record { phase = phase.Challenged algorithm; answer = challenge_items algorithm challenge })
 
-abbrev pub asked_for : Option Challenge → (is_agreed : Bool) → (list : Option (List ℕ)) → Verdict
-asked_for challenge is_agreed None = silent phase.Unasked
-asked_for challenge is_agreed (Some list) = if is_agreed then challenged challenge (chosen_algorithm list) else unproven
+abbrev pub asked_for : ChapDigests → Option Challenge → (is_agreed : Bool) → (list : Option (List ℕ)) → Verdict
+asked_for digests challenge is_agreed None = silent phase.Unasked
+asked_for digests challenge is_agreed (Some list) = if is_agreed then challenged challenge (chosen_algorithm digests list) else unproven
 
 -- algorithms come once CHAP is agreed, and a response behind the challenge
-abbrev pub asked : Option Challenge → (is_agreed : Bool) → (text : List ℕ) → Verdict
-asked challenge is_agreed text =
-    if says_response text then unproven else asked_for challenge is_agreed (declared_as text algorithm_key)
+abbrev pub asked : ChapDigests → Option Challenge → (is_agreed : Bool) → (text : List ℕ) → Verdict
+asked digests challenge is_agreed text =
+    if says_response text then unproven else asked_for digests challenge is_agreed (declared_as text algorithm_key)
 
 abbrev pub byte_in : Option ℕ → Option ℕ
 byte_in None = None
@@ -94,24 +96,24 @@ response_items algorithm target identifier bytes =
     item_bytes name_key target.user.items
     ++ item_bytes response_key (hexadecimal (chap_digest algorithm identifier target.secret.items bytes))
 
-abbrev pub shown_as : ChapAlgorithm → Challenge → Option Credentials → (identifier : Option ℕ) → (bytes : Option (List ℕ)) → Verdict
-shown_as algorithm challenge (Some target) (Some identifier) (Some bytes) =
-    if is_own challenge bytes then Ok (record { phase = phase.Passed; answer = response_items algorithm target identifier bytes })
+abbrev pub shown_as : (place : ℕ) → ChapAlgorithm → Challenge → Option Credentials → (identifier : Option ℕ) → (bytes : Option (List ℕ)) → Verdict
+shown_as place algorithm challenge (Some target) (Some identifier) (Some bytes) =
+    if is_own challenge bytes then Ok (record { phase = phase.Passed place; answer = response_items algorithm target identifier bytes })
     else unproven
-shown_as algorithm challenge _ _ _ = unproven
+shown_as place algorithm challenge _ _ _ = unproven
 
--- the target proves itself where the initiator wants it to
-abbrev pub shown : ChapAlgorithm → Challenge → Option Credentials → (identifier bytes : Option (List ℕ)) → Verdict
-shown algorithm challenge target None None = silent phase.Passed
-shown algorithm challenge target (Some identifier) (Some bytes) =
-    shown_as algorithm challenge target (identifier_in identifier) (binary_value bytes)
-shown algorithm challenge target _ _ = unproven
+-- the initiator passes by the entry at the place, and the target proves itself where the initiator wants it to
+abbrev pub shown : (place : ℕ) → ChapAlgorithm → Challenge → Option Credentials → (identifier bytes : Option (List ℕ)) → Verdict
+shown place algorithm challenge target None None = silent (phase.Passed place)
+shown place algorithm challenge target (Some identifier) (Some bytes) =
+    shown_as place algorithm challenge target (identifier_in identifier) (binary_value bytes)
+shown place algorithm challenge target _ _ = unproven
 
-abbrev pub proven : ChapAlgorithm → Challenge → Option ChapEntry → (response text : List ℕ) → Verdict
+abbrev pub proven : ChapAlgorithm → Challenge → Option (ℕ × ChapEntry) → (response text : List ℕ) → Verdict
 proven algorithm challenge None response text = unproven
-proven algorithm challenge (Some entry) response text =
+proven algorithm challenge (Some (place, entry)) response text =
     if is_response algorithm challenge entry.own.secret.items response
-    then shown algorithm challenge entry.target (declared_as text identifier_key) (declared_as text challenge_key)
+    then shown place algorithm challenge entry.target (declared_as text identifier_key) (declared_as text challenge_key)
     else unproven
 
 abbrev pub answered_by : List ChapEntry → (host : List ℕ) → Challenge → ChapAlgorithm → (text : List ℕ) → (user response : Option (List ℕ)) → Verdict
@@ -128,8 +130,8 @@ answered entries host (Some challenge) algorithm text =
     else answered_by entries host challenge algorithm text (declared_as text name_key) (declared_as text response_key)
 
 -- a key that was answered doesn't come again
-unfoldable pub chap_turn : List ChapEntry → (host : List ℕ) → Option Challenge → (is_agreed : Bool) → ChapPhase → (text : List ℕ) → Verdict
-chap_turn entries host challenge is_agreed phase.Unasked text = asked challenge is_agreed text
-chap_turn entries host challenge is_agreed (phase.Challenged algorithm) text = answered entries host challenge algorithm text
-chap_turn entries host challenge is_agreed phase.Passed text =
-    if says_any text then Err status.InitiatorError else silent phase.Passed
+unfoldable pub chap_turn : ChapAccess → (host : List ℕ) → Option Challenge → (is_agreed : Bool) → ChapPhase → (text : List ℕ) → Verdict
+chap_turn access host challenge is_agreed phase.Unasked text = asked access.digests challenge is_agreed text
+chap_turn access host challenge is_agreed (phase.Challenged algorithm) text = answered access.secrets.entries.items host challenge algorithm text
+chap_turn access host challenge is_agreed (phase.Passed place) text =
+    if says_any text then Err status.InitiatorError else silent (phase.Passed place)

@@ -40,8 +40,8 @@ pub record IsEntryOf (target : LoginTarget) (text name : List ℕ) (a : Admissio
   pub of_type : session_type_in (declared text key.SessionType) ≡ Some s
   pub at_target : target_fault target s (declared text key.TargetName) ≡ None
 
--- the text carries the digest that a secret of the host makes of the challenge
-pub record IsProof (entries : List ChapEntry) (challenge : Option Challenge) (host text : List ℕ) : Type 0 where
+-- the text carries the digest that the host's secret at this place makes of the challenge
+pub record IsProof (entries : List ChapEntry) (challenge : Option Challenge) (host : List ℕ) (place : ℕ) (text : List ℕ) : Type 0 where
   pub asked : Challenge
   pub algorithm : ChapAlgorithm
   pub user : List ℕ
@@ -49,16 +49,20 @@ pub record IsProof (entries : List ChapEntry) (challenge : Option Challenge) (ho
   pub response : List ℕ
   pub is_asked : challenge ≡ Some asked
   pub as_user : declared_as text name_key ≡ Some user
-  pub has_entry : entry_among entries host user ≡ Some entry
+  pub has_entry : entry_among entries host user ≡ Some (place, entry)
   pub responds : declared_as text response_key ≡ Some response
   pub is_digest : binary_value response ≡ Some (chap_digest algorithm asked.identifier entry.own.secret.items asked.bytes)
 
-abbrev pub IsAuthenticated : Authentication → Option Challenge → (host : List ℕ) → (texts : List (List ℕ)) → Type 0
-IsAuthenticated authentication.None challenge host texts = Unit {0}
-IsAuthenticated (authentication.Chap secrets) challenge host texts = Any (IsProof secrets.entries.items challenge host) texts
+-- where CHAP is asked for, by the entry at the place that was proved
+abbrev pub IsAuthenticated : Authentication → Option Challenge → (host : List ℕ) → (proved : Option ℕ) → (texts : List (List ℕ)) → Type 0
+IsAuthenticated authentication.None challenge host None texts = Unit {0}
+IsAuthenticated authentication.None challenge host (Some place) texts = ⊥
+IsAuthenticated (authentication.Chap access) challenge host None texts = ⊥
+IsAuthenticated (authentication.Chap access) challenge host (Some place) texts = Any (IsProof access.secrets.entries.items challenge host place) texts
 
--- one of the texts is of an initiator that is let in as this, and, where it has to, one authenticates that initiator
-pub record IsLetIn (target : LoginTarget) (challenge : Option Challenge) (texts : List (List ℕ)) (a : Admission) (s : SessionType) : Type 0 where
+-- one of the texts is of an initiator that is let in as this, and, where it has to, one authenticates that initiator by what it has
+-- proved
+pub record IsLetIn (target : LoginTarget) (challenge : Option Challenge) (texts : List (List ℕ)) (a : Admission) (s : SessionType) (proved : Option ℕ) : Type 0 where
   pub name : List ℕ
   pub entered : Any (λ text. IsEntryOf target text name a s) texts
-  pub authenticated : IsAuthenticated target.authentication challenge name texts
+  pub authenticated : IsAuthenticated target.authentication challenge name proved texts

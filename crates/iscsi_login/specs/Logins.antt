@@ -54,7 +54,14 @@ full_feature group r a = record {
   cid = r.cid;
   cmd_sn = r.cmd_sn;
   parameters = a.negotiation.parameters;
+  proved = None;
 }
+
+-- the session with the place of the entry that its initiator has shown
+abbrev pub with_proof : Login → (proved : Option ℕ) → Login
+with_proof (Ended (ends.FullFeature f)) proved = Ended (ends.FullFeature (record f { proved = proved }))
+with_proof (Ended (ends.Refused s)) proved = Ended (ends.Refused s)
+with_proof (Open l) proved = Open l
 
 abbrev pub moved_to : Stage → (group : ℕ) → LoginRequest → Admitted → Login
 moved_to stage.FullFeaturePhase group r a = Ended (ends.FullFeature (full_feature group r a))

@@ -5,6 +5,8 @@ use Rattle.iscsi_pdu.specs.declared.login_status.LoginStatus.TheVariants as stat
 use Rattle.iscsi_pdu.specs.declared.stage.Stage.{Stage}
 use Rattle.iscsi_pdu.specs.declared.stage.Stage.TheVariants as stage
 use Rattle.iscsi_chap.specs.Accesses.{admitted_among}
+use Rattle.iscsi_chap.specs.declared.algorithm.ChapDigests.TheVariants as taken
+use Rattle.iscsi_chap.specs.declared.challenge.Challenge.{Challenge}
 use Rattle.iscsi_chap.specs.declared.access.Host.{Host}
 use Rattle.iscsi_chap.specs.declared.access.Admission.TheVariants.{Listed}
 use Rattle.iscsi_login.specs.Chaps.{asked}
@@ -46,7 +48,9 @@ pub record LoginsNoPortalShows (target : LoginTarget) (text : List ℕ) : Type 0
   pub refused : step_of (behind_back target text) back ≡ Ends (ends.Refused status.InitiatorError)
   pub refused_again : step_of (stepped (behind_back target text) target on text) on ≡ Ends (ends.Refused status.InitiatorError)
   -- without a challenge nobody is let in
-  pub without_a_challenge : asked None true (codes "CHAP_A=7" ++ 0 ∷ []) ≡ Err status.TargetError
+  pub without_a_challenge : asked taken.Sha256AndMd5 None true (codes "CHAP_A=7" ++ 0 ∷ []) ≡ Err status.TargetError
+  -- nor is who offers MD5 alone to a target that doesn't take it
+  pub md5_alone : (challenge : Challenge) → asked taken.Sha256 (Some challenge) true (codes "CHAP_A=5" ++ 0 ∷ []) ≡ Err status.AuthenticationFailure
   -- a host that is named twice is the first
   pub named_twice : (first second : Host) → first.name.items ≡ codes "iqn.a" → second.name.items ≡ codes "iqn.a"
       → admitted_among false (first ∷ second ∷ []) (codes "iqn.a") ≡ Some (Listed first.sas)

@@ -3,10 +3,10 @@ use Rattle.std.specs.Prelude.{ℕ, Bool, false, nat_le, min, List, [], Option, S
 use Rattle.iscsi_pdu.specs.declared.login_request.LoginRequest.{LoginRequest}
 use Rattle.iscsi_pdu.specs.declared.login_status.LoginStatus.{LoginStatus}
 use Rattle.iscsi_keys.specs.declared.parameters.SessionParameters.{SessionParameters}
-use Rattle.iscsi_chap.specs.Authentications.{is_free}
+use Rattle.iscsi_chap.specs.Authentications.{is_free, proved_by}
 use Rattle.iscsi_login.specs.Authentications.{shown_by, verdict_by}
 use Rattle.iscsi_login.specs.Chaps.{Verdict, phase_after, answer_in}
-use Rattle.iscsi_login.specs.Logins.{stepped}
+use Rattle.iscsi_login.specs.Logins.{stepped, with_proof}
 use Rattle.iscsi_login.specs.declared.admitted.Admitted.{Admitted}
 use Rattle.iscsi_chap.specs.declared.phase.ChapPhase.{ChapPhase}
 use Rattle.iscsi_login.specs.declared.chap.ChapState.{ChapState}
@@ -48,10 +48,10 @@ turn_at (Open l) stays count = turn_if_fits (Open l) stays count
 abbrev pub turn_when : (free : Bool) → (next stays : Login) → (count : ℕ) → Turn
 turn_when free next stays count = if free then turn_at next stays count else Stays stays
 
--- T is held back too from who isn't authenticated; so many bytes are to be sent
+-- T is held back too from who isn't authenticated, and who is has shown an entry; so many bytes are to be sent
 abbrev pub turn_by : Authentication → Result ChapPhase LoginStatus → (next stays : Login) → (count : ℕ) → Turn
 turn_by authentication (Err fault) next stays count = Refuses fault
-turn_by authentication (Ok p) next stays count = turn_when (is_free authentication p) next stays count
+turn_by authentication (Ok p) next stays count = turn_when (is_free authentication p) (with_proof next (proved_by authentication p)) stays count
 
 abbrev pub phase_or : ChapPhase → Result ChapPhase LoginStatus → ChapPhase
 phase_or old (Ok p) = p

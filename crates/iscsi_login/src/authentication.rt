@@ -27,12 +27,12 @@ pub(crate) fn shown_by(
 {
     match &target.authentication {
         Authentication::None => Ok(Ok(chap.phase)),
-        Authentication::Chap(secrets) => {
+        Authentication::Chap(access) => {
             if request.continues {
                 return Ok(Ok(chap.phase));
             }
             let agreed = is_agreed(stays);
-            chap_turn(secrets, host, chap.challenge, agreed, chap.phase, text, out)
+            chap_turn(access, host, chap.challenge, agreed, chap.phase, text, out)
         }
     }
 }

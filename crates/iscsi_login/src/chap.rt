@@ -1,5 +1,5 @@
 ghost use Rattle.std.specs.Prelude.{◌≡◌, ◌≤◌, ◌++◌, length, OnOk, IfOk};
-ghost use Rattle.std.specs.Option.{option_copied, option_map};
+ghost use Rattle.std.specs.Option.{option_map};
 ghost use Rattle.iscsi_login.specs.ChapKeys.{identifier_key, challenge_key};
 ghost use Rattle.iscsi_login.specs.Names.{declared_as};
 ghost use Rattle.iscsi_login.specs.Chaps.{chap_turn, asked, answered, proven, shown, shown_as, says_challenge, says_response, says_any, is_own, identifier_in, phase_after, answer_in};
@@ -8,8 +8,8 @@ use crate::chap_answers::{write_challenge, write_response};
 use crate::chap_keys::{CHAP_A, CHAP_C, CHAP_I, CHAP_N, CHAP_R};
 use crate::names::value_named;
 use iscsi_chap::{
-    Challenge, ChapAlgorithm, ChapEntry, ChapPhase, ChapSecrets, Credentials, LONGEST_BINARY,
-    binary_in, chosen_algorithm, is_response,
+    Challenge, ChapAccess, ChapAlgorithm, ChapDigests, ChapEntry, ChapPhase, ChapSecrets,
+    Credentials, LONGEST_BINARY, binary_in, chosen_algorithm, is_response,
 };
 use iscsi_keys::number_in;
 use iscsi_pdu::LoginStatus;
@@ -29,7 +29,7 @@ pub(crate) type ChapVerdict = Result<ChapPhase, LoginStatus>;
 /// Takes the keys of CHAP in a text, and adds the answer to them. `is_agreed` says whether CHAP is the method agreed upon.
 #[tactic(auto, unfolding(crate::specs::Chaps::chap_turn))]
 pub(crate) fn chap_turn(
-    secrets: &ChapSecrets,
+    access: &ChapAccess,
     host: &[u8],
     challenge: Option<Challenge>,
     is_agreed: bool,
@@ -38,32 +38,33 @@ pub(crate) fn chap_turn(
     out: &mut Vec<u8>,
 ) -> Result<ChapVerdict, AllocError>
     requires { length text.now ≤ 65536 }
-    ensures phase { IfOk result (λ verdict. verdict ≡ phase_after (chap_turn secrets.now.entries.items host.now challenge is_agreed phase text.now)) }
-    ensures out { OnOk result (out.new.items ≡ out.old.items ++ answer_in (chap_turn secrets.now.entries.items host.now challenge is_agreed phase text.now)) }
+    ensures phase { IfOk result (λ verdict. verdict ≡ phase_after (chap_turn access.now host.now challenge is_agreed phase text.now)) }
+    ensures out { OnOk result (out.new.items ≡ out.old.items ++ answer_in (chap_turn access.now host.now challenge is_agreed phase text.now)) }
 {
     match phase {
-        ChapPhase::Unasked => asked(challenge, is_agreed, text, out),
+        ChapPhase::Unasked => asked(access.digests, challenge, is_agreed, text, out),
         ChapPhase::Challenged(algorithm) => {
-            answered(secrets, host, challenge, algorithm, text, out)
+            answered(&access.secrets, host, challenge, algorithm, text, out)
         }
-        ChapPhase::Passed => Ok(if says_any(text) {
+        ChapPhase::Passed(place) => Ok(if says_any(text) {
             Err(LoginStatus::InitiatorError)
         } else {
-            Ok(ChapPhase::Passed)
+            Ok(ChapPhase::Passed(place))
         }),
     }
 }
 
 /// Challenges an initiator that has offered an algorithm.
 fn asked(
+    digests: ChapDigests,
     challenge: Option<Challenge>,
     is_agreed: bool,
     text: &[u8],
     out: &mut Vec<u8>,
 ) -> Result<ChapVerdict, AllocError>
     requires { length text.now ≤ 65536 }
-    ensures phase { IfOk result (λ verdict. verdict ≡ phase_after (asked challenge is_agreed text.now)) }
-    ensures out { OnOk result (out.new.items ≡ out.old.items ++ answer_in (asked challenge is_agreed text.now)) }
+    ensures phase { IfOk result (λ verdict. verdict ≡ phase_after (asked digests challenge is_agreed text.now)) }
+    ensures out { OnOk result (out.new.items ≡ out.old.items ++ answer_in (asked digests challenge is_agreed text.now)) }
 {
     if says_response(text) {
         return Ok(Err(LoginStatus::AuthenticationFailure));
@@ -74,7 +75,7 @@ fn asked(
     if !is_agreed {
         return Ok(Err(LoginStatus::AuthenticationFailure));
     }
-    let Some(algorithm) = chosen_algorithm(list) else {
+    let Some(algorithm) = chosen_algorithm(digests, list) else {
         return Ok(Err(LoginStatus::AuthenticationFailure));
     };
     let Some(challenge) = challenge else {
@@ -121,9 +122,9 @@ fn answered(
     }
 }
 
-/// Judges the response of who is to have the secret of the entry, if there is one.
+/// Judges the response of who is to have the secret of the entry at its place, if there is one.
 fn proven(
-    entry: Option<&ChapEntry>,
+    found: Option<(usize, &ChapEntry)>,
     challenge: Challenge,
     algorithm: ChapAlgorithm,
     response: &[u8],
@@ -131,21 +132,22 @@ fn proven(
     out: &mut Vec<u8>,
 ) -> Result<ChapVerdict, AllocError>
     requires { length text.now ≤ 65536 }
-    ensures phase { IfOk result (λ verdict. verdict ≡ phase_after (proven algorithm challenge (option_copied entry.entry) response.now text.now)) }
-    ensures out { OnOk result (out.new.items ≡ out.old.items ++ answer_in (proven algorithm challenge (option_copied entry.entry) response.now text.now)) }
+    ensures phase { IfOk result (λ verdict. verdict ≡ phase_after (proven algorithm challenge (option_map (λ found. (found.0, found.1.now)) found.entry) response.now text.now)) }
+    ensures out { OnOk result (out.new.items ≡ out.old.items ++ answer_in (proven algorithm challenge (option_map (λ found. (found.0, found.1.now)) found.entry) response.now text.now)) }
 {
-    let Some(entry) = entry else {
+    let Some((place, entry)) = found else {
         return Ok(Err(LoginStatus::AuthenticationFailure));
     };
     let secret = entry.own.secret.as_slice();
     if !is_response(*out.allocator(), algorithm, challenge, secret, response)? {
         return Ok(Err(LoginStatus::AuthenticationFailure));
     }
-    shown(&entry.target, challenge, algorithm, text, out)
+    shown(place, &entry.target, challenge, algorithm, text, out)
 }
 
-/// Lets the initiator pass, once the target has proved itself where it is to.
+/// Lets the initiator pass by the entry at the place, once the target has proved itself where it is to.
 fn shown(
+    place: usize,
     target: &Option<Credentials>,
     challenge: Challenge,
     algorithm: ChapAlgorithm,
@@ -153,14 +155,15 @@ fn shown(
     out: &mut Vec<u8>,
 ) -> Result<ChapVerdict, AllocError>
     requires { length text.now ≤ 65536 }
-    ensures phase { IfOk result (λ verdict. verdict ≡ phase_after (shown algorithm challenge target.now (declared_as text.now identifier_key) (declared_as text.now challenge_key))) }
-    ensures out { OnOk result (out.new.items ≡ out.old.items ++ answer_in (shown algorithm challenge target.now (declared_as text.now identifier_key) (declared_as text.now challenge_key))) }
+    ensures phase { IfOk result (λ verdict. verdict ≡ phase_after (shown place algorithm challenge target.now (declared_as text.now identifier_key) (declared_as text.now challenge_key))) }
+    ensures out { OnOk result (out.new.items ≡ out.old.items ++ answer_in (shown place algorithm challenge target.now (declared_as text.now identifier_key) (declared_as text.now challenge_key))) }
 {
     match (value_named(text, CHAP_I), value_named(text, CHAP_C)) {
-        (None, None) => Ok(Ok(ChapPhase::Passed)),
+        (None, None) => Ok(Ok(ChapPhase::Passed(place))),
         (Some(identifier), Some(value)) => {
             let bytes = binary_in(*out.allocator(), value)?;
             shown_as(
+                place,
                 target,
                 challenge,
                 algorithm,
@@ -175,6 +178,7 @@ fn shown(
 
 /// Answers the initiator's own challenge.
 fn shown_as(
+    place: usize,
     target: &Option<Credentials>,
     challenge: Challenge,
     algorithm: ChapAlgorithm,
@@ -182,8 +186,8 @@ fn shown_as(
     bytes: Option<Vec<u8>>,
     out: &mut Vec<u8>,
 ) -> Result<ChapVerdict, AllocError>
-    ensures phase { IfOk result (λ verdict. verdict ≡ phase_after (shown_as algorithm challenge target.now identifier (option_map (λ own. own.items) bytes))) }
-    ensures out { OnOk result (out.new.items ≡ out.old.items ++ answer_in (shown_as algorithm challenge target.now identifier (option_map (λ own. own.items) bytes))) }
+    ensures phase { IfOk result (λ verdict. verdict ≡ phase_after (shown_as place algorithm challenge target.now identifier (option_map (λ own. own.items) bytes))) }
+    ensures out { OnOk result (out.new.items ≡ out.old.items ++ answer_in (shown_as place algorithm challenge target.now identifier (option_map (λ own. own.items) bytes))) }
 {
     let (Some(target), Some(identifier), Some(bytes)) = (target, identifier, bytes) else {
         return Ok(Err(LoginStatus::AuthenticationFailure));
@@ -192,7 +196,7 @@ fn shown_as(
         return Ok(Err(LoginStatus::AuthenticationFailure));
     }
     write_response(out, algorithm, target, identifier, bytes.as_slice())?;
-    Ok(Ok(ChapPhase::Passed))
+    Ok(Ok(ChapPhase::Passed(place)))
 }
 
 /// Whether the bytes are a challenge of the initiator's own.

@@ -27,9 +27,10 @@ pub fn reached_by_name()
 
 /// Law: whatever comes, in whatever pieces, an exchange reaches the full feature phase only as one of its texts names an initiator
 /// that is let in, and a normal session only as that text names the target; and, where the target asks for CHAP, only as one
-/// carries the digest that a secret of that name makes of the challenge. What it has agreed is in its ranges.
+/// carries the digest that a secret of that name makes of the challenge, that of the entry at the place that was proved; where it
+/// doesn't, nothing was proved. What it has agreed is in its ranges.
 pub fn begins_by_name()
-    ensures let_in { (group : ℕ) (target : LoginTarget) (challenge : Option Challenge) (comings : List Coming) (f : FullFeature) → (exchanged target (started group challenge) comings).login ≡ Ended (ends.FullFeature f) → IsLetIn target challenge (texts_of comings) f.admission f.session_type }
+    ensures let_in { (group : ℕ) (target : LoginTarget) (challenge : Option Challenge) (comings : List Coming) (f : FullFeature) → (exchanged target (started group challenge) comings).login ≡ Ended (ends.FullFeature f) → IsLetIn target challenge (texts_of comings) f.admission f.session_type f.proved }
     ensures in_range { (group : ℕ) (target : LoginTarget) (challenge : Option Challenge) (comings : List Coming) (f : FullFeature) → (exchanged target (started group challenge) comings).login ≡ Ended (ends.FullFeature f) → AreInRange f.parameters }
 {}
 

@@ -24,7 +24,10 @@ pub use admitted::Admitted;
 pub use chap::ChapState;
 pub use exchange::LoginExchange;
 pub use identity::LoginIdentity;
-pub use iscsi_chap::{Access, Admission, Authentication, Challenge, ChapPhase, Host, SessionType};
+pub use iscsi_chap::{
+    Access, Admission, Authentication, Challenge, ChapAccess, ChapDigests, ChapPhase, Host,
+    SessionType,
+};
 pub use laws::{
     begins_by_name, end_stays, login_rows, reached_by_name, stages_ascend, told_as_begun,
 };

@@ -53,6 +53,9 @@ pub struct FullFeature {
     /// The CmdSN that is expected first.
     pub cmd_sn: SerialNumber,
     pub parameters: SessionParameters,
+    /// The place among the target's secrets, counted from 0, of the entry by which the initiator has shown in an exchange who it
+    /// is; `None` where it had nothing to show. A login by itself looks at no key of CHAP, and says `None`.
+    pub proved: Option<usize>,
 }
 
 /// How a request is answered.
@@ -65,7 +68,7 @@ pub enum LoginStep {
 }
 
 impl Login {
-    ghost use Rattle.iscsi_login.specs.Logins.{begun, stepped, step_of};
+    ghost use Rattle.iscsi_login.specs.Logins.{begun, stepped, step_of, with_proof};
     ghost use Rattle.iscsi_login.specs.AnswerTexts.{answer_text, text_unless_refused};
 
     /// Before the first request of an initiator that has come to the portal group.
@@ -133,6 +136,18 @@ impl Login {
         match self {
             Login::Ended(_) => self,
             Login::Open(open) => open.after(target, request, text),
+        }
+    }
+
+    /// The login whose session, where it has begun, is of an initiator that has shown by the entry at this place who it is.
+    pub(crate) fn with_proof(self, proved: Option<usize>) -> Login
+        ensures { result ≡ with_proof self proved }
+    {
+        match self {
+            Login::Ended(LoginEnd::FullFeature(begun)) => {
+                Login::Ended(LoginEnd::FullFeature(FullFeature { proved, ..begun }))
+            }
+            Login::Open(_) | Login::Ended(LoginEnd::Refused(_)) => self,
         }
     }
 
@@ -233,6 +248,7 @@ impl OpenLogin {
                 cid: request.cid,
                 cmd_sn: request.cmd_sn,
                 parameters: admitted.negotiation.parameters,
+                proved: None,
             })),
             stage => self.at(request, stage, Some(admitted)),
         }

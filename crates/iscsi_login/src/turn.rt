@@ -145,7 +145,7 @@ fn turn_by(target: &LoginTarget, verdict: ChapVerdict, ways: Ways, count: usize)
         Err(status) => Turn::Refuses(status),
         Ok(phase) => turn_when(
             target.authentication.is_free(phase),
-            ways.next,
+            ways.next.with_proof(target.authentication.proved_by(phase)),
             ways.stays,
             count,
         ),
