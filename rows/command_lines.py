@@ -38,6 +38,11 @@ SHOWN = [
     ("vtl serve --help", 0, "--any-host"),
     ("vtl serve --help", 0, "--chap <FILE>"),
     ("vtl serve --help", 0, "--no-authentication"),
+    ("vtl serve --help", 0, "behind it may stand =HOST:PORT, the address that initiators are told for it"),
+    ("vtl serve --help", 0, "at each place until standard input ends, 64 where nothing is said"),
+    ("vtl serve --help", 0, "--multipath"),
+    ("vtl serve --help", 0, "Lets sessions of one iSCSI name come from different addresses"),
+    ("vtl serve --help", 0, "--chap-digests <LIST>"),
     ("vtl cells --help", 0, "  vtl cells 'WRITE(6)'"),
     ("vtl client --help", 0, "  echo '0 000000000000' | vtl client --socket"),
     ("vtl --version", 0, "vtl 0.1.0"),
@@ -136,6 +141,49 @@ PORTALS_REFUSED = [
     ("vtl serve --iscsi", 2, "a value is required for"),
     ("vtl replay --iscsi 127.0.0.1:1", 2, "unexpected argument"),
     ("vtl client --any-host", 2, "unexpected argument"),
+    ("vtl serve --socket s --multipath", 2, "--iscsi <ADDRESS:PORT>"),
+    (f"{AT_1} --any-host --multipath=1", 2, "unexpected value '1'"),
+    (f"{AT_1} --any-host --multipath --multipath", 2, "cannot be used multiple times"),
+    ("vtl serve --socket s --chap-digests sha256", 2, "--chap <FILE>"),
+    (f"{AT_1} --any-host --chap-digests sha256", 2, "--chap <FILE>"),
+]
+
+# What is no address that initiators could be told: a host and a port behind the "=" of a portal.
+UNTOLD = [
+    "", "tapes.example", "tapes.example:", ":3260", "tapes.example:0", "tapes.example:65536", "tapes.example:03260", "tapes.example:+1",
+    "tapes.example:iscsi", "tapes_1.example:3260", "-tapes.example:3260", "tapes-:3260", ".tapes:3260", "tapes.:3260", "tapes:3260,1",
+    "tapes:3260=tapes:3261", f"{'a' * 254}:3260", "::1:3260", "2001:db8::1:3260", "[2001:db8::1]", "[2001:db8::1]3260", "[2001:db8::1]:",
+    "[2001:db8::1]:0", "[2001:db8::1]:65536", "[2001:db8::1:3260", "[]:3260", "[tapes]:3260", "[192.0.2.1]:3260", "[fe80::1%1]:3260",
+    "[2001:db8::1]]:3260",
+]
+NO_TOLD = (
+    "vtl: no address to tell initiators behind =: say a host and a port, as tapes.example:3260 or [2001:db8::1]:3260: 127.0.0.1:1=")
+TOLD_REFUSED = [
+    *((f"{AT_1}={told} --any-host", 2, f"{NO_TOLD}{told}\n") for told in UNTOLD),
+    # What is listened at is looked at first, and by its own rules.
+    ("vtl serve --iscsi tapes.example:1=127.0.0.1:1 --any-host", 2, "say one as 127.0.0.1:3260 or [::1]:3260: tapes.example:1=127.0.0.1:1\n"),
+    ("vtl serve --iscsi =127.0.0.1:1 --any-host", 2, "say one as 127.0.0.1:3260 or [::1]:3260: =127.0.0.1:1\n"),
+    ("vtl serve --iscsi 0.0.0.0:1=127.0.0.1:1 --any-host", 2, "if all of them may come in: 0.0.0.0:1=127.0.0.1:1\n"),
+]
+
+BAD_DIGESTS = "vtl: no digests of CHAP: say sha256 or sha256,md5: "
+DIGESTS_REFUSED = [
+    (f"{AT_1} --any-host --chap f --chap-digests={digests}", 2, f"{BAD_DIGESTS}{digests}\n")
+    for digests in ("", "md5", "sha512", "SHA256", "sha256,sha256", "sha256,md5,md5", "sha256,", ",md5", "sha256;md5", "7,5")
+]
+
+# A unit has 128 slots, of which each host that is let in by name takes one at each portal.
+NO_SLOT = "vtl: --any-host can let nobody else in: each --host takes a slot at each --iscsi, and there are 128\n"
+
+
+def hosts_named(count):
+    return " ".join(f"--host iqn.2026-11.a:{number}={number:016x}" for number in range(count))
+
+
+STRANGERS_REFUSED = [
+    (f"{AT_1} --iscsi 127.0.0.1:2 --any-host {hosts_named(64)}", 2, NO_SLOT),
+    (f"{AT_1} --iscsi 127.0.0.1:2 --iscsi 127.0.0.1:3 --any-host {hosts_named(43)}", 2, NO_SLOT),
+    (f"{AT_1} --iscsi 127.0.0.1:2 --iscsi 127.0.0.1:3 --iscsi 127.0.0.1:4 --any-host {hosts_named(32)}", 2, NO_SLOT),
 ]
 
 # Wrong sizes of volumes and of memory, and folders of volumes.
@@ -388,7 +436,8 @@ def check_cells(program, line, classes):
 
 
 ROWS = [
-    *((check_told, row) for row in SHOWN + SERVE_REFUSED + PORTALS_REFUSED + SIZES_REFUSED + REFUSED),
+    *((check_told, row) for row in SHOWN + SERVE_REFUSED + PORTALS_REFUSED + TOLD_REFUSED + DIGESTS_REFUSED + STRANGERS_REFUSED),
+    *((check_told, row) for row in SIZES_REFUSED + REFUSED),
     *((check_replay, row) for row in REPLAYS),
     *((check_client, row) for row in CLIENTS),
     *((check_cells, row) for row in CELLS),

@@ -69,9 +69,9 @@ class Serves(typing.NamedTuple):
 SERVES = {
     "line-sessions": Serves("64 sessions, and lines with spans", "--drives 2 --sessions 64 --spans", "64 workers", 64, SPANS, False, False),
     "line-three-sessions": Serves("three sessions have three workers", "--drives 2 --sessions=3", "3 workers", 3, LINES, False, False),
-    "line-drives": Serves("eight workers until input ends", "--drives 2", "8 workers", None, LINES, False, False),
+    "line-drives": Serves("64 workers until input ends", "--drives 2", "64 workers", None, LINES, False, False),
     "line-drain": Serves("three workers, and lines that come", "--workers 3 --drain --drives 2", "3 workers", None, LINES, True, False),
-    "line-log": Serves("sessions are told, and lines have spans", "--log --spans --drives 2", "8 workers", None, SPANS, False, True),
+    "line-log": Serves("sessions are told, and lines have spans", "--log --spans --drives 2", "64 workers", None, SPANS, False, True),
     "line-workers": Serves("five workers until input ends", "--workers=5 --drives 2", "5 workers", None, LINES, False, False),
 }
 
@@ -84,7 +84,7 @@ def serves(of: Serves) -> typing.Callable[[Tried], None]:
             if of.drains:
                 server.await_lines(lambda lines: lines == of.lines)
             # More sessions than there are workers, where no number of them is said.
-            for _ in range((of.sessions or 10) - 1):
+            for _ in range((of.sessions or 70) - 1):
                 server.connect().close()
             if of.sessions is None:
                 same("the lines before the end", server.lines(), of.lines if of.drains else "")
@@ -282,7 +282,7 @@ def has_lines(server: Server, *nexuses: str) -> None:
 def any_host(tried: Tried) -> None:
     with Server(tried, "--iscsi", "127.0.0.1:0", "--any-host", has_socket=False) as server:
         place = server.portal()
-        is_told(server, f"127.0.0.1:{place[1]}: 2 units, 8 workers")
+        is_told(server, f"127.0.0.1:{place[1]}: 2 units, 64 workers")
         name = "iqn.2026-11.example:z"
         is_served(place, name)
         # The digit 5 and the first 60 bits of the SHA-256 of the name.
@@ -303,7 +303,7 @@ def two_portals(tried: Tried) -> None:
         "--host", "eui.02004567A425678D=500000000000000b"]
     with Server(tried, *words) as server:
         first, second = server.portal("[::1]"), server.portal("127.0.0.2")
-        is_told(server, f"{server.path} and [::1]:{first[1]} and 127.0.0.2:{second[1]}: 2 units, 8 workers at each")
+        is_told(server, f"{server.path} and [::1]:{first[1]} and 127.0.0.2:{second[1]}: 2 units, 64 workers at each")
         is_served(first, "iqn.2026-11.a:b")
         is_served(second, "eui.02004567A425678D")
         is_refused(server, first, "iqn.2026-11.a:c", "its name is not let in")
@@ -321,16 +321,51 @@ def other_target(tried: Tried) -> None:
         server.ends()
 
 
+class AtPortal(typing.NamedTuple):
+    """What it shows, and the words of a line that serves at a portal of 127.0.0.1 to any host."""
+
+    shows: str
+    words: str
+
+
+# Each has a slot of the 128 at both portals: two are left for others.
+NAMED_63 = " ".join(f"--host iqn.2026-11.a:{number}={number:016x}" for number in range(63))
+AT_PORTAL = {
+    "line-multipath": AtPortal("sessions of a name may come from different addresses", "--iscsi 127.0.0.1:0 --multipath"),
+    "line-told-name": AtPortal("initiators are told a host by its name, and come to where is listened", "--iscsi 127.0.0.1:0=Tapes-1.example:3260"),
+    "line-told-longest": AtPortal("the longest name, and the last port", f"--iscsi 127.0.0.1:0={'a' * 253}:65535"),
+    "line-told-ipv4": AtPortal("initiators are told an IPv4 address", "--iscsi 127.0.0.1:0=192.0.2.1:1"),
+    "line-told-ipv6": AtPortal("initiators are told an IPv6 address", "--iscsi 127.0.0.1:0=[2001:db8::1]:3260"),
+    "line-strangers": AtPortal("there are two slots left for others", f"--iscsi 127.0.0.1:0 --iscsi 127.0.0.2:0 {NAMED_63}"),
+}
+
+
+def at_portal(of: AtPortal) -> typing.Callable[[Tried], None]:
+    def play(tried: Tried) -> None:
+        with Server(tried, *of.words.split(), "--any-host", has_socket=False) as server:
+            place = server.portal()
+            holds("where it serves", server.told.text, f"127.0.0.1:{place[1]}")
+            is_served(place, "iqn.2026-11.example:z")
+            server.end()
+            server.ends()
+
+    return play
+
+
 NAMED, SECRET = "naa.52004567BA64678D", "twelve-bytes"
+
+
+def secret_words(tried: Tried) -> list[str]:
+    """The words by which a host with a secret is let in, and every other by its name."""
+    path = pathlib.Path(tried.path("secrets"))
+    path.touch(0o600)
+    path.write_text(f"{NAMED} user {SECRET}\n", encoding="utf-8")
+    return ["--iscsi", "127.0.0.1:0", "--chap", str(path), "--any-host", "--host", f"{NAMED}=500000000000000a"]
 
 
 def secrets(tried: Tried) -> None:
     """One host has a secret and an address of its own; every other may come by its name, but has no secret."""
-    path = pathlib.Path(tried.path("secrets"))
-    path.touch(0o600)
-    path.write_text(f"{NAMED} user {SECRET}\n", encoding="utf-8")
-    words = ["--iscsi", "127.0.0.1:0", "--chap", str(path), "--any-host", "--host", f"{NAMED}=500000000000000a"]
-    with Server(tried, *words, has_socket=False) as server:
+    with Server(tried, *secret_words(tried), has_socket=False) as server:
         is_refused(server, server.portal(), "iqn.2026-11.example:z", "authentication failed")
         with Initiator(server.portal(), NAMED) as initiator:
             log_in_by_secret(initiator)
@@ -340,15 +375,33 @@ def secrets(tried: Tried) -> None:
         has_lines(server, "500000000000000a.1")
 
 
-def log_in_by_secret(initiator: Initiator) -> None:
-    """A login by CHAP with MD5 (RFC 7143, "CHAP Considerations"; RFC 1994)."""
+# The algorithms of CHAP, by their numbers (IANA, "PPP Authentication Algorithms").
+ALGORITHMS = {"5": hashlib.md5, "7": hashlib.sha256}
+
+
+def digests(words: str, algorithm: str) -> typing.Callable[[Tried], None]:
+    """A line with these digests, at which a host answers by one of them."""
+    def play(tried: Tried) -> None:
+        with Server(tried, *secret_words(tried), *words.split(), has_socket=False) as server:
+            with Initiator(server.portal(), NAMED) as initiator:
+                log_in_by_secret(initiator, algorithm)
+                initiator.ask(CHECKED)
+                initiator.log_out()
+                initiator.is_left()
+            has_lines(server, "500000000000000a.1")
+
+    return play
+
+
+def log_in_by_secret(initiator: Initiator, algorithm: str = "5") -> None:
+    """A login by CHAP, with MD5 where nothing else is said (RFC 7143, "CHAP Considerations"; RFC 1994)."""
     begun = [("InitiatorName", NAMED), ("TargetName", "iqn.2026-11.localhost:vtl"), ("SessionType", "Normal"), ("AuthMethod", "CHAP")]
     initiator.send(login_pdu(0x00, text_of(begun), number=initiator.number))
     initiator.reads("23000000")
-    initiator.send(login_pdu(0x00, text_of([("CHAP_A", "5")]), number=initiator.number))
+    initiator.send(login_pdu(0x00, text_of([("CHAP_A", algorithm)]), number=initiator.number))
     asked = dict(re.findall(rb"([^=\0]+)=([^\0]+)\0", initiator.reads("23000000").data))
     challenge = bytes.fromhex(asked[b"CHAP_C"].decode()[2:])
-    answer = hashlib.md5(bytes([int(asked[b"CHAP_I"])]) + SECRET.encode() + challenge).hexdigest()
+    answer = ALGORITHMS[algorithm](bytes([int(asked[b"CHAP_I"])]) + SECRET.encode() + challenge).hexdigest()
     initiator.send(login_pdu(0x83, text_of([("CHAP_N", "user"), ("CHAP_R", f"0x{answer}")]), number=initiator.number))
     initiator.reads("23830000")
 
@@ -364,5 +417,9 @@ ROWS = [
     Row("line-any-host", "initiators come to a portal alone, and any name is let in, as an address made of it", any_host),
     Row("line-portals", "two portals beside a socket, where hosts are let in by their names alone", two_portals),
     Row("line-target", "a portal at all addresses, and another name of the target", other_target),
+    *(Row(name, of.shows, at_portal(of)) for name, of in AT_PORTAL.items()),
     Row("line-secrets", "a host shows its secret, and has the address of its name", secrets),
+    Row("line-digests-sha256", "a host answers by SHA-256, which alone is let", digests("--chap-digests sha256", "7")),
+    Row("line-digests-both", "a host answers by MD5, where both are let", digests("--chap-digests sha256,md5", "5")),
+    Row("line-digests-other-order", "the order of digests says nothing", digests("--chap-digests=md5,sha256", "7")),
 ]

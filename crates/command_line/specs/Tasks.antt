@@ -1,8 +1,9 @@
 -- Tasks that can be done as they stand (profile).
-use Rattle.std.specs.Prelude.{◌≡◌, ◌≤◌, Option, Some, None, IfSome, String, vec_len}
+use Rattle.std.specs.Prelude.{◌≡◌, ◌≤◌, Option, Some, None, Ok, IfSome, String, vec_len}
 use Rattle.std.specs.Global.{Global}
 use Rattle.program_options.specs.Options.{AreGivenInRange, AreInRange}
 use Rattle.program_options.specs.ServeUntil.{workers_of}
+use Rattle.program_options.specs.Strangers.{most_strangers}
 use Rattle.program_options.specs.declared.library_options.LibraryOptions.{LibraryOptions}
 use Rattle.command_line.specs.declared.task.Task.{Task}
 use Rattle.command_line.specs.declared.task.Task.TheVariants.{Replay, Serve, Client, Cells, CheckMedia}
@@ -25,10 +26,11 @@ pub record MakesServed (options : LibraryOptions) (media : Option MediaOptions) 
 abbrev pub IsMediaOptions : MediaOptions → Type 0
 IsMediaOptions media = AreGivenInRange media.given
 
--- at 1 to 4 portals
+-- at 1 to 4 portals, where others than those named have the slots that are left
 pub record IsIscsiOptions (iscsi : IscsiOptions) : Type 0 where
   pub some_portals : 1 ≤ vec_len iscsi.portals
   pub few_portals : vec_len iscsi.portals ≤ 4
+  pub strangers : most_strangers iscsi.any_host (vec_len iscsi.hosts) (vec_len iscsi.portals) ≡ Ok iscsi.most_strangers
 
 -- at a socket, by iSCSI, or both
 abbrev pub IsPlace : Option (String Global) → Option IscsiOptions → Type 0

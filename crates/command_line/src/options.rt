@@ -233,19 +233,20 @@ pub(crate) const PLACE: [OptionRow; 3] = [
         presence: Presence::Optional,
         excludes: Some("sessions"),
         needs: None,
-        help: "How many sessions there may be at a time at each place until standard input ends, 8 where nothing is said",
+        help: "How many sessions there may be at a time at each place until standard input ends, 64 where nothing is said",
     },
 ];
 
 /// Where initiators of iSCSI come in, who they may be, and what they must show of themselves.
-pub(crate) const ISCSI: [OptionRow; 6] = [
+pub(crate) const ISCSI: [OptionRow; 8] = [
     OptionRow {
         name: "iscsi",
         value: OptionValue::Texts("ADDRESS:PORT"),
         presence: Presence::Optional,
         excludes: None,
         needs: None,
-        help: "Where initiators of iSCSI come in, up to 4 times: the k-th is portal group k and target port k",
+        help: "Where initiators of iSCSI come in, up to 4 times: the k-th is portal group k and target port k; behind it may stand =HOST:PORT, \
+            the address that initiators are told for it, as where a port is forwarded",
     },
     OptionRow {
         name: "target-name",
@@ -272,12 +273,28 @@ pub(crate) const ISCSI: [OptionRow; 6] = [
         help: "Lets every other initiator in too, as a SAS address that is made of its name",
     },
     OptionRow {
+        name: "multipath",
+        value: OptionValue::Switch,
+        presence: Presence::Optional,
+        excludes: None,
+        needs: Some("iscsi"),
+        help: "Lets sessions of one iSCSI name come from different addresses, as those of a host with several network cards",
+    },
+    OptionRow {
         name: "chap",
         value: OptionValue::Text("FILE"),
         presence: Presence::Optional,
         excludes: None,
         needs: Some("iscsi"),
         help: "A file with a line NAME USER SECRET for each host, which has to show by CHAP that it has its secret",
+    },
+    OptionRow {
+        name: "chap-digests",
+        value: OptionValue::Text("LIST"),
+        presence: Presence::Optional,
+        excludes: None,
+        needs: Some("chap"),
+        help: "By which digests a host may show it, sha256 or sha256,md5, which it is where nothing is said",
     },
     OptionRow {
         name: "no-authentication",

@@ -10,16 +10,15 @@ use output_lines::{Audit, Explanations};
 use permission_chart::class_named;
 use permit_tables::Class;
 use program_options::{
-    CommandLineFault, GivenLibrary, LibraryOptions, NamedHost, OptionFault, ServeTimes, ServeUntil,
-    WithoutLibrary, host_beside, is_iscsi_name, memory_size_of, nexus_of, portal_of,
-    volume_size_of,
+    ChapDigests, CommandLineFault, GivenLibrary, LibraryOptions, NamedHost, OptionFault,
+    PortalOptions, ServeTimes, ServeUntil, WithoutLibrary, chap_digests_of, host_beside,
+    is_iscsi_name, memory_size_of, most_strangers, nexus_of, portal_of, volume_size_of,
 };
 use scsi_nexus::TARGET_PORTS;
 use std::alloc::{AllocError, Global};
-use std::net::SocketAddr;
 
 /// How many workers serve sessions until standard input ends, where nothing else is asked for.
-const DEFAULT_WORKERS: u8 = 8;
+const DEFAULT_WORKERS: u8 = 64;
 
 /// The target's iSCSI name, where nothing else is asked for (profile).
 const DEFAULT_TARGET_NAME: &str = "iqn.2026-11.localhost:vtl";
@@ -339,12 +338,16 @@ fn iscsi_options_of(
     if portals.is_empty() {
         return Ok(None);
     }
+    let most_strangers = most_strangers(any_host, hosts.len(), portals.len())?;
     Ok(Some(IscsiOptions {
         portals,
         target_name,
         hosts,
         any_host,
+        most_strangers,
+        multipath: command.get_flag("multipath"),
         chap,
+        chap_digests: digests_of(alloc, command)?,
     }))
 }
 
@@ -353,11 +356,14 @@ fn portals_of(
     alloc: Global,
     words: &[&str],
     is_said: bool,
-) -> Result<Vec<SocketAddr>, CommandLineFault> {
+) -> Result<Vec<PortalOptions>, CommandLineFault> {
     let mut portals = Vec::new(alloc);
     for word in words {
         match portal_of(*word, is_said) {
-            Ok(portal) => portals.push(portal).map_err(AllocError::from)?,
+            Ok(portal) => {
+                let portal = portal.to_portal(alloc)?;
+                portals.push(portal).map_err(AllocError::from)?;
+            }
             Err(fault) => return Err(refused_word(alloc, fault, *word)),
         }
     }
@@ -380,6 +386,17 @@ fn hosts_of(alloc: Global, command: &ArgMatches) -> Result<Vec<NamedHost>, Comma
         }
     }
     Ok(hosts)
+}
+
+/// By which digests initiators may show who they are.
+fn digests_of(alloc: Global, command: &ArgMatches) -> Result<ChapDigests, CommandLineFault> {
+    let Some(text) = command.get_str("chap-digests") else {
+        return Ok(ChapDigests::Sha256AndMd5);
+    };
+    match chap_digests_of(text) {
+        Ok(digests) => Ok(digests),
+        Err(fault) => Err(refused_word(alloc, fault, text)),
+    }
 }
 
 /// The target's iSCSI name.

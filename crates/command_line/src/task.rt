@@ -1,10 +1,10 @@
 use output_lines::{Audit, Explanations};
 use permit_tables::Class;
 use program_options::{
-    GivenLibrary, LibraryOptions, NamedHost, ServeTimes, ServeUntil, WithoutLibrary,
+    ChapDigests, GivenLibrary, LibraryOptions, NamedHost, PortalOptions, ServeTimes, ServeUntil,
+    WithoutLibrary,
 };
 use scsi_nexus::Nexus;
-use std::net::SocketAddr;
 
 /// What the program is asked to do.
 #[derive(Drop)]
@@ -58,15 +58,21 @@ pub struct MediaOptions {
 #[derive(Drop)]
 pub struct IscsiOptions {
     /// The portals: the first is portal group 1 and target port 1, and so on.
-    pub portals: Vec<SocketAddr>,
+    pub portals: Vec<PortalOptions>,
     /// The target's iSCSI name.
     pub target_name: String,
     /// Who is let in by name.
     pub hosts: Vec<NamedHost>,
     /// Whether every other name is let in too.
     pub any_host: bool,
+    /// How many nexuses of hosts whose name isn't among those may be let in.
+    pub most_strangers: u8,
+    /// Whether sessions of one name may come from different addresses.
+    pub multipath: bool,
     /// The path of the file with the secrets by which initiators show who they are. `None`: they need show nothing.
     pub chap: Option<String>,
+    /// By which digests they may show it.
+    pub chap_digests: ChapDigests,
 }
 
 /// Where a library is met, and as which host.

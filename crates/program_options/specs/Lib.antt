@@ -1,3 +1,4 @@
+pub mod ChapDigests
 pub mod CommandLineFaults
 pub mod Faults
 pub mod Hosts
@@ -9,3 +10,5 @@ pub mod Rows
 pub mod ServeTimes
 pub mod ServeUntil
 pub mod Sizes
+pub mod Strangers
+pub mod ToldAddresses

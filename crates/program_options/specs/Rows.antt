@@ -1,17 +1,23 @@
 -- Worked rows: addresses of hosts, who is let in, what is said of each fault, how the program ends where its command line names no
--- task, who serves, how long hosts are waited for, and what libraries and volumes are made of.
-use Rattle.std.specs.Prelude.{◌≡◌, [], Some, None, Ok, Err, codes}
+-- task, who serves, how long hosts are waited for, what libraries and volumes are made of, what initiators are told of portals, by which
+-- digests they answer, and how many others than those let in by name.
+use Rattle.std.specs.Prelude.{◌≡◌, ◌++◌, [], Some, None, Ok, Err, true, false, codes, replicate}
 use Rattle.clap.specs.declared.error.kind.ErrorKind.TheVariants.{DisplayHelp, DisplayVersion, UnknownArgument, ValueValidation, MissingSubcommand}
+use Rattle.program_options.specs.ChapDigests.{digests_in}
+use Rattle.program_options.specs.declared.chap_digests.ChapDigests.TheVariants.{Sha256, Sha256AndMd5}
 use Rattle.program_options.specs.CommandLineFaults.{refusal_status, command_line_status, command_line_text}
 use Rattle.program_options.specs.declared.command_line_fault.CommandLineFault.TheVariants.{NotText, Options, NoMemory}
-use Rattle.program_options.specs.declared.option_fault.OptionFault.TheVariants.{MoreVolumes, BadMemorySize, BadVolumeSize, BadNexus, BadHost, BadName, BadSas, NoPlace}
+use Rattle.program_options.specs.declared.option_fault.OptionFault.TheVariants.{MoreVolumes, BadMemorySize, BadVolumeSize, BadNexus, BadHost, BadName, BadSas, NoPlace, NoSlotForOthers, BadDigests}
 use Rattle.program_options.specs.Faults.{option_fault_text, option_status}
 use Rattle.program_options.specs.Hosts.{nexus_by, sas_in}
 use Rattle.program_options.specs.HostsLetIn.{host_in, judged}
 use Rattle.program_options.specs.Options.{options_of}
+use Rattle.program_options.specs.Portals.{listened_in, told_in}
 use Rattle.program_options.specs.ServeTimes.{nanos_of, timeout_nanos}
 use Rattle.program_options.specs.ServeUntil.{sessions_of, workers_of}
 use Rattle.program_options.specs.Sizes.{memory_size_in, volume_size_in}
+use Rattle.program_options.specs.Strangers.{most_strangers}
+use Rattle.program_options.specs.ToldAddresses.{IsToldAddress, is_named, is_port_behind}
 use Rattle.program_options.specs.declared.serve_until.ServeUntil.TheVariants.{Sessions, InputEnds}
 
 pub record AddressesRead : Type 0 where
@@ -106,3 +112,52 @@ pub record SizesRead : Type 0 where
   pub little_memory : memory_size_in (codes "1048575") ≡ Err BadMemorySize
   pub much_memory : memory_size_in (codes "65537G") ≡ Err BadMemorySize
   pub no_memory : memory_size_in (codes "4GB") ≡ Err BadMemorySize
+
+pub record PortalsTold : Type 0 where
+  pub listened : listened_in (codes "127.0.0.1:3260=tapes.example:3260") ≡ codes "127.0.0.1:3260"
+  pub told : told_in (codes "127.0.0.1:3260=tapes.example:3260") ≡ Some (codes "tapes.example:3260")
+  pub listened_alone : listened_in (codes "[::1]:3260") ≡ codes "[::1]:3260"
+  pub nothing_told : told_in (codes "[::1]:3260") ≡ None
+  pub told_nothing : told_in (codes "127.0.0.1:3260=") ≡ Some []
+  pub two_signs : told_in (codes "127.0.0.1:3260=a:1=b:2") ≡ Some (codes "a:1=b:2")
+  pub name : is_named (codes "Tapes-1.example:3260") ≡ true
+  pub ipv4 : is_named (codes "192.0.2.1:3260") ≡ true
+  pub ipv6 : IsToldAddress (codes "[::1]:3260")
+  pub one_letter : is_named (codes "a:1") ≡ true
+  pub last_port : is_named (codes "a:65535") ≡ true
+  pub longest_name : is_named (replicate 253 97 ++ codes ":1") ≡ true
+  pub too_long_name : is_named (replicate 254 97 ++ codes ":1") ≡ false
+  pub no_port : is_named (codes "tapes.example") ≡ false
+  pub empty_port : is_named (codes "tapes.example:") ≡ false
+  pub port_zero : is_named (codes "a:0") ≡ false
+  pub port_of_17_bits : is_named (codes "a:65536") ≡ false
+  pub leading_zero : is_named (codes "a:03260") ≡ false
+  pub signed_port : is_named (codes "a:+3260") ≡ false
+  pub no_host : is_named (codes ":3260") ≡ false
+  pub first_hyphen : is_named (codes "-a:3260") ≡ false
+  pub last_dot : is_named (codes "a.:3260") ≡ false
+  pub underscore : is_named (codes "a_b:3260") ≡ false
+  pub comma : is_named (codes "a:3260,1") ≡ false
+  pub bare_ipv6 : is_named (codes "::1:3260") ≡ false
+  pub port_behind : is_port_behind (codes ":3260") ≡ true
+  pub no_port_behind : is_port_behind [] ≡ false
+  pub no_colon_behind : is_port_behind (codes "3260") ≡ false
+
+pub record DigestsRead : Type 0 where
+  pub sha256 : digests_in (codes "sha256") ≡ Ok Sha256
+  pub both : digests_in (codes "sha256,md5") ≡ Ok Sha256AndMd5
+  pub other_order : digests_in (codes "md5,sha256") ≡ Ok Sha256AndMd5
+  pub md5_alone : digests_in (codes "md5") ≡ Err BadDigests
+  pub twice : digests_in (codes "sha256,sha256") ≡ Err BadDigests
+  pub capital_letters : digests_in (codes "SHA256") ≡ Err BadDigests
+  pub blank : digests_in (codes "sha256, md5") ≡ Err BadDigests
+  pub nothing : digests_in [] ≡ Err BadDigests
+
+pub record StrangersLetIn : Type 0 where
+  pub nobody_named : most_strangers true 0 1 ≡ Ok 128
+  pub four_portals : most_strangers true 0 4 ≡ Ok 128
+  pub two_left : most_strangers true 63 2 ≡ Ok 2
+  pub one_portal : most_strangers true 64 1 ≡ Ok 64
+  pub none_left : most_strangers true 64 2 ≡ Err NoSlotForOthers
+  pub fewer_than_named : most_strangers true 64 4 ≡ Err NoSlotForOthers
+  pub named_alone : most_strangers false 64 4 ≡ Ok 0

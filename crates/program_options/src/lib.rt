@@ -2,6 +2,7 @@
 //! whom it lets in, and which host a client is; and why a command line names nothing to do, or names a place where nobody can listen.
 #![tactic(auto)]
 
+mod chap_digests;
 mod command_line_fault;
 mod given_library;
 mod host;
@@ -13,9 +14,13 @@ mod option_fault;
 mod portal;
 mod serve_times;
 mod serve_until;
+mod sign;
 mod sizes;
+mod strangers;
+mod told_address;
 mod without_library;
 
+pub use chap_digests::{ChapDigests, chap_digests_of};
 pub use command_line_fault::CommandLineFault;
 pub use given_library::GivenLibrary;
 pub use host::nexus_of;
@@ -25,8 +30,9 @@ pub use library_options::{LibraryOptions, MAX_READS};
 pub use listen_fault::ListenFault;
 pub use named_host::{HostText, NamedHost, host_beside};
 pub use option_fault::OptionFault;
-pub use portal::portal_of;
+pub use portal::{PortalOptions, PortalText, portal_of};
 pub use serve_times::ServeTimes;
 pub use serve_until::ServeUntil;
 pub use sizes::{memory_size_of, volume_size_of};
+pub use strangers::most_strangers;
 pub use without_library::WithoutLibrary;

@@ -1,10 +1,11 @@
-ghost use Rattle.std.specs.Prelude.{◌≡◌, ◌<◌, ◌==◌, Err, IfErr, IfOk, IfSome, Ok, length, position};
+ghost use Rattle.std.specs.Prelude.{◌≡◌, ◌==◌, Err, IfErr, IfOk, Ok};
 ghost use Rattle.std.specs.List.{list_any};
 ghost use Rattle.program_options.specs.Hosts.{sas_in};
 ghost use Rattle.program_options.specs.HostsLetIn.{has_name, host_by, host_in, judged};
 
 use crate::host::sas_of;
 use crate::option_fault::OptionFault;
+use crate::sign::place_of;
 use iscsi_keys::{is_iscsi_name, is_same_name};
 use std::alloc::{AllocError, Global};
 
@@ -62,18 +63,10 @@ fn host_in(text: &[u8]) -> Result<HostText<'_>, OptionFault>
     ensures ok { IfOk result (λ host. host_in text.now ≡ Ok (record { name = host.name.now; sas = host.sas })) }
     ensures err { IfErr result (λ fault. host_in text.now ≡ Err fault) }
 {
-    let Some(place) = sign_in(text) else {
+    let Some(place) = place_of(text, b'=') else {
         return Err(OptionFault::BadHost);
     };
     host_by(&text[..place], &text[place + 1..])
-}
-
-/// Where the first "=" of a text stands.
-fn sign_in(text: &[u8]) -> Option<usize>
-    ensures place { result ≡ position (λ b. b == 61) text.now }
-    ensures within { IfSome result (λ place. place < length text.now) }
-{
-    text.iter().position(|byte| *byte == b'=')
 }
 
 fn host_by<'a>(name: &'a [u8], digits: &[u8]) -> Result<HostText<'a>, OptionFault>

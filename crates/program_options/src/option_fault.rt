@@ -20,6 +20,8 @@ pub enum OptionFault {
     BadAddress,
     /// A portal that others than programs of this machine reach, where it wasn't said what initiators must show of themselves.
     OpenAddress,
+    /// What stands behind a portal's address is no host with a port.
+    BadToldAddress,
     /// Portals at which nobody is let in.
     NobodyLetIn,
     /// A host that is no name with a SAS address.
@@ -34,6 +36,10 @@ pub enum OptionFault {
     NameTwice,
     /// A host whose SAS address has stood already.
     SasTwice,
+    /// Hosts that are let in by name have every slot of a unit, so that no other can be let in.
+    NoSlotForOthers,
+    /// No list of digests by which hosts may answer.
+    BadDigests,
 }
 
 impl OptionFault {
@@ -63,6 +69,9 @@ impl OptionFault {
             OptionFault::OpenAddress => {
                 "vtl: other machines reach this address: say --chap <FILE>, or --no-authentication if all of them may come in"
             }
+            OptionFault::BadToldAddress => {
+                "vtl: no address to tell initiators behind =: say a host and a port, as tapes.example:3260 or [2001:db8::1]:3260"
+            }
             OptionFault::NobodyLetIn => {
                 "vtl: --iscsi lets nobody in: say --host <NAME=SAS> for each host, or --any-host"
             }
@@ -84,6 +93,10 @@ impl OptionFault {
             OptionFault::SasTwice => {
                 "vtl: two names have one SAS address: say one of its own for each"
             }
+            OptionFault::NoSlotForOthers => {
+                "vtl: --any-host can let nobody else in: each --host takes a slot at each --iscsi, and there are 128"
+            }
+            OptionFault::BadDigests => "vtl: no digests of CHAP: say sha256 or sha256,md5",
         }
     }
 }

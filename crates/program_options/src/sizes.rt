@@ -61,7 +61,7 @@ fn unit_of(letter: u8) -> Option<u64>
 }
 
 /// The number of decimal digits, of which the first isn't 0, where it has 64 bits.
-fn number_in(digits: &[u8]) -> Option<u64>
+pub(crate) fn number_in(digits: &[u8]) -> Option<u64>
     ensures { result ≡ number_in digits.now }
 {
     if digits.is_empty() || digits[0] == b'0' {
