@@ -347,18 +347,14 @@ def run_crowd(place, good):
 
 
 def run_full_house(place):
-    """As many sessions as there may be. One more waits or is refused, until a place is free."""
+    """As many sessions as there may be. One more is refused at once, until a place is free; then a second one of its name is let in too."""
     house = [let_in(place, f"iqn.2026-11.example:guest-{turn:02}", isid=bytes([0x80, 0, 0, 0, 3, turn])) for turn in range(SESSIONS - 1)]
     for session in house:
         session.check(len(session.outcome(session.command(CHANGER, INQUIRY, READS, 36)).data) == 36, "no INQUIRY data")
     late = Wire(place)
     late.send(login_pdu(ALL_AT_ONCE, login_keys("iqn.2026-11.example:guest-63")))
-    late.connection.settimeout(2)
-    try:
-        status = late.connection.recv(48)[36:38].hex()
-        late.check(status == "0302", f"{status}h for one session more")
-    except TimeoutError:
-        status = "no answer"
+    status = late.receive().head[36:38].hex()
+    late.check(status == "0302", f"{status}h for one session more")
     late.connection.close()
     for session in house:
         session.check(session.is_alive(), "a session doesn't go on")
@@ -367,8 +363,9 @@ def run_full_house(place):
         session.await_end()
     with let_in(place, "iqn.2026-11.example:guest-63") as session:
         session.check(session.is_alive(), "the session doesn't go on")
-        with Session(place, "iqn.2026-11.example:guest-63", isid=b"\x80\0\0\0\x04\x00") as other:
-            other.check(other.status == 0x0302, f"{other.status:04x}h for a second session of a nexus")
+        with let_in(place, "iqn.2026-11.example:guest-63", isid=b"\x80\0\0\0\x04\x00") as other:
+            other.check(other.is_alive() and session.is_alive(), "two sessions of a name don't go on")
+            other.log_out()
     for session in house:
         session.log_out()
         session.await_end()

@@ -111,8 +111,9 @@ class Ended(Exception):
 class Wire:
     """A connection, and what went over it last."""
 
-    def __init__(self, place):
-        self.connection = socket.create_connection(place, timeout=PATIENCE)
+    def __init__(self, place, source=None):
+        """`source` is the address that it comes from, where that is to be another than the usual."""
+        self.connection = socket.create_connection(place, timeout=PATIENCE, source_address=(source, 0) if source else None)
         self.connection.setsockopt(socket.IPPROTO_TCP, socket.TCP_NODELAY, 1)
         self.seen = collections.deque(maxlen=12)
         self.is_cut = False

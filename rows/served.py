@@ -15,7 +15,9 @@ import endings
 import events
 import full_disk
 import initiators
+import joining
 import memories
+import portal_chap
 import refusals
 import serve_lines
 import sessions
@@ -25,8 +27,8 @@ import stuck
 from playing import play
 
 ROWS = [
-    *stuck.ROWS, *serve_lines.ROWS, *initiators.ROWS, *endings.ROWS, *drains.ROWS, *events.ROWS, *full_disk.ROWS, *sessions.ROWS,
-    *sharing.ROWS, *memories.ROWS, *refusals.ROWS, *streams.ROWS]
+    *stuck.ROWS, *serve_lines.ROWS, *initiators.ROWS, *joining.ROWS, *endings.ROWS, *drains.ROWS, *events.ROWS, *full_disk.ROWS,
+    *sessions.ROWS, *sharing.ROWS, *memories.ROWS, *refusals.ROWS, *portal_chap.ROWS, *streams.ROWS]
 
 
 if __name__ == "__main__":

@@ -11,7 +11,6 @@ use Rattle.iscsi_tasks.specs.declared.next_task.NextTask.TheVariants.{Idle}
 use Rattle.iscsi_tasks.specs.Values.{TasksValue}
 use Rattle.tickets.specs.declared.ticket.ReplyTicket.{ReplyTicket}
 use Rattle.tickets.specs.declared.ticket.Outcome.{Outcome}
-use Rattle.session.specs.Serving.{IsLostBelow}
 use Rattle.session.specs.Answering.{ComesByCalls}
 use Rattle.session.proofs.Read.{consumes_more}
 use Rattle.iscsi_login.specs.Exchanges.{ExchangeValue, started}
@@ -19,6 +18,7 @@ use Rattle.iscsi_chap.specs.declared.challenge.Challenge.{Challenge}
 use Rattle.iscsi_login.specs.declared.login.FullFeature.{FullFeature}
 use Rattle.iscsi_chap.specs.declared.session_type.SessionType.TheVariants.{Normal}
 use Rattle.iscsi_login.specs.declared.target.LoginTarget.{LoginTarget}
+use Rattle.iscsi_session.specs.Leaving.{IsLostUnless}
 use Rattle.iscsi_session.specs.LoggingIn.{HasReached, LogsIn, nexus_of}
 use Rattle.iscsi_session.specs.Saying.{normal_world}
 use Rattle.iscsi_session.specs.Serving.{Holds, IsServed, Serves, ServesBehind, WritesLast, first_moment, first_tasks}
@@ -38,13 +38,13 @@ converses_calls {S} {resets = resets} {ends = ends} {settles = settles} notes wa
     let hands : Hands notes waits n a.tasks a.service (brought_in answers.events) (settlements answers.events) b.tasks b.service =
     talks_hands notes waits count n resets ends settles answers.events a.tasks b.tasks a.service b.service said answers.talks in (hands.calls, hands.made)
 
-abbrev is_served : {S : Type 0} {resets ends : ℕ → Type 0}
+abbrev is_served : {S : Type 0} {others : Nexus → Type 0} {resets ends : ℕ → Type 0}
     {settles : ReplyTicket → Outcome → Type 0} (notes : S → DoneValue → S → Type 0) (waits : DoneValue → Option ReplyTicket → Type 0) (count : S → ℕ) (target : LoginTarget)
     (challenge : Option Challenge) (port : ℕ) (begun : FullFeature) (e : ExchangeValue) (s t : S) (pending : List ℕ)
     (left left1 left2 : Option (List ℕ)) (said : List TargetPduValue) (all : Bool) → LogsIn target (started port challenge) e left left1 pending
-    → HasReached e begun → Holds notes waits count resets ends settles port begun s pending left1 left2 said all t
-    → IsServed notes waits count resets ends settles target challenge port s left left2 said all t
-is_served {S} {resets = resets} {ends = ends} {settles = settles} notes waits count target challenge port begun e s t pending left left1 left2 said all login reached held =
+    → HasReached e begun → Holds notes waits count others resets ends settles port begun s pending left1 left2 said all t
+    → IsServed notes waits count others resets ends settles target challenge port s left left2 said all t
+is_served {S} {others = others} {resets = resets} {ends = ends} {settles = settles} notes waits count target challenge port begun e s t pending left left1 left2 said all login reached held =
     let behind = held.converses in
     let answers = behind.2 in record {
       begun = begun;
@@ -70,15 +70,15 @@ is_served {S} {resets = resets} {ends = ends} {settles = settles} notes waits co
     }
 
 -- what came behind a login, and the loss
-abbrev pub holds : {S : Type 0} {resets ends : ℕ → Type 0}
+abbrev pub holds : {S : Type 0} {others : Nexus → Type 0} {resets ends : ℕ → Type 0}
     {settles : ReplyTicket → Outcome → Type 0} (notes : S → DoneValue → S → Type 0) (waits : DoneValue → Option ReplyTicket → Type 0) (count : S → ℕ) (port : ℕ) (begun : FullFeature)
-    (n : Nexus) (last : Moment S) (s s1 before after t : S) (units : ℕ) (pending rest : List ℕ) (left left' : Option (List ℕ))
+    (n : Nexus) (last : Moment S) (s s1 before t : S) (pending rest : List ℕ) (left left' : Option (List ℕ))
     (said : List TargetPduValue) (all : Bool) → begun.session_type ≡ Normal → n ≡ nexus_of port begun → s1 ≡ s
     → Converses (normal_world notes waits count n resets ends settles) 1 (first_moment begun s1 pending) left left' said last rest → last.service ≡ before
-    → units ≡ count before → IsLostBelow notes n units before after all → t ≡ after
-    → Holds notes waits count resets ends settles port begun s pending left left' said all t
-holds {S} {resets = resets} {ends = ends} {settles = settles} notes waits count port begun n last s s1 before after t units pending rest left left' said all
-    type is library talks served size lost ended = record {
+    → IsLostUnless notes (others n) n (count before) before t all
+    → Holds notes waits count others resets ends settles port begun s pending left left' said all t
+holds {S} {others = others} {resets = resets} {ends = ends} {settles = settles} notes waits count port begun n last s s1 before t pending rest left left' said all
+    type is library talks served lost = record {
       normal = type;
       last = last;
       rest = rest;
@@ -87,10 +87,8 @@ holds {S} {resets = resets} {ends = ends} {settles = settles} notes waits count 
           said last rest) library
           (subst (λ (x : Nexus). Converses (normal_world notes waits count x resets ends settles) 1 (first_moment begun s1 pending) left left' said last rest) is talks);
       lost =
-          subst (λ (x : S). IsLostBelow notes (nexus_of port begun) (count x) x t all) (sym served)
-          (subst (λ (i : ℕ). IsLostBelow notes (nexus_of port begun) i before t all) size
-          (subst (λ (x : S). IsLostBelow notes (nexus_of port begun) units before x all) (sym ended)
-          (subst (λ (x : Nexus). IsLostBelow notes x units before after all) is lost)));
+          subst (λ (x : S). IsLostUnless notes (others (nexus_of port begun)) (nexus_of port begun) (count x) x t all) (sym served)
+          (subst (λ (x : Nexus). IsLostUnless notes (others x) x (count before) before t all) is lost);
     }
 
 -- what waited when a session began, and what was said, was written
@@ -131,13 +129,13 @@ all_written : {A F : Type 0} (r : Result A F) (w w1 w2 : Option (List ℕ)) (sai
 all_written (Ok value) w w1 w2 said told all k one two = (two.0, two.1, writes_last w w1 w2 said told one two.2)
 all_written (Err fault) w w1 w2 said told all k one two = tt
 
-pub serves : {S A F : Type 0} {resets ends : ℕ → Type 0}
+pub serves : {S A F : Type 0} {others : Nexus → Type 0} {resets ends : ℕ → Type 0}
     {settles : ReplyTicket → Outcome → Type 0} (notes : S → DoneValue → S → Type 0) (waits : DoneValue → Option ReplyTicket → Type 0) (count : S → ℕ) (target : LoginTarget)
     (challenge : Option Challenge) (port : ℕ) (begun : FullFeature) (e0 e : ExchangeValue) (s t : S) (pending : List ℕ)
     (left left1 left2 w w1 w2 : Option (List ℕ)) (r : Result A F) → e0 ≡ started port challenge → LogsIn target e0 e left left1 pending
     → HasReached e begun → (told : List ℕ) × Appends w w1 told
-    → ServesBehind notes waits count resets ends settles port begun s pending left1 left2 w1 w2 r t
-    → Serves notes waits count resets ends settles target challenge port s left left2 w w2 r t
+    → ServesBehind notes waits count others resets ends settles port begun s pending left1 left2 w1 w2 r t
+    → Serves notes waits count others resets ends settles target challenge port s left left2 w w2 r t
 unfolding Serves
 serves notes waits count target challenge port begun e0 e s t pending left left1 left2 w w1 w2 r start login reached told (inl same) = inl same
 serves {S} notes waits count target challenge port begun e0 e s t pending left left1 left2 w w1 w2 r start login reached told (inr held) = inr (

@@ -1,6 +1,7 @@
 -- A whole session. `notes s d t` says that a call with the answer d makes t of the service s.
 use Rattle.std.specs.Prelude.{◌≡◌, ◌⊎◌, ◌≤◌, ℕ, Bool, true, List, [], ◌++◌, All, Option, Result, OnOk}
 use Rattle.std.specs.Io.KnownBytes.{Consumes, Appends}
+use Rattle.scsi_nexus.specs.declared.nexus.Nexus.{Nexus}
 use Rattle.logical_unit.specs.Answers.{DoneValue}
 use Rattle.frames.specs.Limits.{command_data_limit}
 use Rattle.iscsi_pdu.specs.Pdus.{TargetPduValue}
@@ -17,7 +18,7 @@ use Rattle.iscsi_tasks.specs.Values.{TasksValue, begun_tasks}
 use Rattle.iscsi_tasks.specs.declared.next_task.NextTask.TheVariants.{Idle}
 use Rattle.tickets.specs.declared.ticket.ReplyTicket.{ReplyTicket}
 use Rattle.tickets.specs.declared.ticket.Outcome.{Outcome}
-use Rattle.session.specs.Serving.{IsLostBelow}
+use Rattle.iscsi_session.specs.Leaving.{IsLostUnless}
 use Rattle.iscsi_session.specs.Handing.{Hands, brought_in, settlements}
 use Rattle.iscsi_session.specs.LoggingIn.{HasReached, Requests, nexus_of}
 use Rattle.iscsi_session.specs.Saying.{normal_world}
@@ -35,8 +36,9 @@ WritesLast written written' said = (login : List ℕ) × Appends written written
 abbrev pub first_moment : {S : Type 0} → FullFeature → S → (pending : List ℕ) → Moment S
 first_moment begun s pending = record { tasks = first_tasks begun; service = s; pending = pending; out = [] }
 
--- a normal session from the last request of its login on: PDUs, and then the nexus is lost at every unit, once
-pub record Holds {S : Type 0} (notes : S → DoneValue → S → Type 0) (waits : DoneValue → Option ReplyTicket → Type 0) (count : S → ℕ) (resets ends : ℕ → Type 0) (settles : ReplyTicket → Outcome → Type 0) (port : ℕ)
+-- a normal session from the last request of its login on: PDUs, and then the nexus is lost at every unit, once, unless another session of it goes
+-- on
+pub record Holds {S : Type 0} (notes : S → DoneValue → S → Type 0) (waits : DoneValue → Option ReplyTicket → Type 0) (count : S → ℕ) (others : Nexus → Type 0) (resets ends : ℕ → Type 0) (settles : ReplyTicket → Outcome → Type 0) (port : ℕ)
     (begun : FullFeature) (s : S) (pending : List ℕ) (left left' : Option (List ℕ)) (said : List TargetPduValue) (all : Bool) (t : S) : Type
     0 where
   pub normal : begun.session_type ≡ Normal
@@ -44,22 +46,23 @@ pub record Holds {S : Type 0} (notes : S → DoneValue → S → Type 0) (waits 
   pub rest : List ℕ
   pub converses :
       Converses (normal_world notes waits count (nexus_of port begun) resets ends settles) 1 (first_moment begun s pending) left left' said last rest
-  pub lost : IsLostBelow notes (nexus_of port begun) (count last.service) last.service t all
+  pub lost : IsLostUnless notes (others (nexus_of port begun)) (nexus_of port begun) (count last.service) last.service t all
 
--- that, or nothing at the service. Where it ends without a fault nothing is left to be done, all that was said is written, and the nexus was lost at
--- every unit
-abbrev pub ServesBehind : {S A F : Type 0} → (S → DoneValue → S → Type 0) → (DoneValue → Option ReplyTicket → Type 0) → (count : S → ℕ) → (resets ends : ℕ → Type 0) → (settles : ReplyTicket → Outcome → Type 0) → (port : ℕ)
+-- that, or nothing at the service. Where it ends without a fault nothing is left to be done, all that was said is written, and no loss of the
+-- nexus was BUSY
+abbrev pub ServesBehind : {S A F : Type 0} → (S → DoneValue → S → Type 0) → (DoneValue → Option ReplyTicket → Type 0) → (count : S → ℕ) → (others : Nexus → Type 0) → (resets ends : ℕ → Type 0) → (settles : ReplyTicket → Outcome → Type 0) → (port : ℕ)
     → FullFeature → S → (pending : List ℕ) → (left left' written written' : Option (List ℕ)) → Result A F → S → Type 0
-ServesBehind notes waits count resets ends settles port begun s pending left left' written written' result t =
+ServesBehind notes waits count others resets ends settles port begun s pending left left' written written' result t =
     (t ≡ s) ⊎ ((said : List TargetPduValue) × (all : Bool)
-    × (held : Holds notes waits count resets ends settles port begun s pending left left' said all t)
+    × (held : Holds notes waits count others resets ends settles port begun s pending left left' said all t)
     × OnOk result ((all ≡ true) × (next_of held.last.tasks ≡ Idle) × WritesLast written written' said))
 
 -- a normal session: what was read is a login, by which full feature is reached, and then PDUs, and perhaps part of another. To each of these happens
 -- what its tasks say, one after another; the commands that are handed to units are those that the tasks execute and whose LUN is a unit's number, in
 -- that order, each once and with the data that they have for it, all under the nexus that the login was let in as, and nothing but the PDUs has
--- brought the tasks commands and data; a logout is asked for once at most; and at last the nexus is lost at every unit, once
-pub record IsServed {S : Type 0} (notes : S → DoneValue → S → Type 0) (waits : DoneValue → Option ReplyTicket → Type 0) (count : S → ℕ) (resets ends : ℕ → Type 0) (settles : ReplyTicket → Outcome → Type 0) (target : LoginTarget)
+-- brought the tasks commands and data; a logout is asked for once at most; and at last the nexus is lost at every unit, once,
+-- unless another session of it goes on
+pub record IsServed {S : Type 0} (notes : S → DoneValue → S → Type 0) (waits : DoneValue → Option ReplyTicket → Type 0) (count : S → ℕ) (others : Nexus → Type 0) (resets ends : ℕ → Type 0) (settles : ReplyTicket → Outcome → Type 0) (target : LoginTarget)
     (challenge : Option Challenge) (port : ℕ) (s : S) (left left' : Option (List ℕ)) (said : List TargetPduValue) (all : Bool) (t : S) :
     Type 0 where
   pub begun : FullFeature
@@ -79,13 +82,13 @@ pub record IsServed {S : Type 0} (notes : S → DoneValue → S → Type 0) (wai
   pub asked : leave_requests events ≤ 1
   pub talks : Talks (normal_world notes waits count (nexus_of port begun) resets ends settles) events (first_tasks begun) s said ended before_loss
   pub hands : Hands notes waits (nexus_of port begun) (first_tasks begun) s (brought_in events) (settlements events) ended before_loss
-  pub lost : IsLostBelow notes (nexus_of port begun) (count before_loss) before_loss t all
+  pub lost : IsLostUnless notes (others (nexus_of port begun)) (nexus_of port begun) (count before_loss) before_loss t all
 
 -- that, or a connection that does nothing at the service: one that isn't let in, or a discovery session. Where it ends without a fault nothing
--- is left to be done, all that was said is written, and the nexus was lost at every unit
-unfoldable pub Serves : {S A F : Type 0} → (S → DoneValue → S → Type 0) → (DoneValue → Option ReplyTicket → Type 0) → (count : S → ℕ) → (resets ends : ℕ → Type 0) → (settles : ReplyTicket → Outcome → Type 0) → LoginTarget
+-- is left to be done, all that was said is written, and no loss of the nexus was BUSY
+unfoldable pub Serves : {S A F : Type 0} → (S → DoneValue → S → Type 0) → (DoneValue → Option ReplyTicket → Type 0) → (count : S → ℕ) → (others : Nexus → Type 0) → (resets ends : ℕ → Type 0) → (settles : ReplyTicket → Outcome → Type 0) → LoginTarget
     → Option Challenge → (port : ℕ) → S → (left left' written written' : Option (List ℕ)) → Result A F → S → Type 0
-Serves notes waits count resets ends settles target challenge port s left left' written written' result t =
+Serves notes waits count others resets ends settles target challenge port s left left' written written' result t =
     (t ≡ s) ⊎ ((said : List TargetPduValue) × (all : Bool)
-    × (served : IsServed notes waits count resets ends settles target challenge port s left left' said all t)
+    × (served : IsServed notes waits count others resets ends settles target challenge port s left left' said all t)
     × OnOk result ((all ≡ true) × (next_of served.ended ≡ Idle) × WritesLast written written' said))

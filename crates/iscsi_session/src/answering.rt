@@ -8,10 +8,10 @@ ghost use Rattle.iscsi_session.specs.Faults.{IsLater};
 ghost use Rattle.iscsi_session.specs.Executing.{Adds, OrElse};
 ghost use Rattle.iscsi_session.specs.Saying.{Says};
 
-use crate::claiming::SessionRegister;
 use crate::connection::Connection;
 use crate::fault::IscsiFault;
 use crate::kinds::SessionKind;
+use crate::register::SessionRegister;
 use crate::requests::{BasicHeader, take_logout, take_nop_out, take_unsupported, turn_down};
 use crate::texts::take_text;
 use iscsi_pdu::RejectReason::{ProtocolError, SnackReject};

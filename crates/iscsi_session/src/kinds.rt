@@ -7,12 +7,12 @@ ghost use Rattle.iscsi_tasks.specs.declared.next_task.NextTask.TheVariants.{Idle
 ghost use Rattle.iscsi_session.specs.Faults.{IsLater};
 ghost use Rattle.iscsi_session.specs.Executing.{Adds, OrElse};
 
-use crate::claiming::SessionRegister;
 use crate::connection::Connection;
 use crate::executing::{go_on, take_command, take_data};
 use crate::fault::IscsiFault;
 use crate::keeping::KeepingService;
 use crate::managing::manage;
+use crate::register::SessionRegister;
 use crate::requests::{BasicHeader, take_unsupported, turn_down};
 use crate::resets::drop_reset;
 use iscsi_login::SessionType;

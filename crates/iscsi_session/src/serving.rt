@@ -4,13 +4,13 @@ ghost use Rattle.iscsi_chap.specs.declared.session_type.SessionType.TheVariants.
 ghost use Rattle.iscsi_tasks.specs.Next.{next_of};
 ghost use Rattle.iscsi_tasks.specs.declared.next_task.NextTask.TheVariants.{Idle};
 ghost use Rattle.iscsi_session.specs.Faults.{IsLater};
-ghost use Rattle.iscsi_session.specs.Leaving.{Leaves};
+ghost use Rattle.iscsi_session.specs.Leaving.{IsLostUnless, Leaves};
 ghost use Rattle.iscsi_session.specs.LoggingIn.{nexus_of};
 ghost use Rattle.iscsi_session.specs.Serving.{Serves, ServesBehind, WritesLast, first_moment};
 ghost use Rattle.iscsi_session.specs.Talking.{Converses, Moment};
 ghost use Rattle.iscsi_session.specs.Worlds.{world};
 
-use crate::claiming::{Claim, SessionIdentity, SessionRegister, claim_of};
+use crate::claiming::{Claim, SessionIdentity, claim_of};
 use crate::connection::{Connection, flush};
 use crate::fault::{IscsiEnd, IscsiFault};
 use crate::keeping::KeepingService;
@@ -18,6 +18,7 @@ use crate::kinds::{DiscoverySession, NormalSession, SessionKind};
 use crate::login::{LoginWait, await_login};
 use crate::pdu_buffer::PduBuffer;
 use crate::portal::Arrival;
+use crate::register::{Entrant, Joined, NexusEnd, SessionRegister};
 use crate::talking::{ROOM, Session};
 use iscsi_login::{FullFeature, LoginExchange};
 use iscsi_pdu::LoginStatus;
@@ -30,16 +31,17 @@ use std::io::{Read, Write};
 /// the initiator is let in as, at the portal group.
 ///
 /// ```text
-///   no login yet ── login, the nexus is free ──> full feature ── PDUs ──> full feature
-///        │                                          │
-///        │ refused, the end of input, a fault:      │ a logout, the end of input, a fault, a failed read or write, silence:
-///        │ nothing is lost                          │ the nexus is lost at every unit and leaves the directory
-///        v                                          v
-///      ended                                      ended
+///   no login yet ── login, let in ──> full feature ── PDUs ──> full feature
+///        │                                │
+///        │ refused, the end of input,     │ a logout, the end of input, a fault, a failed read or write, silence: unless another session of
+///        │ a fault: nothing is lost       │ its nexus goes on, the nexus is lost at every unit and leaves the directory
+///        v                                v
+///      ended                            ended
 /// ```
 ///
-/// However a session that logged in ends, its nexus is lost at every unit, once, and then leaves the directory; where a loss was
-/// BUSY the end is `NoMemory`. A discovery session, and one that isn't let in, change nothing at the service.
+/// However a session that logged in ends, its nexus is lost at every unit, once, and then leaves the directory, unless the register says that
+/// another session of it goes on; where a loss was BUSY the end is `NoMemory`. A discovery session, and one that isn't let in, change nothing at
+/// the service.
 ///
 /// Where the login asks for the place of a session that lives (`claim_of`), that one is ended by the register first; where it hasn't
 /// ended in time, the login is refused.
@@ -58,16 +60,16 @@ pub fn serve<S: KeepingService, G: SessionRegister, R: Read, W: Write>(
     writer: &mut W,
     turns: u64,
 ) -> Result<IscsiEnd, IscsiFault>
-    ensures service { Leaves S.notes S.count arrival.now.portal.group service.old service.new }
+    ensures service { Leaves S.notes S.count (G.others register.now) arrival.now.portal.group service.old service.new }
     ensures refused { IfErr result (λ fault. IsLater fault ⊎ (service.new ≡ service.old)) }
-    ensures session { Serves S.notes S.waits S.count (G.resets register.now) (G.ends register.now) (G.settles register.now)
+    ensures session { Serves S.notes S.waits S.count (G.others register.now) (G.resets register.now) (G.ends register.now) (G.settles register.now)
         arrival.now.portal.target.now arrival.now.challenge arrival.now.portal.group service.old
         (R.remaining reader.old) (R.remaining reader.new) (W.contents writer.old) (W.contents writer.new) result service.new }
 {
     let mut read_buffer = PduBuffer::new(alloc)?;
     let mut out = Vec::with_capacity(alloc, ROOM)?;
     let mut exchange = LoginExchange::new(alloc, arrival.portal.group, arrival.challenge);
-    let (begun, turns) = match await_login(
+    let waited = await_login(
         arrival.portal.target,
         &mut exchange,
         &mut read_buffer,
@@ -75,7 +77,9 @@ pub fn serve<S: KeepingService, G: SessionRegister, R: Read, W: Write>(
         reader,
         writer,
         turns,
-    )? {
+    );
+    register.note_name(exchange.initiator_name());
+    let (begun, turns) = match waited? {
         LoginWait::Begins { begun, turns } => (begun, turns),
         LoginWait::Ended(end) => return Ok(end),
     };
@@ -113,12 +117,30 @@ impl<'a> DueLogin<'a> {
         }
     }
 
-    /// What its session is known by beside the nexus.
-    fn identity(&self) -> SessionIdentity {
-        SessionIdentity {
+    /// The target's part of its session's identifier: a session in the place of one that it names keeps that one's, any other has a new one
+    /// (RFC 7143, "Connection Reinstatement" and "Target Session Identifying Handle").
+    fn tsih(&self) -> u16 {
+        if self.begun.tsih == 0 {
+            self.arrival.tsih
+        } else {
+            self.begun.tsih
+        }
+    }
+
+    /// As what it asks to be let in.
+    fn entrant(&self, nexus: Nexus) -> Entrant
+        ensures { result.nexus ≡ nexus }
+    {
+        let session = SessionIdentity {
             isid: self.begun.isid,
-            tsih: self.arrival.tsih,
+            tsih: self.tsih(),
             cid: self.begun.cid,
+        };
+        Entrant {
+            nexus,
+            session,
+            admission: self.begun.admission,
+            proved: self.begun.proved,
         }
     }
 
@@ -131,9 +153,9 @@ impl<'a> DueLogin<'a> {
         reader: &mut R,
         writer: &mut W,
     ) -> Result<IscsiEnd, IscsiFault>
-        ensures service { Leaves S.notes S.count self.entry.arrival.portal.group service.old service.new }
+        ensures service { Leaves S.notes S.count (G.others register.now) self.entry.arrival.portal.group service.old service.new }
         ensures refused { IfErr result (λ fault. IsLater fault ⊎ (service.new ≡ service.old)) }
-        ensures session { ServesBehind S.notes S.waits S.count (G.resets register.now) (G.ends register.now) (G.settles register.now)
+        ensures session { ServesBehind S.notes S.waits S.count (G.others register.now) (G.resets register.now) (G.ends register.now) (G.settles register.now)
             self.entry.arrival.portal.group self.entry.begun service.old self.entry.read_buffer
             (R.remaining reader.old) (R.remaining reader.new) (W.contents writer.old) (W.contents writer.new) result service.new }
     {
@@ -171,6 +193,9 @@ impl<'a> DueLogin<'a> {
         if self.begun.tsih != 0 {
             return Err(self.refuse(LoginStatus::SessionDoesNotExist, writer));
         }
+        if let Err(status) = register.enter_discovery() {
+            return Err(self.refuse(status, writer));
+        }
         self.begin(DiscoverySession, alloc, &mut (), register, reader, writer)
     }
 
@@ -184,23 +209,24 @@ impl<'a> DueLogin<'a> {
         writer: &mut W,
     ) -> Result<IscsiEnd, IscsiFault>
         requires { self.begun.session_type ≡ Normal }
-        ensures service { Leaves S.notes S.count self.entry.arrival.portal.group service.old service.new }
+        ensures service { Leaves S.notes S.count (G.others register.now) self.entry.arrival.portal.group service.old service.new }
         ensures refused { IfErr result (λ fault. IsLater fault ⊎ (service.new ≡ service.old)) }
-        ensures session { ServesBehind S.notes S.waits S.count (G.resets register.now) (G.ends register.now) (G.settles register.now)
+        ensures session { ServesBehind S.notes S.waits S.count (G.others register.now) (G.resets register.now) (G.ends register.now) (G.settles register.now)
             self.entry.arrival.portal.group self.entry.begun service.old self.entry.read_buffer
             (R.remaining reader.old) (R.remaining reader.new) (W.contents writer.old) (W.contents writer.new) result service.new }
     {
         let nexus = self.nexus();
-        let key = match enter(service, register, nexus, &self.begun) {
-            Ok(key) => key,
+        let entrant = self.entrant(nexus);
+        let key = match enter(service, register, &entrant, &self.begun) {
+            Ok(LetIn { key, joined }) => {
+                register.note_login(nexus, self.exchange.initiator_name(), joined);
+                key
+            }
             Err(status) => return Err(self.refuse(status, writer)),
         };
-        register.note(nexus, self.identity(), self.exchange.initiator_name());
         let kind = NormalSession { nexus };
         let ended = self.begin(kind, alloc, service, register, reader, writer);
-        let is_lost = lose_at_units(alloc, service, nexus);
-        service.logout(key);
-        if !is_lost {
+        if !leave(alloc, service, register, nexus, key) {
             return Err(IscsiFault::NoMemory);
         }
         match ended {
@@ -227,6 +253,7 @@ impl<'a> DueLogin<'a> {
             × (ended.service ≡ service.new)
             × OnOk result ((next_of ended.tasks ≡ Idle) × WritesLast (W.contents writer.old) (W.contents writer.new) said) }
     {
+        let tsih = self.tsih();
         let DueLogin {
             arrival,
             mut exchange,
@@ -235,7 +262,7 @@ impl<'a> DueLogin<'a> {
             read_buffer,
             mut out,
         } = self;
-        exchange.accept(arrival.tsih, &mut out)?;
+        exchange.accept(tsih, &mut out)?;
         let stat_sn = exchange.next_stat_sn();
         let mut session = Session {
             kind,
@@ -246,17 +273,25 @@ impl<'a> DueLogin<'a> {
     }
 }
 
-/// Has the nexus of a login enter the directory, behind the session whose place it takes, if it does, and gives its key; else says how
-/// the login is refused.
-fn enter<S: Service, G: SessionRegister>(
+/// A login that was let in.
+#[derive(Clone, Copy)]
+struct LetIn {
+    /// The key of its nexus in the directory.
+    key: usize,
+    joined: Joined,
+}
+
+/// Lets a login in, behind the session whose place it takes, if it does, or says how it is refused.
+fn enter<S: KeepingService, G: SessionRegister>(
     service: &mut S,
     register: &G,
-    nexus: Nexus,
+    entrant: &Entrant,
     begun: &FullFeature,
-) -> Result<usize, LoginStatus>
+) -> Result<LetIn, LoginStatus>
     ensures { service.new ≡ service.old }
 {
-    match claim_of(begun, register.living(nexus)) {
+    let nexus = entrant.nexus;
+    match claim_of(begun, register.living(nexus, begun.isid)) {
         Claim::New => {}
         Claim::PlaceOf(session) => {
             if !register.end(nexus, session) {
@@ -265,9 +300,55 @@ fn enter<S: Service, G: SessionRegister>(
         }
         Claim::Refused(status) => return Err(status),
     }
+    let joined = register.enter(entrant)?;
+    let key = match joined {
+        Joined::Beside(key) => {
+            service.join(nexus);
+            key
+        }
+        Joined::First => enter_directory(service, register, nexus)?,
+    };
+    Ok(LetIn { key, joined })
+}
+
+/// Has a nexus enter the directory, and gives its key.
+fn enter_directory<S: Service, G: SessionRegister>(
+    service: &mut S,
+    register: &G,
+    nexus: Nexus,
+) -> Result<usize, LoginStatus>
+    ensures { service.new ≡ service.old }
+{
     match service.login(nexus) {
-        Ok(key) => Ok(key),
-        Err(fault) => Err(status_of(fault)),
+        Ok(key) => {
+            register.note_key(key);
+            Ok(key)
+        }
+        Err(fault) => {
+            let status = status_of(fault);
+            register.withdraw(status);
+            Err(status)
+        }
+    }
+}
+
+/// Ends a session of a nexus: where no other goes on, the nexus is lost at every unit and leaves the directory. Whether no loss was BUSY.
+fn leave<S: Service, G: SessionRegister>(
+    alloc: Global,
+    service: &mut S,
+    register: &G,
+    nexus: Nexus,
+    key: usize,
+) -> bool
+    ensures { IsLostUnless S.notes (G.others register.now nexus) nexus (S.count service.old) service.old service.new result }
+{
+    match register.leave(nexus) {
+        NexusEnd::GoesOn => true,
+        NexusEnd::Lost => {
+            let is_lost = lose_at_units(alloc, service, nexus);
+            service.logout(key);
+            is_lost
+        }
     }
 }
 

@@ -8,12 +8,12 @@ ghost use Rattle.iscsi_session.specs.Talking.{IsPinged, MayAsk};
 ghost use Rattle.read_buffer.specs.Reading.{Added};
 
 use crate::answering::answer;
-use crate::claiming::SessionRegister;
 use crate::connection::{Connection, flush};
 use crate::fault::{IscsiEnd, IscsiFault};
 use crate::kinds::SessionKind;
 use crate::login::{end_of, read_fault};
 use crate::pdu_buffer::PduBuffer;
+use crate::register::SessionRegister;
 use crate::releasing::release;
 use crate::requests::{basic_header, must_wait};
 use iscsi_answers::{seconds_to_leave, write_leave_request, write_ping};
@@ -194,8 +194,14 @@ impl<'p, K> Session<'p, K> {
     }
 
     /// Reads once, and says whether that shows the end of input. Where nothing came for a while it adds a ping, once; where nothing came
-    /// for another the connection ends. A read that was interrupted shows nothing.
-    fn read_on<R: Read>(&mut self, reader: &mut R, is_pinged: &mut bool) -> Result<bool, IscsiFault>
+    /// for another the connection ends. A read that was interrupted shows nothing, but for a command number
+    /// that hasn't come while others behind it have.
+    fn read_on<G: SessionRegister, R: Read>(
+        &mut self,
+        register: &G,
+        reader: &mut R,
+        is_pinged: &mut bool,
+    ) -> Result<bool, IscsiFault>
         ensures kind { self.new.kind ≡ self.old.kind }
         ensures fault { IfErr result IsLater }
         ensures tasks { self.new.connection.tasks ≡ self.old.connection.tasks }
@@ -210,6 +216,7 @@ impl<'p, K> Session<'p, K> {
             }
             Err(error) => {
                 if matches!(error.kind(), io::ErrorKind::Interrupted) {
+                    register.note_missing(self.connection.tasks.missing_number());
                     return Ok(false);
                 }
                 if read_fault(&error) != IscsiFault::Silent || *is_pinged {
@@ -257,7 +264,7 @@ impl<'p, K> Session<'p, K> {
                 return Err(IscsiFault::Read);
             }
             left -= 1;
-            if self.read_on(reader, &mut is_pinged)? {
+            if self.read_on(register, reader, &mut is_pinged)? {
                 return Ok(end_behind(self.read_buffer.pending()));
             }
             ask_to_leave(register, &mut self.connection, &mut is_asked)?;

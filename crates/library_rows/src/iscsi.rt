@@ -1,3 +1,4 @@
+mod beside;
 mod held;
 mod keepers;
 mod pdus;

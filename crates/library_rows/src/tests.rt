@@ -1,4 +1,5 @@
-use crate::comparing::assert_same;
+use crate::comparing::{assert_list, assert_same};
 
+mod portals;
 mod replays;
 mod tapes;

@@ -8,15 +8,33 @@ use denote.Ref.{MutBor}
 use denote.Param.Members.{Shared}
 use Rattle.scsi_nexus.specs.declared.nexus.Nexus.{Nexus}
 use Rattle.logical_unit.specs.Answers.{DoneValue}
-use Rattle.session.specs.Leaving.{Leaves}
+use Rattle.session.specs.Answering.{ComesByCalls}
+use Rattle.session.specs.Leaving as frames
+use Rattle.iscsi_session.specs.declared.register.NexusEnd.TheVariants.{Lost, GoesOn}
+use Rattle.iscsi_session.specs.Leaving.{IsHeld, IsLostUnless}
 use Rattle.iscsi_session.specs.Leaving as iscsi
 use Rattle.server.specs.SeatService.{DoesForWorker, MaySettle}
-use Rattle.server.specs.Sessions.{ComesBySessions, Sessions}
+use Rattle.server.specs.Sessions.{ComesBySessions, Leaves, Sessions, Whose}
 
--- a session of iSCSI leaves what one of frames does
-pub portal_left : {S : Type 0} (notes : S → DoneValue → S → Type 0) (count : S → ℕ) (port : ℕ) (s t : S) → iscsi.Leaves notes count port s t → Leaves notes count s t
-portal_left notes count port s t (inl same) = (None, same)
-portal_left notes count port s t (inr held) = (Some held.nexus, record { before = held.before; all = held.all; calls = held.calls; lost = held.lost })
+-- what a session of iSCSI leaves
+held_left : {S : Type 0} (notes : S → DoneValue → S → Type 0) (count : S → ℕ) (others : Nexus → Type 0) (port : ℕ) (s t : S) (held : IsHeld notes count others port s t)
+    → IsLostUnless notes (others held.nexus) held.nexus (count held.before) held.before t held.all → Leaves notes count s t
+held_left notes count others port s t held (inl lost) = (Some (held.nexus, Lost), record { before = held.before; all = held.all; calls = held.calls; lost = lost })
+held_left {S} notes count others port s t held (inr goes_on) =
+    (Some (held.nexus, GoesOn), subst (λ (x : S). ComesByCalls notes held.nexus s x) (sym goes_on.1) held.calls)
+
+pub portal_left : {S : Type 0} (notes : S → DoneValue → S → Type 0) (count : S → ℕ) (others : Nexus → Type 0) (port : ℕ) (s t : S) → iscsi.Leaves notes count others port s t
+    → Leaves notes count s t
+portal_left notes count others port s t (inl same) = (None, same)
+portal_left notes count others port s t (inr held) = held_left notes count others port s t held held.lost
+
+-- what a session of frames leaves
+whose_left : {S : Type 0} (notes : S → DoneValue → S → Type 0) (count : S → ℕ) (who : Option Nexus) (s t : S) → frames.ComesBySession notes count who s t → Leaves notes count s t
+whose_left notes count None s t left = (None, left)
+whose_left notes count (Some n) s t left = (Some (n, Lost), left)
+
+pub socket_left : {S : Type 0} (notes : S → DoneValue → S → Type 0) (count : S → ℕ) (s t : S) → frames.Leaves notes count s t → Leaves notes count s t
+socket_left notes count s t left = whose_left notes count left.0 s t left.1
 
 pub nobody : {S : Type 0} (notes : S → DoneValue → S → Type 0) (count : S → ℕ) (s t : S) → t ≡ s → Leaves notes count s t
 nobody notes count s t same = (None, same)
@@ -24,7 +42,7 @@ nobody notes count s t same = (None, same)
 pub no_session : {S : Type 0} (notes : S → DoneValue → S → Type 0) (settles : List ℕ → S → S → Type 0) (count : S → ℕ) (s t : S) → t ≡ s → ComesBySessions notes settles count s t
 no_session notes settles count s t same = ([], same)
 
-sessions_then : {S : Type 0} (notes : S → DoneValue → S → Type 0) (settles : List ℕ → S → S → Type 0) (count : S → ℕ) (xs ys : List (Option Nexus)) (s t u : S)
+sessions_then : {S : Type 0} (notes : S → DoneValue → S → Type 0) (settles : List ℕ → S → S → Type 0) (count : S → ℕ) (xs ys : List Whose) (s t u : S)
     → Sessions notes settles count xs s t → Sessions notes settles count ys t u → Sessions notes settles count (xs ++ ys) s u
 sessions_then {S} notes settles count [] ys s t u one two = subst (λ (x : S). Sessions notes settles count ys x u) one two
 sessions_then notes settles count (x ∷ xs) ys s t u one two = (one.0, one.1, one.2, one.3, sessions_then notes settles count xs ys one.1 t u one.4 two)

@@ -1,6 +1,7 @@
 -- What a server tells while it serves: a line for each event (profile).
 use Rattle.std.specs.Prelude.{ℕ, Bool, true, false, List, ◌++◌, codes, Option, Some, None}
 use Rattle.std.specs.Fmt.{decimal}
+use Rattle.std.specs.Net.Text.{ip_text}
 use Rattle.scsi_nexus.specs.Text.{nexus_text}
 use Rattle.output_lines.specs.UnwrittenLines.{unwritten_text}
 use Rattle.session.specs.declared.fault.End.{End}
@@ -15,6 +16,10 @@ abbrev pub is_detail : Event → Bool
 is_detail (event.Begins number) = true
 is_detail (event.Ends s) = true
 is_detail (event.Fails s) = false
+is_detail (event.Crowded address) = false
+is_detail (event.Joins number nexus count address) = false
+is_detail (event.TakesPlace number nexus ended) = true
+is_detail (event.Awaits number nexus command) = true
 is_detail event.NotAccepted = false
 is_detail (event.Busy nexus lun) = true
 is_detail (event.NoSlot nexus lun) = true
@@ -37,6 +42,16 @@ abbrev pub event_text : Event → List ℕ
 event_text (event.Begins number) = codes "vtl: session " ++ (decimal number ++ codes " begins")
 event_text (event.Ends s) = codes "vtl: session " ++ ended_session_text s
 event_text (event.Fails s) = codes "vtl: session " ++ faulty_session_text s
+event_text (event.Crowded address) =
+    codes "vtl: a connection from " ++ (ip_text address ++ codes " is closed: 4 of its address have not logged in")
+event_text (event.Joins number nexus count address) =
+    codes "vtl: session " ++ (decimal number ++ (codes " of " ++ (nexus_text nexus ++ (codes ": its name has "
+    ++ (decimal count ++ (codes " sessions now, this one from " ++ ip_text address))))))
+event_text (event.TakesPlace number nexus ended) =
+    codes "vtl: session " ++ (decimal number ++ (codes " of " ++ (nexus_text nexus ++ (codes ": takes the place of session " ++ decimal ended))))
+event_text (event.Awaits number nexus command) =
+    codes "vtl: session " ++ (decimal number ++ (codes " of " ++ (nexus_text nexus ++ (codes ": command number "
+    ++ (decimal command ++ codes " has not come, and those behind it are passed over")))))
 event_text event.NotAccepted = codes "vtl: a connection could not be accepted"
 event_text (event.Busy nexus lun) =
     codes "vtl: BUSY for " ++ (nexus_text nexus ++ (codes " at logical unit " ++ (decimal lun ++ codes ": want of memory or of a record number")))

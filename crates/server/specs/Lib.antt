@@ -1,5 +1,6 @@
 pub mod IscsiFaults
 pub mod Faults
+pub mod RefusedLogins
 pub mod Events
 pub mod SeatService
 pub mod Sessions

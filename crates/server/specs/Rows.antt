@@ -3,7 +3,7 @@ use Rattle.std.specs.Prelude.{◌≡◌, ℕ, List, [], ◌∷◌, ◌++◌, Opt
 use Rattle.scsi_nexus.specs.declared.nexus.Nexus.{Nexus}
 use Rattle.logical_unit.specs.Answers as event
 use Rattle.logical_unit.specs.Answers.{DoneValue, IsAnswer}
-use Rattle.server.specs.Sessions.{Sessions}
+use Rattle.server.specs.Sessions.{Sessions, Whose}
 
 abbrev pub a : Nexus
 a = record { sas = 0x500000000000000A; port = 1 }
@@ -18,7 +18,7 @@ abbrev pub NeverSettles : (drained : List ℕ) → List DoneValue → List DoneV
 NeverSettles drained s t = ⊥
 
 -- these answers and no others were given to sessions of these
-abbrev pub Gives : List (Option Nexus) → List DoneValue → Type 0
+abbrev pub Gives : List Whose → List DoneValue → Type 0
 Gives sessions answers = Sessions KeepsAnswer NeverSettles (λ _. 1) sessions [] answers
 
 -- TEST UNIT READY

@@ -40,6 +40,8 @@ pub struct WaitTimes {
 pub struct ServeLimits<'a> {
     /// So many at each door. Each has a seat of its own, and serves one session at a time.
     pub workers: u8,
+    /// So many more, which serve nobody but at portals.
+    pub spare: u8,
     pub term: ServeTerm,
     pub times: WaitTimes,
     /// Once these are closed no session begins. Who waits for a connection then waits on until one comes or the door is
@@ -86,9 +88,17 @@ impl<'a> Acceptor<'a> {
         self.doors
     }
 
-    /// The door of the worker with this place among all: each door has as many.
+    /// The door of the worker with this place among all, if it has one: each door has as many workers, and the last ones of a socket serve
+    /// nobody.
     pub(crate) fn door_of(&self, place: usize) -> Option<&'a Door<'a>> {
-        self.doors.get(place.checked_rem(self.doors.len())?)
+        let count = self.doors.len();
+        let door = self.doors.get(place.checked_rem(count)?)?;
+        let is_spare = place.checked_div(count)? >= usize::from(self.limits.workers);
+        if is_spare && door.portal().is_none() {
+            None
+        } else {
+            Some(door)
+        }
     }
 
     /// Waits for the next connection of a door. One of its workers at a time does, so that the numbers of those that come in there

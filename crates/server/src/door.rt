@@ -1,3 +1,4 @@
+use crate::live_session::Origin;
 use crate::worker_service::Replies;
 use iscsi_login::LoginTarget;
 use std::io;
@@ -23,6 +24,8 @@ pub(crate) struct PortalDoor<'a> {
     pub group: u16,
     /// Where it listens.
     pub address: SocketAddr,
+    /// Where initiators are told that it is found, if it is by another address than they have come to.
+    pub told: Option<&'a str>,
 }
 
 /// Where connections come in, until it is shut down.
@@ -35,11 +38,12 @@ pub struct Door<'a> {
     pub(crate) turn: Mutex<()>,
 }
 
-/// A connection that has come in, and where at a portal it did.
+/// A connection that has come in, and at a portal where it did, and from where.
 #[derive(Drop)]
 pub(crate) struct Visitor {
     pub stream: UnixStream,
     pub came_to: Option<SocketAddr>,
+    pub origin: Option<Origin>,
 }
 
 impl<'a> Door<'a> {
@@ -54,17 +58,19 @@ impl<'a> Door<'a> {
     }
 
     /// Where initiators of iSCSI come in to a target, as to its portal group of this number. All portals of a library that is served
-    /// are of one target.
+    /// are of one target. They are told that it is found at this address, or else at the one that they have come to.
     pub fn of_portal(
         listener: TcpListener,
         target: &'a LoginTarget,
         group: u16,
+        told: Option<&'a str>,
     ) -> io::Result<Door<'a>> {
         let second = UnixStream::from(OwnedFd::from(listener.try_clone()?));
         let portal = PortalDoor {
             target,
             group,
             address: listener.local_addr()?,
+            told,
         };
         Ok(Door {
             entrance: Entrance::Portal(listener, portal),
@@ -108,16 +114,22 @@ impl<'a> Door<'a> {
                 Ok(Visitor {
                     stream,
                     came_to: None,
+                    origin: None,
                 })
             }
             Entrance::Portal(listener, portal) => {
-                let (stream, _) = listener.accept()?;
+                let (stream, peer) = listener.accept()?;
+                let origin = Origin {
+                    peer,
+                    group: portal.group,
+                };
                 // Without these a reply comes later, and an address that is only seen from here is told.
                 let _ = stream.set_nodelay(true);
                 let came_to = stream.local_addr().unwrap_or(portal.address);
                 Ok(Visitor {
                     stream: UnixStream::from(OwnedFd::from(stream)),
                     came_to: Some(came_to),
+                    origin: Some(origin),
                 })
             }
         }

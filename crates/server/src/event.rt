@@ -6,6 +6,7 @@ use output_lines::UnwrittenRecords;
 use scsi_nexus::Nexus;
 use session::End;
 use std::fmt;
+use std::net::IpAddr;
 
 /// A session that has ended.
 #[derive(Clone, Copy)]
@@ -28,6 +29,27 @@ pub enum Event {
     Begins(u64),
     Ends(EndedSession),
     Fails(FaultySession),
+    /// A connection of this address is closed, since as many of it as may be there haven't logged in.
+    Crowded(IpAddr),
+    /// A session was let in beside others of its nexus, which has so many now.
+    Joins {
+        number: u64,
+        nexus: Nexus,
+        count: u64,
+        address: IpAddr,
+    },
+    /// A session was let in in the place of another one, which has ended.
+    TakesPlace {
+        number: u64,
+        nexus: Nexus,
+        ended: u64,
+    },
+    /// Commands of a session are passed over, since the one with this number, which is before theirs, hasn't come.
+    Awaits {
+        number: u64,
+        nexus: Nexus,
+        command: u32,
+    },
     /// A connection couldn't be accepted.
     NotAccepted,
     /// A command of a nexus was BUSY at a logical unit for want of memory, or of a record number once the last is used.
@@ -48,8 +70,15 @@ impl Event {
         ensures { result ≡ is_detail self.now }
     {
         match self {
-            Event::Begins(_) | Event::Ends(_) | Event::Busy(_, _) | Event::NoSlot(_, _) => true,
+            Event::Begins(_)
+            | Event::Ends(_)
+            | Event::TakesPlace { .. }
+            | Event::Awaits { .. }
+            | Event::Busy(_, _)
+            | Event::NoSlot(_, _) => true,
             Event::Fails(_)
+            | Event::Crowded(_)
+            | Event::Joins { .. }
             | Event::NotAccepted
             | Event::Kept
             | Event::CaughtUp
@@ -69,6 +98,35 @@ impl fmt::Display for Event {
             Event::Begins(number) => write!(f, "vtl: session {number} begins"),
             Event::Ends(session) => write!(f, "vtl: session {session}"),
             Event::Fails(session) => write!(f, "vtl: session {session}"),
+            Event::Crowded(address) => write!(
+                f,
+                "vtl: a connection from {address} is closed: 4 of its address have not logged in"
+            ),
+            Event::Joins {
+                number,
+                nexus,
+                count,
+                address,
+            } => write!(
+                f,
+                "vtl: session {number} of {nexus}: its name has {count} sessions now, this one from {address}"
+            ),
+            Event::TakesPlace {
+                number,
+                nexus,
+                ended,
+            } => write!(
+                f,
+                "vtl: session {number} of {nexus}: takes the place of session {ended}"
+            ),
+            Event::Awaits {
+                number,
+                nexus,
+                command,
+            } => write!(
+                f,
+                "vtl: session {number} of {nexus}: command number {command} has not come, and those behind it are passed over"
+            ),
             Event::NotAccepted => { f.write_str("vtl: a connection could not be accepted") }
             Event::Busy(nexus, lun) => write!(
                 f,

@@ -27,6 +27,17 @@ impl Cause {
             _ => self,
         }
     }
+
+    /// By which words it is told.
+    pub(crate) fn words(self) -> &'static str
+        ensures { result.now ≡ cause_words self }
+    {
+        match self {
+            Cause::Fault(fault) => session_words(fault),
+            Cause::Iscsi(fault) => iscsi_words(fault),
+            Cause::Silence => "nothing came in time",
+        }
+    }
 }
 
 /// A session that had a fault.
@@ -87,21 +98,11 @@ impl fmt::Display for FaultySession {
 
     fn fmt<W: fmt::Write>(&self, f: &mut fmt::Formatter<W>) -> fmt::Result {
         let number = self.number;
-        let words = cause_words(self.cause);
+        let words = self.cause.words();
         match self.nexus {
             None => write!(f, "{number} before its LOGIN: {words}"),
             Some(nexus) => write!(f, "{number} of {nexus}: {words}"),
         }
-    }
-}
-
-fn cause_words(cause: Cause) -> &'static str
-    ensures { result.now ≡ cause_words cause }
-{
-    match cause {
-        Cause::Fault(fault) => session_words(fault),
-        Cause::Iscsi(fault) => iscsi_words(fault),
-        Cause::Silence => "nothing came in time",
     }
 }
 

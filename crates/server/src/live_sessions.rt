@@ -1,103 +1,74 @@
-use crate::caretaker::Caretaker;
 use crate::end_notice::EndNotice;
-use crate::logged_in::{LoggedIn, shown_name};
-use crate::record_drain::RecordDrain;
+use crate::live_list::{Entry, LiveList, RefusedInitiator};
+use crate::live_session::{Initiator, Origin};
+use crate::login_terms::{LoginTerms, SPARE_WORKERS};
+use crate::no_room::NoRoom;
 use crate::reset_counts::ResetCounts;
-use crate::session_flags::SessionFlags;
-use crate::teller::Teller;
-use iscsi_session::{SessionIdentity, SessionRegister};
+use iscsi_pdu::LoginStatus;
+use iscsi_session::{Entrant, Joined, NexusEnd, SessionIdentity};
 use scsi_nexus::Nexus;
-use slab::Slab;
 use std::alloc::Global;
-use std::io::{self, Write};
-use std::net::Shutdown;
+use std::io;
 use std::os::unix::net::UnixStream;
 use std::sync::{Condvar, Mutex, Wait};
 use std::time::{Clock, Duration};
-use tickets::{Outcome, ReplyTicket};
 
-/// How many seconds a session is waited for whose place another one takes.
+/// How many seconds a session is waited for whose place another one takes, and a nexus that is being lost.
 const END_OF_SESSION: u64 = 5;
 
-/// Who a session of iSCSI is.
-#[derive(Clone, Copy, PartialEq, Eq)]
-struct Initiator {
-    nexus: Nexus,
-    session: SessionIdentity,
-}
-
-/// A session that goes on.
-#[derive(Drop)]
-struct LiveSession {
-    stream: UnixStream,
-    /// Since its login, where it is one of iSCSI.
-    initiator: Option<Initiator>,
-}
-
-/// Whether sessions may begin, and those that go on.
-#[derive(Drop)]
-struct LiveList {
-    is_closed: bool,
-    sessions: Slab<LiveSession>,
-}
-
-impl LiveList {
-    /// The session that goes on as a nexus, if it is one of iSCSI.
-    fn living(&self, nexus: Nexus) -> Option<SessionIdentity> {
-        for (_, live) in self.sessions.iter() {
-            if let Some(initiator) = live.initiator {
-                if initiator.nexus == nexus {
-                    return Some(initiator.session);
-                }
-            }
-        }
-        None
-    }
-
-    fn has(&self, initiator: Initiator) -> bool {
-        self.living(initiator.nexus) == Some(initiator.session)
-    }
-
-    /// Shuts the stream of an initiator's session down, which then reads the end of its input.
-    fn shut_down(&self, initiator: Initiator) {
-        for (_, live) in self.sessions.iter() {
-            if live.initiator == Some(initiator) {
-                // One that can't be has ended by itself.
-                let _ = live.stream.shutdown(Shutdown::Both);
-            }
-        }
-    }
-}
-
-/// The sessions that go on, so that they can be ended from outside.
+/// The sessions that go on, so that they can be ended from outside, and on which terms initiators are let in beside them.
 #[derive(Drop)]
 pub struct LiveSessions {
     live: Mutex<LiveList>,
-    /// Told whenever one has ended.
-    ended: Condvar,
+    /// Told whenever one has ended, or its nexus has entered the directory.
+    changed: Condvar,
+    /// On which initiators of iSCSI are let in, where they may come.
+    terms: Option<LoginTerms>,
     /// The resets that sessions have made, those of frames and those of iSCSI.
     resets: ResetCounts,
     /// Given once none may begin.
     end_notice: EndNotice,
 }
 
+/// How a session has ended whose place another one takes.
+#[derive(Clone, Copy)]
+pub(crate) enum EndInPlace {
+    /// In time. It was this one in the order of accepting.
+    Ended(u64),
+    /// There was none any more.
+    WasGone,
+    /// Not in time.
+    GoesOn,
+}
+
 impl LiveSessions {
-    /// None goes on, and sessions may begin.
-    pub fn new(alloc: Global) -> LiveSessions {
+    /// None goes on, and sessions may begin, those of iSCSI on these terms, if there are some.
+    pub fn new(alloc: Global, terms: Option<LoginTerms>) -> LiveSessions {
         LiveSessions {
-            live: Mutex::new(LiveList {
-                is_closed: false,
-                sessions: Slab::new(alloc),
-            }),
-            ended: Condvar::new(),
+            live: Mutex::new(LiveList::new(alloc)),
+            changed: Condvar::new(),
+            terms,
             resets: ResetCounts::new(),
             end_notice: EndNotice::new(),
+        }
+    }
+
+    /// How many workers more there are at each door than sessions may log in: those hear, at portals, who hasn't logged in yet.
+    pub fn spare_workers(&self) -> u8 {
+        match self.terms {
+            Some(_) => SPARE_WORKERS,
+            None => 0,
         }
     }
 
     /// The resets that are made, to which those who make them add.
     pub(crate) fn resets(&self) -> &ResetCounts {
         &self.resets
+    }
+
+    /// Whether and when all sessions are to end.
+    pub(crate) fn end_notice(&self) -> &EndNotice {
+        &self.end_notice
     }
 
     /// Whether no more sessions may begin.
@@ -117,129 +88,141 @@ impl LiveSessions {
     pub fn end_after<R: Clock + Wait>(&self, rt: &R, grace: Duration) {
         let live = self.live.lock(rt);
         let (live, _) = self
-            .ended
-            .wait_timeout_while(rt, live, grace, |live| !live.sessions.is_empty());
-        for (_, live) in live.sessions.iter() {
-            // One that can't be has ended by itself.
-            let _ = live.stream.shutdown(Shutdown::Both);
-        }
+            .changed
+            .wait_timeout_while(rt, live, grace, |live| !live.is_empty());
+        live.shut_all_down();
     }
 
-    /// Enters a session by a second descriptor of its stream, and gives its key. `None` where no session may begin.
-    pub(crate) fn enter<R: Wait>(&self, rt: &R, stream: &UnixStream) -> io::Result<Option<usize>> {
-        let session = LiveSession {
-            stream: stream.try_clone()?,
-            initiator: None,
-        };
-        let mut live = self.live.lock(rt);
-        if live.is_closed {
-            return Ok(None);
-        }
-        Ok(Some(live.sessions.insert(session)?))
+    /// Enters a session of a place in the order of accepting by a second descriptor of its stream, where one may begin.
+    pub(crate) fn begin<R: Wait>(
+        &self,
+        rt: &R,
+        stream: &UnixStream,
+        number: u64,
+        origin: Option<Origin>,
+    ) -> io::Result<Entry> {
+        let second = stream.try_clone()?;
+        Ok(self.live.lock(rt).begin(second, number, origin)?)
     }
 
     /// Forgets a session that has ended, by its key.
-    pub(crate) fn leave<R: Wait>(&self, rt: &R, key: usize) {
+    pub(crate) fn forget<R: Wait>(&self, rt: &R, key: usize) {
         let mut live = self.live.lock(rt);
-        let _ = live.sessions.try_remove(key);
-        drop(live);
-        self.ended.notify_all();
+        live.forget(key);
+        self.changed.notify_all();
     }
 
-    /// Notes who the session of a key is.
-    fn note<R: Wait>(&self, rt: &R, key: usize, initiator: Initiator) {
-        let mut live = self.live.lock(rt);
-        if let Some(session) = live.sessions.get_mut(key) {
-            session.initiator = Some(initiator);
-        }
+    /// The session of an ISID that lives as a nexus, if there is one.
+    pub(crate) fn living<R: Wait>(
+        &self,
+        rt: &R,
+        nexus: Nexus,
+        isid: u64,
+    ) -> Option<SessionIdentity> {
+        self.live.lock(rt).living(nexus, isid)
     }
 
-    /// Shuts down the session of an initiator, and waits until it has ended: whether it has in time.
-    fn end<R: Clock + Wait>(&self, rt: &R, initiator: Initiator) -> bool {
+    /// Shuts down the session of an initiator, and waits until it has ended.
+    pub(crate) fn end<R: Clock + Wait>(&self, rt: &R, initiator: Initiator) -> EndInPlace {
         let live = self.live.lock(rt);
-        live.shut_down(initiator);
+        let Some(number) = live.shut_down(initiator) else {
+            return EndInPlace::WasGone;
+        };
         let time = Duration::from_secs(END_OF_SESSION);
         let (live, _) = self
-            .ended
+            .changed
             .wait_timeout_while(rt, live, time, |live| live.has(initiator));
-        !live.has(initiator)
-    }
-}
-
-/// The sessions that go on, as one of them sees them, by its key, and who is told when it has logged in.
-#[derive(Drop)]
-pub(crate) struct SessionsBeside<'a, C: Caretaker, R: Clock + Wait, E: Write> {
-    pub rt: &'a R,
-    pub sessions: &'a LiveSessions,
-    pub caretaker: &'a C,
-    /// Where records are handed out, if they are.
-    pub drain: Option<&'a RecordDrain>,
-    /// Those of the session that sees them so.
-    pub flags: &'a SessionFlags,
-    pub key: usize,
-    /// Its place in the order of accepting, from 1 on.
-    pub number: u64,
-    pub teller: &'a Teller<E>,
-    /// The resets that it has made or seen: of those that all sessions have made, each one that isn't among these is another's.
-    pub seen: ResetCounts,
-}
-
-impl<'a, C: Caretaker, R: Clock + Wait, E: Write> SessionRegister for SessionsBeside<'a, C, R, E> {
-    fn living(&self, nexus: Nexus) -> Option<SessionIdentity> {
-        self.sessions.live.lock(self.rt).living(nexus)
-    }
-
-    fn end(&self, nexus: Nexus, session: SessionIdentity) -> bool {
-        self.sessions.end(self.rt, Initiator { nexus, session })
-    }
-
-    fn note(&self, nexus: Nexus, session: SessionIdentity, name: &[u8]) {
-        self.sessions
-            .note(self.rt, self.key, Initiator { nexus, session });
-        let login = LoggedIn {
-            number: self.number,
-            nexus,
-            name: shown_name(name),
-        };
-        self.teller.tell_login(self.rt, &login);
-    }
-
-    fn was_reset(&self, unit: u8) -> bool {
-        let count = self.sessions.resets.of(unit);
-        if self.seen.of(unit) == count {
-            return false;
+        if live.has(initiator) {
+            EndInPlace::GoesOn
+        } else {
+            EndInPlace::Ended(number)
         }
-        self.seen.set(unit, count);
-        true
     }
 
-    // The session's worker has counted it among all. It is one more here, and not as many as there are: a reset that another session
-    // has made meanwhile would be lost by that.
-    fn note_reset(&self, unit: u8) {
-        self.seen.add(unit);
+    /// Notes the name that the initiator of a session has given.
+    pub(crate) fn note_name<R: Wait>(&self, rt: &R, key: usize, name: &[u8]) {
+        if let Some(live) = self.live.lock(rt).session_mut(key) {
+            live.note_name(name);
+        }
     }
 
-    fn ends_within(&self) -> Option<u16> {
-        self.sessions.end_notice.ends_within()
+    /// Lets a session in as one of discovery, or says how it is refused.
+    pub(crate) fn admit_discovery<R: Wait>(&self, rt: &R, key: usize) -> Result<(), LoginStatus> {
+        let mut live = self.live.lock(rt);
+        match live.admit_discovery(key, self.terms) {
+            Ok(()) => Ok(()),
+            Err(no_room) => Err(refused_in(&mut live, key, no_room)),
+        }
     }
 
-    fn note_holding(&self, is_holding: bool) {
-        self.flags.note_holding(is_holding);
+    /// Lets a session in as one of a nexus, once that isn't about to change, or says how it is refused.
+    pub(crate) fn admit<R: Clock + Wait>(
+        &self,
+        rt: &R,
+        key: usize,
+        entrant: &Entrant,
+    ) -> Result<Joined, LoginStatus> {
+        let nexus = entrant.nexus;
+        let live = self.live.lock(rt);
+        let time = Duration::from_secs(END_OF_SESSION);
+        let (mut live, _) = self
+            .changed
+            .wait_timeout_while(rt, live, time, |live| live.is_changing(nexus));
+        if live.is_changing(nexus) {
+            return Err(refused_in(&mut live, key, NoRoom::Loss));
+        }
+        match live.admit(key, entrant, self.terms) {
+            Ok(joined) => Ok(joined),
+            Err(no_room) => Err(refused_in(&mut live, key, no_room)),
+        }
     }
 
-    fn outcome_of(&self, ticket: ReplyTicket) -> Option<Outcome> {
-        if let (Some(drain), Some(record)) = (self.drain, ticket.handed_out) {
-            if drain.is_full(self.rt, record) {
-                return None;
+    /// The nexus of a session that is one of a nexus.
+    pub(crate) fn nexus_of<R: Wait>(&self, rt: &R, key: usize) -> Option<Nexus> {
+        self.live.lock(rt).nexus_of(key)
+    }
+
+    /// How many sessions a nexus has.
+    pub(crate) fn count_of<R: Wait>(&self, rt: &R, nexus: Nexus) -> usize {
+        self.live.lock(rt).count_of(nexus)
+    }
+
+    /// Notes the key in the directory of the nexus of a session.
+    pub(crate) fn note_key<R: Wait>(&self, rt: &R, key: usize, directory_key: usize) {
+        let mut live = self.live.lock(rt);
+        if let Some(session) = live.session_mut(key) {
+            session.note_key(directory_key);
+        }
+        self.changed.notify_all();
+    }
+
+    /// Notes that a session isn't let in after all, since its nexus has a session at the Unix socket, or for want of memory.
+    pub(crate) fn withdraw<R: Wait>(&self, rt: &R, key: usize, status: LoginStatus) {
+        let mut live = self.live.lock(rt);
+        if let Some(session) = live.session_mut(key) {
+            session.withdraw();
+            if status == LoginStatus::OutOfResources {
+                session.note_no_room(NoRoom::Socket);
             }
         }
-        let outcome = match ticket.kept {
-            Some(kept) => self.caretaker.outcome_of(self.rt, kept)?,
-            None => Outcome::Kept,
-        };
-        if ticket.handed_out.is_some() {
-            self.flags.note_paced();
-        }
-        Some(outcome)
+        self.changed.notify_all();
     }
+
+    /// Ends a session of a nexus, and says what becomes of that.
+    pub(crate) fn leave<R: Wait>(&self, rt: &R, key: usize, nexus: Nexus) -> NexusEnd {
+        self.live.lock(rt).leave(key, nexus)
+    }
+
+    /// What is to be told of a session whose initiator wasn't let in, if something is.
+    pub(crate) fn refused<R: Wait>(&self, rt: &R, key: usize) -> Option<RefusedInitiator> {
+        self.live.lock(rt).refused(key)
+    }
+}
+
+/// Notes why a session isn't let in, and says how its initiator is told.
+fn refused_in(live: &mut LiveList, key: usize, no_room: NoRoom) -> LoginStatus {
+    if let Some(session) = live.session_mut(key) {
+        session.note_no_room(no_room);
+    }
+    no_room.status()
 }

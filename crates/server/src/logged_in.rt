@@ -29,8 +29,14 @@ impl<'a> fmt::Display for LoggedIn<'a> {
     }
 }
 
+/// What is told in the place of the name of an initiator that has given none.
+const NO_NAME: &str = "an initiator without a name";
+
 /// A name that an initiator has given, as it is told.
 pub(crate) fn shown_name(name: &[u8]) -> &str {
+    if name.is_empty() {
+        return NO_NAME;
+    }
     if !name.iter().all(|byte| byte.is_ascii_graphic()) {
         return NO_TEXT;
     }

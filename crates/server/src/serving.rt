@@ -1,16 +1,17 @@
 //! A session from its connection on, with the times that its host has.
 ghost use Rattle.std.specs.Prelude.{◌⊎◌, IfOk, IfErr};
 ghost use Rattle.iscsi_session.specs.Leaving as iscsi;
-ghost use Rattle.session.specs.Leaving.{Leaves};
+ghost use Rattle.session.specs.Leaving as frames;
 ghost use Rattle.session.specs.Serving.{BreaksOff, IsKeptOut, Serves};
 ghost use Rattle.server.specs.SeatService.{DoesForWorker};
+ghost use Rattle.server.specs.Sessions.{Leaves};
 
 use crate::acceptor::{Acceptor, WaitTimes};
 use crate::caretaker::Caretaker;
 use crate::door::{Door, PortalDoor};
 use crate::faulty_session::{Cause, FaultySession};
 use crate::kept_writer::KeptWriter;
-use crate::live_sessions::SessionsBeside;
+use crate::sessions_beside::SessionsBeside;
 use crate::timed_reader::{Patience, TimedReader};
 use crate::waiting::PollSource;
 use crate::worker::Visit;
@@ -19,6 +20,7 @@ use iscsi_login::{Authentication, Challenge};
 use iscsi_session::{Arrival, IscsiEnd, IscsiFault, KeepingService, Portal, PortalAddress};
 use session::{End, SeatService, SessionFault, serve};
 use std::alloc::{AllocError, Global};
+use std::cell::Cell;
 use std::io::{Read, Write};
 use std::net::SocketAddr;
 use std::random::RandomSource;
@@ -97,6 +99,7 @@ fn patience_at(door: &Door<'_>, times: WaitTimes) -> Patience {
 }
 
 /// Serves a session of a door.
+#[tactic(auto, using(crate::proofs::Sessions::socket_left))]
 fn serve_session<
     'a,
     S: SeatService,
@@ -134,18 +137,17 @@ fn serve_session<
                 flags: service.flags,
                 key: visit.key,
                 number: visit.number,
+                origin: visit.visitor.origin,
                 teller: service.teller,
+                missing: Cell::new(None),
                 seen: sessions.resets().copied(),
             };
-            match serve_iscsi(
-                alloc,
-                service,
-                &beside,
-                acceptor.doors(),
+            let place = PortalPlace {
                 came_to,
-                reader,
-                writer,
-            ) {
+                doors: acceptor.doors(),
+                tsih: visit.tsih,
+            };
+            match serve_iscsi(alloc, service, &beside, place, reader, writer) {
                 Ok(end) => Ok(end),
                 Err(fault) => Err(Cause::Iscsi(fault)),
             }
@@ -162,12 +164,23 @@ fn serve_frames<'a, S: SeatService, C: Caretaker, R: Wait, E: Write, I: Read, O:
 ) -> Result<End, SessionFault>
     ensures session { IfOk result (λ end. Serves (DoesForWorker S.notes S.settles) S.count service.old (I.remaining reader.old) (I.remaining reader.new)
         (O.contents writer.old) (O.contents writer.new) end service.new) }
-    ensures service { Leaves (DoesForWorker S.notes S.settles) S.count service.old service.new }
+    ensures service { frames.Leaves (DoesForWorker S.notes S.settles) S.count service.old service.new }
     ensures broken { IfErr result (λ fault.
         IsKeptOut service.old (I.remaining reader.old) (I.remaining reader.new) (O.contents writer.old) (O.contents writer.new) fault service.new
         ⊎ BreaksOff (DoesForWorker S.notes S.settles) S.count service.old (I.remaining reader.old) fault service.new) }
 {
     serve(alloc, service, reader, writer, u64::MAX)
+}
+
+/// Where an initiator has come in.
+#[derive(Clone, Copy)]
+struct PortalPlace<'d> {
+    /// The portal, with the address that the connection has come to.
+    came_to: PortalDoor<'d>,
+    /// Those among which the portals of its target are.
+    doors: &'d [Door<'d>],
+    /// What may be the target's part of its session's identifier.
+    tsih: u16,
 }
 
 /// Serves one session of iSCSI, at a portal whose address is the one that it has come to.
@@ -182,15 +195,15 @@ fn serve_iscsi<
     alloc: Global,
     service: &mut S,
     beside: &SessionsBeside<'_, C, R, E>,
-    doors: &[Door<'_>],
-    came_to: PortalDoor<'_>,
+    place: PortalPlace<'_>,
     reader: &mut I,
     writer: &mut O,
 ) -> Result<End, IscsiFault>
-    ensures { iscsi.Leaves S.notes S.count came_to.entry.group service.old service.new }
+    ensures { iscsi.Leaves S.notes S.count (λ _. Unit {0}) place.entry.came_to.group service.old service.new }
 {
-    let portals = addresses_from(alloc, doors, came_to.address)?;
-    let address = came_to.address.to_string(alloc)?;
+    let came_to = place.came_to;
+    let portals = addresses_from(alloc, place.doors, came_to.address)?;
+    let address = told_address(alloc, &came_to, came_to.address)?;
     let arrival = Arrival {
         portal: Portal {
             target: came_to.target,
@@ -199,7 +212,7 @@ fn serve_iscsi<
             portals: &portals,
         },
         challenge: challenge_for(beside.rt, &came_to.target.authentication),
-        tsih: u16::try_from(beside.key.saturating_add(1)).unwrap_or(u16::MAX),
+        tsih: place.tsih,
     };
     let ended = iscsi_session::serve(alloc, service, beside, &arrival, reader, writer, u64::MAX)?;
     Ok(match ended {
@@ -219,7 +232,7 @@ fn addresses_from(
     for door in doors {
         if let Some(portal) = door.portal() {
             addresses.push(PortalAddress {
-                address: told_address(portal.address, came_to).to_string(alloc)?,
+                address: told_address(alloc, &portal, came_to)?,
                 group: portal.group,
             })?;
         }
@@ -227,13 +240,23 @@ fn addresses_from(
     Ok(addresses)
 }
 
-/// Where a portal is found by who has come to an address: one that listens at all addresses is found at that one.
-fn told_address(bound: SocketAddr, came_to: SocketAddr) -> SocketAddr {
-    if bound.ip().is_unspecified() {
-        SocketAddr::new(came_to.ip().to_canonical(), bound.port())
-    } else {
-        bound
+/// Where a portal is found by who has come to an address: where initiators are to be told that it is, or else where it listens, and at that
+/// address where it listens at all. An address of IPv4 that a portal of IPv6 sees is told as one of IPv4.
+fn told_address(
+    alloc: Global,
+    portal: &PortalDoor<'_>,
+    came_to: SocketAddr,
+) -> Result<String, AllocError> {
+    if let Some(told) = portal.told {
+        return String::from_str(alloc, told);
     }
+    let bound = portal.address;
+    let ip = if bound.ip().is_unspecified() {
+        came_to.ip()
+    } else {
+        bound.ip()
+    };
+    SocketAddr::new(ip.to_canonical(), bound.port()).to_string(alloc)
 }
 
 /// What an initiator is asked, if it is. `None` too where the system gives no random bytes.

@@ -2,9 +2,11 @@ ghost use Rattle.std.specs.Prelude.{◌++◌, ◌∷◌, [], OnOk};
 ghost use Rattle.std.specs.Io.KnownBytes.{Appends};
 ghost use Rattle.server.specs.Events.{event_text};
 ghost use Rattle.server.specs.Logins.{logged_in_text};
+ghost use Rattle.server.specs.RefusedLogins.{refused_login_text};
 
 use crate::event::Event;
 use crate::logged_in::LoggedIn;
+use crate::refused_login::RefusedLogin;
 use std::io::{self, Write};
 use std::sync::{Mutex, Wait};
 use tape_keeper::KeepEvent;
@@ -45,6 +47,12 @@ impl<E: Write> Teller<E> {
         }
     }
 
+    /// Tells of a login that was refused.
+    pub(crate) fn tell_refused<R: Wait>(&self, rt: &R, login: &RefusedLogin<'_>) {
+        let mut errors = self.errors.lock(rt);
+        let _ = write_refused(&mut *errors, login);
+    }
+
     /// Tells how keeping tapes goes. Where its line can't be written there is nobody to tell.
     pub(crate) fn tell_keeping<R: Wait>(&self, rt: &R, event: &KeepEvent) {
         let mut errors = self.errors.lock(rt);
@@ -66,6 +74,13 @@ impl<E: Write> Teller<E> {
 /// Writes the line of an initiator that has logged in.
 fn write_login<E: Write>(errors: &mut E, login: &LoggedIn<'_>) -> io::Result<()>
     ensures { OnOk result (Appends (E.contents errors.old) (E.contents errors.new) (logged_in_text login.now ++ 10 ∷ [])) }
+{
+    writeln!(errors, "{login}")
+}
+
+/// Writes the line of a login that was refused.
+fn write_refused<E: Write>(errors: &mut E, login: &RefusedLogin<'_>) -> io::Result<()>
+    ensures { OnOk result (Appends (E.contents errors.old) (E.contents errors.new) (refused_login_text login.now ++ 10 ∷ [])) }
 {
     writeln!(errors, "{login}")
 }

@@ -1,15 +1,20 @@
-ghost use Rattle.session.specs.Leaving.{Leaves};
 ghost use Rattle.server.specs.SeatService.{DoesForWorker};
-ghost use Rattle.server.specs.Sessions.{ComesBySessions};
+ghost use Rattle.server.specs.Sessions.{ComesBySessions, Leaves};
 
 use crate::acceptor::{Acceptor, Connection};
 use crate::caretaker::Caretaker;
 use crate::door::{Door, Visitor};
 use crate::event::{EndedSession, Event};
-use crate::faulty_session::{FaultySession, first_accepted};
+use crate::faulty_session::{Cause, FaultySession, first_accepted};
+use crate::live_list::Entry;
+use crate::live_sessions::LiveSessions;
+use crate::logged_in::shown_name;
+use crate::refused_login::RefusedLogin;
 use crate::serving::serve_connection;
+use crate::teller::Teller;
 use crate::waiting::PollSource;
 use crate::worker_service::{SessionSoFar, WorkerService};
+use iscsi_session::IscsiFault;
 use session::SeatService;
 use std::alloc::Global;
 use std::io::Write;
@@ -33,6 +38,8 @@ pub(crate) struct Visit<'v, 'd> {
     pub number: u64,
     /// Its key among the sessions that go on.
     pub key: usize,
+    /// What may be the target's part of its session's identifier.
+    pub tsih: u16,
 }
 
 impl<
@@ -76,22 +83,25 @@ impl<
         ensures { Leaves (DoesForWorker S.notes S.settles) S.count self.old.service self.new.service }
     {
         let rt = self.service.rt;
+        let teller = self.service.teller;
         let sessions = acceptor.limits.sessions;
-        match sessions.enter(rt, &visitor.stream) {
-            Ok(Some(key)) => {
+        match sessions.begin(rt, &visitor.stream, number, visitor.origin) {
+            Ok(Entry::Begins { key, tsih }) => {
                 let visit = Visit {
                     visitor,
                     door,
                     number,
                     key,
+                    tsih,
                 };
                 let fault = self.serve_and_tell(alloc, acceptor, visit);
-                sessions.leave(rt, key);
+                sessions.forget(rt, key);
                 self.fault = first_accepted(self.fault, fault);
             }
-            Ok(None) => {}
+            Ok(Entry::Ended) => {}
+            Ok(Entry::Crowded(address)) => teller.tell(rt, &Event::Crowded(address)),
             // There is no second descriptor, or no room for it.
-            Err(_) => self.service.teller.tell(rt, &Event::NotAccepted),
+            Err(_) => teller.tell(rt, &Event::NotAccepted),
         }
     }
 
@@ -118,7 +128,7 @@ impl<
             Err(_) => 0,
         };
         if let Err(session) = ended {
-            teller.tell(rt, &Event::Fails(session));
+            tell_failure(rt, acceptor.limits.sessions, teller, visit, session);
         }
         let ended_session = EndedSession {
             number,
@@ -129,5 +139,30 @@ impl<
         };
         teller.tell(rt, &Event::Ends(ended_session));
         ended.err()
+    }
+}
+
+/// Tells of a session that had a fault; of a login that was refused at a portal with where it came from, its name, and why there was no room
+/// for it.
+fn tell_failure<R: Wait, E: Write>(
+    rt: &R,
+    sessions: &LiveSessions,
+    teller: &Teller<E>,
+    visit: Visit<'_, '_>,
+    session: FaultySession,
+) {
+    match (session.cause, visit.visitor.origin) {
+        (Cause::Iscsi(IscsiFault::Refused(_)), Some(origin)) => {
+            if let Some(refused) = sessions.refused(rt, visit.key) {
+                let login = RefusedLogin {
+                    session,
+                    peer: origin.peer,
+                    name: shown_name(refused.name.as_slice()),
+                    no_room: refused.no_room,
+                };
+                teller.tell_refused(rt, &login);
+            }
+        }
+        _ => teller.tell(rt, &Event::Fails(session)),
     }
 }

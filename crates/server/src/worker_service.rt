@@ -366,4 +366,9 @@ impl<'a, S: SeatService, C: Caretaker, R: Wait, E: Write> KeepingService
         self.flags.hold();
         Some(ReplyTicket { kept, handed_out })
     }
+
+    fn join(&mut self, nexus: Nexus) {
+        self.session.nexus = Some(nexus);
+        self.flags.come_in();
+    }
 }

@@ -7,10 +7,11 @@ use Rattle.scsi_nexus.specs.declared.nexus.Nexus.{Nexus}
 use Rattle.logical_unit.specs.Answers.{DoneValue}
 use Rattle.lun_router.specs.Seats.{SeatValue, IsUntold, Notes, Settles}
 use Rattle.session.specs.Answering.{Calls}
-use Rattle.session.specs.Leaving.{ComesBySession}
+use Rattle.iscsi_session.specs.declared.register.NexusEnd.{NexusEnd}
+use Rattle.iscsi_session.specs.declared.register.NexusEnd.TheVariants.{Lost, GoesOn}
 use Rattle.session.specs.Serving.{IsLostBelow}
 use Rattle.server.specs.SeatService.{DoesForWorker, MaySettle}
-use Rattle.server.specs.Sessions.{ComesBySessions, Sessions}
+use Rattle.server.specs.Sessions.{ComesByOne, ComesBySessions, ComesToEnd, Sessions, Whose}
 use Rattle.library_service.specs.LibraryService.{DoesToService, LibraryServiceValue, SettlesService, service_at}
 use Rattle.server_socket.specs.ServedSeats.{IsOfSessions, SeatsCome}
 
@@ -37,10 +38,10 @@ lost_at n (suc lun) p q all so =
     let before = lost_at n lun p so.0 so.1 so.3 in
     let here = does_at so.0 q so.2 so.5 in ((so.0.seat, so.1, so.2, before.0, so.4, here.0, so.6), here.1 ∙ before.1)
 
-session_at : (u : ℕ) (who : Option Nexus) (p q : LibraryServiceValue) → p.units ≡ u → ComesBySession (DoesForWorker DoesToService SettlesService) (λ x. x.units) who p q
-    → ComesBySession (DoesForWorker Notes Settles) (λ _. u) who p.seat q.seat × (q.units ≡ u)
-session_at u None p q size so = (ap (λ (x : LibraryServiceValue). x.seat) so, ap (λ (x : LibraryServiceValue). x.units) so ∙ size)
-session_at u (Some n) p q size so =
+end_at : (u : ℕ) (n : Nexus) (end : NexusEnd) (p q : LibraryServiceValue) → p.units ≡ u
+    → ComesToEnd (DoesForWorker DoesToService SettlesService) (λ x. x.units) n end p q
+    → ComesToEnd (DoesForWorker Notes Settles) (λ _. u) n end p.seat q.seat × (q.units ≡ u)
+end_at u n Lost p q size so =
     let calls = calls_at n so.calls.0 p so.before so.calls.1 in
     let lost = lost_at n so.before.units so.before q so.all so.lost in (
       record {
@@ -51,8 +52,14 @@ session_at u (Some n) p q size so =
       },
       lost.1 ∙ calls.1 ∙ size,
     )
+end_at u n GoesOn p q size so = let calls = calls_at n so.0 p q so.1 in ((so.0, calls.0), calls.1 ∙ size)
 
-sessions_at : (u : ℕ) (sessions : List (Option Nexus)) (p q : LibraryServiceValue) → p.units ≡ u → Sessions DoesToService SettlesService (λ x. x.units) sessions p q
+session_at : (u : ℕ) (who : Whose) (p q : LibraryServiceValue) → p.units ≡ u → ComesByOne (DoesForWorker DoesToService SettlesService) (λ x. x.units) who p q
+    → ComesByOne (DoesForWorker Notes Settles) (λ _. u) who p.seat q.seat × (q.units ≡ u)
+session_at u None p q size so = (ap (λ (x : LibraryServiceValue). x.seat) so, ap (λ (x : LibraryServiceValue). x.units) so ∙ size)
+session_at u (Some who) p q size so = end_at u who.0 who.1 p q size so
+
+sessions_at : (u : ℕ) (sessions : List Whose) (p q : LibraryServiceValue) → p.units ≡ u → Sessions DoesToService SettlesService (λ x. x.units) sessions p q
     → Sessions Notes Settles (λ _. u) sessions p.seat q.seat
 sessions_at u [] p q size so = ap (λ (x : LibraryServiceValue). x.seat) so
 sessions_at u (who ∷ others) p q size so =

@@ -2,7 +2,7 @@
 use Rattle.std.specs.Prelude.{ℕ, List, ◌++◌, codes, string_bytes, Option, Some, None}
 use Rattle.std.specs.Fmt.{decimal}
 use Rattle.iscsi_chap.specs.declared.secrets_fault.LineFault.{LineFault}
-use Rattle.iscsi_chap.specs.declared.secrets_fault.LineFault.TheVariants.{FieldCount, Name, SecretLength, SameSecret}
+use Rattle.iscsi_chap.specs.declared.secrets_fault.LineFault.TheVariants.{FieldCount, Name, SecretLength, SameSecret, UserTwice}
 use Rattle.media_folder.specs.Faults.{folder_status}
 use Rattle.program_options.specs.ListenFaults.{listen_status, listen_text}
 use Rattle.server_socket.specs.ServerFaults as host
@@ -23,6 +23,7 @@ line_words FieldCount = codes "say NAME USER SECRET, or NAME USER SECRET TARGET-
 line_words Name = codes "NAME is no iSCSI name: say one as iqn.2026-11.example:a"
 line_words SecretLength = codes "a secret has 12 to 128 bytes"
 line_words SameSecret = codes "the target has the secret of the host: say another"
+line_words UserTwice = codes "the host has a line with this user already"
 
 -- the second line names the path; no clause says what is told of a folder
 abbrev pub socket_text : SocketFault → Option (List ℕ)

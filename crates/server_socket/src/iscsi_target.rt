@@ -5,17 +5,21 @@ ghost use Rattle.server_socket.specs.Places.{portals_of};
 use crate::secrets_file::secrets_at;
 use crate::socket_fault::SocketFault;
 use command_line::IscsiOptions;
-use iscsi_login::{Access, Authentication, Host, LoginTarget};
-use program_options::NamedHost;
+use iscsi_login::{Access, Authentication, ChapAccess, ChapDigests, Host, LoginTarget};
+use program_options::{NamedHost, PortalOptions};
+use server::Paths;
 use std::alloc::{AllocError, Global};
 use std::fs::Files;
-use std::net::SocketAddr;
 
-/// A target, and where its portals are.
+/// A target, where its portals are, and who is let in there.
 #[derive(Drop)]
 pub(crate) struct PortalTarget {
     pub target: LoginTarget,
-    pub portals: Vec<SocketAddr>,
+    pub portals: Vec<PortalOptions>,
+    /// From where further sessions of a nexus may come.
+    pub paths: Paths,
+    /// How many nexuses of hosts that aren't named may be let in.
+    pub most_strangers: u8,
 }
 
 /// The target that is asked for. Where none is, it has no portals.
@@ -30,6 +34,8 @@ pub(crate) fn target_of<R: AllocGlobal + Files>(
         return Ok(PortalTarget {
             target: target_named(alloc, "", Vec::new(alloc), false, Authentication::None)?,
             portals: Vec::new(alloc),
+            paths: Paths::SameAddress,
+            most_strangers: 0,
         });
     };
     let IscsiOptions {
@@ -37,17 +43,37 @@ pub(crate) fn target_of<R: AllocGlobal + Files>(
         target_name,
         hosts,
         any_host,
+        most_strangers,
+        multipath,
         chap,
+        chap_digests,
     } = options;
     let hosts = hosts_of(alloc, hosts)?;
     let authentication = match chap {
-        Some(path) => Authentication::Chap(secrets_at(rt, path)?),
+        Some(path) => Authentication::Chap(ChapAccess {
+            secrets: secrets_at(rt, path)?,
+            digests: digests_of(chap_digests),
+        }),
         None => Authentication::None,
     };
     Ok(PortalTarget {
         target: target_named(alloc, target_name.as_str(), hosts, any_host, authentication)?,
         portals,
+        paths: if multipath {
+            Paths::Any
+        } else {
+            Paths::SameAddress
+        },
+        most_strangers,
     })
+}
+
+/// The digests that are asked for, as a login looks them up.
+fn digests_of(digests: program_options::ChapDigests) -> ChapDigests {
+    match digests {
+        program_options::ChapDigests::Sha256 => ChapDigests::Sha256,
+        program_options::ChapDigests::Sha256AndMd5 => ChapDigests::Sha256AndMd5,
+    }
 }
 
 fn target_named(

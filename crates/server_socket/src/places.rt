@@ -6,12 +6,12 @@ ghost use Rattle.server_socket.specs.Places.{count_of};
 use crate::socket_fault::SocketFault;
 use crate::socket_file::{SocketFile, make_socket_file};
 use iscsi_login::LoginTarget;
-use program_options::ListenFault;
+use program_options::{ListenFault, PortalOptions};
 use server::Door;
 use std::alloc::{AllocError, Global};
 use std::fs::Files;
 use std::io::{self, Write};
-use std::net::{Net, SocketAddr, TcpListener, TcpStream};
+use std::net::{Net, TcpListener, TcpStream};
 
 /// The doors of a library, and the socket's file, if there is one.
 #[derive(Drop)]
@@ -28,7 +28,7 @@ pub(crate) fn open_places<
     E: Write,
 >(
     rt: &R,
-    portals: &[SocketAddr],
+    portals: &'a [PortalOptions],
     target: &'a LoginTarget,
     socket: Option<String>,
     errors: &mut E,
@@ -59,19 +59,19 @@ pub(crate) fn open_places<
 /// Listens at portals: the first is that of portal group 1, and so on.
 fn open_portals<'a, R: AllocGlobal + Net<Listener = TcpListener, Stream = TcpStream>>(
     rt: &R,
-    portals: &[SocketAddr],
+    portals: &'a [PortalOptions],
     target: &'a LoginTarget,
 ) -> Result<Vec<Door<'a>>, SocketFault>
     ensures { IfOk result (λ doors. vec_len doors ≡ length portals.now) }
 {
     let mut doors = Vec::new(rt.alloc());
     let mut group = 0u16;
-    for address in portals {
+    for portal in portals {
         group = group.saturating_add(1);
-        match open_portal(rt, *address, target, group) {
+        match open_portal(rt, portal, target, group) {
             Ok(door) => doors.push(door).map_err(AllocError::from)?,
             Err(error) => {
-                let address = address.to_string(rt.alloc())?;
+                let address = portal.address.to_string(rt.alloc())?;
                 return Err(ListenFault::of_portal(address, error.kind()).into());
             }
         }
@@ -81,11 +81,15 @@ fn open_portals<'a, R: AllocGlobal + Net<Listener = TcpListener, Stream = TcpStr
 
 fn open_portal<'a, R: Net<Listener = TcpListener, Stream = TcpStream>>(
     rt: &R,
-    address: SocketAddr,
+    portal: &'a PortalOptions,
     target: &'a LoginTarget,
     group: u16,
 ) -> io::Result<Door<'a>> {
-    Door::of_portal(TcpListener::bind(rt, address)?, target, group)
+    let told = match &portal.told {
+        Some(told) => Some(told.as_str()),
+        None => None,
+    };
+    Door::of_portal(TcpListener::bind(rt, portal.address)?, target, group, told)
 }
 
 impl<'a> Places<'a> {

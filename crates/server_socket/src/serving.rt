@@ -1,4 +1,4 @@
-ghost use Rattle.std.specs.Prelude.{◌≡◌, ◌*◌, ◌<◌, ◌≤◌, ◌⊎◌, [], None, length, IfErr, IfSome, OnOk};
+ghost use Rattle.std.specs.Prelude.{◌≡◌, ◌+◌, ◌*◌, ◌<◌, ◌≤◌, ◌⊎◌, [], None, length, IfErr, IfSome, OnOk};
 ghost use Rattle.std.specs.List.{AllZip};
 ghost use Rattle.logical_unit.specs.UnitView.{units_of};
 ghost use Rattle.lun_router.specs.Opening.{IsSince};
@@ -71,11 +71,11 @@ pub fn serve_library<
 ) -> Result<(), ServerFault>
     requires some { 0 < limits.workers }
     requires doors { (0 < length doors.now) × (length doors.now ≤ 5) }
-    ensures served { OnOk result (ServesLibrary (units_of core) (limits.entry.workers * length doors.now) means.now.records
+    ensures served { OnOk result (ServesLibrary (units_of core) ((limits.entry.workers + limits.entry.spare) * length doors.now) means.now.records
         (W.contents writer.old) (W.contents writer.new)) }
     ensures fault { IfErr result (λ fault. MayTell limits.entry.term fault) }
 {
-    let seats = seats_at(limits.workers, doors.len());
+    let seats = seats_at(limits.workers, limits.spare, doors.len());
     let parts = seats as u64;
     let blanks = Blanks {
         zero: Blank::new(parts),
@@ -90,15 +90,15 @@ pub fn serve_library<
     )
 }
 
-/// How many seats there are at so many doors, each with so many workers.
+/// How many seats there are at so many doors, each with so many workers and so many more.
 #[tactic(auto, using(crate::proofs::Seats::some_seats, crate::proofs::Seats::few_seats))]
-fn seats_at(workers: u8, doors: usize) -> usize
+fn seats_at(workers: u8, spare: u8, doors: usize) -> usize
     requires workers { 0 < workers }
     requires doors { (0 < doors) × (doors ≤ 5) }
-    ensures count { result ≡ workers * doors }
-    ensures some { (0 < result) × (result ≤ 1275) }
+    ensures count { result ≡ (workers + spare) * doors }
+    ensures some { (0 < result) × (result ≤ 2550) }
 {
-    usize::from(workers) * doors
+    (usize::from(workers) + usize::from(spare)) * doors
 }
 
 /// The same, generic over the five ledgers.

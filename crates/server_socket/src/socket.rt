@@ -18,7 +18,9 @@ use command_line::ServeOptions;
 use library_device::Device;
 use output_lines::{Audit, RecordOutput};
 use program_options::{LibraryOptions, MAX_READS, ServeTimes, ServeUntil};
-use server::{LiveSessions, PollSource, ServeLimits, ServeTerm, Teller, Telling, WaitTimes};
+use server::{
+    LiveSessions, LoginTerms, PollSource, ServeLimits, ServeTerm, Teller, Telling, WaitTimes,
+};
 use std::alloc::{AllocError, Global};
 use std::fs::Files;
 use std::io::{self, Read, Write};
@@ -74,6 +76,7 @@ pub fn serve<
     let service = ServiceOptions {
         until,
         times,
+        terms: terms_of(&made, until),
         records: RecordOutput::new(drain, audit),
         telling: telling_of(log),
     };
@@ -105,8 +108,22 @@ fn memory_limit(alloc: Global, memory: Option<u64>) -> Result<MemoryLimit, Alloc
 struct ServiceOptions {
     until: ServeUntil,
     times: ServeTimes,
+    /// On which initiators of iSCSI are let in, where they may come.
+    terms: Option<LoginTerms>,
     records: RecordOutput,
     telling: Telling,
+}
+
+/// On which terms initiators are let in at the portals of a target, if it has some.
+fn terms_of(made: &PortalTarget, until: ServeUntil) -> Option<LoginTerms> {
+    if made.portals.is_empty() {
+        return None;
+    }
+    Some(LoginTerms {
+        most_sessions: until.workers(),
+        paths: made.paths,
+        most_strangers: made.most_strangers,
+    })
 }
 
 /// Serves a library at a socket, at portals or at both, and tells before where they are.
@@ -208,10 +225,11 @@ fn serve_until<
     let ServiceOptions {
         until,
         times,
+        terms,
         records,
         telling: _,
     } = service;
-    let sessions = LiveSessions::new(rt.alloc());
+    let sessions = LiveSessions::new(rt.alloc(), terms);
     let (served, ()) = thread::join(
         rt,
         || -> Result<(), ServerFault>
@@ -249,6 +267,7 @@ fn limits_of(until: ServeUntil, times: ServeTimes, sessions: &LiveSessions) -> S
 {
     ServeLimits {
         workers: until.workers(),
+        spare: sessions.spare_workers(),
         term: term_of(until),
         times: WaitTimes {
             login: times.login,

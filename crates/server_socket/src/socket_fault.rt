@@ -86,6 +86,7 @@ fn line_words(fault: LineFault) -> &'static str
         LineFault::Name => "NAME is no iSCSI name: say one as iqn.2026-11.example:a",
         LineFault::SecretLength => "a secret has 12 to 128 bytes",
         LineFault::SameSecret => "the target has the secret of the host: say another",
+        LineFault::UserTwice => "the host has a line with this user already",
     }
 }
 

@@ -1,6 +1,7 @@
 //! A keeper that settles what a script says, and units whose commands it keeps.
 
-use iscsi_session::{KeepingService, SessionIdentity, SessionRegister};
+use iscsi_pdu::{LoginStatus, SerialNumber};
+use iscsi_session::{Entrant, Joined, KeepingService, NexusEnd, SessionIdentity, SessionRegister};
 use judgement::ReceivedCommand;
 use library_device::{Device, unit_at};
 use logical_unit::{Done, EventKind};
@@ -100,7 +101,7 @@ impl Keeper {
 }
 
 impl SessionRegister for Keeper {
-    fn living(&self, _nexus: Nexus) -> Option<SessionIdentity> {
+    fn living(&self, _nexus: Nexus, _isid: u64) -> Option<SessionIdentity> {
         None
     }
 
@@ -108,7 +109,25 @@ impl SessionRegister for Keeper {
         false
     }
 
-    fn note(&self, _nexus: Nexus, _session: SessionIdentity, _name: &[u8]) {}
+    fn note_name(&self, _name: &[u8]) {}
+
+    fn enter_discovery(&self) -> Result<(), LoginStatus> {
+        Ok(())
+    }
+
+    fn enter(&self, _entrant: &Entrant) -> Result<Joined, LoginStatus> {
+        Ok(Joined::First)
+    }
+
+    fn note_key(&self, _key: usize) {}
+
+    fn note_login(&self, _nexus: Nexus, _name: &[u8], _joined: Joined) {}
+
+    fn withdraw(&self, _status: LoginStatus) {}
+
+    fn leave(&self, _nexus: Nexus) -> NexusEnd {
+        NexusEnd::Lost
+    }
 
     fn was_reset(&self, unit: u8) -> bool {
         if self.reset.get() == Some(unit) {
@@ -128,6 +147,8 @@ impl SessionRegister for Keeper {
     fn note_holding(&self, is_holding: bool) {
         self.is_holding.set(is_holding);
     }
+
+    fn note_missing(&self, _number: Option<SerialNumber>) {}
 
     fn outcome_of(&self, ticket: ReplyTicket) -> Option<Outcome> {
         let ticket = ticket.kept?;
@@ -259,4 +280,6 @@ impl KeepingService for Units<'_> {
             handed_out: None,
         })
     }
+
+    fn join(&mut self, _nexus: Nexus) {}
 }

@@ -2,7 +2,10 @@
 use super::assert_same;
 use crate::socket_sessions::Empty;
 use iscsi_login::{Access, Authentication, LoginTarget};
-use iscsi_session::{Arrival, Portal, SessionIdentity, SessionRegister, serve};
+use iscsi_pdu::{LoginStatus, SerialNumber};
+use iscsi_session::{
+    Arrival, Entrant, Joined, NexusEnd, Portal, SessionIdentity, SessionRegister, serve,
+};
 use scsi_nexus::Nexus;
 use std::alloc::Global;
 use std::process::Abort;
@@ -13,7 +16,7 @@ use tickets::{Outcome, ReplyTicket};
 struct Alone;
 
 impl SessionRegister for Alone {
-    fn living(&self, _nexus: Nexus) -> Option<SessionIdentity> {
+    fn living(&self, _nexus: Nexus, _isid: u64) -> Option<SessionIdentity> {
         None
     }
 
@@ -21,7 +24,25 @@ impl SessionRegister for Alone {
         false
     }
 
-    fn note(&self, _nexus: Nexus, _session: SessionIdentity, _name: &[u8]) {}
+    fn note_name(&self, _name: &[u8]) {}
+
+    fn enter_discovery(&self) -> Result<(), LoginStatus> {
+        Ok(())
+    }
+
+    fn enter(&self, _entrant: &Entrant) -> Result<Joined, LoginStatus> {
+        Ok(Joined::First)
+    }
+
+    fn note_key(&self, _key: usize) {}
+
+    fn note_login(&self, _nexus: Nexus, _name: &[u8], _joined: Joined) {}
+
+    fn withdraw(&self, _status: LoginStatus) {}
+
+    fn leave(&self, _nexus: Nexus) -> NexusEnd {
+        NexusEnd::Lost
+    }
 
     fn was_reset(&self, _unit: u8) -> bool {
         false
@@ -34,6 +55,8 @@ impl SessionRegister for Alone {
     }
 
     fn note_holding(&self, _is_holding: bool) {}
+
+    fn note_missing(&self, _number: Option<SerialNumber>) {}
 
     fn outcome_of(&self, _ticket: ReplyTicket) -> Option<Outcome> {
         Some(Outcome::Kept)
@@ -127,7 +150,7 @@ fn served(alloc: Global, target: &LoginTarget, sent: &[u8], told: &mut Vec<u8>) 
         challenge: None,
         tsih: 7,
     };
-    let mut service = Empty { losses: 0 };
+    let mut service = Empty::new();
     let mut reader = sent;
     let _ = serve(
         alloc,

@@ -2,7 +2,7 @@
 use super::assert_same;
 use iscsi_chap::{LineFault, SecretsFault};
 
-const ROWS: [(LineFault, &'static str); 2] = [
+const ROWS: [(LineFault, &'static str); 3] = [
     (
         LineFault::FieldCount,
         "line 3: expected NAME USER SECRET, or NAME USER SECRET TARGET-USER TARGET-SECRET",
@@ -10,6 +10,10 @@ const ROWS: [(LineFault, &'static str); 2] = [
     (
         LineFault::SecretLength,
         "line 3: a secret has 12 to 128 bytes",
+    ),
+    (
+        LineFault::UserTwice,
+        "line 3: the host has a line with this user already",
     ),
 ];
 

@@ -8,6 +8,7 @@ use scsi_cdb::Kind;
 use scsi_nexus::Nexus;
 use session::{Directory, Service, SessionFault, serve};
 use std::alloc::Global;
+use std::cell::Cell;
 use tickets::ReplyTicket;
 
 const A: Nexus = Nexus {
@@ -24,6 +25,17 @@ const ACCEPTED: &[u8] = b"\0\0\0\x02\x81\0";
 #[derive(Drop)]
 pub(crate) struct Empty {
     pub(crate) losses: u64,
+    /// How many losses there were when a nexus left the directory, if one did.
+    pub(crate) left_behind: Cell<Option<u64>>,
+}
+
+impl Empty {
+    pub(crate) fn new() -> Empty {
+        Empty {
+            losses: 0,
+            left_behind: Cell::new(None),
+        }
+    }
 }
 
 impl Service for Empty {
@@ -64,7 +76,9 @@ impl Service for Empty {
         Ok(7)
     }
 
-    fn logout(&mut self, _key: usize) {}
+    fn logout(&mut self, _key: usize) {
+        self.left_behind.set(Some(self.losses));
+    }
 }
 
 /// No reply waits.
@@ -76,12 +90,14 @@ impl KeepingService for Empty {
     fn ticket_for(&self, _done: &Done<'_>, _length: usize) -> Option<ReplyTicket> {
         None
     }
+
+    fn join(&mut self, _nexus: Nexus) {}
 }
 
 /// The one read of a session brings its LOGIN.
 #[test]
 fn serve_ends_by_one_read_too_few(rt: HostRuntime) {
-    let mut service = Empty { losses: 0 };
+    let mut service = Empty::new();
     let mut reader = LOGIN;
     let mut output = Vec::new(rt.alloc());
     let ended = serve(rt.alloc(), &mut service, &mut reader, &mut output, 1);

@@ -8,12 +8,12 @@ use Rattle.iscsi_session.proofs.serving.serve.Goals as goal
 pub returns-clause-session : goal.returns-clause-session
 returns-clause-session g c =
     let target = c.args.arrival.now.portal.target.now in
-    let pending = c.await_login.new.read_buffer in
-    let e = c.await_login.new.exchange in
+    let pending = c.await_login-waited.new.read_buffer in
+    let e = c.await_login-waited.new.exchange in
     let left = g.R.Read.remaining c.args.reader.now in
-    let left1 = g.R.Read.remaining c.await_login.new.reader in
+    let left1 = g.R.Read.remaining c.await_login-waited.new.reader in
     let written = g.W.Write.contents c.args.writer.now in
-    let written1 = g.W.Write.contents c.await_login.new.writer in
+    let written1 = g.W.Write.contents c.await_login-waited.new.writer in
     let login =
     subst (λ (w : LoginWait). WhereBegun w (λ begun. LogsIn target c.new-exchange.result e left left1 pending)) c.in-Begins.is
     c.in_ok-begun.ensures.came in

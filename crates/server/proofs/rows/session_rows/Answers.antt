@@ -1,7 +1,7 @@
 use Rattle.std.proofs.Common.{◌≡◌, ◌≢◌, ◌==◌, ℕ, true, false, Option, Some, None, ap, inl, refl}
 use Rattle.scsi_nexus.specs.declared.nexus.Nexus.{Nexus}
 use Rattle.server.specs.Rows.{a, b}
-use Rattle.server.proofs.SessionRows.{needs_loss, none_of_another, one_gives, two_give}
+use Rattle.server.proofs.SessionRows.{another_goes_on, goes_on, needs_loss, none_of_another, one_gives, two_give}
 use Rattle.server.proofs.rows.session_rows.Goals as goal
 
 abbrev sas_of : Option Nexus → ℕ
@@ -25,3 +25,9 @@ returns-clause-of_another c d l command so = none_of_another a b d l others comm
 
 pub returns-clause-without_the_loss : goal.returns-clause-without_the_loss
 returns-clause-without_the_loss c d command so = needs_loss a d command so
+
+pub returns-clause-goes_on : goal.returns-clause-goes_on
+returns-clause-goes_on c d command = goes_on a d command
+
+pub returns-clause-another_goes_on : goal.returns-clause-another_goes_on
+returns-clause-another_goes_on c d command so = another_goes_on a b d others command so
