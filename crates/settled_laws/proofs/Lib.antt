@@ -1,0 +1,5 @@
+pub mod Tapes
+pub mod Maps
+pub mod Showing
+pub mod Performing
+pub mod Volumes

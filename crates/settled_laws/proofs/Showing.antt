@@ -1,0 +1,68 @@
+-- What a device shows, and what it refuses by the fields of a command, is a matter of what it is but for what is settled.
+use Rattle.std.proofs.Common.{◌≡◌, ℕ, ◌&&◌, ◌||◌, not, Bool, is_none, Option, Some, None, Result, Ok, Err, refl, sym, ap, ◌∙◌, ◌==◌}
+use Rattle.std.proofs.Common.{if◌then◌else◌}
+use Rattle.scsi_cdb.specs.declared.request.Request.{Request}
+use Rattle.scsi_cdb.specs.declared.request.Request.TheVariants as request
+use Rattle.tape_medium.specs.declared.volume.Volume.{Volume}
+use Rattle.tape_medium.specs.declared.volume.VolumeTag.{VolumeTag}
+use Rattle.tape_medium.specs.declared.elements.MapFault.{MapFault}
+use Rattle.tape_medium.specs.Elements.{Elements, Element, element_at, tag_in, tag_of, move_refusal}
+use Rattle.tape_medium.specs.Settling.{unsettled_place, unsettled_elements}
+use Rattle.device_server.specs.Failures.{is_for_drives, is_data_transfer, leaves_to_drives}
+use Rattle.device_server.specs.Settled.{unsettled}
+use Rattle.device_server.specs.View.{DeviceView, Drive, Changer, kind_of, drives_of, held_in}
+use Rattle.device_server.specs.Fields.{field_fault_of}
+use Rattle.settled_laws.specs.Alike.{ShowAlike, RefuseAlike}
+use Rattle.settled_laws.proofs.Maps.{same_element, same_tag_in, same_refusal}
+
+-- as if nothing was settled, a device shows the same
+
+pub kind_unsettled : (d : DeviceView) → kind_of (unsettled d) ≡ kind_of d
+kind_unsettled (Drive d) = refl
+kind_unsettled (Changer e) = refl
+
+drives_unsettled : (d : DeviceView) → drives_of (unsettled d) ≡ drives_of d
+drives_unsettled (Drive d) = refl
+drives_unsettled (Changer e) = refl
+
+pub tag_unsettled : (bay : Option Volume) → tag_of (unsettled_place bay) ≡ tag_of bay
+tag_unsettled None = refl
+tag_unsettled (Some v) = refl
+
+tag_there : Result (Option VolumeTag) MapFault → Option VolumeTag
+tag_there (Ok tag) = tag
+tag_there (Err fault) = None
+
+held_unsettled : (d : DeviceView) (place : ℕ) → held_in (unsettled d) place ≡ held_in d place
+unfolding tag_there
+held_unsettled (Drive d) place = ap (λ (t : Option VolumeTag). if place == 0 then t else None) (tag_unsettled d.bay)
+held_unsettled (Changer e) place =
+    ap (λ (at : Element). tag_there (tag_in (unsettled_elements e) at)) (same_element e place)
+    ∙ ap tag_there (same_tag_in e (element_at e place))
+
+for_drives : (e : Elements) (r : Request) → is_for_drives (unsettled_elements e) r ≡ is_for_drives e r
+for_drives e (request.MoveMedium transport source destination invert) =
+    let u = unsettled_elements e in
+    let left : Option MapFault → Element → Element
+    → Bool = λ o from to. not invert && (is_none o && (is_data_transfer from || is_data_transfer to)) in
+    ap (λ (o : Option MapFault). left o (element_at u source) (element_at u destination)) (same_refusal e transport source destination)
+    ∙ ap (λ (from : Element). left (move_refusal e transport source destination) from (element_at u destination)) (same_element e source)
+    ∙ ap (λ (to : Element). left (move_refusal e transport source destination) (element_at e source) to) (same_element e destination)
+for_drives e r = refl
+
+leaves_unsettled : (d : DeviceView) (r : Request) → leaves_to_drives (unsettled d) r ≡ leaves_to_drives d r
+leaves_unsettled (Drive d) r = refl
+leaves_unsettled (Changer e) r = for_drives e r
+
+pub show_alike : ShowAlike
+show_alike one two same =
+    record {
+      kind = sym (kind_unsettled one) ∙ ap kind_of same ∙ kind_unsettled two;
+      drives = sym (drives_unsettled one) ∙ ap drives_of same ∙ drives_unsettled two;
+      held = λ place. sym (held_unsettled one place) ∙ ap (λ (d : DeviceView). held_in d place) same ∙ held_unsettled two place;
+      leaves = λ r. sym (leaves_unsettled one r) ∙ ap (λ (d : DeviceView). leaves_to_drives d r) same ∙ leaves_unsettled two r;
+    }
+
+pub refuse_alike : RefuseAlike
+refuse_alike one two r bytes same =
+    ap (λ k. field_fault_of k r bytes) (sym (kind_unsettled one) ∙ ap kind_of same ∙ kind_unsettled two)
