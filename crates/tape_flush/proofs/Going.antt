@@ -16,14 +16,14 @@ joined did a _ _ k _ _ before (calls b p c l q call more allowed done) =
     calls a p c k q call (joined did a b p k l q before more) allowed done
 
 order_stays : (k : Known) (call : StoreCall) → IsInOrder k → Allowed k call → IsInOrder (after k call)
-order_stays k (Truncate size true) o a = (omega arith, omega arith)
-order_stays k (Truncate size false) o a = (omega arith, omega arith)
-order_stays k (Append offset bytes true) o a = (o.0, omega arith)
+order_stays k (Truncate size true) o a = (omega arith, omega arith, o.2)
+order_stays k (Truncate size false) o a = (omega arith, omega arith, o.2)
+order_stays k (Append offset bytes true) o a = (o.0, omega arith, o.2)
 order_stays k (Append offset bytes false) o a = o
-order_stays k (Sync true) o a = (omega arith, omega arith)
-order_stays k (Sync false) o a = (o.0, omega arith)
-order_stays k (Note size true) o a = (a, o.1)
-order_stays k (Note size false) o a = (omega arith, o.1)
+order_stays k (Sync true) o a = (omega arith, omega arith, o.2)
+order_stays k (Sync false) o a = (o.0, omega arith, o.2)
+order_stays k (Note size true) o a = (a, o.1, omega arith)
+order_stays k (Note size false) o a = (omega arith, o.1, omega arith)
 
 pub in_order : {S : Type 0} (did : S → StoreCall → S → Type 0) (a b : S) (k l : Known) → IsInOrder k → GoesOn did a k b l → IsInOrder l
 in_order did _ _ _ _ o (stays a k) = o

@@ -10,3 +10,4 @@ pub mod Readings
 pub mod CopyLemmas
 pub mod Survivors
 pub mod NewFile
+pub mod Bringing

@@ -59,6 +59,6 @@ pub record IsKnown (known : Known) (file : FileValue) : Type 0 where
   pub end : EndsAt known.tail (length file.contents) known.sound
   pub noted : All (λ size. (known.least ≤ size) × (size ≤ known.most)) file.noted
 
--- at any time: the record says no more than what is on the disk, and this is as it was written
+-- at any time: the record says no more than what is on the disk, and this is as it was written; and it says no less than the least
 abbrev pub IsInOrder : Known → Type 0
-IsInOrder k = (k.most ≤ k.synced) × (k.synced ≤ k.sound)
+IsInOrder k = (k.most ≤ k.synced) × (k.synced ≤ k.sound) × (k.least ≤ k.most)

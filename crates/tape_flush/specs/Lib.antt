@@ -7,4 +7,5 @@ pub mod Memory
 pub mod Openings
 pub mod Readings
 pub mod Kept
+pub mod Bringing
 pub mod Surviving

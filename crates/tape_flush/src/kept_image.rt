@@ -4,6 +4,7 @@ ghost use Rattle.tape_medium.specs.TapeView.{TapeView};
 ghost use Rattle.tape_flush.specs.Careful.{GoesOn, trusted_to};
 ghost use Rattle.tape_flush.specs.Stores.{IsNewFile};
 ghost use Rattle.tape_flush.specs.Images.{IsHeld, IsWhole};
+ghost use Rattle.tape_flush.specs.Bringing.{IsBrought, IsBroughtOrThere, HasJustThat, HasItsObjectsThere};
 ghost use Rattle.tape_flush.specs.Kept.{Has, HasFirstOf, Holds, Follows, IsTaken, IsOnDisk, IsUnchanged, IsWholeImage, BeginsUnless, ends_within, image_of};
 
 use crate::ends::{end_at, keep_within, last_end};
@@ -86,7 +87,8 @@ impl<S: ImageStore> KeptImage<S> {
 
     /// Whether each of its objects is on the disk, as its record there says.
     pub fn is_on_disk(&self) -> bool
-        ensures { IsTrue result ↔ IsOnDisk self.now }
+        ensures told { IsTrue result ↔ IsOnDisk self.now }
+        ensures there { IsTrue result → (objects others : List Object) → Has self.now objects others → HasItsObjectsThere self.now }
     {
         last_end(&self.ends) <= self.file.known().least
     }
@@ -139,6 +141,8 @@ impl<S: ImageStore> KeptImage<S> {
         ensures goes { GoesOn S.did self.old.store self.old.known self.new.store self.new.known }
         ensures ends { OnOk result (self.new.ends ≡ self.old.ends) }
         ensures ok { OnOk result (IsOnDisk self.new) }
+        ensures brought { OnOk result (IsBroughtOrThere S.did self.old self.new) }
+        ensures there { (objects others : List Object) → Has self.old objects others → OnOk result (HasItsObjectsThere self.new) }
         ensures same { (objects others : List Object) → Has self.old objects others → OnOk result (Has self.new objects others) }
         ensures err { (objects others : List Object) → Has self.old objects others → OnErr result (HasFirstOf objects self.new) }
     {
@@ -153,6 +157,9 @@ impl<S: ImageStore> KeptImage<S> {
         ensures goes { GoesOn S.did self.old.store self.old.known self.new.store self.new.known }
         ensures ends { OnOk result (self.new.ends ≡ self.old.ends) }
         ensures ok { OnOk result (IsOnDisk self.new) }
+        ensures brought { OnOk result (IsBrought S.did self.old self.new) }
+        ensures just { (objects others : List Object) → Has self.old objects others → OnOk result (HasJustThat self.old self.new) }
+        ensures there { (objects others : List Object) → Has self.old objects others → OnOk result (HasItsObjectsThere self.new) }
         ensures same { (objects others : List Object) → Has self.old objects others → OnOk result (Has self.new objects others) }
         ensures err { (objects others : List Object) → Has self.old objects others → OnErr result (HasFirstOf objects self.new) }
     {

@@ -32,5 +32,5 @@ pub use part::TapePart;
 pub use part_range::PartRange;
 pub use read_fault::ReadTapeFault;
 pub use reading::{ReadTape, read_tape};
-pub use rows::{known_rows, store_rows, survival_rows, worked_rows};
+pub use rows::{known_rows, store_rows, survival_rows, synced_rows, worked_rows};
 pub use store::{ImageStore, StoreFault};

@@ -1,5 +1,6 @@
 ghost use Rattle.std.specs.Prelude.{◌≡◌, [], ◌∷◌, ◌++◌, true, false, codes};
 ghost use Rattle.tape_medium.specs.Object.{Block, Mark};
+ghost use Rattle.tape_flush.specs.Bringing.{IsJustThat, IsThere};
 ghost use Rattle.tape_flush.specs.Careful.{known_of, after, trusted_to, Allowed};
 ghost use Rattle.tape_flush.specs.Images.{end_at, ends_from};
 ghost use Rattle.tape_flush.specs.Kept.{ends_within};
@@ -55,4 +56,16 @@ pub fn known_rows()
     ensures over_a_cut { ¬ Allowed (known_of 1 1 1 1 Cut) (Append 1 (codes "!") true) }
     ensures not_there { ¬ Allowed (known_of 2 2 2 5 Empty) (Note 5 true) }
     ensures opened { trusted_to 7 ≡ known_of 7 7 7 7 Unknown }
+{}
+
+/// Worked rows: what a sync and a note leave of "hello", of which "he" was on the disk: all of it and a record of just that; not less, not
+/// more, and no record of less.
+pub fn synced_rows()
+    ensures just { IsJustThat 5 (file_value (codes "hello") 5 (codes "he") (2 ∷ [])) (file_value (codes "hello") 5 (codes "hello") (5 ∷ [])) }
+    ensures unsynced { ¬ IsJustThat 5 (file_value (codes "hello") 5 (codes "he") (2 ∷ [])) (file_value (codes "hello") 5 (codes "he") (5 ∷ [])) }
+    ensures unnoted { ¬ IsJustThat 5 (file_value (codes "hello") 5 (codes "he") (2 ∷ [])) (file_value (codes "hello") 5 (codes "hello") (5 ∷ 2 ∷ [])) }
+    ensures more { ¬ IsJustThat 5 (file_value (codes "hello!") 6 (codes "he") (2 ∷ [])) (file_value (codes "hello!") 6 (codes "hello!") (5 ∷ [])) }
+    ensures there { IsThere 2 (file_value (codes "hello") 5 (codes "he") (2 ∷ [])) }
+    ensures not_there { ¬ IsThere 3 (file_value (codes "hello") 5 (codes "he") (3 ∷ [])) }
+    ensures noted_less { ¬ IsThere 2 (file_value (codes "hello") 5 (codes "he") (2 ∷ 1 ∷ [])) }
 {}
