@@ -59,7 +59,7 @@ numbered_keeps s immediate false = same _ _ refl
 
 -- ---- a command
 
-no_tasks : (ts : List TaskValue) → (length ts == 0) ≡ true → ts ≡ []
+pub no_tasks : (ts : List TaskValue) → (length ts == 0) ≡ true → ts ≡ []
 no_tasks [] e = refl
 no_tasks (t ∷ ts) e = absurd (omega (arith, eqb-true (length (t ∷ ts)) 0 e))
 
@@ -76,7 +76,7 @@ only_alone false false false false whole m n (Ok room) e = absurd cc
 only_alone false false false false whole m n (Err fault) e = absurd cc
 
 -- it is executed at once only where none waits
-at_once_alone : (s : TasksValue) (c : ScsiCommand) (payload : List ℕ) (n : ℕ) → command_answer s c payload ≡ Ok (taken.Execute n) → s.waiting ≡ []
+pub at_once_alone : (s : TasksValue) (c : ScsiCommand) (payload : List ℕ) (n : ℕ) → command_answer s c payload ≡ Ok (taken.Execute n) → s.waiting ≡ []
 at_once_alone s c payload n e =
     no_tasks s.waiting (only_alone _ _ _ (length s.waiting == 0) _ _ n (room_for s.waiting (length
     (begun_task s.parameters c payload).bytes)) e)
@@ -167,7 +167,7 @@ step_keeps s (Settled ticket outcome) none = same _ _ refl
 step_kept : (s : TasksValue) (act : Act) → EndsNone act → Orders (handed_by s act) (commands (stepped s act).waiting) (commands s.waiting) (taken_by s act)
 step_kept s act none = kept_order (handed_by s act) (commands (stepped s act).waiting) (commands s.waiting) (taken_by s act) (step_keeps s act none)
 
-step_orders : (s : TasksValue) (act : Act) → Orders (handed_by s act) (commands (stepped s act).waiting) (commands s.waiting) (taken_by s act)
+pub step_orders : (s : TasksValue) (act : Act) → Orders (handed_by s act) (commands (stepped s act).waiting) (commands s.waiting) (taken_by s act)
 step_orders s (Aborted unit tag) = fewer _ _ (aborted_part s unit tag (is_waiting_at s unit tag))
 step_orders s (Dropped unit by) = fewer _ _ (part_filter (λ (t : TaskValue). t.command) (λ (t : TaskValue). not (is_at unit t)) s.waiting)
 step_orders s (Numbered immediate cmd_sn) = step_kept s (Numbered immediate cmd_sn) tt

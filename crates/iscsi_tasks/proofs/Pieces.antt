@@ -135,12 +135,12 @@ commanded_has h s c payload (Err fault) has = all_keep h _ s.waiting has
 
 -- ---- a Data-Out
 
-continue_push : (from : ℕ) (ps : List Piece) (q : Piece) → Continue from ps → q.offset ≡ from + length (together ps) → Continue from (ps ++ q ∷ [])
+pub continue_push : (from : ℕ) (ps : List Piece) (q : Piece) → Continue from ps → q.offset ≡ from + length (together ps) → Continue from (ps ++ q ∷ [])
 continue_push from [] q c e = (omega (arith, e), tt)
 continue_push from (p ∷ ps) q c e =
     (c.0, continue_push (from + length p.bytes) ps q c.1 (omega (arith, e, length-append p.bytes (together ps))))
 
-together_push : (ps : List Piece) (q : Piece) → together (ps ++ q ∷ []) ≡ together ps ++ q.bytes
+pub together_push : (ps : List Piece) (q : Piece) → together (ps ++ q ∷ []) ≡ together ps ++ q.bytes
 together_push [] q = append-nil q.bytes
 together_push (p ∷ ps) q = ap (λ (xs : List ℕ). p.bytes ++ xs) (together_push ps q) ∙ sym (append_assoc p.bytes (together ps) q.bytes)
 
@@ -160,7 +160,7 @@ no_fault_by true place number amount e = absurd cc
 no_fault_by false true number amount e = refl
 no_fault_by false false number amount e = absurd cc
 
-no_fault : (s : DataSequence) (held : ℕ) (d : DataOut) (count : ℕ) → data_fault s held d count ≡ None → d.buffer_offset ≡ held
+pub no_fault : (s : DataSequence) (held : ℕ) (d : DataOut) (count : ℕ) → data_fault s held d count ≡ None → d.buffer_offset ≡ held
 no_fault s held d count e = eqb-true d.buffer_offset held (no_fault_by _ (d.buffer_offset == held) _ _ e)
 
 added_has : (h : List Act) (t : TaskValue) (s : DataSequence) (d : DataOut) (payload : List ℕ) (o : Option TaskFault)
@@ -283,7 +283,7 @@ whole_at w count (awaits.Data s) e = absurd cc
 whole_at w count (awaits.Failing fault) e = absurd cc
 whole_at w count (awaits.Failed fault) e = absurd cc
 
-at_once_facts : (s : TasksValue) (c : ScsiCommand) (payload : List ℕ) (n : ℕ) → command_answer s c payload ≡ Ok (taken.Execute n)
+pub at_once_facts : (s : TasksValue) (c : ScsiCommand) (payload : List ℕ) (n : ℕ) → command_answer s c payload ≡ Ok (taken.Execute n)
     → (n ≡ wanted s.limit c) × (n ≤ length payload)
 at_once_facts s c payload n e =
     let w = wanted s.limit c in
@@ -380,7 +380,7 @@ next_limit : (s : TasksValue) (o : Option TaskValue) → (left_for s o).limit �
 next_limit s None = refl
 next_limit s (Some t) = left_limit s t t.awaiting
 
-limit_stays : (s : TasksValue) (act : Act) → (stepped s act).limit ≡ s.limit
+pub limit_stays : (s : TasksValue) (act : Act) → (stepped s act).limit ≡ s.limit
 limit_stays s (Numbered immediate cmd_sn) = either_limit (is_taken s immediate cmd_sn) s (counted s immediate) s (count_limit s immediate) refl
 limit_stays s (Commanded c payload) = command_limit s c payload (command_answer s c payload)
 limit_stays s (DataCame d payload) = data_limit s d payload (data_answer s d (length payload))

@@ -8,5 +8,6 @@ pub mod DataOuts
 pub mod Next
 pub mod Aborts
 pub mod Runs
+pub mod OwnData
 pub mod HeldRuns
 pub mod Rows

@@ -12,7 +12,7 @@ use Rattle.tickets.specs.declared.ticket.ReplyTicket.{ReplyTicket}
 use Rattle.iscsi_tasks.specs.declared.held_reply.HeldReply.{HeldReply}
 use Rattle.iscsi_tasks.specs.Values.{TaskValue, TasksValue, begun_tasks}
 use Rattle.iscsi_tasks.specs.Commands.{begun_task}
-use Rattle.iscsi_tasks.specs.Runs.{Answered, Commanded, run}
+use Rattle.iscsi_tasks.specs.Runs.{Act, Answered, AskedNext, Commanded, DataCame, run}
 
 abbrev pub sn : ℕ → SerialNumber
 sn n = record { number = n }
@@ -114,3 +114,13 @@ waiting_tags (suc before) = waiting_tags before ++ begun_task (bursts true false
 
 abbrev pub with_tags : (count : ℕ) → TasksValue
 with_tags count = record alone { waiting = waiting_tags count }
+
+-- a write of four bytes under tag 1 and such a number, two of which come with it, and two by the tag of an R2T; it is executed and answered
+abbrev pub in_halves : (number asked_by : ℕ) → (first second : List ℕ) → List Act
+in_halves number asked_by first second =
+    Commanded (at_number number (write 4 true)) first
+    ∷ (AskedNext ∷ (DataCame (data_out asked_by 0 2 true) second ∷ (AskedNext ∷ (Answered ∷ []))))
+
+-- and then another one under the same tag
+abbrev pub one_tag_twice : List Act
+one_tag_twice = in_halves 1 0 (7 ∷ 8 ∷ []) (9 ∷ 10 ∷ []) ++ in_halves 2 1 (1 ∷ 2 ∷ []) (3 ∷ 4 ∷ [])

@@ -13,6 +13,7 @@ ghost use Rattle.iscsi_tasks.specs.declared.held_reply.Response.TheVariants.{Tar
 ghost use Rattle.iscsi_tasks.specs.Aborts.{is_at, is_named, is_reply_at, is_reply_named, is_waiting_at, reset_by_another, without_task, without_unit};
 ghost use Rattle.iscsi_tasks.specs.HeldRuns.{answers, dropped, held_in, in_hand, released, released_replies, said, IsInTime};
 ghost use Rattle.iscsi_tasks.specs.Holding.{answer_by};
+ghost use Rattle.iscsi_tasks.specs.OwnData.{EachHasJust};
 ghost use Rattle.iscsi_tasks.specs.Runs.{Act, run, stepped, commands, handed_out, taken_in, executed, EndsNone, IsPartOf, IsMadeOf};
 
 /// Law: commands are handed out in the order in which they were taken, none of them twice, and those that still wait come behind
@@ -34,6 +35,13 @@ pub fn aborted_is_gone()
 /// where the one before ends: no less than its unit takes, and no other's.
 pub fn data_are_its_own()
     ensures { (p : SessionParameters) (limit : ℕ) (n : SerialNumber) (acts : List Act) → AllByRecursion (IsMadeOf limit acts) (executed (begun_tasks p limit n) acts) }
+{}
+
+/// Law: whatever comes, a command that is executed has just the data that were sent for it: what came with it, and each Data-Out that came
+/// under its tag since it was taken, each where the one before ends, no more and no less than its unit takes. What came under the same tag for
+/// a command before it is none of that.
+pub fn data_are_sent_for_it()
+    ensures { (p : SessionParameters) (limit : ℕ) (n : SerialNumber) (acts : List Act) → EachHasJust (begun_tasks p limit n) acts }
 {}
 
 /// Law: whatever comes, no more commands wait than may, and their data stay within bounds; and of the commands that have used a number up,

@@ -21,11 +21,14 @@ pub use fault::{TaskFault, TasksFault};
 pub use held_reply::{DueAnswer, HeldReply, Response, UnitReply};
 pub use holding::MOST_REPLIES;
 pub use laws::{
-    aborted_is_gone, commands_in_order, data_are_its_own, dropped_is_gone, held_are_handed_out,
-    held_leave_once, released_in_time, target_failures, tasks_are_bounded, window_moves_on,
+    aborted_is_gone, commands_in_order, data_are_its_own, data_are_sent_for_it, dropped_is_gone,
+    held_are_handed_out, held_leave_once, released_in_time, target_failures, tasks_are_bounded,
+    window_moves_on,
 };
 pub use next_task::{NextTask, TransferRequest};
-pub use rows::{data_rows, gap_rows, holding_rows, number_rows, reset_rows, window_rows};
+pub use rows::{
+    data_rows, gap_rows, holding_rows, number_rows, own_data_rows, reset_rows, window_rows,
+};
 pub use taken::{TakenCommand, TakenData};
 pub use task::Task;
 pub use tasks::{MOST_HELD, Tasks, WINDOW};

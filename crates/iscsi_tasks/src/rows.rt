@@ -120,3 +120,20 @@ pub fn reset_rows()
     ensures second { was_reset (reset_by_another (with_tags 33) 0) 0 2 ≡ true }
     ensures later { was_reset (reset_by_another (with_tags 33) 0) 0 33 ≡ true }
 {}
+
+ghost use Rattle.std.specs.Prelude.{map};
+ghost use Rattle.iscsi_tasks.specs.OwnData.{came_for, piece};
+ghost use Rattle.iscsi_tasks.specs.Rows.{at_number, in_halves, one_tag_twice};
+ghost use Rattle.iscsi_tasks.specs.Runs.{Commanded, executed};
+
+/// Worked rows: what has come for a command. A second one under a tag has nothing of the first; without W nothing that comes is
+/// data; and what comes with a command that is rejected since its tag is in use is none of the data of the one that waits.
+pub fn own_data_rows()
+    ensures first { came_for 1 alone (in_halves 1 0 (7 ∷ 8 ∷ []) (9 ∷ 10 ∷ [])) [] ≡ piece 0 (7 ∷ 8 ∷ []) ∷ piece 2 (9 ∷ 10 ∷ []) ∷ [] }
+    ensures second { came_for 1 alone one_tag_twice [] ≡ piece 0 (1 ∷ 2 ∷ []) ∷ piece 2 (3 ∷ 4 ∷ []) ∷ [] }
+    ensures another_tag { came_for 2 alone one_tag_twice [] ≡ [] }
+    ensures executed { map (λ e. e.bytes) (executed alone one_tag_twice) ≡ (7 ∷ 8 ∷ 9 ∷ 10 ∷ []) ∷ (1 ∷ 2 ∷ 3 ∷ 4 ∷ []) ∷ [] }
+    ensures no_data { came_for 1 alone (Commanded (record (write 0 true) { writes = false }) (7 ∷ []) ∷ []) [] ≡ [] }
+    ensures in_use { came_for 1 alone (Commanded (write 4 true) (7 ∷ []) ∷ Commanded (at_number 2 (write 4 true)) (8 ∷ []) ∷ []) []
+        ≡ piece 0 (7 ∷ []) ∷ [] }
+{}
