@@ -1,5 +1,5 @@
 -- An exchange reaches full feature through a name that is let in and, where the target asks for it, the digest of that name's secret.
-use Rattle.std.proofs.Common.{◌≡◌, ℕ, suc, Bool, true, false, cond, List, [], ◌∷◌, ◌++◌, Option, Some, None, refl, sym, ap, subst, arith}
+use Rattle.std.proofs.Common.{◌≡◌, ◌∙◌, ℕ, suc, Bool, true, false, cond, List, [], ◌∷◌, ◌++◌, Option, Some, None, refl, sym, ap, subst, append_assoc, arith}
 use Rattle.std.specs.Prelude.{Any}
 use Rattle.iscsi_pdu.specs.declared.login_request.LoginRequest.{LoginRequest}
 use Rattle.iscsi_pdu.specs.declared.login_status.LoginStatus.{LoginStatus}
@@ -7,9 +7,12 @@ use Rattle.iscsi_pdu.specs.declared.login_status.LoginStatus.TheVariants as stat
 use Rattle.iscsi_keys.specs.Parameters.{AreInRange}
 use Rattle.iscsi_login.specs.Chaps.{shown}
 use Rattle.iscsi_login.specs.Exchanges.{ExchangeValue, started, refused_with, refused_after, is_out_of_turn, ready, judged, turn_in, kept, gone, taken_at, taken, end_progress, turn_progress, progress_at, progress_of}
-use Rattle.iscsi_login.specs.ExchangeRuns.{exchanged, texts_from, texts_of, IsAuthenticated, IsLetIn}
+use Rattle.iscsi_login.specs.ExchangeRuns.{exchanged, first_offer, texts_from, texts_of, IsAuthenticated, IsLetIn}
 use Rattle.iscsi_login.specs.Runs.{Coming}
 use Rattle.iscsi_chap.specs.declared.challenge.Challenge.{Challenge}
+use Rattle.iscsi_chap.specs.declared.authentication.Authentication.{Authentication}
+use Rattle.iscsi_chap.specs.declared.authentication.Authentication.TheVariants as authentication
+use Rattle.iscsi_chap.specs.declared.phase.ChapPhase.{ChapPhase}
 use Rattle.iscsi_chap.specs.declared.phase.ChapPhase.TheVariants as phase
 use Rattle.iscsi_login.specs.declared.target.LoginTarget.{LoginTarget}
 use Rattle.iscsi_login.specs.declared.login.Login.{Login}
@@ -22,7 +25,8 @@ use Rattle.iscsi_login.specs.declared.turn.Turn.TheVariants.{Refuses, Goes, Stay
 use Rattle.iscsi_login.specs.declared.progress.LoginProgress.{LoginProgress}
 use Rattle.iscsi_login.specs.declared.progress.LoginProgress.TheVariants as progress
 use Rattle.iscsi_login.proofs.Reached.{IsSoundLogin}
-use Rattle.iscsi_login.proofs.Shown.{EndShown, ExchangeShown, IsText, Shown, either_of, open_phase}
+use Rattle.iscsi_login.proofs.Offered.{NoneBefore, NoneOf, first_is, heard_with, login_none}
+use Rattle.iscsi_login.proofs.Shown.{EndShown, ExchangeShown, IsHeard, IsText, OffersFirst, Shown, either_of, unasked_shown}
 use Rattle.iscsi_login.proofs.Turned.{Heard, taken_shown}
 
 -- ---- what is gathered
@@ -76,10 +80,49 @@ rest_in : (b : Bool) (texts : List (List ℕ)) (text : List ℕ) (cs : List Comi
 rest_in true texts text cs h t some = h t some
 rest_in false texts text cs h t some = h t (later_text (λ (u : List ℕ). u ≡ t) text (texts_from [] cs) some)
 
-heard_of : (m : Login) (r : LoginRequest) (texts : List (List ℕ)) (gathered expected payload : List ℕ) → Gathers m gathered expected → (r.continues ≡ false → IsText texts (expected ++ payload))
-    → Heard m r texts (gathered ++ payload)
-heard_of (Open l) r texts gathered expected payload g h = λ is. subst (λ (x : List ℕ). IsText texts (x ++ payload)) (sym g) (h is)
-heard_of (Ended end) r texts gathered expected payload g h = tt
+-- a text that is whole is the first to offer algorithms, where none was asked for
+offers : (au : Authentication) (p : ChapPhase) (texts before behind : List (List ℕ)) (text : List ℕ) → texts ≡ before ++ text ∷ behind → NoneBefore au p before
+    → OffersFirst au p texts text
+offers authentication.None p texts before behind text all none = tt
+offers (authentication.Chap access) phase.Unasked texts before behind text all none =
+    λ list is. ap first_offer all ∙ first_is before text behind list none is
+offers (authentication.Chap access) (phase.Challenged algorithm) texts before behind text all none = tt
+offers (authentication.Chap access) (phase.Passed place) texts before behind text all none = tt
+
+whole_offers : (b : Bool) (au : Authentication) (p : ChapPhase) (texts before others behind : List (List ℕ)) (text : List ℕ)
+    → texts ≡ before ++ cond b others (text ∷ behind) → NoneBefore au p before → b ≡ false → OffersFirst au p texts text
+whole_offers true au p texts before others behind text all none is = absurd cc
+whole_offers false au p texts before others behind text all none is = offers au p texts before behind text all none
+
+heard_of : (m : Login) (au : Authentication) (p : ChapPhase) (r : LoginRequest) (texts before others behind : List (List ℕ)) (gathered expected payload : List ℕ)
+    → Gathers m gathered expected → (r.continues ≡ false → IsText texts (expected ++ payload)) → NoneOf au m p before
+    → texts ≡ before ++ cond r.continues others ((expected ++ payload) ∷ behind) → Heard au p m r texts (gathered ++ payload)
+heard_of (Open l) au p r texts before others behind gathered expected payload g h none all =
+    λ is. subst (λ (x : List ℕ). IsHeard au p texts (x ++ payload)) (sym g)
+    (h is, whole_offers r.continues au p texts before others behind (expected ++ payload) all none is)
+heard_of (Ended end) au p r texts before others behind gathered expected payload g h none all = tt
+
+-- and the texts before the next one
+split_on : (b : Bool) (texts before : List (List ℕ)) (text : List ℕ) (cs : List Coming) → texts ≡ before ++ cond b (texts_from text cs) (text ∷ texts_from [] cs)
+    → texts ≡ heard_with b before text ++ texts_from (cond b text []) cs
+split_on true texts before text cs all = all
+split_on false texts before text cs all = all ∙ sym (append_assoc before (text ∷ []) (texts_from [] cs))
+
+next_none : (m : Login) (target : LoginTarget) (e : ExchangeValue) (r : LoginRequest) (payload expected : List ℕ) (before : List (List ℕ))
+    → Gathers m e.gathered expected → NoneOf target.authentication m e.chap.phase before
+    → NoneOf target.authentication (taken_at m (record e { login = m }) target r payload).login (taken_at m (record e { login = m }) target r payload).chap.phase
+    (heard_with r.continues before (expected ++ payload))
+next_none (Ended end) target e r payload expected before g none = tt
+next_none (Open l) target e r payload expected before g none =
+    let after = taken_at (Open l) (record e { login = Open l }) target r payload in
+    subst (λ (x : List ℕ). NoneOf target.authentication after.login after.chap.phase (heard_with r.continues before (x ++ payload))) g
+    (login_none (Open l) target e r payload before none)
+
+then_none : (target : LoginTarget) (e : ExchangeValue) (r : LoginRequest) (payload expected : List ℕ) (before : List (List ℕ)) → ExchangeGathers expected e
+    → NoneOf target.authentication e.login e.chap.phase before
+    → NoneOf target.authentication (taken e target r payload).login (taken e target r payload).chap.phase (heard_with r.continues before (expected ++ payload))
+unfolding taken
+then_none target e r payload expected before g none = next_none e.login target e r payload expected before g none
 
 next_gathers : (m : Login) (target : LoginTarget) (e : ExchangeValue) (r : LoginRequest) (payload expected : List ℕ) → Gathers m e.gathered expected
     → ExchangeGathers (cond r.continues (expected ++ payload) []) (taken_at m (record e { login = m }) target r payload)
@@ -91,31 +134,39 @@ then_gathers : (target : LoginTarget) (e : ExchangeValue) (r : LoginRequest) (pa
 unfolding taken
 then_gathers target e r payload expected g = next_gathers e.login target e r payload expected g
 
-run_shown : (target : LoginTarget) (challenge : Option Challenge) (texts : List (List ℕ)) (cs : List Coming) (e : ExchangeValue) (expected : List ℕ) → ExchangeShown target challenge texts e → ExchangeGathers expected e
-    → ((t : List ℕ) → IsText (texts_from expected cs) t → IsText texts t) → ExchangeShown target challenge texts (exchanged target e cs)
-run_shown target challenge texts [] e expected shown g h = shown
-run_shown target challenge texts (c ∷ cs) e expected shown g h =
-    run_shown target challenge texts cs (taken e target c.request c.text) (cond c.request.continues (expected ++ c.text) [])
+run_shown : (target : LoginTarget) (challenge : Option Challenge) (texts before : List (List ℕ)) (cs : List Coming) (e : ExchangeValue) (expected : List ℕ)
+    → ExchangeShown target challenge texts e → ExchangeGathers expected e → NoneOf target.authentication e.login e.chap.phase before
+    → texts ≡ before ++ texts_from expected cs → ((t : List ℕ) → IsText (texts_from expected cs) t → IsText texts t) → ExchangeShown target challenge texts (exchanged target e cs)
+run_shown target challenge texts before [] e expected shown g none all h = shown
+run_shown target challenge texts before (c ∷ cs) e expected shown g none all h =
+    run_shown target challenge texts (heard_with c.request.continues before (expected ++ c.text)) cs (taken e target c.request c.text) (cond c.request.continues (expected ++ c.text) [])
     (taken_shown target challenge texts e c.request c.text
-    (heard_of e.login c.request texts e.gathered expected c.text g
-    (head_in c.request.continues texts (texts_from (expected ++ c.text) cs) (texts_from [] cs) (expected ++ c.text) h))
+    (heard_of e.login target.authentication e.chap.phase c.request texts before (texts_from (expected ++ c.text) cs) (texts_from [] cs) e.gathered expected c.text g
+    (head_in c.request.continues texts (texts_from (expected ++ c.text) cs) (texts_from [] cs) (expected ++ c.text) h) none all)
     shown)
     (then_gathers target e c.request c.text expected g)
+    (then_none target e c.request c.text expected before g none)
+    (split_on c.request.continues texts before (expected ++ c.text) cs all)
     (rest_in c.request.continues texts (expected ++ c.text) cs h)
 
 started_shown : (target : LoginTarget) (challenge : Option Challenge) (texts : List (List ℕ)) (group : ℕ) → ExchangeShown target challenge texts (started group challenge)
 started_shown target challenge texts group = record {
   login = record { sound = tt; end = tt; fresh = refl };
-  phase = open_phase target.authentication challenge texts [] phase.Unasked refl;
+  phase = unasked_shown target.authentication challenge texts [];
   same = refl;
 }
+
+started_none : (au : Authentication) → NoneBefore au phase.Unasked []
+started_none authentication.None = tt
+started_none (authentication.Chap access) = refl
 
 pub begins : (group : ℕ) (target : LoginTarget) (challenge : Option Challenge) (cs : List Coming) (f : FullFeature) → (exchanged target (started group challenge) cs).login ≡ Ended (ends.FullFeature f)
     → IsLetIn target challenge (texts_of cs) f.admission f.session_type f.proved × AreInRange f.parameters
 begins group target challenge cs f e =
     let last : ExchangeValue = exchanged target (started group challenge) cs in
     let shown : ExchangeShown target challenge (texts_of cs) last =
-    run_shown target challenge (texts_of cs) cs (started group challenge) [] (started_shown target challenge (texts_of cs) group) refl (λ t some. some) in
+    run_shown target challenge (texts_of cs) [] cs (started group challenge) [] (started_shown target challenge (texts_of cs) group) refl
+    (started_none target.authentication) refl (λ t some. some) in
     let sound : Shown target (texts_of cs) last.name f.admission f.session_type × AreInRange f.parameters = subst (IsSoundLogin (Shown target (texts_of cs) last.name)) e shown.login.sound in
     let end : IsAuthenticated target.authentication challenge last.name f.proved (texts_of cs) = subst (EndShown target.authentication challenge (texts_of cs) last.name) e shown.login.end in
     (record { name = last.name; entered = sound.0; authenticated = end }, sound.1)

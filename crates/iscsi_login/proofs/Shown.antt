@@ -12,7 +12,6 @@ use Rattle.iscsi_chap.specs.Entries.{entry_among}
 use Rattle.iscsi_chap.specs.declared.algorithm.ChapAlgorithm.{ChapAlgorithm}
 use Rattle.iscsi_chap.specs.declared.entry.ChapEntry.{ChapEntry}
 use Rattle.iscsi_chap.specs.declared.entry.Credentials.{Credentials}
-use Rattle.iscsi_chap.specs.declared.algorithm.ChapDigests.{ChapDigests}
 use Rattle.iscsi_chap.specs.declared.authentication.ChapAccess.{ChapAccess}
 use Rattle.iscsi_chap.specs.Authentications.{is_passed}
 use Rattle.iscsi_login.specs.Authentications.{is_agreed, may_go_on, shown_by, verdict_by}
@@ -20,7 +19,7 @@ use Rattle.iscsi_login.specs.ChapKeys.{algorithm_key, identifier_key, challenge_
 use Rattle.iscsi_chap.specs.Responses.{is_digest, is_response}
 use Rattle.iscsi_login.specs.Chaps.{Verdict, silent, unproven, phase_after, says, says_challenge, says_response, says_any, challenged, asked_for, asked, identifier_in, is_own, response_items, shown_as, shown, proven, answered_by, answered, chap_turn}
 use Rattle.iscsi_login.specs.Exchanges.{ExchangeValue}
-use Rattle.iscsi_login.specs.ExchangeRuns.{IsEntryOf, IsProof, IsAuthenticated}
+use Rattle.iscsi_login.specs.ExchangeRuns.{first_offer, IsAskedFor, IsEntryOf, IsProof, IsProved, IsAuthenticated}
 use Rattle.iscsi_login.specs.Names.{declared_as}
 use Rattle.iscsi_login.specs.Turns.{phase_or, judgement_at}
 use Rattle.iscsi_chap.specs.declared.access.Admission.{Admission}
@@ -49,8 +48,18 @@ Shown target texts name a s = Any (λ (t : List ℕ). IsEntryOf target t name a 
 abbrev pub PhaseShown : Authentication → Option Challenge → (texts : List (List ℕ)) → (name : List ℕ) → ChapPhase → Type 0
 PhaseShown authentication.None challenge texts name p = Unit {0}
 PhaseShown (authentication.Chap access) challenge texts name phase.Unasked = Unit {0}
-PhaseShown (authentication.Chap access) challenge texts name (phase.Challenged algorithm) = Unit {0}
-PhaseShown (authentication.Chap access) challenge texts name (phase.Passed place) = Any (IsProof access.secrets.entries.items challenge name place) texts
+PhaseShown (authentication.Chap access) challenge texts name (phase.Challenged algorithm) = IsAskedFor access.digests texts algorithm
+PhaseShown (authentication.Chap access) challenge texts name (phase.Passed place) = IsProved access challenge name place texts
+
+-- where no algorithm was asked for yet, what the text offers is the first offer
+abbrev pub OffersFirst : Authentication → ChapPhase → (texts : List (List ℕ)) → (text : List ℕ) → Type 0
+OffersFirst authentication.None p texts text = Unit {0}
+OffersFirst (authentication.Chap access) phase.Unasked texts text = (list : List ℕ) → declared_as text algorithm_key ≡ Some list → first_offer texts ≡ Some list
+OffersFirst (authentication.Chap access) (phase.Challenged algorithm) texts text = Unit {0}
+OffersFirst (authentication.Chap access) (phase.Passed place) texts text = Unit {0}
+
+abbrev pub IsHeard : Authentication → ChapPhase → (texts : List (List ℕ)) → (text : List ℕ) → Type 0
+IsHeard au p texts text = IsText texts text × OffersFirst au p texts text
 
 abbrev pub EndShown : Authentication → Option Challenge → (texts : List (List ℕ)) → (name : List ℕ) → Login → Type 0
 EndShown au challenge texts name (Open l) = Unit {0}
@@ -97,11 +106,17 @@ at_false P b x y is h = subst (λ (c : Bool). P (cond c x y)) (sym is) h
 abbrev pub phase_in : ChapPhase → Verdict → ChapPhase
 phase_in old v = phase_or old (phase_after v)
 
-pub open_phase : (au : Authentication) (challenge : Option Challenge) (texts : List (List ℕ)) (name : List ℕ) (p : ChapPhase) → is_passed p ≡ false → PhaseShown au challenge texts name p
-open_phase authentication.None challenge texts name p h = tt
-open_phase (authentication.Chap access) challenge texts name phase.Unasked h = tt
-open_phase (authentication.Chap access) challenge texts name (phase.Challenged algorithm) h = tt
-open_phase (authentication.Chap access) challenge texts name (phase.Passed place) h = absurd cc
+pub unasked_shown : (au : Authentication) (challenge : Option Challenge) (texts : List (List ℕ)) (name : List ℕ) → PhaseShown au challenge texts name phase.Unasked
+unasked_shown authentication.None challenge texts name = tt
+unasked_shown (authentication.Chap access) challenge texts name = tt
+
+-- where nobody has passed the name doesn't matter
+pub open_phase : (au : Authentication) (challenge : Option Challenge) (texts : List (List ℕ)) (old name : List ℕ) (p : ChapPhase) → is_passed p ≡ false
+    → PhaseShown au challenge texts old p → PhaseShown au challenge texts name p
+open_phase authentication.None challenge texts old name p nobody h = tt
+open_phase (authentication.Chap access) challenge texts old name phase.Unasked nobody h = tt
+open_phase (authentication.Chap access) challenge texts old name (phase.Challenged algorithm) nobody h = h
+open_phase (authentication.Chap access) challenge texts old name (phase.Passed place) nobody h = absurd cc
 
 pub shown_as_passes : (P : ChapPhase → Type 0) (old : ChapPhase) (place : ℕ) (algorithm : ChapAlgorithm) (challenge : Challenge) (target : Option Credentials) (identifier : Option ℕ) (bytes : Option (List ℕ))
     → P old → P (phase.Passed place) → P (phase_in old (shown_as place algorithm challenge target identifier bytes))
@@ -121,20 +136,30 @@ shown_passes P old place algorithm challenge target (Some identifier) None h i =
 shown_passes P old place algorithm challenge target (Some identifier) (Some bytes) h i =
     shown_as_passes P old place algorithm challenge target (identifier_in identifier) (binary_value bytes) h i
 
-pub challenged_open : (c : Option Challenge) (o : Option ChapAlgorithm) → is_passed (phase_in phase.Unasked (challenged c o)) ≡ false
-challenged_open c None = refl
-challenged_open None (Some algorithm) = refl
-challenged_open (Some asked) (Some algorithm) = refl
+pub challenged_shown : (access : ChapAccess) (challenge c : Option Challenge) (texts : List (List ℕ)) (name list : List ℕ) (o : Option ChapAlgorithm)
+    → chosen_algorithm access.digests list ≡ o → first_offer texts ≡ Some list
+    → PhaseShown (authentication.Chap access) challenge texts name (phase_in phase.Unasked (challenged c o))
+challenged_shown access challenge c texts name list None is first = tt
+challenged_shown access challenge None texts name list (Some algorithm) is first = tt
+challenged_shown access challenge (Some asked) texts name list (Some algorithm) is first = record { list = list; offered = first; chosen = is }
 
-pub asked_for_open : (digests : ChapDigests) (c : Option Challenge) (agreed : Bool) (o : Option (List ℕ)) → is_passed (phase_in phase.Unasked (asked_for digests c agreed o)) ≡ false
-asked_for_open digests c agreed None = refl
-asked_for_open digests c agreed (Some list) =
-    either_of (λ (v : Verdict). is_passed (phase_in phase.Unasked v) ≡ false) agreed (challenged c (chosen_algorithm digests list)) unproven (challenged_open c (chosen_algorithm digests list)) refl
+pub asked_for_shown : (access : ChapAccess) (challenge c : Option Challenge) (texts : List (List ℕ)) (name : List ℕ) (agreed : Bool) (o : Option (List ℕ))
+    → ((list : List ℕ) → o ≡ Some list → first_offer texts ≡ Some list)
+    → PhaseShown (authentication.Chap access) challenge texts name (phase_in phase.Unasked (asked_for access.digests c agreed o))
+asked_for_shown access challenge c texts name agreed None first = tt
+asked_for_shown access challenge c texts name agreed (Some list) first =
+    either_of (λ (v : Verdict). PhaseShown (authentication.Chap access) challenge texts name (phase_in phase.Unasked v)) agreed
+    (challenged c (chosen_algorithm access.digests list)) unproven
+    (challenged_shown access challenge c texts name list (chosen_algorithm access.digests list) refl (first list refl)) tt
 
-pub asked_open : (digests : ChapDigests) (c : Option Challenge) (agreed : Bool) (text : List ℕ) → is_passed (phase_in phase.Unasked (asked digests c agreed text)) ≡ false
-asked_open digests c agreed text =
-    either_of (λ (v : Verdict). is_passed (phase_in phase.Unasked v) ≡ false) (says_response text) unproven (asked_for digests c agreed (declared_as text algorithm_key)) refl
-    (asked_for_open digests c agreed (declared_as text algorithm_key))
+-- an offer is the first
+pub asked_shown : (access : ChapAccess) (challenge c : Option Challenge) (texts : List (List ℕ)) (name text : List ℕ) (agreed : Bool)
+    → ((list : List ℕ) → declared_as text algorithm_key ≡ Some list → first_offer texts ≡ Some list)
+    → PhaseShown (authentication.Chap access) challenge texts name (phase_in phase.Unasked (asked access.digests c agreed text))
+asked_shown access challenge c texts name text agreed first =
+    either_of (λ (v : Verdict). PhaseShown (authentication.Chap access) challenge texts name (phase_in phase.Unasked v)) (says_response text) unproven
+    (asked_for access.digests c agreed (declared_as text algorithm_key)) tt
+    (asked_for_shown access challenge c texts name agreed (declared_as text algorithm_key) first)
 
 pub same_bytes : (o : Option (List ℕ)) (digest : List ℕ) → is_digest o digest ≡ true → o ≡ Some digest
 same_bytes None digest h = absurd cc
@@ -145,66 +170,73 @@ here_in P texts text (k, x, lt, is, same) p = (k, x, lt, is, subst P (sym same) 
 
 pub proven_shown : (access : ChapAccess) (challenge : Option Challenge) (texts : List (List ℕ)) (name text : List ℕ) (algorithm : ChapAlgorithm) (asked : Challenge) (user response : List ℕ) (o : Option (ℕ × ChapEntry))
     → challenge ≡ Some asked → declared_as text name_key ≡ Some user → declared_as text response_key ≡ Some response → entry_among access.secrets.entries.items name user ≡ o → IsText texts text
+    → IsAskedFor access.digests texts algorithm
     → PhaseShown (authentication.Chap access) challenge texts name (phase_in (phase.Challenged algorithm) (proven algorithm asked o response text))
-proven_shown access challenge texts name text algorithm asked user response None c n r e t = tt
-proven_shown access challenge texts name text algorithm asked user response (Some (place, entry)) c n r e t =
+proven_shown access challenge texts name text algorithm asked user response None c n r e t h = h
+proven_shown access challenge texts name text algorithm asked user response (Some (place, entry)) c n r e t h =
     let passed : Verdict = shown place algorithm asked entry.target (declared_as text identifier_key) (declared_as text challenge_key) in
     either_if (λ (v : Verdict). PhaseShown (authentication.Chap access) challenge texts name (phase_in (phase.Challenged algorithm) v))
     (is_response algorithm asked entry.own.secret.items response) passed unproven
     (λ same. shown_passes (PhaseShown (authentication.Chap access) challenge texts name) (phase.Challenged algorithm) place algorithm asked entry.target
-    (declared_as text identifier_key) (declared_as text challenge_key) tt
-    (here_in (IsProof access.secrets.entries.items challenge name place) texts text t
+    (declared_as text identifier_key) (declared_as text challenge_key) h
     (record {
-      asked = asked;
       algorithm = algorithm;
-      user = user;
-      entry = entry;
-      response = response;
-      is_asked = c;
-      as_user = n;
-      has_entry = e;
-      responds = r;
-      is_digest = same_bytes (binary_value response) (chap_digest algorithm asked.identifier entry.own.secret.items asked.bytes) same;
-    })))
-    tt
+      asked_for = h;
+      shown = here_in (IsProof access.secrets.entries.items challenge algorithm name place) texts text t
+          (record {
+            asked = asked;
+            user = user;
+            entry = entry;
+            response = response;
+            is_asked = c;
+            as_user = n;
+            has_entry = e;
+            responds = r;
+            is_digest = same_bytes (binary_value response) (chap_digest algorithm asked.identifier entry.own.secret.items asked.bytes) same;
+          });
+    }))
+    h
 
 pub answered_by_shown : (access : ChapAccess) (challenge : Option Challenge) (texts : List (List ℕ)) (name text : List ℕ) (algorithm : ChapAlgorithm) (asked : Challenge) (user response : Option (List ℕ))
     → challenge ≡ Some asked → declared_as text name_key ≡ user → declared_as text response_key ≡ response → IsText texts text
+    → IsAskedFor access.digests texts algorithm
     → PhaseShown (authentication.Chap access) challenge texts name (phase_in (phase.Challenged algorithm) (answered_by access.secrets.entries.items name asked algorithm text user response))
-answered_by_shown access challenge texts name text algorithm asked None None c n r t =
-    either_of (λ (v : Verdict). PhaseShown (authentication.Chap access) challenge texts name (phase_in (phase.Challenged algorithm) v)) (says_challenge text) unproven (silent (phase.Challenged algorithm)) tt tt
-answered_by_shown access challenge texts name text algorithm asked (Some user) (Some response) c n r t =
-    proven_shown access challenge texts name text algorithm asked user response (entry_among access.secrets.entries.items name user) c n r refl t
-answered_by_shown access challenge texts name text algorithm asked None (Some response) c n r t = tt
-answered_by_shown access challenge texts name text algorithm asked (Some user) None c n r t = tt
+answered_by_shown access challenge texts name text algorithm asked None None c n r t h =
+    either_of (λ (v : Verdict). PhaseShown (authentication.Chap access) challenge texts name (phase_in (phase.Challenged algorithm) v)) (says_challenge text) unproven (silent (phase.Challenged algorithm)) h h
+answered_by_shown access challenge texts name text algorithm asked (Some user) (Some response) c n r t h =
+    proven_shown access challenge texts name text algorithm asked user response (entry_among access.secrets.entries.items name user) c n r refl t h
+answered_by_shown access challenge texts name text algorithm asked None (Some response) c n r t h = h
+answered_by_shown access challenge texts name text algorithm asked (Some user) None c n r t h = h
 
 pub answered_shown : (access : ChapAccess) (challenge own : Option Challenge) (texts : List (List ℕ)) (name text : List ℕ) (algorithm : ChapAlgorithm) → own ≡ challenge → IsText texts text
+    → IsAskedFor access.digests texts algorithm
     → PhaseShown (authentication.Chap access) challenge texts name (phase_in (phase.Challenged algorithm) (answered access.secrets.entries.items name own algorithm text))
-answered_shown access challenge None texts name text algorithm same t = tt
-answered_shown access challenge (Some asked) texts name text algorithm same t =
+answered_shown access challenge None texts name text algorithm same t h = h
+answered_shown access challenge (Some asked) texts name text algorithm same t h =
     either_of (λ (v : Verdict). PhaseShown (authentication.Chap access) challenge texts name (phase_in (phase.Challenged algorithm) v)) (says text algorithm_key) (Err status.InitiatorError)
-    (answered_by access.secrets.entries.items name asked algorithm text (declared_as text name_key) (declared_as text response_key)) tt
-    (answered_by_shown access challenge texts name text algorithm asked (declared_as text name_key) (declared_as text response_key) (sym same) refl refl t)
+    (answered_by access.secrets.entries.items name asked algorithm text (declared_as text name_key) (declared_as text response_key)) h
+    (answered_by_shown access challenge texts name text algorithm asked (declared_as text name_key) (declared_as text response_key) (sym same) refl refl t h)
 
-pub turn_shown : (access : ChapAccess) (challenge own : Option Challenge) (texts : List (List ℕ)) (name text : List ℕ) (agreed : Bool) (old : ChapPhase) → own ≡ challenge → IsText texts text
+pub turn_shown : (access : ChapAccess) (challenge own : Option Challenge) (texts : List (List ℕ)) (name text : List ℕ) (agreed : Bool) (old : ChapPhase) → own ≡ challenge
+    → IsHeard (authentication.Chap access) old texts text
     → PhaseShown (authentication.Chap access) challenge texts name old → PhaseShown (authentication.Chap access) challenge texts name (phase_in old (chap_turn access name own agreed old text))
 unfolding chap_turn
 turn_shown access challenge own texts name text agreed phase.Unasked same t h =
-    open_phase (authentication.Chap access) challenge texts name (phase_in phase.Unasked (asked access.digests own agreed text)) (asked_open access.digests own agreed text)
-turn_shown access challenge own texts name text agreed (phase.Challenged algorithm) same t h = answered_shown access challenge own texts name text algorithm same t
+    asked_shown access challenge own texts name text agreed t.1
+turn_shown access challenge own texts name text agreed (phase.Challenged algorithm) same t h = answered_shown access challenge own texts name text algorithm same t.0 h
 turn_shown access challenge own texts name text agreed (phase.Passed place) same t h =
     either_of (λ (v : Verdict). PhaseShown (authentication.Chap access) challenge texts name (phase_in (phase.Passed place) v)) (says_any text) (Err status.InitiatorError)
     (silent (phase.Passed place)) h h
 
 pub by_request : (b : Bool) (access : ChapAccess) (challenge : Option Challenge) (texts : List (List ℕ)) (name text : List ℕ) (chap : ChapState) (agreed : Bool) → chap.challenge ≡ challenge
-    → (b ≡ false → IsText texts text) → PhaseShown (authentication.Chap access) challenge texts name chap.phase
+    → (b ≡ false → IsHeard (authentication.Chap access) chap.phase texts text) → PhaseShown (authentication.Chap access) challenge texts name chap.phase
     → PhaseShown (authentication.Chap access) challenge texts name (phase_in chap.phase (cond b (silent chap.phase) (chap_turn access name chap.challenge agreed chap.phase text)))
 by_request true access challenge texts name text chap agreed same t h = h
 by_request false access challenge texts name text chap agreed same t h = turn_shown access challenge chap.challenge texts name text agreed chap.phase same (t refl) h
 
 -- what a text shows
 pub text_shown : (au : Authentication) (challenge : Option Challenge) (texts : List (List ℕ)) (name text : List ℕ) (chap : ChapState) (stays : Login) (r : LoginRequest) → chap.challenge ≡ challenge
-    → (r.continues ≡ false → IsText texts text) → PhaseShown au challenge texts name chap.phase → PhaseShown au challenge texts name (phase_in chap.phase (shown_by au name chap stays r text))
+    → (r.continues ≡ false → IsHeard au chap.phase texts text) → PhaseShown au challenge texts name chap.phase → PhaseShown au challenge texts name (phase_in chap.phase (shown_by au name chap stays r text))
 text_shown authentication.None challenge texts name text chap stays r same t h = tt
 text_shown (authentication.Chap access) challenge texts name text chap stays r same t h = by_request r.continues access challenge texts name text chap (is_agreed stays) same t h
 

@@ -34,7 +34,7 @@ use Rattle.iscsi_login.specs.declared.login.LoginEnd.TheVariants as ends
 use Rattle.iscsi_login.specs.declared.turn.Turn.{Turn}
 use Rattle.iscsi_login.specs.declared.turn.Turn.TheVariants.{Refuses, Goes, Stays}
 use Rattle.iscsi_login.proofs.Reached.{IsSoundIfSome, IsSoundIfOk, IsSoundLogin, come_sound, text_sound, either_sound, moved_sound, unless_sound}
-use Rattle.iscsi_login.proofs.Shown.{EndShown, ExchangeShown, Fresh, FreshIn, IsText, LoginShown, PhaseShown, Shown, at_false, at_true, either_if, either_of, going_on, here_in, open_phase, pending_at, text_shown}
+use Rattle.iscsi_login.proofs.Shown.{EndShown, ExchangeShown, Fresh, FreshIn, IsHeard, IsText, LoginShown, PhaseShown, Shown, at_false, at_true, either_if, either_of, going_on, here_in, open_phase, pending_at, text_shown}
 
 -- ---- the login that a request makes
 
@@ -133,7 +133,7 @@ by_turn target challenge texts name old (Ok p) next stays count shown sound fres
     i
 
 pub on_judged : (target : LoginTarget) (challenge : Option Challenge) (texts : List (List ℕ)) (name text : List ℕ) (chap : ChapState) (r : LoginRequest) (next stays : Login) (count : ℕ)
-    → chap.challenge ≡ challenge → (r.continues ≡ false → IsText texts text) → PhaseShown target.authentication challenge texts name chap.phase
+    → chap.challenge ≡ challenge → (r.continues ≡ false → IsHeard target.authentication chap.phase texts text) → PhaseShown target.authentication challenge texts name chap.phase
     → IsSoundLogin (Shown target texts name) next → Fresh next (judgement_on target.authentication name chap next stays r text).phase
     → LoginShown target challenge texts name (judgement_on target.authentication name chap next stays r text).phase stays
     → PhaseShown target.authentication challenge texts name (judgement_on target.authentication name chap next stays r text).phase
@@ -145,7 +145,7 @@ on_judged target challenge texts name text chap r next stays count same t h soun
     (shown, by_turn target challenge texts name chap.phase (verdict_by target.authentication stays r q) next stays count shown sound fresh i)
 
 pub at_judged : (target : LoginTarget) (challenge : Option Challenge) (texts : List (List ℕ)) (name text : List ℕ) (chap : ChapState) (r : LoginRequest) (next stays : Login) (count : ℕ)
-    → chap.challenge ≡ challenge → (r.continues ≡ false → IsText texts text) → PhaseShown target.authentication challenge texts name chap.phase
+    → chap.challenge ≡ challenge → (r.continues ≡ false → IsHeard target.authentication chap.phase texts text) → PhaseShown target.authentication challenge texts name chap.phase
     → IsSoundLogin (Shown target texts name) next → Fresh next (judgement_at next target.authentication name chap stays r text).phase
     → LoginShown target challenge texts name (judgement_at next target.authentication name chap stays r text).phase stays
     → PhaseShown target.authentication challenge texts name (judgement_at next target.authentication name chap stays r text).phase
@@ -158,7 +158,7 @@ at_judged target challenge texts name text chap r (Open l) stays count same t h 
 
 -- what a request makes of an open login
 pub open_judged : (target : LoginTarget) (challenge : Option Challenge) (texts : List (List ℕ)) (name text : List ℕ) (chap : ChapState) (r : LoginRequest) (l : OpenLogin) (count : ℕ)
-    → chap.challenge ≡ challenge → (r.continues ≡ false → IsText texts text) → PhaseShown target.authentication challenge texts name chap.phase → FreshIn l.admitted chap.phase
+    → chap.challenge ≡ challenge → (r.continues ≡ false → IsHeard target.authentication chap.phase texts text) → PhaseShown target.authentication challenge texts name chap.phase → FreshIn l.admitted chap.phase
     → IsSoundIfSome (Shown target texts name) l.admitted
     → (l.admitted ≡ None → r.continues ≡ false → (a : Admission) (s : SessionType) → IsEntry target text a s → Shown target texts name a s)
     → PhaseShown target.authentication challenge texts name (judgement (Open l) name chap target r text).phase
@@ -199,7 +199,7 @@ renamed target texts (Some a) name text h = h
 
 pub rephased : (au : Authentication) (challenge : Option Challenge) (texts : List (List ℕ)) (o : Option Admitted) (name text : List ℕ) (p : ChapPhase) → FreshIn o p → PhaseShown au challenge texts name p
     → PhaseShown au challenge texts (name_unless o text name) p
-rephased au challenge texts None name text p fresh h = open_phase au challenge texts (name_unless None text name) p fresh
+rephased au challenge texts None name text p fresh h = open_phase au challenge texts name (name_unless None text name) p fresh h
 rephased au challenge texts (Some a) name text p fresh h = h
 
 pub entry_shown : (target : LoginTarget) (texts : List (List ℕ)) (name text : List ℕ) (a : Admission) (s : SessionType) → name ≡ unwrap_or (declared text key.InitiatorName) [] → IsText texts text → IsEntry target text a s
@@ -209,11 +209,11 @@ entry_shown target texts name text a s e t entry =
     here_in (λ (u : List ℕ). IsEntryOf target u name a s) texts text t
     (subst (λ (n : List ℕ). IsEntryOf target text n a s) (sym is) (record { named = entry.named; let_in = entry.let_in; of_type = entry.of_type; at_target = entry.at_target }))
 
-abbrev pub Heard : Login → LoginRequest → (texts : List (List ℕ)) → (text : List ℕ) → Type 0
-Heard (Open l) r texts text = r.continues ≡ false → IsText texts text
-Heard (Ended end) r texts text = Unit {0}
+abbrev pub Heard : Authentication → ChapPhase → Login → LoginRequest → (texts : List (List ℕ)) → (text : List ℕ) → Type 0
+Heard au p (Open l) r texts text = r.continues ≡ false → IsHeard au p texts text
+Heard au p (Ended end) r texts text = Unit {0}
 
-pub at_login : (m : Login) (target : LoginTarget) (challenge : Option Challenge) (texts : List (List ℕ)) (e : ExchangeValue) (r : LoginRequest) (payload : List ℕ) → Heard m r texts (e.gathered ++ payload)
+pub at_login : (m : Login) (target : LoginTarget) (challenge : Option Challenge) (texts : List (List ℕ)) (e : ExchangeValue) (r : LoginRequest) (payload : List ℕ) → Heard target.authentication e.chap.phase m r texts (e.gathered ++ payload)
     → ExchangeShown target challenge texts (record e { login = m }) → ExchangeShown target challenge texts (taken_at m (record e { login = m }) target r payload)
 unfolding refused_with
 at_login (Ended end) target challenge texts e r payload t h = h
@@ -233,10 +233,10 @@ at_login (Open l) target challenge texts e r payload t h =
     (renamed target texts l.admitted e.name text h.login.sound))
     (λ none is a s. entry_shown target texts name text a s
     (at_false (λ (n : List ℕ). n ≡ unwrap_or (declared text key.InitiatorName) []) r.continues e.name (name_unless l.admitted text e.name) is (ap (λ (o : Option Admitted). name_unless o text e.name) none))
-    (t is)))
+    (t is).0))
     h.same)
 
-pub taken_shown : (target : LoginTarget) (challenge : Option Challenge) (texts : List (List ℕ)) (e : ExchangeValue) (r : LoginRequest) (payload : List ℕ) → Heard e.login r texts (e.gathered ++ payload)
+pub taken_shown : (target : LoginTarget) (challenge : Option Challenge) (texts : List (List ℕ)) (e : ExchangeValue) (r : LoginRequest) (payload : List ℕ) → Heard target.authentication e.chap.phase e.login r texts (e.gathered ++ payload)
     → ExchangeShown target challenge texts e → ExchangeShown target challenge texts (taken e target r payload)
 unfolding taken
 taken_shown target challenge texts e r payload t h = at_login e.login target challenge texts e r payload t h

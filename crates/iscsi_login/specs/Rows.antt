@@ -5,11 +5,14 @@ use Rattle.iscsi_pdu.specs.declared.login_status.LoginStatus.TheVariants as stat
 use Rattle.iscsi_pdu.specs.declared.stage.Stage.{Stage}
 use Rattle.iscsi_pdu.specs.declared.stage.Stage.TheVariants as stage
 use Rattle.iscsi_chap.specs.Accesses.{admitted_among}
+use Rattle.iscsi_chap.specs.Algorithms.{chosen_algorithm}
+use Rattle.iscsi_chap.specs.declared.algorithm.ChapAlgorithm.TheVariants.{Sha256}
 use Rattle.iscsi_chap.specs.declared.algorithm.ChapDigests.TheVariants as taken
 use Rattle.iscsi_chap.specs.declared.challenge.Challenge.{Challenge}
 use Rattle.iscsi_chap.specs.declared.access.Host.{Host}
 use Rattle.iscsi_chap.specs.declared.access.Admission.TheVariants.{Listed}
 use Rattle.iscsi_login.specs.Chaps.{asked}
+use Rattle.iscsi_login.specs.ExchangeRuns.{first_offer}
 use Rattle.iscsi_login.specs.Logins.{begun, stepped, step_of}
 use Rattle.iscsi_login.specs.declared.login.Login.{Login}
 use Rattle.iscsi_login.specs.declared.login.LoginEnd.TheVariants as ends
@@ -43,6 +46,10 @@ on = request stage.SecurityNegotiation stage.LoginOperationalNegotiation
 abbrev pub behind_back : LoginTarget → (text : List ℕ) → Login
 behind_back target text = stepped (begun 1) target back text
 
+-- a text of one item
+abbrev pub offer : (item : List ℕ) → List ℕ
+offer item = item ++ 0 ∷ []
+
 pub record LoginsNoPortalShows (target : LoginTarget) (text : List ℕ) : Type 0 where
   -- a login that has ended stays so
   pub refused : step_of (behind_back target text) back ≡ Ends (ends.Refused status.InitiatorError)
@@ -54,3 +61,7 @@ pub record LoginsNoPortalShows (target : LoginTarget) (text : List ℕ) : Type 0
   -- a host that is named twice is the first
   pub named_twice : (first second : Host) → first.name.items ≡ codes "iqn.a" → second.name.items ≡ codes "iqn.a"
       → admitted_among false (first ∷ second ∷ []) (codes "iqn.a") ≡ Some (Listed first.sas)
+  -- of what is offered the first text counts, and of its algorithms SHA-256, whatever comes later
+  pub offered_first : first_offer (offer (codes "CHAP_N=a") ∷ (offer (codes "CHAP_A=5,7") ∷ (offer (codes "CHAP_A=5") ∷ []))) ≡ Some (codes "5,7")
+  pub no_offer : first_offer (offer (codes "AuthMethod=CHAP,None") ∷ []) ≡ None
+  pub of_both : chosen_algorithm taken.Sha256AndMd5 (codes "5,7") ≡ Some Sha256

@@ -27,8 +27,8 @@ pub fn reached_by_name()
 
 /// Law: whatever comes, in whatever pieces, an exchange reaches the full feature phase only as one of its texts names an initiator
 /// that is let in, and a normal session only as that text names the target; and, where the target asks for CHAP, only as one
-/// carries the digest that a secret of that name makes of the challenge, that of the entry at the place that was proved; where it
-/// doesn't, nothing was proved. What it has agreed is in its ranges.
+/// carries the digest that a secret of that name makes of the challenge, that of the entry at the place that was proved, by the algorithm
+/// that was asked for: the one that the target takes of the first offer; where it doesn't, nothing was proved. What it has agreed is in its ranges.
 pub fn begins_by_name()
     ensures let_in { (group : ℕ) (target : LoginTarget) (challenge : Option Challenge) (comings : List Coming) (f : FullFeature) → (exchanged target (started group challenge) comings).login ≡ Ended (ends.FullFeature f) → IsLetIn target challenge (texts_of comings) f.admission f.session_type f.proved }
     ensures in_range { (group : ℕ) (target : LoginTarget) (challenge : Option Challenge) (comings : List Coming) (f : FullFeature) → (exchanged target (started group challenge) comings).login ≡ Ended (ends.FullFeature f) → AreInRange f.parameters }
@@ -50,7 +50,7 @@ pub fn stages_ascend()
     ensures { (current next : Stage) → leads_to current next ≡ true → stage_code current < stage_code next }
 {}
 
-/// Worked rows: a login that has ended, one without a challenge, and a host that is named twice.
+/// Worked rows: a login that has ended, one without a challenge, a host that is named twice, and algorithms that are offered twice.
 pub fn login_rows()
     ensures { (target : LoginTarget) (text : List ℕ) → LoginsNoPortalShows target text }
 {}
