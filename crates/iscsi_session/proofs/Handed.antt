@@ -460,11 +460,11 @@ reset_hands notes waits n k k' s t unit result steps so = record {
 }
 
 below_hands : {S : Type 0} (notes : S → DoneValue → S → Type 0) (waits : DoneValue → Option ReplyTicket → Type 0) (n : Nexus) (units : ℕ) (k k' : TasksValue) (s t : S)
-    → ResetsBelow notes units k s k' t → Hands notes waits n k s [] [] k' t
-below_hands notes waits n zero k k' s t so = hands_none notes waits n k k' s t so.0 so.1
-below_hands {S} notes waits n (suc unit) k k' s t so =
-    hands_then notes waits n k so.0 k' s so.1 t [] [] [] [] (below_hands notes waits n unit k so.0 s so.1 so.3)
-    (reset_hands notes waits n so.0 k' so.1 t unit so.2 so.4 so.5)
+    (result : TaskManagementResult) → ResetsBelow notes units k s k' t result → Hands notes waits n k s [] [] k' t
+below_hands notes waits n zero k k' s t result so = hands_none notes waits n k k' s t so.0 so.1
+below_hands {S} notes waits n (suc unit) k k' s t result so =
+    hands_then notes waits n k so.0 k' s so.1 t [] [] [] [] (below_hands notes waits n unit k so.0 s so.1 so.2 so.4)
+    (reset_hands notes waits n so.0 k' so.1 t unit so.3 so.5 so.6)
 
 aborts_task : {S : Type 0} (notes : S → DoneValue → S → Type 0) (waits : DoneValue → Option ReplyTicket → Type 0) (n : Nexus) (k k' : TasksValue) (s t : S) (tag : ℕ) (o : Option ℕ)
     (result : TaskManagementResult) → AbortsTask k tag o k' result → t ≡ s → Hands notes waits n k s [] [] k' t
@@ -491,7 +491,7 @@ manages_hands notes waits n units r k k' s t asked.AbortTaskSet result so = abor
     so.0 so.1
 manages_hands notes waits n units r k k' s t asked.LogicalUnitReset result so = unit_hands notes waits n k k' s t (unit_below units (unit_of r.lun))
     result so
-manages_hands notes waits n units r k k' s t asked.TargetWarmReset result so = below_hands notes waits n units k k' s t so
+manages_hands notes waits n units r k k' s t asked.TargetWarmReset result so = below_hands notes waits n units k k' s t result so
 manages_hands notes waits n units r k k' s t asked.TaskReassign result so = hands_none notes waits n k k' s t so.0 so.1
 manages_hands notes waits n units r k k' s t asked.ClearAca result so = hands_none notes waits n k k' s t so.0 so.1
 manages_hands notes waits n units r k k' s t asked.ClearTaskSet result so = hands_none notes waits n k k' s t so.0 so.1

@@ -1,14 +1,14 @@
 -- PDUs taken off a stream, one after another, and what is written.
-use Rattle.std.proofs.Common.{◌≡◌, ◌≤◌, ◌+◌, ℕ, false, List, [], ◌∷◌, ◌++◌, length, length-append, drop, refl, sym, ap, subst, ◌∙◌, append_assoc, append-nil}
-use Rattle.std.proofs.Common.{Option, Some, None, arith, All}
+use Rattle.std.proofs.Common.{◌≡◌, ◌≤◌, ◌<◌, ◌+◌, ◌*◌, ℕ, Bool, true, false, cond, List, [], ◌∷◌, ◌++◌, length, length-append, drop, refl, sym, ap, subst, ◌∙◌, append_assoc}
+use Rattle.std.proofs.Common.{append-nil, Option, Some, None, Result, Ok, Err, IsErr, IsErrAnd, IfErr, arith, All}
 use Rattle.std.proofs.lemmas.List.Elements.{All-append, All-cons, All-head, All-nil, All-tail}
 use Rattle.std.proofs.lemmas.List.{drop-append-le}
-use Rattle.std.proofs.lemmas.Grind.{flat_map-append}
-use Rattle.std.specs.Io.KnownBytes.{Appends}
+use Rattle.std.proofs.lemmas.Grind.{common_steps, flat_map-append}
+use Rattle.std.specs.Io.KnownBytes.{Appends, IsAtEnd}
 use Rattle.iscsi_keys.specs.Limits.{segment_limit}
 use Rattle.iscsi_pdu.specs.Pdus.{InitiatorPduValue, TargetPduValue, initiator_found, parsed_initiator}
 use Rattle.iscsi_pdu.specs.declared.serial_number.SerialNumber.{SerialNumber}
-use Rattle.iscsi_pdu.specs.Segments.{Found, Partial, Complete, Invalid, IsKnown, SegmentsValue, segments}
+use Rattle.iscsi_pdu.specs.Segments.{Found, Partial, Complete, Invalid, IsKnown, SegmentsValue, measured, padded, segments, sized}
 use Rattle.iscsi_pdu.proofs.Streams.{segments_stay}
 use Rattle.iscsi_answers.specs.Written.{bytes_of, bytes_of_all}
 use Rattle.iscsi_tasks.specs.Next.{next_of}
@@ -16,6 +16,14 @@ use Rattle.iscsi_tasks.specs.declared.next_task.NextTask.TheVariants.{Idle}
 use Rattle.iscsi_tasks.specs.Values.{TasksValue}
 use Rattle.session.proofs.Read.{consumes_more, consumes_none}
 use Rattle.read_buffer.specs.Reading.{Added}
+use Rattle.iscsi_session.specs.Ends.{BranchFits, EndFits, EndIs, EndsBetween, EndsWithin, FaultFits, IsNone, NeedsMore, PauseFits, ends_by_logout, is_closing}
+use Rattle.iscsi_session.specs.Faults.{IsInside, IsLater, IsOfReading}
+use Rattle.iscsi_session.specs.Limits.{pdu_buffer_size}
+use Rattle.iscsi_session.specs.declared.fault.IscsiEnd.{IscsiEnd}
+use Rattle.iscsi_session.specs.declared.fault.IscsiFault.{IscsiFault}
+use Rattle.iscsi_session.specs.declared.fault.IscsiFault.TheVariants as fault
+use Rattle.iscsi_session.specs.declared.talking.Pause.{Pause}
+use Rattle.iscsi_session.specs.declared.talking.Pause.TheVariants as pause
 use Rattle.iscsi_session.specs.Saying.{Says}
 use Rattle.iscsi_session.specs.Talking.{Answers, BeginsWith, Came, Converses, Ending, Event, IsSo, Moment, Released, Silence, Told, Takes, Talks, Writes}
 use Rattle.iscsi_session.specs.Talking.{asked_to_leave, leave_requests, must_wait, pdus_of, pinged}
@@ -294,6 +302,144 @@ converses_within i most w a b rest left left' said few so =
         takes = answers.takes;
       },
     )
+
+-- ---- how it ends
+
+ends_behind : (ps qs : List InitiatorPduValue) → ends_by_logout qs ≡ true → ends_by_logout (ps ++ qs) ≡ true
+ends_behind [] qs e = e
+ends_behind (p ∷ []) [] e = absurd cc
+ends_behind (p ∷ []) (q ∷ qs) e = e
+ends_behind (p ∷ (x ∷ ps)) qs e = ends_behind (x ∷ ps) qs e
+
+-- more, whose last PDU is a logout
+pub then_ends : {S : Type 0} {most : ℕ} (w : World S) (a m b : Moment S) (rest : List ℕ) (xs ys : List TargetPduValue)
+    (one : Answers w most a xs m m.pending) (two : Answers w 0 m ys b rest) → ends_by_logout (pdus_of two.events) ≡ true
+    → ends_by_logout (pdus_of (answers_then {most = most} w a m b rest xs ys one two).events) ≡ true
+unfolding answers_then answers_and
+then_ends {S} {most = most} w a m b rest xs ys one two e =
+    subst (λ (ps : List InitiatorPduValue). ends_by_logout ps ≡ true) (sym (pdus_append one.events two.events))
+    (ends_behind (pdus_of one.events) (pdus_of two.events) e)
+
+pub one_ends : {S : Type 0} (w : World S) (a b : Moment S) (rest : List ℕ) (p : InitiatorPduValue) (size : ℕ) (said : List TargetPduValue)
+    (idle : next_of a.tasks ≡ Idle) (now : must_wait a.tasks p.header ≡ false) (here : BeginsWith a.pending p size) (cut : rest ≡ drop size a.pending)
+    (says : Says w.works p a.tasks a.service said b.tasks b.service) → is_closing p.header ≡ true
+    → ends_by_logout (pdus_of (answers_one w a b rest p size said idle now here cut says).events) ≡ true
+unfolding answers_one
+one_ends w a b rest p size said idle now here cut says e = e
+
+pub pause_then : {S : Type 0} {most : ℕ} (w : World S) (a m b : Moment S) (rest : List ℕ) (xs ys : List TargetPduValue)
+    (one : Answers w most a xs m m.pending) (two : Answers w 0 m ys b rest) (r : Result Pause IscsiFault)
+    → PauseFits r (pdus_of two.events) b.tasks rest
+    → PauseFits r (pdus_of (answers_then {most = most} w a m b rest xs ys one two).events) b.tasks rest
+pause_then w a m b rest xs ys one two (Ok pause.NeedsInput) fits = fits
+pause_then {most = most} w a m b rest xs ys one two (Ok pause.LoggedOut) fits = then_ends {most = most} w a m b rest xs ys one two fits
+pause_then w a m b rest xs ys one two (Ok pause.FlushDue) fits = tt
+pause_then w a m b rest xs ys one two (Err fault) fits = fits
+
+-- and what is read before it
+pub read_ends : {S : Type 0} {most : ℕ} (w : World S) (a m b : Moment S) (rest : List ℕ) (left left' : Option (List ℕ))
+    (xs ys : List TargetPduValue) (one : Converses w most a left left' xs m m.pending) (two : Answers w 0 m ys b rest)
+    → ends_by_logout (pdus_of two.events) ≡ true
+    → ends_by_logout (pdus_of (converses_then {most = most} w a m b rest left left' xs ys one two).2.events) ≡ true
+unfolding converses_then
+read_ends {S} {most = most} w a m b rest left left' xs ys one two e =
+    then_ends {most = most} w (record a { pending = a.pending ++ one.0 }) m b rest xs ys one.2 two e
+
+-- where a fault ended it
+inside_fits : (f : IscsiFault) (k : TasksValue) (rest : List ℕ) → IsInside f → FaultFits f k rest
+inside_fits (fault.Refused status) k rest h = absurd h
+inside_fits (fault.BadPdu what) k rest h = absurd h
+inside_fits fault.TooMuchData k rest h = tt
+inside_fits fault.Silent k rest h = absurd h
+inside_fits fault.Read k rest h = absurd h
+inside_fits fault.Write k rest h = absurd h
+inside_fits fault.NoMemory k rest h = tt
+
+reading_fits : (f : IscsiFault) (k : TasksValue) (rest : List ℕ) → IsOfReading f → NeedsMore k rest → FaultFits f k rest
+reading_fits (fault.Refused status) k rest h none = absurd h
+reading_fits (fault.BadPdu what) k rest h none = absurd h
+reading_fits fault.TooMuchData k rest h none = absurd h
+reading_fits fault.Silent k rest h none = none
+reading_fits fault.Read k rest h none = none
+reading_fits fault.Write k rest h none = absurd h
+reading_fits fault.NoMemory k rest h none = tt
+
+pub inside_later : (f : IscsiFault) → IsInside f → IsLater f
+inside_later (fault.Refused status) h = absurd h
+inside_later (fault.BadPdu what) h = absurd h
+inside_later fault.TooMuchData h = tt
+inside_later fault.Silent h = absurd h
+inside_later fault.Read h = absurd h
+inside_later fault.Write h = absurd h
+inside_later fault.NoMemory h = tt
+
+-- the error that a `?` hands on
+pub handed_on : {A : Type 0} (r : Result A IscsiFault) (f : IscsiFault) (P : IscsiFault → Type 0) → IsErrAnd r (λ x. x ≡ f) → P f → IfErr r P
+handed_on (Ok value) f P same p = absurd same
+handed_on (Err x) f P same p = subst P (sym same) p
+
+pub pause_inside : (r : Result Pause IscsiFault) (taken : List InitiatorPduValue) (k : TasksValue) (rest : List ℕ) → IsErr r → IfErr r IsInside
+    → PauseFits r taken k rest
+pause_inside (Ok value) taken k rest e h = absurd cc
+pause_inside (Err f) taken k rest e h = inside_fits f k rest h
+
+pub all_inside : (r : Result IscsiEnd IscsiFault) (taken : List InitiatorPduValue) (k : TasksValue) (rest : List ℕ) (left : Option (List ℕ)) → IsErr r
+    → IfErr r IsInside → EndFits r taken k rest left
+all_inside (Ok value) taken k rest left e h = absurd cc
+all_inside (Err f) taken k rest left e h = inside_fits f k rest h
+
+pub all_reading : (r : Result IscsiEnd IscsiFault) (taken : List InitiatorPduValue) (k : TasksValue) (rest : List ℕ) (left : Option (List ℕ)) → IsErr r
+    → IfErr r IsOfReading → NeedsMore k rest → EndFits r taken k rest left
+all_reading (Ok value) taken k rest left e h none = absurd cc
+all_reading (Err f) taken k rest left e h none = reading_fits f k rest h none
+
+pub branch_written : (r : Result Bool IscsiFault) (taken : List InitiatorPduValue) (k : TasksValue) (rest : List ℕ) → IsErr r
+    → IfErr r (λ f. f ≡ fault.Write) → BranchFits r taken k rest
+branch_written (Ok value) taken k rest e h = absurd cc
+branch_written (Err f) taken k rest e h = subst (λ (x : IscsiFault). FaultFits x k rest) (sym h) tt
+
+-- a fault by which answering stopped stops the connection
+pub branch_paused : (r : Result Bool IscsiFault) (f : IscsiFault) (taken : List InitiatorPduValue) (k : TasksValue) (rest : List ℕ) → IsErr r
+    → IsErrAnd r (λ x. x ≡ f) → FaultFits f k rest → BranchFits r taken k rest
+branch_paused (Ok value) f taken k rest e h fits = absurd cc
+branch_paused (Err x) f taken k rest e h fits = subst (λ (y : IscsiFault). FaultFits y k rest) (sym h) fits
+
+pub all_paused : (r : Result IscsiEnd IscsiFault) (f : IscsiFault) (taken : List InitiatorPduValue) (k : TasksValue) (rest : List ℕ) (left : Option (List ℕ))
+    → IsErr r → IsErrAnd r (λ x. x ≡ f) → FaultFits f k rest → EndFits r taken k rest left
+all_paused (Ok value) f taken k rest left e h fits = absurd cc
+all_paused (Err x) f taken k rest left e h fits = subst (λ (y : IscsiFault). FaultFits y k rest) (sym h) fits
+
+-- the end of input
+sized_part : (ahs count : ℕ) (bytes : List ℕ) (wanted : ℕ) → sized ahs count bytes ≡ Partial wanted → length bytes < 48 + ahs + padded count
+sized_part ahs count bytes wanted e = grind (arith, common_steps)
+
+measured_part : (limit words count : ℕ) (bytes : List ℕ) (wanted : ℕ) → measured limit words count bytes ≡ Partial wanted
+    → length bytes < 48 + 4 * 64 + (limit + 3)
+measured_part limit words count bytes wanted e = grind (arith, common_steps)
+
+part_is_small : (bytes : List ℕ) (wanted : ℕ) → parsed_initiator segment_limit bytes ≡ Partial wanted → length bytes < pdu_buffer_size
+unfolding segments
+part_is_small bytes wanted e = grind (arith, common_steps)
+
+end_between : (end : IscsiEnd) (taken : List InitiatorPduValue) (k : TasksValue) (rest : List ℕ) (left : Option (List ℕ)) (f : Found InitiatorPduValue)
+    → parsed_initiator segment_limit rest ≡ f → EndIs end rest f → IsNone k f → (length rest < pdu_buffer_size → IsAtEnd left)
+    → EndFits (Ok end) taken k rest left
+end_between end taken k [] left (Partial wanted) parsed is none over =
+    subst (λ (x : IscsiEnd). EndFits (Ok x) taken k [] left) (sym is)
+    (subst (λ (f : Found InitiatorPduValue). EndsBetween k [] f left) (sym parsed) (refl, over (part_is_small [] wanted parsed)))
+end_between end taken k (byte ∷ bytes) left (Partial wanted) parsed is none over =
+    subst (λ (x : IscsiEnd). EndFits (Ok x) taken k (byte ∷ bytes) left) (sym is)
+    (subst (λ (f : Found InitiatorPduValue). EndsWithin (byte ∷ bytes) f left) (sym parsed)
+    (λ same. absurd cc, over (part_is_small (byte ∷ bytes) wanted parsed)))
+end_between end taken k rest left (Complete p size) parsed is none over =
+    subst (λ (x : IscsiEnd). EndFits (Ok x) taken k rest left) (sym is)
+    (subst (λ (f : Found InitiatorPduValue). EndsBetween k rest f left) (sym parsed) none)
+end_between end taken k rest left (Invalid what) parsed is none over = absurd none
+
+pub end_fits : (end : IscsiEnd) (taken : List InitiatorPduValue) (k : TasksValue) (rest : List ℕ) (left : Option (List ℕ))
+    → EndIs end rest (parsed_initiator segment_limit rest) → NeedsMore k rest → (length rest < pdu_buffer_size → IsAtEnd left)
+    → EndFits (Ok end) taken k rest left
+end_fits end taken k rest left is none over = end_between end taken k rest left (parsed_initiator segment_limit rest) refl is none over
 
 -- ---- what is written
 

@@ -6,6 +6,7 @@ pub mod Releasing
 pub mod Worlds
 pub mod Saying
 pub mod Talking
+pub mod Ends
 pub mod Moments
 pub mod Texts
 pub mod LoggingIn

@@ -32,11 +32,18 @@ reset_result status.ReservationConflict = FunctionRejected
 abbrev pub Resets : {S : Type 0} → (S → DoneValue → S → Type 0) → (unit : ℕ) → S → S → TaskManagementResult → Type 0
 Resets notes unit s t result = (d : DoneValue) × IsAnswer d None unit event.Reset × notes s d t × (result ≡ reset_result d.reply.status)
 
+-- how a reset of several units is told, by how that of the units before was, and how that of the last one ended: as complete where each was
+-- reset, and else as the last of them ended that wasn't
+abbrev pub told_of_all : (before last : TaskManagementResult) → TaskManagementResult
+told_of_all before FunctionComplete = before
+told_of_all before last = last
+
 -- and each unit below one, in ascending order, with all of its tasks dropped
-abbrev pub ResetsBelow : {S : Type 0} → (S → DoneValue → S → Type 0) → (units : ℕ) → TasksValue → S → TasksValue → S → Type 0
-ResetsBelow notes zero k s k' t = (k' ≡ k) × (t ≡ s)
-ResetsBelow {S} notes (suc unit) k s k' t =
-    (k1 : TasksValue) × (m : S) × (result : TaskManagementResult) × ResetsBelow notes unit k s k1 m × (k' ≡ without_unit k1 unit) × Resets notes unit m t result
+abbrev pub ResetsBelow : {S : Type 0} → (S → DoneValue → S → Type 0) → (units : ℕ) → TasksValue → S → TasksValue → S → TaskManagementResult → Type 0
+ResetsBelow notes zero k s k' t result = (k' ≡ k) × (t ≡ s) × (result ≡ FunctionComplete)
+ResetsBelow {S} notes (suc unit) k s k' t result =
+    (k1 : TasksValue) × (m : S) × (before last : TaskManagementResult) × ResetsBelow notes unit k s k1 m before × (k' ≡ without_unit k1 unit)
+    × Resets notes unit m t last × (result ≡ told_of_all before last)
 
 -- the unit that a LUN names, of so many
 abbrev pub unit_below : (units : ℕ) → Option ℕ → Option ℕ
@@ -67,7 +74,7 @@ abbrev pub Manages : {S : Type 0} → (S → DoneValue → S → Type 0) → (un
 Manages notes units r k s asked.AbortTask k' t result = AbortsTask k r.referenced_task_tag (unit_below units (unit_of r.lun)) k' result × (t ≡ s)
 Manages notes units r k s asked.AbortTaskSet k' t result = AbortsTaskSet k (unit_below units (unit_of r.lun)) k' result × (t ≡ s)
 Manages notes units r k s asked.LogicalUnitReset k' t result = ResetsUnit notes k s (unit_below units (unit_of r.lun)) k' t result
-Manages notes units r k s asked.TargetWarmReset k' t result = ResetsBelow notes units k s k' t
+Manages notes units r k s asked.TargetWarmReset k' t result = ResetsBelow notes units k s k' t result
 Manages notes units r k s asked.TaskReassign k' t result = (k' ≡ k) × (t ≡ s) × (result ≡ TaskAllegianceReassignmentNotSupported)
 Manages notes units r k s asked.ClearAca k' t result = (k' ≡ k) × (t ≡ s) × (result ≡ FunctionNotSupported)
 Manages notes units r k s asked.ClearTaskSet k' t result = (k' ≡ k) × (t ≡ s) × (result ≡ FunctionNotSupported)

@@ -3,6 +3,7 @@ use Rattle.std.specs.Prelude.{ℕ, true, false, List, [], ◌∷◌, replicate}
 use Rattle.iscsi_pdu.specs.Pdus.{InitiatorPduValue}
 use Rattle.iscsi_pdu.specs.declared.initiator_header.InitiatorHeader.{InitiatorHeader}
 use Rattle.iscsi_pdu.specs.declared.initiator_header.InitiatorHeader.TheVariants as sent
+use Rattle.iscsi_pdu.specs.Codes.{logout_reason_of}
 use Rattle.iscsi_tasks.specs.Rows.{bursts, data_out, sn, write}
 use Rattle.iscsi_tasks.specs.Commands.{begun_task}
 use Rattle.iscsi_tasks.specs.Runs.{Act, AskedNext, Commanded, DataCame}
@@ -28,3 +29,14 @@ command_pdu = pdu (sent.ScsiCommand (write 4 true)) (7 ∷ 8 ∷ [])
 
 abbrev pub data_pdu : InitiatorPduValue
 data_pdu = pdu (sent.DataOut (data_out 0 0 2 true)) (9 ∷ 10 ∷ [])
+
+-- a logout by its code (RFC 7143, "Reason Code" of the Logout Request)
+abbrev pub logout_pdu : (code : ℕ) → InitiatorPduValue
+logout_pdu code = pdu (sent.LogoutRequest (record {
+  immediate = false;
+  reason = logout_reason_of code;
+  initiator_task_tag = 9;
+  cid = 0;
+  cmd_sn = sn 2;
+  exp_stat_sn = sn 0;
+})) []

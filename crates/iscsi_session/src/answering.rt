@@ -1,10 +1,11 @@
 //! One PDU of a connection in full feature, answered.
-ghost use Rattle.std.specs.Prelude.{◌≡◌, List, IfErr, OnOk};
+ghost use Rattle.std.specs.Prelude.{◌≡◌, true, List, IfErr, IfOk, OnOk};
+ghost use Rattle.iscsi_session.specs.Ends.{is_closing};
 ghost use Rattle.iscsi_pdu.specs.Pdus.{TargetPduValue};
 ghost use Rattle.iscsi_pdu.specs.Views.{initiator_value};
 ghost use Rattle.iscsi_tasks.specs.Next.{next_of};
 ghost use Rattle.iscsi_tasks.specs.declared.next_task.NextTask.TheVariants.{Idle};
-ghost use Rattle.iscsi_session.specs.Faults.{IsLater};
+ghost use Rattle.iscsi_session.specs.Faults.{IsInside};
 ghost use Rattle.iscsi_session.specs.Executing.{Adds, OrElse};
 ghost use Rattle.iscsi_session.specs.Saying.{Says};
 
@@ -28,7 +29,8 @@ pub(crate) fn answer<S, K: SessionKind<S>, G: SessionRegister>(
     pdu: &InitiatorPdu<'_>,
     header: &BasicHeader,
 ) -> Result<bool, IscsiFault>
-    ensures fault { IfErr result IsLater }
+    ensures fault { IfErr result IsInside }
+    ensures ends { IfOk result (λ ends. ends ≡ true → is_closing pdu.now.header ≡ true) }
     ensures said { OrElse result ((connection.new.tasks ≡ connection.old.tasks) × (service.new ≡ service.old))
         ((said : List TargetPduValue)
         × Says (K.works kind) (initiator_value pdu.now) connection.old.tasks service.old said connection.new.tasks service.new

@@ -84,6 +84,7 @@ impl<'p> Connection<'p> {
 /// Writes what was answered.
 pub(crate) fn flush<W: Write>(out: &mut Vec<u8>, writer: &mut W) -> Result<(), IscsiFault>
     ensures fault { IfErr result IsLater }
+    ensures broke { IfErr result (λ fault. fault ≡ IscsiFault.Write) }
     ensures written { OnOk result (Appends (W.contents writer.old) (W.contents writer.new) out.old.items) }
     ensures empty { out.new.items ≡ [] }
 {

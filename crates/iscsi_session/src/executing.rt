@@ -5,7 +5,7 @@ ghost use Rattle.iscsi_answers.specs.Written.{bytes_of_all};
 ghost use Rattle.iscsi_tasks.specs.Next.{next_of};
 ghost use Rattle.iscsi_tasks.specs.Runs.{Answered, Commanded, DataCame, Held, stepped};
 ghost use Rattle.iscsi_tasks.specs.declared.next_task.NextTask.TheVariants.{Idle};
-ghost use Rattle.iscsi_session.specs.Faults.{IsLater};
+ghost use Rattle.iscsi_session.specs.Faults.{IsInside};
 ghost use Rattle.iscsi_session.specs.Executing.{Acts, Adds, Does, Executes, GoesOn, HasInHand, OrElse, Tells};
 ghost use Rattle.iscsi_session.specs.Executing.{answer_to, data_of, demand, failure, held_reply, is_idle, next_outcome, outcome};
 
@@ -39,7 +39,7 @@ fn execute<S: KeepingService>(
     bytes: &[u8],
 ) -> Result<(), IscsiFault>
     requires { is_some connection.old.tasks.in_hand ≡ true }
-    ensures fault { IfErr result IsLater }
+    ensures fault { IfErr result IsInside }
     ensures executed { (said : List TargetPduValue)
         × Executes S.notes S.waits nexus service.old connection.old.tasks command.now bytes.now said connection.new.tasks service.new
         × Adds result connection.old.out.items connection.new.out.items said }
@@ -79,7 +79,7 @@ fn hold_reply(
     ticket: ReplyTicket,
 ) -> Result<(), IscsiFault>
     requires { is_some connection.old.tasks.in_hand ≡ true }
-    ensures fault { IfErr result IsLater }
+    ensures fault { IfErr result IsInside }
     ensures tasks { connection.new.tasks ≡ stepped connection.old.tasks (Held (held_reply reply.now handed_over (length
         (data_of connection.old.tasks connection.old.limits connection.old.stat_sn command.now handed_over reply.now.payload))) ticket) }
     ensures said { OnOk result (connection.new.out.items ≡ connection.old.out.items
@@ -115,7 +115,7 @@ fn answer_executed(
     bytes: &[u8],
     reply: &Reply,
 ) -> Result<(), IscsiFault>
-    ensures fault { IfErr result IsLater }
+    ensures fault { IfErr result IsInside }
     ensures tasks { connection.new.tasks ≡ stepped connection.old.tasks Answered }
     ensures answered { OnOk result (connection.new.out.items ≡ connection.old.out.items
         ++ bytes_of_all (answer_to connection.new.tasks connection.old.limits connection.old.stat_sn command.now
@@ -138,7 +138,7 @@ fn answer_command(
     answer: &UnitAnswer<'_>,
 ) -> Result<(), IscsiFault>
     requires { length answer.now.data.now < 2 ^ 32 }
-    ensures fault { IfErr result IsLater }
+    ensures fault { IfErr result IsInside }
     ensures tasks { connection.new.tasks ≡ stepped connection.old.tasks Answered }
     ensures answered { OnOk result (connection.new.out.items ≡ connection.old.out.items
         ++ bytes_of_all (answer_to connection.new.tasks connection.old.limits connection.old.stat_sn command.now handed_over
@@ -164,7 +164,7 @@ fn fail(
     command: &ScsiCommand,
     fault: TaskFault,
 ) -> Result<(), IscsiFault>
-    ensures fault { IfErr result IsLater }
+    ensures fault { IfErr result IsInside }
     ensures tasks { connection.new.tasks ≡ stepped connection.old.tasks Answered }
     ensures failed { OnOk result (connection.new.out.items ≡ connection.old.out.items
         ++ bytes_of_all (failure connection.new.tasks connection.old.limits connection.old.stat_sn command.now fault)) }
@@ -186,7 +186,7 @@ fn fail(
 
 /// Asks for data.
 fn ask(connection: &mut Connection<'_>, request: TransferRequest) -> Result<(), IscsiFault>
-    ensures fault { IfErr result IsLater }
+    ensures fault { IfErr result IsInside }
     ensures tasks { connection.new.tasks ≡ connection.old.tasks }
     ensures asked { OnOk result (connection.new.out.items ≡ connection.old.out.items
         ++ bytes_of_all (demand connection.old.tasks connection.old.stat_sn request)) }
@@ -206,7 +206,7 @@ fn do_next<S: KeepingService>(
     next: NextTask,
 ) -> Result<(), IscsiFault>
     requires { HasInHand (next_outcome next) connection.old.tasks }
-    ensures fault { IfErr result IsLater }
+    ensures fault { IfErr result IsInside }
     ensures done { (said : List TargetPduValue)
         × Does S.notes S.waits nexus service.old connection.old.tasks (next_outcome next) said connection.new.tasks service.new
         × Adds result connection.old.out.items connection.new.out.items said }
@@ -236,7 +236,7 @@ pub(crate) fn go_on<S: KeepingService>(
     nexus: Nexus,
     connection: &mut Connection<'_>,
 ) -> Result<(), IscsiFault>
-    ensures fault { IfErr result IsLater }
+    ensures fault { IfErr result IsInside }
     ensures gone { (times : ℕ) × (said : List TargetPduValue)
         × GoesOn S.notes S.waits nexus times connection.old.tasks service.old said connection.new.tasks service.new
         × Adds result connection.old.out.items connection.new.out.items said }
@@ -261,7 +261,7 @@ pub(crate) fn take_command<S: KeepingService>(
     header: &BasicHeader,
     payload: &[u8],
 ) -> Result<(), IscsiFault>
-    ensures fault { IfErr result IsLater }
+    ensures fault { IfErr result IsInside }
     ensures taken { OrElse result ((connection.new.tasks ≡ connection.old.tasks) × (service.new ≡ service.old))
         ((said : List TargetPduValue)
         × Acts S.notes S.waits nexus connection.old.tasks service.old (Commanded command.now payload.now) said connection.new.tasks service.new
@@ -289,7 +289,7 @@ pub(crate) fn take_data(
     header: &BasicHeader,
     payload: &[u8],
 ) -> Result<(), IscsiFault>
-    ensures fault { IfErr result IsLater }
+    ensures fault { IfErr result IsInside }
     ensures taken { OrElse result (connection.new.tasks ≡ connection.old.tasks)
         ((said : List TargetPduValue) × (connection.new.tasks ≡ stepped connection.old.tasks (DataCame data_out.now payload.now))
         × Tells connection.new.tasks (outcome connection.old.tasks (DataCame data_out.now payload.now)) said

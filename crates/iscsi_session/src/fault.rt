@@ -66,9 +66,9 @@ impl From<PduFault> for IscsiFault {
 }
 
 impl From<TasksFault> for IscsiFault {
-    ghost use Rattle.iscsi_session.specs.Faults.{IsLater};
+    ghost use Rattle.iscsi_session.specs.Faults.{IsInside};
 
-    ghost from_gives = { λ _ fault. IsLater fault };
+    ghost from_gives = { λ _ fault. IsInside fault };
 
     fn from(fault: TasksFault) -> IscsiFault {
         match fault {

@@ -1,10 +1,10 @@
 //! The two types of session (RFC 7143, "SessionType").
-ghost use Rattle.std.specs.Prelude.{◌≡◌, List, [], All, IfErr, OnOk};
+ghost use Rattle.std.specs.Prelude.{◌≡◌, List, [], false, All, IfErr, IfOk, OnOk};
 ghost use Rattle.iscsi_pdu.specs.Pdus.{TargetPduValue};
 ghost use Rattle.iscsi_pdu.specs.declared.initiator_header.InitiatorHeader.TheVariants as sent;
 ghost use Rattle.iscsi_tasks.specs.Next.{next_of};
 ghost use Rattle.iscsi_tasks.specs.declared.next_task.NextTask.TheVariants.{Idle};
-ghost use Rattle.iscsi_session.specs.Faults.{IsLater};
+ghost use Rattle.iscsi_session.specs.Faults.{IsInside};
 ghost use Rattle.iscsi_session.specs.Executing.{Adds, OrElse};
 
 use crate::connection::Connection;
@@ -47,7 +47,8 @@ pub(crate) trait SessionKind<S>: Copy {
         header: &BasicHeader,
         payload: &[u8],
     ) -> Result<bool, IscsiFault>
-        ensures fault { IfErr result IsLater }
+        ensures fault { IfErr result IsInside }
+        ensures stays { IfOk result (λ ends. ends ≡ false) }
         ensures worked { OrElse result ((connection.new.tasks ≡ connection.old.tasks) × (service.new ≡ service.old))
             ((said : List TargetPduValue)
             × works self (sent.ScsiCommand command.now) payload.now
@@ -65,7 +66,8 @@ pub(crate) trait SessionKind<S>: Copy {
         header: &BasicHeader,
         payload: &[u8],
     ) -> Result<bool, IscsiFault>
-        ensures fault { IfErr result IsLater }
+        ensures fault { IfErr result IsInside }
+        ensures stays { IfOk result (λ ends. ends ≡ false) }
         ensures worked { OrElse result ((connection.new.tasks ≡ connection.old.tasks) × (service.new ≡ service.old))
             ((said : List TargetPduValue)
             × works self (sent.DataOut data_out.now) payload.now
@@ -83,7 +85,8 @@ pub(crate) trait SessionKind<S>: Copy {
         request: &TaskManagementRequest,
         header: &BasicHeader,
     ) -> Result<bool, IscsiFault>
-        ensures fault { IfErr result IsLater }
+        ensures fault { IfErr result IsInside }
+        ensures stays { IfOk result (λ ends. ends ≡ false) }
         ensures worked { (payload : List ℕ) → OrElse result
             ((connection.new.tasks ≡ connection.old.tasks) × (service.new ≡ service.old))
             ((said : List TargetPduValue)
@@ -101,7 +104,7 @@ pub(crate) trait SessionKind<S>: Copy {
         register: &G,
         connection: &mut Connection<'_>,
     ) -> Result<(), IscsiFault>
-        ensures fault { IfErr result IsLater }
+        ensures fault { IfErr result IsInside }
         ensures resets_taken { (units : List ℕ) × All (G.resets register.now) units × ((said : List TargetPduValue)
             × takes_resets self units connection.old.tasks service.old said connection.new.tasks service.new
             × Adds result connection.old.out.items connection.new.out.items said) }

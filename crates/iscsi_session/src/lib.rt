@@ -28,5 +28,5 @@ pub use iscsi_answers::PortalAddress;
 pub use keeping::KeepingService;
 pub use portal::{Arrival, Portal};
 pub use register::{Entrant, Joined, NexusEnd, SessionRegister};
-pub use rows::{handing_rows, outcome_rows, room_rows};
+pub use rows::{ending_rows, handing_rows, outcome_rows, reset_rows, room_rows};
 pub use serving::serve;

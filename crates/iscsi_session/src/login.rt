@@ -4,7 +4,8 @@ ghost use Rattle.std.specs.Io.KnownBytes.{Appends};
 ghost use Rattle.iscsi_pdu.specs.declared.login_request.LoginRequest.{LoginRequest};
 ghost use Rattle.iscsi_pdu.specs.declared.initiator_header.InitiatorHeader.TheVariants as sent;
 ghost use Rattle.iscsi_login.specs.Exchanges.{taken};
-ghost use Rattle.iscsi_session.specs.Faults.{IsLater};
+ghost use Rattle.iscsi_session.specs.Ends.{end_of};
+ghost use Rattle.iscsi_session.specs.Faults.{IsLater, IsOfReading};
 ghost use Rattle.iscsi_session.specs.LoggingIn.{Exchanges, HasReached, LogsIn, UnlessRefused, WhereBegins, WhereBegun};
 
 use crate::connection::flush;
@@ -118,7 +119,8 @@ pub(crate) fn await_login<R: Read, W: Write>(
 
 /// What a read that failed says of its connection.
 pub(crate) fn read_fault(error: &io::Error) -> IscsiFault
-    ensures { IsLater result }
+    ensures later { IsLater result }
+    ensures reading { IsOfReading result }
 {
     match error.kind() {
         io::ErrorKind::WouldBlock | io::ErrorKind::TimedOut => IscsiFault::Silent,
@@ -127,7 +129,9 @@ pub(crate) fn read_fault(error: &io::Error) -> IscsiFault
 }
 
 /// How the end of input ends a connection: between PDUs, or within one.
-pub(crate) fn end_of(pending: &[u8]) -> IscsiEnd {
+pub(crate) fn end_of(pending: &[u8]) -> IscsiEnd
+    ensures { result ≡ end_of pending.now }
+{
     if pending.is_empty() {
         IscsiEnd::Closed
     } else {

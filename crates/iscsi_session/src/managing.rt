@@ -3,7 +3,7 @@ ghost use Rattle.std.specs.Prelude.{◌≡◌, List, IfErr, Some};
 ghost use Rattle.iscsi_pdu.specs.Pdus.{TargetPduValue};
 ghost use Rattle.iscsi_pdu.specs.Luns as luns;
 ghost use Rattle.iscsi_tasks.specs.Aborts.{without_task};
-ghost use Rattle.iscsi_session.specs.Faults.{IsLater};
+ghost use Rattle.iscsi_session.specs.Faults.{IsInside};
 ghost use Rattle.iscsi_session.specs.Executing.{Adds};
 ghost use Rattle.iscsi_session.specs.Managing.{AbortsTask, AbortsTaskSet, Manages, ManagesTasks, Resets, ResetsBelow, ResetsUnit};
 ghost use Rattle.iscsi_session.specs.Managing.{abort_result, reset_result, unit_below};
@@ -26,7 +26,7 @@ pub(crate) fn manage<S: Service, G: SessionRegister>(
     connection: &mut Connection<'_>,
     request: &TaskManagementRequest,
 ) -> Result<(), IscsiFault>
-    ensures fault { IfErr result IsLater }
+    ensures fault { IfErr result IsInside }
     ensures managed { (said : List TargetPduValue)
         × ManagesTasks S.notes S.count request.now connection.old.tasks service.old said connection.new.tasks service.new
         × Adds result connection.old.out.items connection.new.out.items said }
@@ -147,7 +147,7 @@ fn reset_all<S: Service, G: SessionRegister>(
     register: &G,
     tasks: &mut Tasks,
 ) -> TaskManagementResult
-    ensures reset { ResetsBelow S.notes (S.count service.old) tasks.old service.old tasks.new service.new }
+    ensures reset { ResetsBelow S.notes (S.count service.old) tasks.old service.old tasks.new service.new result }
 {
     let mut result = TaskManagementResult::FunctionComplete;
     'units: for unit in 0..service.units() {

@@ -2,7 +2,7 @@
 ghost use Rattle.std.specs.Prelude.{◌≡◌, ◌++◌, List, IfErr, OnOk};
 ghost use Rattle.iscsi_pdu.specs.Pdus.{TargetPduValue};
 ghost use Rattle.iscsi_answers.specs.Written.{bytes_of_all};
-ghost use Rattle.iscsi_session.specs.Faults.{IsLater};
+ghost use Rattle.iscsi_session.specs.Faults.{IsInside};
 ghost use Rattle.iscsi_session.specs.Executing.{Adds};
 ghost use Rattle.iscsi_session.specs.Releasing.{Releases, SaysDue, response_to};
 
@@ -18,7 +18,7 @@ pub(crate) fn release<G: SessionRegister>(
     register: &G,
     connection: &mut Connection<'_>,
 ) -> Result<(), IscsiFault>
-    ensures fault { IfErr result IsLater }
+    ensures fault { IfErr result IsInside }
     ensures released { (said : List TargetPduValue)
         × Releases (G.settles register.now) connection.old.tasks said connection.new.tasks
         × Adds result connection.old.out.items connection.new.out.items said }
@@ -35,7 +35,7 @@ fn release_held<G: SessionRegister>(
     register: &G,
     connection: &mut Connection<'_>,
 ) -> Result<(), IscsiFault>
-    ensures fault { IfErr result IsLater }
+    ensures fault { IfErr result IsInside }
     ensures released { (said : List TargetPduValue)
         × Releases (G.settles register.now) connection.old.tasks said connection.new.tasks
         × Adds result connection.old.out.items connection.new.out.items said }
@@ -54,7 +54,7 @@ fn release_one<G: SessionRegister>(
     connection: &mut Connection<'_>,
     ticket: ReplyTicket,
 ) -> Result<(), IscsiFault>
-    ensures fault { IfErr result IsLater }
+    ensures fault { IfErr result IsInside }
     ensures released { (said : List TargetPduValue)
         × Releases (G.settles register.now) connection.old.tasks said connection.new.tasks
         × Adds result connection.old.out.items connection.new.out.items said }
@@ -70,7 +70,7 @@ fn release_one<G: SessionRegister>(
 
 /// Adds these answers, one behind another.
 fn add_due(connection: &mut Connection<'_>, due: &[DueAnswer]) -> Result<(), IscsiFault>
-    ensures fault { IfErr result IsLater }
+    ensures fault { IfErr result IsInside }
     ensures tasks { connection.new.tasks ≡ connection.old.tasks }
     ensures said { (said : List TargetPduValue) × SaysDue connection.old.tasks due.now said
         × Adds result connection.old.out.items connection.new.out.items said }
@@ -83,7 +83,7 @@ fn add_due(connection: &mut Connection<'_>, due: &[DueAnswer]) -> Result<(), Isc
 
 /// Adds what answers a command whose reply was held.
 fn add_response(connection: &mut Connection<'_>, due: &DueAnswer) -> Result<(), IscsiFault>
-    ensures fault { IfErr result IsLater }
+    ensures fault { IfErr result IsInside }
     ensures tasks { connection.new.tasks ≡ connection.old.tasks }
     ensures said { OnOk result (connection.new.out.items ≡ connection.old.out.items
         ++ bytes_of_all (response_to connection.old.tasks connection.old.stat_sn due.now.command due.now.response)) }

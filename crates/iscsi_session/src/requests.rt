@@ -1,10 +1,11 @@
 //! NOP-Out and logout, which concern no unit, and what is rejected.
-ghost use Rattle.std.specs.Prelude.{◌≡◌, ◌≤◌, ◌++◌, List, length, take, IfErr, OnOk};
+ghost use Rattle.std.specs.Prelude.{◌≡◌, ◌≤◌, ◌++◌, true, false, List, length, take, IfErr, IfOk, OnOk};
 ghost use Rattle.iscsi_answers.specs.Written.{bytes_of_all};
+ghost use Rattle.iscsi_session.specs.Ends.{closes};
 ghost use Rattle.iscsi_session.specs.Executing.{refusal};
 ghost use Rattle.iscsi_session.specs.Saying.{AddsPlain, numbered};
 ghost use Rattle.iscsi_session.specs.Talking.{must_wait};
-ghost use Rattle.iscsi_session.specs.Faults.{IsLater};
+ghost use Rattle.iscsi_session.specs.Faults.{IsInside};
 
 use crate::connection::Connection;
 use crate::fault::IscsiFault;
@@ -24,7 +25,7 @@ pub(crate) fn reject(
     reason: RejectReason,
     header: &BasicHeader,
 ) -> Result<(), IscsiFault>
-    ensures fault { IfErr result IsLater }
+    ensures fault { IfErr result IsInside }
     ensures tasks { connection.new.tasks ≡ connection.old.tasks }
     ensures rejected { OnOk result (connection.new.out.items ≡ connection.old.out.items
         ++ bytes_of_all (refusal connection.old.tasks connection.old.stat_sn reason header.now)) }
@@ -51,7 +52,8 @@ pub(crate) fn turn_down(
     reason: RejectReason,
     header: &BasicHeader,
 ) -> Result<bool, IscsiFault>
-    ensures fault { IfErr result IsLater }
+    ensures stays { IfOk result (λ ends. ends ≡ false) }
+    ensures fault { IfErr result IsInside }
     ensures tasks { connection.new.tasks ≡ connection.old.tasks }
     ensures said { OnOk result (AddsPlain connection.old.out.items connection.new.out.items) }
 {
@@ -66,7 +68,8 @@ pub(crate) fn take_unsupported(
     cmd_sn: SerialNumber,
     header: &BasicHeader,
 ) -> Result<bool, IscsiFault>
-    ensures fault { IfErr result IsLater }
+    ensures stays { IfOk result (λ ends. ends ≡ false) }
+    ensures fault { IfErr result IsInside }
     ensures tasks { connection.new.tasks ≡ numbered connection.old.tasks immediate cmd_sn }
     ensures said { OnOk result (AddsPlain connection.old.out.items connection.new.out.items) }
 {
@@ -82,7 +85,8 @@ pub(crate) fn take_nop_out(
     nop_out: &NopOut,
     payload: &[u8],
 ) -> Result<bool, IscsiFault>
-    ensures fault { IfErr result IsLater }
+    ensures stays { IfOk result (λ ends. ends ≡ false) }
+    ensures fault { IfErr result IsInside }
     ensures tasks { connection.new.tasks ≡ numbered connection.old.tasks nop_out.now.immediate nop_out.now.cmd_sn }
     ensures said { OnOk result (AddsPlain connection.old.out.items connection.new.out.items) }
 {
@@ -128,7 +132,8 @@ pub(crate) fn take_logout(
     request: &LogoutRequest,
     header: &BasicHeader,
 ) -> Result<bool, IscsiFault>
-    ensures fault { IfErr result IsLater }
+    ensures ends { IfOk result (λ ends. ends ≡ true → closes request.now.reason ≡ true) }
+    ensures fault { IfErr result IsInside }
     ensures tasks { connection.new.tasks ≡ numbered connection.old.tasks request.now.immediate request.now.cmd_sn }
     ensures said { OnOk result (AddsPlain connection.old.out.items connection.new.out.items) }
 {

@@ -47,3 +47,30 @@ pub fn handing_rows()
     ensures unit { unit_below 3 (unit_of 0x0002000000000000) ≡ Some 2 }
     ensures no_unit { unit_below 3 (unit_of 0x0003000000000000) ≡ None }
 {}
+
+ghost use Rattle.std.specs.Prelude.{false};
+ghost use Rattle.iscsi_pdu.specs.declared.task_management_result.TaskManagementResult.TheVariants.{FunctionComplete, FunctionRejected, LunDoesNotExist};
+ghost use Rattle.iscsi_session.specs.Ends.{end_of, ends_by_logout};
+ghost use Rattle.iscsi_session.specs.Managing.{told_of_all};
+ghost use Rattle.iscsi_session.specs.Rows.{logout_pdu};
+ghost use Rattle.iscsi_session.specs.declared.fault.IscsiEnd.TheVariants.{Closed, Cut};
+
+/// Worked rows: how a reset of all units is told, by how those before the last one were and how that one ended.
+pub fn reset_rows()
+    ensures each { told_of_all FunctionComplete FunctionComplete ≡ FunctionComplete }
+    ensures last { told_of_all FunctionComplete FunctionRejected ≡ FunctionRejected }
+    ensures before { told_of_all FunctionRejected FunctionComplete ≡ FunctionRejected }
+    ensures both { told_of_all FunctionRejected LunDoesNotExist ≡ LunDoesNotExist }
+{}
+
+/// Worked rows: by which logouts a session ends, those of the session, 0, and of the connection, 1, where they are the last PDU; and what the end of
+/// input is by what is left.
+pub fn ending_rows()
+    ensures session { ends_by_logout (command_pdu ∷ (logout_pdu 0 ∷ [])) ≡ true }
+    ensures connection { ends_by_logout (command_pdu ∷ (logout_pdu 1 ∷ [])) ≡ true }
+    ensures for_recovery { ends_by_logout (command_pdu ∷ (logout_pdu 2 ∷ [])) ≡ false }
+    ensures not_last { ends_by_logout (logout_pdu 0 ∷ (command_pdu ∷ [])) ≡ false }
+    ensures none { ends_by_logout [] ≡ false }
+    ensures between { end_of [] ≡ Closed }
+    ensures within { end_of (0x01 ∷ []) ≡ Cut }
+{}

@@ -7,7 +7,8 @@ ghost use Rattle.iscsi_session.specs.Faults.{IsLater};
 ghost use Rattle.iscsi_session.specs.Leaving.{IsLostUnless, Leaves};
 ghost use Rattle.iscsi_session.specs.LoggingIn.{nexus_of};
 ghost use Rattle.iscsi_session.specs.Serving.{Serves, ServesBehind, WritesLast, first_moment};
-ghost use Rattle.iscsi_session.specs.Talking.{Converses, Moment};
+ghost use Rattle.iscsi_session.specs.Ends.{EndFits};
+ghost use Rattle.iscsi_session.specs.Talking.{Converses, Moment, pdus_of};
 ghost use Rattle.iscsi_session.specs.Worlds.{world};
 
 use crate::claiming::{Claim, SessionIdentity, claim_of};
@@ -246,12 +247,13 @@ impl<'a> DueLogin<'a> {
         writer: &mut W,
     ) -> Result<IscsiEnd, IscsiFault>
         ensures fault { IfErr result IsLater }
-        ensures talks { (said : List TargetPduValue) × (ended : Moment S) × (rest : List ℕ) × Converses
+        ensures talks { (said : List TargetPduValue) × (ended : Moment S) × (rest : List ℕ) × (all : Converses
             (world (K.works kind) (K.takes_resets kind) (G.resets register.now) (G.ends register.now) (G.settles register.now))
             1 (first_moment self.entry.begun service.old self.entry.read_buffer) (R.remaining reader.old) (R.remaining reader.new)
-            said ended rest
+            said ended rest)
             × (ended.service ≡ service.new)
-            × OnOk result ((next_of ended.tasks ≡ Idle) × WritesLast (W.contents writer.old) (W.contents writer.new) said) }
+            × OnOk result ((next_of ended.tasks ≡ Idle) × WritesLast (W.contents writer.old) (W.contents writer.new) said)
+            × EndFits result (pdus_of all.2.events) ended.tasks rest (R.remaining reader.new) }
     {
         let tsih = self.tsih();
         let DueLogin {

@@ -1,9 +1,13 @@
 //! A connection in full feature, from what is pending behind its login to its end.
-ghost use Rattle.std.specs.Prelude.{◌≡◌, ◌⊎◌, ◌<◌, ℕ, [], List, false, length, IfErr, IfSome, Ok, OnOk};
-ghost use Rattle.iscsi_pdu.specs.Pdus.{TargetPduValue};
+ghost use Rattle.std.specs.Prelude.{◌≡◌, ◌⊎◌, ◌<◌, ℕ, [], List, true, false, length, IfErr, IfSome, Ok, OnErr, OnOk};
+ghost use Rattle.std.specs.Io.KnownBytes.{IsAtEnd};
+ghost use Rattle.iscsi_keys.specs.Limits.{segment_limit};
+ghost use Rattle.iscsi_pdu.specs.Pdus.{TargetPduValue, parsed_initiator};
 ghost use Rattle.iscsi_tasks.specs.Next.{next_of};
 ghost use Rattle.iscsi_tasks.specs.declared.next_task.NextTask.TheVariants.{Idle};
-ghost use Rattle.iscsi_session.specs.Faults.{IsLater};
+ghost use Rattle.iscsi_session.specs.Ends.{EndIs};
+ghost use Rattle.iscsi_session.specs.Faults.{IsInside, IsLater, IsOfReading};
+ghost use Rattle.iscsi_session.specs.Limits.{pdu_buffer_size};
 ghost use Rattle.iscsi_session.specs.Talking.{IsPinged, MayAsk};
 ghost use Rattle.read_buffer.specs.Reading.{Added};
 
@@ -56,7 +60,7 @@ fn ask_to_leave<G: SessionRegister>(
     connection: &mut Connection<'_>,
     is_asked: &mut bool,
 ) -> Result<(), IscsiFault>
-    ensures fault { IfErr result IsLater }
+    ensures fault { IfErr result IsInside }
     ensures tasks { connection.new.tasks ≡ connection.old.tasks }
     ensures asks { OnOk result (MayAsk (G.ends register.now) connection.old.tasks is_asked.old is_asked.new
         connection.old.out.items connection.new.out.items) }
@@ -74,7 +78,9 @@ fn ask_to_leave<G: SessionRegister>(
 }
 
 /// How the end of input ends a connection in full feature: between PDUs too where a whole one, a logout, still waits.
-fn end_behind(pending: &[u8]) -> IscsiEnd {
+fn end_behind(pending: &[u8]) -> IscsiEnd
+    ensures { EndIs result pending.now (parsed_initiator segment_limit pending.now) }
+{
     match parse_initiator_pdu(TARGET_MAX_RECV_DATA_SEGMENT_LENGTH, pending) {
         ParsedInitiatorPdu::Complete(_, _) => IscsiEnd::Closed,
         ParsedInitiatorPdu::Partial(_) | ParsedInitiatorPdu::Invalid(_) => end_of(pending),
@@ -92,7 +98,8 @@ pub(crate) struct Session<'p, K> {
 
 impl<'p, K> Session<'p, K> {
     ghost use Rattle.iscsi_session.specs.Moments.{Advances, moment};
-    ghost use Rattle.iscsi_session.specs.Talking.{Answers, Converses, Writes};
+    ghost use Rattle.iscsi_session.specs.Ends.{BranchFits, EndFits};
+    ghost use Rattle.iscsi_session.specs.Talking.{Answers, Converses, Writes, pdus_of};
     ghost use Rattle.iscsi_session.specs.Worlds.{world};
 
     /// Answers the PDUs that have come whole, in order, until there are enough answers to be written.
@@ -174,11 +181,12 @@ impl<'p, K> Session<'p, K> {
         requires { next_of self.old.connection.tasks ≡ Idle }
         ensures kind { self.new.kind ≡ self.old.kind }
         ensures fault { IfErr result IsLater }
-        ensures talks { (said : List TargetPduValue) × (rest : List ℕ) × Answers
+        ensures talks { (said : List TargetPduValue) × (rest : List ℕ) × (answers : Answers
             (world (K.works self.old.kind) (K.takes_resets self.old.kind) (G.resets register.now) (G.ends register.now) (G.settles register.now))
-            0 (moment self.old service.old) said (moment self.new service.new) rest
+            0 (moment self.old service.old) said (moment self.new service.new) rest)
             × OnOk result ((rest ≡ self.new.read_buffer) × Writes (W.contents writer.old) (W.contents writer.new)
-            self.old.connection.out.items self.new.connection.out.items said) }
+            self.old.connection.out.items self.new.connection.out.items said)
+            × BranchFits result (pdus_of answers.events) self.new.connection.tasks rest }
         ensures idle { OnOk result (next_of self.new.connection.tasks ≡ Idle) }
         ensures empty { self.new.connection.out.items ≡ [] }
     {
@@ -204,6 +212,10 @@ impl<'p, K> Session<'p, K> {
     ) -> Result<bool, IscsiFault>
         ensures kind { self.new.kind ≡ self.old.kind }
         ensures fault { IfErr result IsLater }
+        ensures broke { IfErr result IsOfReading }
+        ensures nothing { OnErr result (self.new.read_buffer ≡ self.old.read_buffer) }
+        ensures ended { result ≡ Ok true → (self.new.read_buffer ≡ self.old.read_buffer)
+            × (length self.old.read_buffer < pdu_buffer_size → IsAtEnd (R.remaining reader.new)) }
         ensures tasks { self.new.connection.tasks ≡ self.old.connection.tasks }
         ensures reads { Added self.old.read_buffer self.new.read_buffer (R.remaining reader.old) (R.remaining reader.new) }
         ensures pings { OnOk result ((self.new.connection.out.items ≡ self.old.connection.out.items)
@@ -246,11 +258,12 @@ impl<'p, K> Session<'p, K> {
         requires { next_of self.old.connection.tasks ≡ Idle }
         ensures kind { self.new.kind ≡ self.old.kind }
         ensures fault { IfErr result IsLater }
-        ensures talks { (said : List TargetPduValue) × (rest : List ℕ) × Converses
+        ensures talks { (said : List TargetPduValue) × (rest : List ℕ) × (all : Converses
             (world (K.works self.old.kind) (K.takes_resets self.old.kind) (G.resets register.now) (G.ends register.now) (G.settles register.now))
             1 (moment self.old service.old) (R.remaining reader.old) (R.remaining reader.new)
-            said (moment self.new service.new) rest
-            × OnOk result (Writes (W.contents writer.old) (W.contents writer.new) self.old.connection.out.items [] said) }
+            said (moment self.new service.new) rest)
+            × OnOk result (Writes (W.contents writer.old) (W.contents writer.new) self.old.connection.out.items [] said)
+            × EndFits result (pdus_of all.2.events) self.new.connection.tasks rest (R.remaining reader.new) }
         ensures idle { OnOk result (next_of self.new.connection.tasks ≡ Idle) }
     {
         let mut is_pinged = false;

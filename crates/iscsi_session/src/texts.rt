@@ -1,6 +1,6 @@
 //! Text requests and their answers, either of which may go on in further PDUs (RFC 7143, "Text Request", "Text Response").
-ghost use Rattle.std.specs.Prelude.{◌≡◌, ◌≤◌, ◌+◌, length, IfErr, OnOk};
-ghost use Rattle.iscsi_session.specs.Faults.{IsLater};
+ghost use Rattle.std.specs.Prelude.{◌≡◌, ◌≤◌, ◌+◌, false, length, IfErr, IfOk, OnOk};
+ghost use Rattle.iscsi_session.specs.Faults.{IsInside};
 ghost use Rattle.iscsi_session.specs.Saying.{AddsPlain, numbered};
 
 use crate::connection::Connection;
@@ -148,7 +148,8 @@ pub(crate) fn take_text(
     header: &BasicHeader,
     payload: &[u8],
 ) -> Result<bool, IscsiFault>
-    ensures fault { IfErr result IsLater }
+    ensures stays { IfOk result (λ ends. ends ≡ false) }
+    ensures fault { IfErr result IsInside }
     ensures tasks { connection.new.tasks ≡ numbered connection.old.tasks request.now.immediate request.now.cmd_sn }
     ensures said { OnOk result (AddsPlain connection.old.out.items connection.new.out.items) }
 {
@@ -180,7 +181,8 @@ fn take_piece(
     payload: &[u8],
 ) -> Result<bool, IscsiFault>
     requires { length connection.old.open_text.gathered + length payload.now ≤ 65536 }
-    ensures fault { IfErr result IsLater }
+    ensures stays { IfOk result (λ ends. ends ≡ false) }
+    ensures fault { IfErr result IsInside }
     ensures tasks { connection.new.tasks ≡ connection.old.tasks }
     ensures said { OnOk result (AddsPlain connection.old.out.items connection.new.out.items) }
 {
@@ -204,7 +206,7 @@ fn answer_whole(
     request: &TextRequest,
 ) -> Result<(), IscsiFault>
     requires { length connection.old.open_text.gathered ≤ 65536 }
-    ensures fault { IfErr result IsLater }
+    ensures fault { IfErr result IsInside }
     ensures tasks { connection.new.tasks ≡ connection.old.tasks }
     ensures said { OnOk result (AddsPlain connection.old.out.items connection.new.out.items) }
 {
@@ -219,7 +221,7 @@ fn answer_whole(
 
 /// Adds what is left of an answer, as much of it as the initiator takes.
 fn answer_text(connection: &mut Connection<'_>, request: &TextRequest) -> Result<(), IscsiFault>
-    ensures fault { IfErr result IsLater }
+    ensures fault { IfErr result IsInside }
     ensures tasks { connection.new.tasks ≡ connection.old.tasks }
     ensures said { OnOk result (AddsPlain connection.old.out.items connection.new.out.items) }
 {

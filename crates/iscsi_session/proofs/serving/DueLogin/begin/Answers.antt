@@ -1,9 +1,9 @@
-use Rattle.std.proofs.Common.{[], refl}
+use Rattle.std.proofs.Common.{[], refl, rules}
 use Rattle.iscsi_session.specs.Moments.{moment}
 use Rattle.iscsi_session.specs.Serving.{first_moment}
 use Rattle.iscsi_session.proofs.Conversed.{no_matter}
 use Rattle.iscsi_session.proofs.Served.{has_begun}
-use Rattle.iscsi_session.proofs.Talked.{converses_none}
+use Rattle.iscsi_session.proofs.Talked.{all_inside, converses_none}
 use Rattle.iscsi_session.proofs.serving.DueLogin.begin.Goals as goal
 
 pub returns-in_err-accept-clause-talks : goal.returns-in_err-accept-clause-talks
@@ -15,6 +15,7 @@ returns-in_err-accept-clause-talks g c =
       converses_none _ first (g.R.Read.remaining c.args.reader.now),
       refl,
       no_matter _ c.from_residual.result c.from_residual.ensures.0,
+      all_inside c.from_residual.result _ _ _ _ c.from_residual.ensures.0 (search rules),
     )
 
 pub returns-clause-talks : goal.returns-clause-talks

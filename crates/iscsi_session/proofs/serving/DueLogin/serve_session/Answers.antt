@@ -1,4 +1,5 @@
-use Rattle.std.proofs.Common.{ap, inr}
+use Rattle.std.proofs.Common.{ap, inr, Err}
+use Rattle.iscsi_session.specs.declared.fault.IscsiFault.TheVariants.{NoMemory}
 use Rattle.scsi_nexus.specs.declared.nexus.Nexus.{Nexus}
 use Rattle.iscsi_session.specs.Serving.{first_moment}
 use Rattle.iscsi_session.proofs.Held.{is_held}
@@ -38,18 +39,18 @@ returns-then-not-leave-clause-session g c =
     let held =
     holds g.S.Service.notes g.S.KeepingService.waits g.S.Service.count c.args.self.arrival.portal.group c.args.self.begun _ talk.1 c.args.service.now
     c.enter.new.service c.begin-ended.new.service c.leave.new.service c.args.self.read_buffer talk.2
-    (g.R.Read.remaining c.args.reader.now) _ talk.0 c.leave.result c.requires c.nexus-nexus.ensures c.enter.ensures talk.3 talk.4
-    c.leave.ensures in
+    (g.R.Read.remaining c.args.reader.now) _ (Err NoMemory) talk.0 c.leave.result c.requires c.nexus-nexus.ensures c.enter.ensures talk.3 talk.4
+    c.leave.ensures tt in
     inr (talk.0, c.leave.result, held, tt)
 
 pub returns-in-Err-ended-clause-session : goal.returns-in-Err-ended-clause-session
 returns-in-Err-ended-clause-session g c =
-    let talk = c.begin-ended.ensures.talks in
+    let talk = c.in-Err-ended.ensures.talks in
     let held =
     holds g.S.Service.notes g.S.KeepingService.waits g.S.Service.count c.args.self.arrival.portal.group c.args.self.begun _ talk.1 c.args.service.now
     c.enter.new.service c.begin-ended.new.service c.leave.new.service c.args.self.read_buffer talk.2
-    (g.R.Read.remaining c.args.reader.now) _ talk.0 c.leave.result c.requires c.nexus-nexus.ensures c.enter.ensures talk.3 talk.4
-    c.leave.ensures in
+    (g.R.Read.remaining c.args.reader.now) _ _ talk.0 c.leave.result c.requires c.nexus-nexus.ensures c.enter.ensures talk.3 talk.4
+    c.leave.ensures talk.6 in
     inr (talk.0, c.leave.result, held, tt)
 
 pub returns-in-Ok-ended-clause-session : goal.returns-in-Ok-ended-clause-session
@@ -58,6 +59,6 @@ returns-in-Ok-ended-clause-session g c =
     let held =
     holds g.S.Service.notes g.S.KeepingService.waits g.S.Service.count c.args.self.arrival.portal.group c.args.self.begun _ talk.1 c.args.service.now
     c.enter.new.service c.begin-ended.new.service c.leave.new.service c.args.self.read_buffer talk.2
-    (g.R.Read.remaining c.args.reader.now) _ talk.0 c.leave.result c.requires c.nexus-nexus.ensures c.enter.ensures talk.3 talk.4
-    c.leave.ensures in
+    (g.R.Read.remaining c.args.reader.now) _ _ talk.0 c.leave.result c.requires c.nexus-nexus.ensures c.enter.ensures talk.3 talk.4
+    c.leave.ensures talk.6 in
     inr (talk.0, c.leave.result, held, (c.if-not-leave.false, talk.5.0, talk.5.1))

@@ -2,7 +2,9 @@ use Rattle.std.proofs.Common.{◌∙◌, refl}
 use Rattle.iscsi_session.specs.Moments.{moment}
 use Rattle.iscsi_session.specs.Worlds.{world}
 use Rattle.iscsi_session.proofs.Conversed.{moment_of, released_broken, released_then, resets_broken, resets_then}
+use Rattle.iscsi_session.specs.Faults.{IsInside}
 use Rattle.iscsi_session.proofs.Released.{releases_next}
+use Rattle.iscsi_session.proofs.Talked.{handed_on}
 use Rattle.iscsi_session.proofs.talking.Session.answer_batch.Goals as goal
 
 pub returns-in_err-take_resets-clause-talks : goal.returns-in_err-take_resets-clause-talks
@@ -14,7 +16,8 @@ returns-in_err-take_resets-clause-talks g c =
       service = c.take_resets.new.service;
       pending = c.args.self.now.read_buffer;
       out = c.take_resets.new.connection.out.items;
-    }) c.from_residual.result _ _ c.from_residual.ensures.0 c.in_err-take_resets.ensures.resets_taken
+    }) c.from_residual.result _ c.from_residual.ensures.0
+    (handed_on c.from_residual.result _ IsInside c.from_residual.ensures.1 c.in_err-take_resets.ensures.fault) c.in_err-take_resets.ensures.resets_taken
 
 pub returns-in_err-release-clause-talks : goal.returns-in_err-release-clause-talks
 returns-in_err-release-clause-talks g c =
@@ -26,7 +29,8 @@ returns-in_err-release-clause-talks g c =
     c.release.new.connection.out.items in
     let r = c.from_residual-in_err-release.result in
     resets_then w (moment c.args.self.now c.args.service.now) m b r c.in_ok-take_resets.ensures.resets_taken refl
-    (released_broken w m b r _ c.from_residual-in_err-release.ensures.0 c.release.ensures.released refl)
+    (released_broken w m b r _ c.from_residual-in_err-release.ensures.0
+    (handed_on r _ IsInside c.from_residual-in_err-release.ensures.1 c.in_err-release.ensures.fault) c.release.ensures.released refl)
 
 pub answer_pending-requires : goal.answer_pending-requires
 answer_pending-requires g c =
