@@ -7,3 +7,4 @@ pub mod ServedLibrary
 pub mod ServedSeats
 pub mod ServerFaults
 pub mod Serving
+pub mod Targets

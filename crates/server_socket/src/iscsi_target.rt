@@ -1,6 +1,7 @@
 //! The target of a library's portals, and the secrets of those who come in there.
 ghost use Rattle.std.specs.Prelude.{◌≡◌, IfOk, vec_len};
 ghost use Rattle.server_socket.specs.Places.{portals_of};
+ghost use Rattle.server_socket.specs.Targets.{AuthenticatesBy, digests_of};
 
 use crate::secrets_file::secrets_at;
 use crate::socket_fault::SocketFault;
@@ -22,12 +23,14 @@ pub(crate) struct PortalTarget {
     pub most_strangers: u8,
 }
 
-/// The target that is asked for. Where none is, it has no portals.
+/// The target that is asked for. Where none is, it has no portals. Its initiators show who they are by CHAP exactly where a file of secrets is
+/// named, and by the digests that are asked for.
 pub(crate) fn target_of<R: AllocGlobal + Files>(
     rt: &R,
     iscsi: Option<IscsiOptions>,
 ) -> Result<PortalTarget, SocketFault>
-    ensures { IfOk result (λ made. vec_len made.portals ≡ portals_of iscsi) }
+    ensures portals { IfOk result (λ made. vec_len made.portals ≡ portals_of iscsi) }
+    ensures authentication { IfOk result (λ made. AuthenticatesBy iscsi made.target.authentication) }
 {
     let alloc = rt.alloc();
     let Some(options) = iscsi else {
@@ -69,7 +72,9 @@ pub(crate) fn target_of<R: AllocGlobal + Files>(
 }
 
 /// The digests that are asked for, as a login looks them up.
-fn digests_of(digests: program_options::ChapDigests) -> ChapDigests {
+fn digests_of(digests: program_options::ChapDigests) -> ChapDigests
+    ensures { result ≡ digests_of digests }
+{
     match digests {
         program_options::ChapDigests::Sha256 => ChapDigests::Sha256,
         program_options::ChapDigests::Sha256AndMd5 => ChapDigests::Sha256AndMd5,
@@ -82,7 +87,9 @@ fn target_named(
     hosts: Vec<Host>,
     any_host: bool,
     authentication: Authentication,
-) -> Result<LoginTarget, AllocError> {
+) -> Result<LoginTarget, AllocError>
+    ensures { IfOk result (λ made. made.authentication ≡ authentication) }
+{
     Ok(LoginTarget {
         name: Vec::from_slice(alloc, name.as_bytes())?,
         access: Access { hosts, any_host },
