@@ -21,9 +21,9 @@ def command(lun: int, cdb: str, data: bytes = b"") -> bytes:
     return bytes([2, lun, len(words)]) + words + data
 
 
-def reserve_out(action: int, kind: int, key: int, other: int) -> bytes:
-    """PERSISTENT RESERVE OUT to the drive."""
-    return command(DRIVE, f"5f{action:02x}{kind:02x}00000000001800", struct.pack(">QQQ", key, other, 0))
+def reserve_out(action: int, kind: int, key: int, other: int, lun: int = DRIVE) -> bytes:
+    """PERSISTENT RESERVE OUT, to the first drive where no other unit is named."""
+    return command(lun, f"5f{action:02x}{kind:02x}00000000001800", struct.pack(">QQQ", key, other, 0))
 
 
 LOGIN_OF_A, LOGIN_OF_B, LOGOUT, DRIVE_RESET = login(A), login(B), b"\x04", b"\x03\x01"

@@ -17,6 +17,7 @@ import full_disk
 import initiators
 import joining
 import memories
+import moving
 import portal_chap
 import refusals
 import serve_lines
@@ -28,7 +29,7 @@ from playing import play
 
 ROWS = [
     *stuck.ROWS, *serve_lines.ROWS, *initiators.ROWS, *joining.ROWS, *endings.ROWS, *drains.ROWS, *events.ROWS, *full_disk.ROWS,
-    *sessions.ROWS, *sharing.ROWS, *memories.ROWS, *refusals.ROWS, *portal_chap.ROWS, *streams.ROWS]
+    *sessions.ROWS, *sharing.ROWS, *moving.ROWS, *memories.ROWS, *refusals.ROWS, *portal_chap.ROWS, *streams.ROWS]
 
 
 if __name__ == "__main__":

@@ -31,13 +31,18 @@ class Counting:
         self.connection.sendall(framed(frame))
         return received(self.connection)
 
-    def asks(self, frame: bytes, sense: tuple[int, int, int] | None = None) -> None:
-        """Compares the status and the sense data of an answer, and notes its number."""
+    def hears(self, frame: bytes) -> tuple[int, int, int] | None:
+        """What the sense data of an answer say: none where it is GOOD. Its number is noted."""
         answer = self.ask(frame)
         found = (answer[5] & 15, answer[15], answer[16]) if answer[2] else None
-        same(f"the answer to {frame[:9].hex()}", (answer[0], answer[1], found), (0x82, CHECK if sense else GOOD, sense))
+        same(f"the kind and the status of the answer to {frame[:9].hex()}", (answer[0], answer[1]), (0x82, CHECK if found else GOOD))
         at = 3 + answer[2]
         self.numbers.setdefault(frame[1], []).append(int.from_bytes(answer[at:at + 8], "big"))
+        return found
+
+    def asks(self, frame: bytes, sense: tuple[int, int, int] | None = None) -> None:
+        """Compares the status and the sense data of an answer, and notes its number."""
+        same(f"the answer to {frame[:9].hex()}", self.hears(frame), sense)
 
     def leaves(self) -> None:
         same("the answer to a LOGOUT", self.ask(LOGOUT), LOGGED_OUT)

@@ -17,6 +17,12 @@ from frames import exactly, framed  # of examples/
 ONE_SESSION = framed(LOGIN_OF_A) + framed(READY) + framed(LOGOUT)
 REPLIES = framed(ACCEPTED) + framed(power_on(1)) + framed(LOGGED_OUT)
 LOGGED_IN, ASKED, ALL = 15, 28, 33
+# The answers to the same stream that comes again, and its records: the second of the first session's is its loss.
+REPLIES_AGAIN = framed(ACCEPTED) + framed(check(3, 6, 0x29, 0x07)) + framed(LOGGED_OUT)
+LINES_AGAIN = """\
+3 500000000000000a.1 TEST-UNIT-READY 2 - - 02
+4 500000000000000a.1 LOSS 6 - - 00
+"""
 OF_A = "session 1 of 500000000000000a.1:"
 OF_NOBODY = "session 1 before its LOGIN:"
 
@@ -114,12 +120,23 @@ def silent_behind(tried: Tried) -> None:
         same_lines(server.lines(), "")
 
 
-def ended_behind(length: int) -> typing.Callable[[Tried], None]:
-    """The stream ends behind so many bytes."""
+def twice(tried: Tried) -> None:
+    """The same stream comes again, to the same library: that nexus has left the directory, and is told of its loss."""
+    with Server(tried, "--sessions", "2") as server:
+        for replies in (REPLIES, REPLIES_AGAIN):
+            connection = server.connect()
+            connection.sendall(ONE_SESSION)
+            same("the replies", rest_of(connection).hex(), replies.hex())
+        server.ends()
+        same_lines(server.lines(), LINES_OF_A + LINES_AGAIN)
+
+
+def ended_behind(length: int, send: typing.Callable[[socket.socket, bytes], None] = trickle) -> typing.Callable[[Tried], None]:
+    """The stream ends behind so many bytes, which come one by one unless they are sent otherwise."""
     def play(tried: Tried) -> None:
         with Server(tried, "--sessions", "1", "--log") as server:
             connection = server.connect()
-            trickle(connection, ONE_SESSION[:length])
+            send(connection, ONE_SESSION[:length])
             connection.shutdown(socket.SHUT_WR)
             same("the replies", rest_of(connection), REPLIES[:answered_to(length)])
             server.ends()
@@ -206,6 +223,9 @@ ROWS = [
     Row("silent-behind", "a session ends where nothing more comes of its LOGIN, wherever that is, and leaves no record", silent_behind),
     Row("whole", "a session whose bytes come one by one has all its answers", whole),
     Row("at-once", "a session whose bytes come at once has all its answers", at_once),
+    Row("twice", "a session that comes twice to one library is let in each time, and is told of its loss the second time", twice),
+    Row("cut-at-once", "a session that ends within a frame leaves no record where all of it comes in one piece",
+        ended_behind(LOGGED_IN + 3, socket.socket.sendall)),
     Row("absent", "a unit that isn't there is told to a command and to a reset", absent),
     Row("numbered", "a reply has the number of its record, of several bytes", numbered),
     *(Row(f"ended-behind-{length}", ENDS_AS_ITS_STREAM, ended_behind(length)) for length in range(ALL)),
