@@ -1,14 +1,18 @@
 """Volumes that two hosts move from drive to drive, and a library of four drives: what each host is answered, and which records that leaves, each
 with the reservation that stood before it."""
 import functools
+import struct
 import time
 
 from exchanges import (
     A, ACCEPTED, B, BLOCK, CHANGER, DRIVE, DRIVE_READY, LOGGED_OUT, LOGIN_OF_A, LOGIN_OF_B, LOGOUT, NO_UNIT, PREVENT, READ, READY, REGISTER,
     RESERVATION, RESERVE, REWIND, TO_DRIVE, WAS_RESET, WRITE, IsLeft, Says, Step, check, command, conflict, good, meet, power_on, reserve_out)
-from serving import Row, Server, Tried, Wrong, patience, same
+from initiators import CHECKED, HOSTS, Initiator
+from serving import Row, Server, Tried, Wrong, patience, same, same_lines
 from sharing import NO_MEDIUM, POWER_ON, SECOND_DRIVE, Counting, beside_each_other, lines_by_unit, same_one_by_one, same_records
 from sharing import NO_UNIT as IS_ABSENT
+
+from initiator import COMMAND, FINAL, pdu, unit  # of examples/
 
 THIRD_DRIVE, LAST_DRIVE, BEHIND_THE_LAST = 3, 4, 5
 ALLOW = command(DRIVE, "1e0000000000")
@@ -114,7 +118,7 @@ LINES_OF_DRIVE_TO_DRIVE = """\
 """
 
 # How often each of two hosts moves the one volume.
-TURNS = 50
+TURNS = 20
 
 
 def moves_in_turn(host: Counting, its_move: bytes) -> None:
@@ -161,9 +165,9 @@ def one_volume(tried: Tried) -> None:
             takes_hold(host, lun)
         a.asks(TO_DRIVE)
         beside_each_other(lambda: moves_in_turn(a, FORTH), lambda: moves_in_turn(b, BACK))
-        # Behind three records, and that it was put in, the first drive has 100 of moves; the second isn't told of the first.
-        still_holds(a, DRIVE, 105)
-        still_holds(b, SECOND_DRIVE, 104)
+        # Behind three records each drive has two of each turn, and the first also that the volume was put in.
+        still_holds(a, DRIVE, 4 + 2 * TURNS + 1)
+        still_holds(b, SECOND_DRIVE, 3 + 2 * TURNS + 1)
         asked = sum(len(host.numbers[CHANGER]) for host in (a, b))
         same("where the volume is", a.ask(command(CHANGER, "b814010000020000ffff0000")).hex(), drives_with_tags(asked + 1).hex())
         a.leaves()
@@ -290,6 +294,33 @@ LINES_OF_FOUR_DRIVES = """\
 """
 
 
+# B's, at the fourth drive: of the fifth there are none.
+LINES_OF_B = """\
+1 500000000000000b.1 TEST-UNIT-READY 2 - - 02
+2 500000000000000b.1 TEST-UNIT-READY 6 TEST-UNIT-READY/NONE/OTHER - 02
+3 500000000000000b.1 LOSS 6 - - 00
+"""
+
+
+def sense_data(key: int, asc: int, ascq: int) -> bytes:
+    """The data of a SCSI Response (RFC 7143): how long the sense data are, and these, of the fixed format."""
+    return bytes([0, 18, 0x70, 0, key, 0, 0, 0, 0, 0x0A, 0, 0, 0, 0, asc, ascq, 0, 0, 0, 0])
+
+
+def at_a_portal(tried: Tried) -> None:
+    with Server(tried, "--iscsi", "127.0.0.1:0", *HOSTS, "--workers", "2", "--drives", "4") as server, Initiator(server.portal(), "b") as b:
+        b.log_in()
+        for lun, sense in [(LAST_DRIVE, POWER_ON), (LAST_DRIVE, NO_MEDIUM), (BEHIND_THE_LAST, IS_ABSENT)]:
+            number = b.next_number()
+            b.send(pdu(COMMAND, FINAL, number, struct.pack(">III", 0, number, 0) + bytes(16), lun=unit(lun)))
+            same(f"the sense data of logical unit {lun}", b.reads(CHECKED).data.hex(), sense_data(*sense).hex())
+        b.log_out()
+        b.is_left()
+        server.end()
+        server.ends()
+        same_lines(server.lines(), LINES_OF_B)
+
+
 def talks(drives: int, steps: list[Step], lines: str, tried: Tried) -> None:
     meet(tried, ["--sessions", "2", "--drives", str(drives), "--spans"], 2, steps, None, lines)
 
@@ -301,4 +332,5 @@ ROWS = [
         one_volume),
     Row("four-drives", "the last of four drives is a unit as the others are, and there is none behind it",
         functools.partial(talks, 4, FOUR_DRIVES, LINES_OF_FOUR_DRIVES)),
+    Row("four-drives-at-a-portal", "so it is for an initiator of iSCSI", at_a_portal),
 ]
