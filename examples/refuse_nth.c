@@ -1,6 +1,7 @@
 /* Refuses one request of memory of a program: preloaded, with REFUSE=N in its environment, the Nth call of malloc, calloc, realloc or
  * aligned allocation is answered as where there is no memory; with REFUSE=0 none is. How many calls there were stands in the
- * file that REFUSE_COUNT names, eight bytes, which has to be there. */
+ * file that REFUSE_COUNT names, eight bytes, which has to be there. A program with an allocator of its own isn't reached so: compiled with
+ * -DWRAPPED, this is linked into it, with --wrap=malloc and --wrap=realloc. */
 #define _GNU_SOURCE
 #include <errno.h>
 #include <fcntl.h>
@@ -11,10 +12,16 @@
 #include <sys/mman.h>
 #include <unistd.h>
 
-extern void *__libc_malloc(size_t);
-extern void *__libc_calloc(size_t, size_t);
-extern void *__libc_realloc(void *, size_t);
-extern void *__libc_memalign(size_t, size_t);
+#ifdef WRAPPED
+#define OURS(name) __wrap_##name
+#define THEIRS(name) __real_##name
+#else
+#define OURS(name) name
+#define THEIRS(name) __libc_##name
+#endif
+
+extern void *THEIRS(malloc)(size_t);
+extern void *THEIRS(realloc)(void *, size_t);
 
 static _Atomic uint64_t *count;
 static uint64_t refused;
@@ -43,19 +50,23 @@ static int is_refused(void)
     return 1;
 }
 
-void *malloc(size_t size)
+void *OURS(malloc)(size_t size)
 {
-    return is_refused() ? NULL : __libc_malloc(size);
+    return is_refused() ? NULL : THEIRS(malloc)(size);
 }
+
+void *OURS(realloc)(void *memory, size_t size)
+{
+    return is_refused() ? NULL : THEIRS(realloc)(memory, size);
+}
+
+#ifndef WRAPPED
+extern void *__libc_calloc(size_t, size_t);
+extern void *__libc_memalign(size_t, size_t);
 
 void *calloc(size_t members, size_t size)
 {
     return is_refused() ? NULL : __libc_calloc(members, size);
-}
-
-void *realloc(void *memory, size_t size)
-{
-    return is_refused() ? NULL : __libc_realloc(memory, size);
 }
 
 void *memalign(size_t alignment, size_t size)
@@ -76,3 +87,4 @@ int posix_memalign(void **memory, size_t alignment, size_t size)
     *memory = made;
     return 0;
 }
+#endif

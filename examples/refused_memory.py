@@ -3,10 +3,15 @@
 
 Scripts go through `vtl replay --audit`. A run may end with status 3, `vtl: want of memory`, and nothing printed; or with status 0, where
 one reply is BUSY, and all else is as if the command of that reply weren't in the script, and as the whole run where the command is sent
-once more; or as the whole run. Sessions go through `vtl serve`: each reply is BUSY or the one that is due, a session may end early, and the records that are printed are those of the
-replies, with the loss of each nexus unless the server says that memory was wanted. It takes cc and some seconds.
+once more; or as the whole run. Sessions go through `vtl serve`: each reply is BUSY or the one that is due, a session may end early, and the
+records that are printed are those of the replies, with the loss of each nexus unless the server says that memory was wanted.
+
+    examples/refused_memory.py [PROGRAM]
+
+tries the program that `./vtl build` builds, or the one that is named. It takes cc and a few minutes.
 """
 import collections
+import concurrent.futures
 import os
 import signal
 import socket
@@ -15,11 +20,13 @@ import subprocess
 import sys
 import tempfile
 import time
+import typing
 
 from frames import framed, received
 
 HERE = os.path.dirname(os.path.abspath(__file__))
-VTL = subprocess.run([os.path.join(os.path.dirname(HERE), "vtl"), "build"], stdout=subprocess.PIPE, text=True, check=True).stdout.strip()
+BUILDS = [os.path.join(os.path.dirname(HERE), "vtl"), "build"]
+VTL = sys.argv[1] if sys.argv[1:] else subprocess.run(BUILDS, stdout=subprocess.PIPE, text=True, check=True).stdout.strip()
 A, B, C = (f"500000000000000{it}.1" for it in "abc")
 READY, TO_DRIVE, FROM_DRIVE = "000000000000", "a50000000400010000000000", "a50000000100040000000000"
 
@@ -47,7 +54,44 @@ SCRIPTS = {
     "a mode that is told to others": ("", [
         f"{A} 0 {READY}", f"{A} 0 {TO_DRIVE}", f"{A} 1 {READY}", f"{B} 1 {READY}", f"{A} 1 151000000c00 000000080000000000000200",
         f"{B} 1 {READY}", f"{B} 1 1a000000ff00"]),
+    "no command": ("", []),
     "a loss and a reset": ("", [f"{A} 0 {READY}", f"{B} 0 {READY}", f"loss {A} 0", "reset 0", f"{A} 0 {READY}", f"{B} 0 {READY}"]),
+}
+
+
+
+class Asked(typing.NamedTuple):
+    """A command of a session: its unit, its CDB, its data, and the status and the sense code that are due once the host knows of power on."""
+
+    unit: int
+    cdb: str
+    data: str = ""
+    status: int = 0
+    sense: str = ""
+
+
+class Sessions(typing.NamedTuple):
+    """What the server is asked for, the hosts, the commands of each, and whether the hosts come beside each other or one after the other."""
+
+    options: list[str]
+    hosts: str
+    commands: list[Asked]
+    is_beside: bool = False
+
+
+AT_CHANGER = Asked(0, READY)
+WRONG_KEY = Asked(0, *reserve_out(0, 0, 5, 6).split(" "), status=0x18)
+# TEST UNIT READY to each of two empty drives: medium not present.
+AT_DRIVES = [Asked(1, READY, status=2, sense="3a00"), Asked(2, READY, status=2, sense="3a00")]
+
+# With four commands the loss is the first record that finds no room.
+SESSIONS = {
+    "one session": Sessions([], "a", [AT_CHANGER]),
+    "two sessions": Sessions([], "ab", [AT_CHANGER] * 2),
+    "two sessions with a loss that wants room": Sessions([], "ab", [AT_CHANGER] * 4),
+    "two sessions, drained": Sessions(["--drain"], "ab", [AT_CHANGER] * 2),
+    "two sessions with a wrong key, drained": Sessions(["--drain"], "ab", [AT_CHANGER, WRONG_KEY]),
+    "two sessions beside each other at two drives": Sessions(["--drives", "2"], "ab", AT_DRIVES * 10, is_beside=True),
 }
 
 
@@ -138,7 +182,7 @@ def sweep(name, judge):
 def talked(path, server, host, commands):
     """The replies of one session, up to its end."""
     connection = socket.socket(socket.AF_UNIX, socket.SOCK_STREAM)
-    connection.settimeout(20)
+    connection.settimeout(60)
     replies = []
     with connection:
         while True:
@@ -149,8 +193,9 @@ def talked(path, server, host, commands):
                 if server.poll() is not None:
                     return replies
                 time.sleep(0.002)
-        frames = [b"\x01" + struct.pack(">QH", 0x5000000000000000 + host, 1), *[bytes([2, 0, 6]) + bytes(6)] * commands, b"\x04"]
-        for frame in frames:
+        login = b"\x01" + struct.pack(">QH", int(f"500000000000000{host}", 16), 1)
+        frames = [bytes([2, it.unit, len(it.cdb) // 2]) + bytes.fromhex(it.cdb + it.data) for it in commands]
+        for frame in [login, *frames, b"\x04"]:
             try:
                 connection.sendall(framed(frame))
                 replies.append(received(connection))
@@ -169,15 +214,16 @@ def ending_of(lines):
     return []
 
 
-def judge_sessions(refusing, work, options, commands, number):
-    """Two sessions, one after the other, with so many TEST UNIT READY each."""
+def judge_sessions(refusing, work, of, number):
+    """A session of each host, beside each other or one after the other."""
     path = os.path.join(work, "socket")
     server = subprocess.Popen(
-        [VTL, "serve", "--socket", path, "--sessions", "2", *options], env=refusing.environment(number),
+        [VTL, "serve", "--socket", path, "--sessions", str(len(of.hosts)), *of.options], env=refusing.environment(number),
         stdin=subprocess.DEVNULL, stdout=subprocess.PIPE, stderr=subprocess.PIPE)
-    sessions = [talked(path, server, host, commands) for host in (0xA, 0xB)]
+    with concurrent.futures.ThreadPoolExecutor(len(of.hosts) if of.is_beside else 1) as pool:
+        sessions = list(pool.map(lambda host: talked(path, server, host, of.commands), of.hosts))
     try:
-        printed, told = (it.decode() for it in server.communicate(timeout=30))
+        printed, told = (it.decode() for it in server.communicate(timeout=120))
     except subprocess.TimeoutExpired:
         server.send_signal(signal.SIGKILL)
         fail(f"request {number}: the server doesn't end; replies {sessions}")
@@ -187,57 +233,94 @@ def judge_sessions(refusing, work, options, commands, number):
         return None
     status = server.returncode
     answers = []
-    for place, replies in enumerate(sessions):
-        answers += judge_replies(number, "ab"[place], commands, replies)
+    for host, replies in zip(of.hosts, sessions):
+        answers += judge_replies(number, host, of.commands, replies)
     ending = ending_of(told.splitlines())
     if status not in (0, 3, 4) or ending[:1] != {0: [], 3: ["vtl: want of memory"], 4: ["vtl: device fault"]}[status]:
         fail(f"request {number}: status {status}, {told!r}")
-    judge_records(number, printed, answers, status, "--drain" in options)
-    busy = sum(it[1] == 8 for it in answers)
-    early = sum(len(it) < commands + 2 for it in sessions)
+    judge_records(number, of, printed, answers, status)
+    busy = sum(it.status == 8 for it in answers)
+    early = sum(len(it) < len(of.commands) + 2 for it in sessions)
     what = [f"{status}", *ending[-1:], *[f"{busy} BUSY"] * bool(busy), *[f"{early} ended early"] * bool(early)]
     return ", ".join([*what, f"{printed.count('LOSS')} losses recorded", *["no lines"] * (printed == "")])
 
 
+class Answer(typing.NamedTuple):
+    """The answer to a command of a host: its unit, its status, and the number of its record."""
+
+    host: str
+    unit: int
+    status: int
+    number: int
+
+
 def judge_replies(number, host, commands, replies):
-    """The answers to commands: the host, the status and the record's number of each."""
+    """The answers to commands. The first of a unit that isn't BUSY tells of the power on."""
+    for at, right in [(0, b"\x81\x00"), (len(commands) + 1, b"\x84")]:
+        if at < len(replies) and replies[at] != right:
+            fail(f"request {number}: reply {at} of {host} is {replies[at].hex()}")
     answers = []
-    is_told = False
-    for at, reply in enumerate(replies):
-        if at == 0:
-            right = reply == b"\x81\x00"
-        elif at == commands + 1:
-            right = reply == b"\x84"
-        elif reply[1] == 8:
+    knows = set()
+    for asked, reply in zip(commands, replies[1:]):
+        if reply[1] == 8:
             right = reply == bytes([0x82, 8, 0]) + bytes(8)
         else:
-            # The first that isn't BUSY tells of the power on.
-            right = len(reply) == (29 if not is_told else 11) and reply[1] == (0 if is_told else 2)
-            is_told = True
+            status, sense = (asked.status, asked.sense) if asked.unit in knows else (2, "2900")
+            right = (reply[1], reply[15:17].hex() if reply[2] else "") == (status, sense) and len(reply) == 11 + reply[2]
+            knows.add(asked.unit)
         if not right:
-            fail(f"request {number}: reply {at} of {host} is {reply.hex()}")
-        if 0 < at <= commands:
-            answers.append((host, reply[1], struct.unpack(">Q", reply[-8:])[0]))
+            fail(f"request {number}: a reply of {host} to {asked} is {reply.hex()}")
+        answers.append(Answer(host, asked.unit, reply[1], struct.unpack(">Q", reply[-8:])[0]))
     return answers
 
 
-def judge_records(number, printed, answers, status, is_drained):
+def judge_records(number, of, printed, answers, status):
     """The records are those of the answers, and of losses. Lines that find no memory are kept for the next time; where they find none
     at the end either, the server says so."""
     if printed == "" and status != 0:
         return
-    wanted = [f"500000000000000{host}.1 TEST-UNIT-READY {status:02x}" for host, status, _ in answers if status != 8]
-    lines = [it.split() for it in printed.splitlines()]
-    numbers = [int(it[0]) for it in lines]
-    found = [f"{it[1]} {it[2]} {it[6]}" for it in lines if it[2] != "LOSS"]
+    is_drained = "--drain" in of.options
+    units = units_of(printed, is_drained)
+    recorded = [it for it in answers if it.status != 8]
     if is_drained and status == 3:
-        right = numbers == sorted(set(numbers)) and all(it in wanted for it in found)
+        # Some lines are missing, and the others are in order.
+        numbers = [int(it[0]) for it in units[0]]
+        right = numbers == sorted(set(numbers)) and all(is_of(line, recorded) for line in units[0] if line[2] != "LOSS")
+    elif not units:
+        right = not recorded
     else:
-        # A reply that found no memory is missing, and its record is there.
-        right = numbers == list(range(1, len(lines) + 1)) and found[:len(wanted)] == wanted and len(found) <= len(wanted) + 1
-    lost = [it for it in lines if it[2] == "LOSS"]
-    if not right or (status == 0 and len(lost) != len({it[1] for it in lines})):
+        asked = sorted({it.unit for it in of.commands})
+        right = len(units) == len(asked) and all(
+            is_right_unit(lines, [it for it in recorded if it.unit == unit]) for unit, lines in zip(asked, units))
+    lost = sum(line[2] == "LOSS" for lines in units for line in lines)
+    nexuses = sum(len({line[1] for line in lines}) for lines in units)
+    if not right or (status == 0 and lost != nexuses):
         fail(f"request {number}: status {status}, {printed!r} for {answers}")
+
+
+def units_of(printed, is_drained):
+    """The words of the lines of each unit that has some: the next unit's begin with number 1. What is drained here is of one unit."""
+    units = []
+    for line in printed.splitlines():
+        words = line.split()
+        if not units or (words[0] == "1" and not is_drained):
+            units.append([])
+        units[-1].append(words)
+    return units
+
+
+def is_of(line, answers):
+    """Whether a line is the record of one of these answers."""
+    return any(line[:2] == [str(it.number), f"500000000000000{it.host}.1"] and line[6] == f"{it.status:02x}" for it in answers)
+
+
+def is_right_unit(lines, answers):
+    """Whether these are the lines of one unit: numbered without a gap, with each answer at its number. A reply that found no memory is
+    missing, and its record is there."""
+    found = [line for line in lines if line[2] != "LOSS"]
+    numbered = [int(line[0]) for line in lines] == list(range(1, len(lines) + 1))
+    there = all(it.number <= len(lines) and is_of(lines[it.number - 1], [it]) for it in answers)
+    return numbered and there and len(answers) <= len(found) <= len(answers) + 1
 
 
 def main():
@@ -248,9 +331,8 @@ def main():
             if (status, told) != (0, ""):
                 fail(f"{name}: status {status}, {told}")
             sweep(name, lambda number: judge_replay(refusing, options, events, whole, number))
-        # With four commands the loss is the first record that finds no room.
-        for name, options, commands in [("two sessions", [], 2), ("two sessions with a loss that wants room", [], 4), ("two sessions, drained", ["--drain"], 2)]:
-            sweep(name, lambda number: judge_sessions(refusing, work, options, commands, number))
+        for name, of in SESSIONS.items():
+            sweep(name, lambda number: judge_sessions(refusing, work, of, number))
 
 
 if __name__ == "__main__":
