@@ -3,3 +3,4 @@ pub mod Rises
 pub mod Counting
 pub mod Counts
 pub mod Moves
+pub mod HandingOver

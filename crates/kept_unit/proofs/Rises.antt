@@ -2,7 +2,7 @@
 use Rattle.std.proofs.Common.{◌≡◌, ℕ, zero, suc, ◌+◌, ◌-◌, ◌≤◌, List, [], ◌∷◌, ◌++◌, Bool, true, false, ◌&&◌, Option, Some, None, refl, sym, ap, ◌∙◌, arith, append_assoc, append-nil}
 use Rattle.std.specs.Prelude.{if◌then◌else◌, nat_lt}
 use Rattle.std.proofs.lemmas.Bool.Decides.{nat_tests}
-use Rattle.kept_unit.specs.declared.number_range.NumberRange.{NumberRange}
+use Rattle.settled_numbers.specs.declared.number_range.NumberRange.{NumberRange}
 use Rattle.kept_unit.specs.Ranges.{span, numbers_in_ranges, rise_to}
 use Rattle.kept_unit.specs.Agreeing.{rises}
 

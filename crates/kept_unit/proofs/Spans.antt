@@ -6,7 +6,7 @@ use Rattle.std.proofs.lemmas.Bool.{eq-eqb}
 use Rattle.std.proofs.lemmas.Bool.Decides.{nat_tests}
 use Rattle.std.proofs.lemmas.List.Sums.{sum_by-cons, sum_by-append}
 use Rattle.std.proofs.lemmas.List.Sorted.{sum_by-IsPermutation, length_permutation, IsPermutation-refl, IsPermutation-cons, IsPermutation-sym, IsPermutation-trans, IsPermutation-middle}
-use Rattle.kept_unit.specs.declared.number_range.NumberRange.{NumberRange}
+use Rattle.settled_numbers.specs.declared.number_range.NumberRange.{NumberRange}
 use Rattle.kept_unit.specs.Ranges.{span, from_to, numbers_between, numbers_in_ranges, follows}
 
 -- the same numbers, as often
@@ -202,7 +202,7 @@ from_span first last numbers xs ys le is moved up spanned =
     follows_from ys (last - first) first last (climbs_from ys up) (omega arith)
     (λ f. sum_by-IsPermutation f numbers (span first (last - first)) spanned ∙ sym (ap (sum_by f) is) ∙ same_moved xs ys moved f)
 
-length_span : (first n : ℕ) → length (span first n) ≡ n
+pub length_span : (first n : ℕ) → length (span first n) ≡ n
 length_span first zero = refl
 length_span first (suc n) = ap suc (length_span (first + 1) n)
 

@@ -10,7 +10,7 @@ use Rattle.audit_log.specs.declared.record.Record.{Record}
 use Rattle.audit_log.specs.declared.stage.Stage.TheVariants.{Device}
 use Rattle.logical_unit.specs.declared.act_kind.ActKind.TheVariants as kind
 use Rattle.logical_unit.specs.declared.entry.Entry.{Entry}
-use Rattle.kept_unit.specs.declared.number_range.NumberRange.{NumberRange}
+use Rattle.settled_numbers.specs.declared.number_range.NumberRange.{NumberRange}
 use Rattle.kept_unit.specs.Agreeing.{Agrees}
 use Rattle.kept_unit.specs.Listing.{NotesValue}
 use Rattle.kept_unit.specs.RangeRows.{six, six_to_seven, seven}
@@ -39,15 +39,23 @@ moved = record { nexus = Some b; lun = 0; act = Some (kind.Command class.MoveMed
 
 -- a seat that has only entries
 abbrev pub listing : List Entry → NotesValue
-listing es = record { settled = []; listed = es }
+listing es = record { handed_over = 0; settled = []; listed = es }
 
 -- and one with a range that was settled before
 abbrev pub behind : NumberRange → List Entry → NotesValue
-behind r es = record { settled = r ∷ []; listed = es }
+behind r es = record { handed_over = 0; settled = r ∷ []; listed = es }
 
--- what each seat has noted agrees with the records of drive 1 behind a base
+-- and one that handed numbers over up to one
+abbrev pub handed_up_to : ℕ → List Entry → NotesValue
+handed_up_to n es = record { handed_over = n; settled = []; listed = es }
+
+-- what was handed over and what each seat has noted agrees with the records of drive 1 behind a base
+abbrev pub AgreesWith : (base : ℕ) → List Record → List NumberRange → List NotesValue → Type 0
+AgreesWith base records handed_over seats = Agrees (λ (n : NotesValue). n) 1 5 base records handed_over seats
+
+-- the same where nothing was handed over
 abbrev pub AgreesBehind : (base : ℕ) → List Record → List NotesValue → Type 0
-AgreesBehind base records seats = Agrees (λ (n : NotesValue). n) 1 5 base records seats
+AgreesBehind base records seats = AgreesWith base records [] seats
 
 pub record AgreementRows : Type 0 where
   pub two_seats : AgreesBehind 5 trail (listing (asked ∷ []) ∷ listing (moved ∷ []) ∷ [])
@@ -59,6 +67,10 @@ pub record AgreementRows : Type 0 where
   pub settled : AgreesBehind 6 (came_in ∷ []) (behind six (moved ∷ []) ∷ [])
   pub settled_apart : AgreesBehind 6 (came_in ∷ []) (listing (moved ∷ []) ∷ behind six [] ∷ [])
   pub all_settled : AgreesBehind 7 [] (behind six_to_seven [] ∷ [])
+  -- numbers that were handed over: 6 by the seat that was told 7, by another, and all
+  pub handed_over : AgreesWith 6 (came_in ∷ []) (six ∷ []) (handed_up_to 6 (moved ∷ []) ∷ [])
+  pub handed_over_apart : AgreesWith 6 (came_in ∷ []) (six ∷ []) (listing (moved ∷ []) ∷ handed_up_to 6 [] ∷ [])
+  pub all_handed_over : AgreesWith 7 [] (six_to_seven ∷ []) (handed_up_to 7 [] ∷ [])
   -- a number that falls along a seat, also below a settled one, one that nobody was told, and one that was told twice
   pub falling : AgreesBehind 5 trail (listing (moved ∷ asked ∷ []) ∷ []) → ⊥
   pub falling_below : AgreesBehind 7 [] (behind seven (asked ∷ []) ∷ []) → ⊥
@@ -66,7 +78,10 @@ pub record AgreementRows : Type 0 where
   pub gap : AgreesBehind 7 [] (behind seven [] ∷ []) → ⊥
   pub told_twice : AgreesBehind 5 trail (listing (asked ∷ []) ∷ listing (asked ∷ []) ∷ listing (moved ∷ []) ∷ []) → ⊥
   pub settled_twice : AgreesBehind 7 [] (behind six [] ∷ listing (asked ∷ moved ∷ []) ∷ []) → ⊥
-  -- a settled number whose record wasn't handed out
+  pub handed_over_twice : AgreesWith 7 [] (six_to_seven ∷ []) (listing (asked ∷ []) ∷ []) → ⊥
+  pub falling_below_handed_over : AgreesWith 7 [] (seven ∷ []) (handed_up_to 7 (asked ∷ []) ∷ []) → ⊥
+  -- a settled number whose record wasn't handed out, and one that was handed over
   pub not_handed_out : AgreesBehind 5 trail (behind six (moved ∷ []) ∷ []) → ⊥
+  pub handed_over_early : AgreesWith 5 trail (six ∷ []) (handed_up_to 6 (moved ∷ []) ∷ []) → ⊥
   -- a record with another status
   pub other_status : AgreesBehind 5 (ready ReservationConflict ∷ came_in ∷ []) (listing (asked ∷ []) ∷ listing (moved ∷ []) ∷ []) → ⊥

@@ -1,7 +1,7 @@
 -- Worked rows: the numbers of ranges, and what the tests of them say.
 use Rattle.std.specs.Prelude.{◌≡◌, true, false, [], ◌∷◌, Some, None}
 use Rattle.std.proofs.Common.{lit≤}
-use Rattle.kept_unit.specs.declared.number_range.NumberRange.{NumberRange}
+use Rattle.settled_numbers.specs.declared.number_range.NumberRange.{NumberRange}
 use Rattle.kept_unit.specs.Ranges.{from_to, numbers_between, numbers_in_ranges, rise_to, follows}
 
 abbrev pub three_to_five : NumberRange

@@ -1,7 +1,7 @@
 -- Record numbers as ranges: the numbers that they stand for, and tests of them that read no number twice.
 use Rattle.std.specs.Prelude.{ℕ, zero, suc, ◌+◌, ◌-◌, List, [], ◌∷◌, Bool, ◌&&◌, ◌==◌, nat_lt, Option, Some, None, if◌then◌else◌}
 use Rattle.std.specs.List.{flat_map}
-use Rattle.kept_unit.specs.declared.number_range.NumberRange.{NumberRange}
+use Rattle.settled_numbers.specs.declared.number_range.NumberRange.{NumberRange}
 
 -- so many numbers after the first
 abbrev pub span : (first count : ℕ) → List ℕ

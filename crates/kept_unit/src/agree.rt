@@ -5,11 +5,11 @@ ghost use Rattle.kept_unit.specs.Ranges.{numbers_in_ranges};
 ghost use Rattle.kept_unit.specs.SeatNotes.{notes_value};
 
 use crate::fitting::are_told;
-use crate::number_range::NumberRange;
 use crate::ranges::{end_by, follows, listed_ranges, rise_to};
 use crate::seat_notes::SeatNotes;
 use audit_log::Record;
 use logical_unit::Entry;
+use settled_numbers::NumberRange;
 use std::alloc::{AllocError, Global};
 
 /// The ranges of the numbers of one unit in entries, if they rise above a number.
@@ -32,12 +32,11 @@ fn rising_ranges(
 fn fitting_ranges(
     alloc: Global,
     lun: u8,
-    first: u64,
     base: u64,
     records: &[Record],
     seat: &SeatNotes<'_>,
 ) -> Result<Option<Vec<NumberRange>>, AllocError>
-    ensures { IfOk result (λ found. MatchOption found (¬ SeatFits lun first base records.now (notes_value seat.now)) (λ own. SeatFits lun first base records.now (notes_value seat.now) × (numbers_in_ranges own.items ≡ listed_at lun seat.now.listed.now))) }
+    ensures { IfOk result (λ found. MatchOption found (¬ SeatFits lun base records.now (notes_value seat.now)) (λ own. SeatFits lun base records.now (notes_value seat.now) × (numbers_in_ranges own.items ≡ listed_at lun seat.now.listed.now))) }
 {
     if !are_told(lun, base, records, seat.listed) {
         return Ok(None);
@@ -45,7 +44,7 @@ fn fitting_ranges(
     if !end_by(base, seat.settled) {
         return Ok(None);
     }
-    match rise_to(first, seat.settled) {
+    match rise_to(seat.handed_over, seat.settled) {
         Some(low) => rising_ranges(alloc, lun, low, seat.listed),
         None => Ok(None),
     }
@@ -68,16 +67,15 @@ fn add_noted(
 fn gathered(
     alloc: Global,
     lun: u8,
-    first: u64,
     base: u64,
     records: &[Record],
     seats: &[SeatNotes<'_>],
 ) -> Result<Option<Vec<NumberRange>>, AllocError>
-    ensures { IfOk result (λ found. MatchOption found (¬ All (λ s. SeatFits lun first base records.now (notes_value s)) seats.now) (λ all. All (λ s. SeatFits lun first base records.now (notes_value s)) seats.now × (numbers_in_ranges all.items ≡ numbers_of notes_value lun seats.now))) }
+    ensures { IfOk result (λ found. MatchOption found (¬ All (λ s. SeatFits lun base records.now (notes_value s)) seats.now) (λ all. All (λ s. SeatFits lun base records.now (notes_value s)) seats.now × (numbers_in_ranges all.items ≡ numbers_of notes_value lun seats.now))) }
 {
     let mut all = Vec::new(alloc);
     for seat in seats {
-        match fitting_ranges(alloc, lun, first, base, records, seat)? {
+        match fitting_ranges(alloc, lun, base, records, seat)? {
             None => return Ok(None),
             Some(listed) => add_noted(&mut all, seat.settled, listed.as_slice())?,
         }
@@ -85,22 +83,28 @@ fn gathered(
     Ok(Some(all))
 }
 
-/// Whether what all seats have noted agrees with the trail of one unit, whose numbers are told from the first on.
+/// Whether what all seats have noted and what they handed over agrees with the trail of one unit, whose numbers are told from the
+/// first on.
 pub(crate) fn agree(
     alloc: Global,
     lun: u8,
     first: u64,
     base: u64,
     records: &[Record],
+    handed_over: &[NumberRange],
     seats: &[SeatNotes<'_>],
 ) -> Result<bool, AllocError>
     requires first { first ≤ base + length records.now }
     requires fits { base + length records.now < 2 ^ 64 }
-    ensures { IfOk result (λ agreed. IsTrue agreed ↔ Agrees notes_value lun first base records.now seats.now) }
+    ensures { IfOk result (λ agreed. IsTrue agreed ↔ Agrees notes_value lun first base records.now handed_over.now seats.now) }
 {
-    let Some(mut all) = gathered(alloc, lun, first, base, records, seats)? else {
+    if !end_by(base, handed_over) {
+        return Ok(false);
+    }
+    let Some(mut all) = gathered(alloc, lun, base, records, seats)? else {
         return Ok(false);
     };
+    all.extend_from_slice(handed_over)?;
     all.sort_by_key(|range| range.first)?;
     let last = base + records.len() as u64;
     Ok(follows(first, last, all.as_slice()))

@@ -10,7 +10,8 @@ ghost use Rattle.logical_unit.specs.Answers as event;
 ghost use Rattle.logical_unit.specs.Answers.{IsAnswer, count_at};
 ghost use Rattle.logical_unit.specs.ActKinds.{act_kind_of, act_kind_if};
 
-use crate::kept::{Kept, UnitLedger};
+use crate::kept::Kept;
+use crate::ledgers::UnitLedger;
 use device_server::DeviceServer;
 use judgement::ReceivedCommand;
 use logical_unit::{Done, carry_out_move_one, carry_out_move_two};
@@ -40,6 +41,8 @@ pub fn move_kept_one<'a, const LUN: u8, C: UnitLedger, L: UnitLedger, D: DeviceS
     ensures act { result.act ≡ act_kind_if result.numbers (act_kind_of (act_of_decoded (command_in received.now))) }
     ensures unnumbered { result.numbers ≡ [] → result.reply ≡ busy }
     ensures book { changer.new.total ≡ changer.old.total + count_at 0 result.numbers }
+    ensures handed_over { changer.new.handed_over ≡ changer.old.handed_over }
+    ensures drive_handed_over { drive.new.handed_over ≡ drive.old.handed_over }
     ensures drive_book { drive.new.total ≡ drive.old.total + count_at LUN result.numbers }
     ensures part { part.new.amount ≡ part.old.amount + count_at 0 result.numbers }
     ensures drive_part { drive_part.new.amount ≡ drive_part.old.amount + count_at LUN result.numbers }
@@ -83,7 +86,10 @@ pub fn move_kept_two<
     ensures act { result.act ≡ act_kind_if result.numbers (act_kind_of (act_of_decoded (command_in received.now))) }
     ensures unnumbered { result.numbers ≡ [] → result.reply ≡ busy }
     ensures book { changer.new.total ≡ changer.old.total + count_at 0 result.numbers }
+    ensures handed_over { changer.new.handed_over ≡ changer.old.handed_over }
+    ensures low_handed_over { low.new.handed_over ≡ low.old.handed_over }
     ensures low_book { low.new.total ≡ low.old.total + count_at LOW result.numbers }
+    ensures high_handed_over { high.new.handed_over ≡ high.old.handed_over }
     ensures high_book { high.new.total ≡ high.old.total + count_at HIGH result.numbers }
     ensures part { part.new.amount ≡ part.old.amount + count_at 0 result.numbers }
     ensures low_part { low_part.new.amount ≡ low_part.old.amount + count_at LOW result.numbers }

@@ -1,4 +1,4 @@
-ghost use Rattle.std.specs.Prelude.{◌≡◌, ◌+◌, ◌<◌, ◌^◌, [], ℕ, Some, None, IfOk, IsTrue, ◌↔◌};
+ghost use Rattle.std.specs.Prelude.{◌≡◌, ◌⊎◌, ◌+◌, ◌<◌, ◌≤◌, ◌^◌, ◌||◌, [], ℕ, Some, None, IfOk, IfErr, OnOk, OnErr, IsTrue, ◌↔◌};
 ghost use Rattle.device_server.specs.View.{kind_of, drives_of};
 ghost use Rattle.device_server.specs.Settled.{SameButSettled};
 ghost use Rattle.judgement.specs.Replies.{busy};
@@ -15,34 +15,29 @@ ghost use Rattle.logical_unit.specs.declared.act_kind.ActKind.TheVariants as kin
 ghost use Rattle.logical_unit.specs.ActKinds.{act_kind_of, act_kind_if};
 ghost use Rattle.scsi_cdb.specs.Kinds.{kind_at};
 ghost use Rattle.kept_unit.specs.SeatNotes.{notes_value};
+ghost use Rattle.settled_numbers.specs.Numbers.{has, is_in, size, count, Meets};
 
 use crate::agree::agree;
+use crate::ledgers::UnitLedger;
 use crate::seat_notes::SeatNotes;
 use audit_log::Record;
 use device_server::{Attendant, DeviceServer};
 use judgement::ReceivedCommand;
 use logical_unit::{Done, LogicalUnit};
 use scsi_nexus::Nexus;
+use settled_numbers::{NumberRange, SettleFault, SettledNumbers};
 use std::alloc::{AllocError, Global};
-use std::marker::{Brand, Model};
-use std::sync::ledger::{Book, Ledger, Share};
+use std::marker::Model;
+use std::sync::ledger::{Book, Share};
 
-/// The ledger of one unit since it was kept.
-pub trait UnitLedger: Ledger {
-    /// The last record number that the unit had used then.
-    ghost since: { ℕ };
-}
-
-impl UnitLedger for Brand {
-    ghost since = { 0 };
-}
-
-/// The unit of a logical unit number, of which 0 is the changer's, with the book of its ledger and the last record number
-/// that it had used when it was kept. The book's total is the count of the numbers that it has used since.
+/// The unit of a logical unit number, of which 0 is the changer's, with the book of its ledger, the numbers that seats have handed
+/// over, and the last record number that it had used when it was kept. The book's total is the count of the numbers that it has
+/// used since.
 #[derive(Drop)]
 pub struct Kept<const LUN: u8, L: UnitLedger, D: DeviceServer> {
     pub(crate) unit: LogicalUnit<D>,
     pub(crate) book: Book<L>,
+    handed_over: SettledNumbers<L>,
     first: u64,
 }
 
@@ -51,24 +46,36 @@ impl<const LUN: u8, L: UnitLedger, D: DeviceServer> Model for Kept<LUN, L, D> {
 
     ghost Value = { KeptValue };
 
-    ghost view = { λ k. record { unit = k.unit.unit; total = k.book.total } };
+    ghost view = { λ k. record { unit = k.unit.unit; total = k.book.total; handed_over = k.handed_over } };
 
     ghost invariant = { λ k. IsKept LUN k.unit.unit k.book.total k.first L.since };
 }
 
 impl<const LUN: u8, L: UnitLedger, D: DeviceServer> Kept<LUN, L, D> {
-    /// Keeps a unit, with a book that counts nothing yet.
-    pub fn new(unit: LogicalUnit<D>, book: Book<L>) -> Kept<LUN, L, D>
+    /// Keeps a unit, with a book that counts nothing yet, and a part of its ledger for the numbers that will be handed over.
+    pub fn new(
+        alloc: Global,
+        unit: LogicalUnit<D>,
+        book: Book<L>,
+        part: Share<L>,
+    ) -> Kept<LUN, L, D>
         requires kind { kind_of unit.unit.device ≡ kind_at LUN }
         requires lun { unit.unit.kept.lun ≡ LUN }
         requires few { drives_of unit.unit.device < 2 ^ 8 }
         requires since { last_number unit.unit ≡ L.since }
         requires unused { book.total ≡ 0 }
+        requires part { (part.parts ≡ 1) × (part.amount ≡ 0) }
         ensures unit { result.unit ≡ unit.unit }
         ensures total { result.total ≡ 0 }
+        ensures handed_over { result.handed_over ≡ [] }
     {
         let first = unit.last();
-        Kept { unit, book, first }
+        Kept {
+            unit,
+            book,
+            handed_over: SettledNumbers::new(alloc, part),
+            first,
+        }
     }
 
     /// How many data transfer elements a changer has; 0 for a drive.
@@ -86,38 +93,64 @@ impl<const LUN: u8, L: UnitLedger, D: DeviceServer> Kept<LUN, L, D> {
         self.unit.has_room(nexus)
     }
 
-    /// Whether what all seats have noted agrees with the trail. Takes memory for a range of each settled one and of each run of
-    /// numbers in the entries of a seat, and the time to sort them.
+    /// Takes numbers over that a seat has settled, with as much of the ledger. They are refused exactly if the record of one of
+    /// them wasn't handed out, or was made before the unit was kept, if one of them was handed over already, or for want of
+    /// memory; then nothing changes.
+    pub fn take_over(&mut self, range: NumberRange, part: &mut Share<L>) -> Result<(), SettleFault>
+        requires part { 0 < part.old.parts }
+        requires counted { size range ≤ part.old.amount }
+        ensures numbers { OnOk result ((n : ℕ) → has self.new.handed_over n ≡ (has self.old.handed_over n || is_in n range)) }
+        ensures given { OnOk result (part.new.amount + size range ≡ part.old.amount) }
+        ensures handed_out { OnOk result ((L.since < range.first) × (range.last ≤ self.old.unit.base.last)) }
+        ensures apart { OnOk result (Meets self.old.handed_over range → ⊥) }
+        ensures early { IfErr result (λ e. (e ≡ SettleFault.NotHandedOut) ↔ ((range.first ≤ L.since) ⊎ (self.old.unit.base.last < range.last))) }
+        ensures taken { IfErr result (λ e. e ≡ SettleFault.Taken → Meets self.old.handed_over range) }
+        ensures same { OnErr result (self.new ≡ self.old) }
+        ensures kept { OnErr result (part.new.amount ≡ part.old.amount) }
+        ensures rest { (self.new.unit ≡ self.old.unit) × (self.new.total ≡ self.old.total) }
+        ensures parts { part.new.parts ≡ part.old.parts }
+    {
+        let base = self.unit.last() - self.unit.records().len() as u64;
+        if range.first <= self.first || base < range.last {
+            return Err(SettleFault::NotHandedOut);
+        }
+        self.handed_over.take_over(range, part)
+    }
+
+    /// Whether what all seats have noted, and what they handed over, agrees with the trail. Takes memory for each range and for each
+    /// run of numbers in the entries of a seat, and the time to sort them.
     pub fn agree(&self, alloc: Global, seats: &[SeatNotes<'_>]) -> Result<bool, AllocError>
-        ensures { IfOk result (λ b. IsTrue b ↔ Agrees notes_value LUN L.since self.now.unit.base.last self.now.unit.records seats.now) }
+        ensures { IfOk result (λ b. IsTrue b ↔ Agrees notes_value LUN L.since self.now.unit.base.last self.now.unit.records self.now.handed_over seats.now) }
     {
         let records = self.unit.records();
         let base = self.unit.last() - records.len() as u64;
-        agree(alloc, LUN, self.first, base, records, seats)
+        agree(
+            alloc,
+            LUN,
+            self.first,
+            base,
+            records,
+            self.handed_over.ranges(),
+            seats,
+        )
     }
 
-    /// A share with every part counts the numbers that the unit has used since it was kept. Nothing changes.
-    pub fn audit(&mut self, share: &mut Share<L>)
-        ensures same { self.new ≡ self.old }
-        ensures amount { share.new.amount ≡ share.old.amount }
-        ensures parts { share.new.parts ≡ share.old.parts }
-        ensures whole { share.old.parts ≡ L.parts → last_number self.old.unit ≡ L.since + share.old.amount }
-    {
-        self.book.audit(share);
-    }
-
-    /// The unit. Its book is let go.
-    pub fn into_unit(self) -> LogicalUnit<D>
+    /// The unit, once all other parts of its ledger are here: the numbers that it has used since it was kept are as many as were
+    /// handed over and as those parts count.
+    pub fn close(self, rest: Share<L>) -> LogicalUnit<D>
+        requires { rest.parts + 1 ≡ L.parts }
         ensures unit { result.unit ≡ self.unit }
         ensures kind { kind_of result.unit.device ≡ kind_at LUN }
         ensures lun { result.unit.kept.lun ≡ LUN }
-        ensures last { last_number result.unit ≡ L.since + self.total }
+        ensures sum { last_number result.unit ≡ L.since + (count self.handed_over + rest.amount) }
     {
         let Kept {
             unit,
-            book: _,
+            mut book,
+            handed_over,
             first: _,
         } = self;
+        handed_over.close(&mut book, rest);
         unit
     }
 
@@ -128,6 +161,7 @@ impl<const LUN: u8, L: UnitLedger, D: DeviceServer> Kept<LUN, L, D> {
         ensures trail { IsTrail self.old.unit.base self.old.unit.records self.old.unit.kept }
         ensures unit { self.new.unit ≡ drained self.old.unit }
         ensures book { self.new.total ≡ self.old.total }
+        ensures handed_over { self.new.handed_over ≡ self.old.handed_over }
     {
         let mut records = Vec::new(alloc);
         self.drain_into(&mut records);
@@ -141,6 +175,7 @@ impl<const LUN: u8, L: UnitLedger, D: DeviceServer> Kept<LUN, L, D> {
         ensures trail { IsTrail self.old.unit.base self.old.unit.records self.old.unit.kept }
         ensures unit { self.new.unit ≡ drained self.old.unit }
         ensures book { self.new.total ≡ self.old.total }
+        ensures handed_over { self.new.handed_over ≡ self.old.handed_over }
     {
         self.unit.drain_into(records);
     }
@@ -175,6 +210,7 @@ impl<const LUN: u8, L: UnitLedger, D: DeviceServer> Kept<LUN, L, D> {
         ensures act { result.act ≡ act_kind_if result.numbers (act_kind_of (act_of_decoded (command_in received.now))) }
         ensures unnumbered { result.numbers ≡ [] → result.reply ≡ busy }
         ensures book { self.new.total ≡ self.old.total + count_at LUN result.numbers }
+        ensures handed_over { self.new.handed_over ≡ self.old.handed_over }
         ensures part { part.new.amount ≡ part.old.amount + count_at LUN result.numbers }
         ensures parts { part.new.parts ≡ part.old.parts }
     {
@@ -194,6 +230,7 @@ impl<const LUN: u8, L: UnitLedger, D: DeviceServer> Kept<LUN, L, D> {
         ensures only { OnlyAt LUN result.numbers }
         ensures act { result.act ≡ act_kind_if result.numbers kind.Loss }
         ensures book { self.new.total ≡ self.old.total + count_at LUN result.numbers }
+        ensures handed_over { self.new.handed_over ≡ self.old.handed_over }
         ensures part { part.new.amount ≡ part.old.amount + count_at LUN result.numbers }
         ensures parts { part.new.parts ≡ part.old.parts }
     {
@@ -214,6 +251,7 @@ impl<const LUN: u8, L: UnitLedger, D: DeviceServer> Kept<LUN, L, D> {
         ensures act { result.act ≡ act_kind_if result.numbers kind.Reset }
         ensures unnumbered { result.numbers ≡ [] → result.reply ≡ busy }
         ensures book { self.new.total ≡ self.old.total + count_at LUN result.numbers }
+        ensures handed_over { self.new.handed_over ≡ self.old.handed_over }
         ensures part { part.new.amount ≡ part.old.amount + count_at LUN result.numbers }
         ensures parts { part.new.parts ≡ part.old.parts }
     {

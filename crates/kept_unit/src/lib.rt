@@ -5,15 +5,17 @@
 mod agree;
 mod carrying;
 mod fitting;
+mod handing_over;
 mod kept;
 mod laws;
-mod number_range;
+mod ledgers;
 mod ranges;
 mod seat_notes;
 
 pub use carrying::{move_kept_one, move_kept_two};
-pub use kept::{Kept, UnitLedger};
+pub use kept::Kept;
 pub use laws::{agreement_rows, range_rows};
-pub use number_range::NumberRange;
+pub use ledgers::{At, Ledgers, UnitLedger};
 pub use ranges::{add_ranges, listed_ranges, make_room};
 pub use seat_notes::SeatNotes;
+pub use settled_numbers::{NumberRange, SettleFault};

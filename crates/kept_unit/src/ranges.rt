@@ -5,8 +5,8 @@ ghost use Rattle.logical_unit.specs.Answers.{at};
 ghost use Rattle.kept_unit.specs.Ranges.{numbers_between, numbers_in_ranges, rise_to, follows};
 ghost use Rattle.kept_unit.specs.Listing.{listed_at};
 
-use crate::number_range::NumberRange;
 use logical_unit::Entry;
+use settled_numbers::NumberRange;
 use std::alloc::{AllocError, Global};
 
 /// The two as one range, if the second goes on where the first ends.

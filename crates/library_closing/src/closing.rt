@@ -11,7 +11,7 @@ ghost use Rattle.library_closing.specs.declared.closing_fault.ClosingFault.TheVa
 use crate::closing_fault::ClosingFault;
 use audit_log::Record;
 use device_server::DeviceServer;
-use kept_unit::UnitLedger;
+use kept_unit::Ledgers;
 use logical_unit::LogicalUnit;
 use lun_router::{Gate, Histories, Library, Seat};
 use output_lines::{Audit, AuditFault, UnwrittenListener, records_behind, write_audit};
@@ -25,11 +25,7 @@ const MOST_UNITS: usize = 5;
 /// Closes a library with its seats, and writes the lines that are wanted of the records, LUN 0 first. The lines are made before the first of
 /// them is written. Where not all can be, a listener is told of which records at which units.
 pub fn close_and_write<
-    L0: UnitLedger,
-    L1: UnitLedger,
-    L2: UnitLedger,
-    L3: UnitLedger,
-    L4: UnitLedger,
+    B: Ledgers,
     D: DeviceServer,
     G: Gate,
     R: Wait,
@@ -38,13 +34,13 @@ pub fn close_and_write<
 >(
     rt: &R,
     alloc: Global,
-    library: Library<L0, L1, L2, L3, L4, D, G>,
-    seats: Vec<Seat<L0, L1, L2, L3, L4>>,
+    library: Library<B, D, G>,
+    seats: Vec<Seat<B>>,
     audit: Audit,
     writer: &mut W,
     listener: &H,
 ) -> Result<(), ClosingFault>
-    ensures closed { OnOk result (IsClosed seats.items audit L0.since L1.since L2.since L3.since L4.since (W.contents writer.old) (W.contents writer.new)) }
+    ensures closed { OnOk result (IsClosed seats.items audit B.since_of (W.contents writer.old) (W.contents writer.new)) }
     ensures fault { IfErr result (λ f. MayEndWith library.seats (vec_len seats) f) }
     ensures missing { vec_len seats ≢ library.seats → result ≡ Err (fault.Close SeatMissing) }
     ensures none { IfErr result (λ f. (f ≡ fault.Write) ⊎ (W.contents writer.new ≡ W.contents writer.old)) }
@@ -173,17 +169,12 @@ fn tell_all<D: DeviceServer, H: UnwrittenListener>(unit: &LogicalUnit<D>, listen
 }
 
 /// Tells that no record has a line which the units of a library still have that couldn't be closed.
-fn tell_unwritten_at<
-    L0: UnitLedger,
-    L1: UnitLedger,
-    L2: UnitLedger,
-    L3: UnitLedger,
-    L4: UnitLedger,
-    D: DeviceServer,
-    G: Gate,
-    R: Wait,
-    H: UnwrittenListener,
->(rt: &R, alloc: Global, library: &Library<L0, L1, L2, L3, L4, D, G>, listener: &H) {
+fn tell_unwritten_at<B: Ledgers, D: DeviceServer, G: Gate, R: Wait, H: UnwrittenListener>(
+    rt: &R,
+    alloc: Global,
+    library: &Library<B, D, G>,
+    listener: &H,
+) {
     for lun in 0..library.units() {
         if let Some(records) = library.drain(rt, alloc, lun) {
             tell_behind(lun, &records, 0, listener);

@@ -3,7 +3,7 @@ ghost use Rattle.std.specs.Prelude.{◌≡◌, ◌++◌, ◌+◌, ◌≤◌, map
 ghost use Rattle.library_service.specs.LibraryService.{service_at};
 
 use crate::service::LibraryService;
-use kept_unit::UnitLedger;
+use kept_unit::Ledgers;
 use library_device::Device;
 use lun_router::{Library, Pass, Seat};
 use session::Directory;
@@ -11,21 +11,13 @@ use std::alloc::{AllocError, Global};
 use std::sync::{Mutex, Wait};
 
 /// A service at each seat.
-pub fn services_of<
-    'a,
-    L0: UnitLedger,
-    L1: UnitLedger,
-    L2: UnitLedger,
-    L3: UnitLedger,
-    L4: UnitLedger,
-    R: Wait,
->(
+pub fn services_of<'a, B: Ledgers, R: Wait>(
     rt: &'a R,
     alloc: Global,
-    library: &'a Library<L0, L1, L2, L3, L4, Device, Pass>,
+    library: &'a Library<B, Device, Pass>,
     directory: &'a Mutex<Directory>,
-    seats: Vec<Seat<L0, L1, L2, L3, L4>>,
-) -> Result<Vec<LibraryService<'a, L0, L1, L2, L3, L4, R>>, AllocError>
+    seats: Vec<Seat<B>>,
+) -> Result<Vec<LibraryService<'a, B, R>>, AllocError>
     ensures { IfOk result (λ services. services.items ≡ map (service_at library.now.units) seats.items) }
 {
     let mut services = Vec::new(alloc);
@@ -37,18 +29,10 @@ pub fn services_of<
 
 /// Puts the seats of services, in their order, behind those of a vector with room for them, which comes into the place of the seats that
 /// were taken.
-pub fn give_back<
-    'a,
-    L0: UnitLedger,
-    L1: UnitLedger,
-    L2: UnitLedger,
-    L3: UnitLedger,
-    L4: UnitLedger,
-    R: Wait,
->(
-    services: Vec<LibraryService<'a, L0, L1, L2, L3, L4, R>>,
-    mut back: Vec<Seat<L0, L1, L2, L3, L4>>,
-    seats: &mut Vec<Seat<L0, L1, L2, L3, L4>>,
+pub fn give_back<'a, B: Ledgers, R: Wait>(
+    services: Vec<LibraryService<'a, B, R>>,
+    mut back: Vec<Seat<B>>,
+    seats: &mut Vec<Seat<B>>,
 )
     requires { vec_len back + vec_len services ≤ vec_capacity back }
     ensures { seats.new.items ≡ back.items ++ map (λ s. s.seat) services.entry.items }
@@ -58,17 +42,9 @@ pub fn give_back<
 }
 
 /// Puts the seats of services behind those that are there, in their order.
-fn leave_seats<
-    'a,
-    L0: UnitLedger,
-    L1: UnitLedger,
-    L2: UnitLedger,
-    L3: UnitLedger,
-    L4: UnitLedger,
-    R: Wait,
->(
-    services: Vec<LibraryService<'a, L0, L1, L2, L3, L4, R>>,
-    seats: &mut Vec<Seat<L0, L1, L2, L3, L4>>,
+fn leave_seats<'a, B: Ledgers, R: Wait>(
+    services: Vec<LibraryService<'a, B, R>>,
+    seats: &mut Vec<Seat<B>>,
 )
     requires { vec_len seats.old + vec_len services ≤ vec_capacity seats.old }
     ensures { seats.new.items ≡ seats.old.items ++ map (λ s. s.seat) services.entry.items }

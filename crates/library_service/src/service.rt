@@ -1,4 +1,4 @@
-use kept_unit::UnitLedger;
+use kept_unit::Ledgers;
 use library_device::Device;
 use logical_unit::Done;
 use lun_router::{Library, Pass, Seat};
@@ -11,30 +11,14 @@ use std::sync::{Mutex, Wait};
 /// A seat at a library, and the directory of its sessions beside it. Contracts see what the seat holds, and how many
 /// units the library has.
 #[derive(Drop)]
-pub struct LibraryService<
-    'a,
-    L0: UnitLedger,
-    L1: UnitLedger,
-    L2: UnitLedger,
-    L3: UnitLedger,
-    L4: UnitLedger,
-    R: Wait,
-> {
+pub struct LibraryService<'a, B: Ledgers, R: Wait> {
     rt: &'a R,
-    library: &'a Library<L0, L1, L2, L3, L4, Device, Pass>,
+    library: &'a Library<B, Device, Pass>,
     directory: &'a Mutex<Directory>,
-    seat: Seat<L0, L1, L2, L3, L4>,
+    seat: Seat<B>,
 }
 
-impl<
-    'a,
-    L0: UnitLedger,
-    L1: UnitLedger,
-    L2: UnitLedger,
-    L3: UnitLedger,
-    L4: UnitLedger,
-    R: Wait,
-> Model for LibraryService<'a, L0, L1, L2, L3, L4, R> {
+impl<'a, B: Ledgers, R: Wait> Model for LibraryService<'a, B, R> {
     ghost use Rattle.library_service.specs.LibraryService.{LibraryServiceValue};
 
     ghost Value = { LibraryServiceValue };
@@ -42,25 +26,17 @@ impl<
     ghost view = { λ p. record { seat = p.seat; units = p.library.now.units } };
 }
 
-impl<
-    'a,
-    L0: UnitLedger,
-    L1: UnitLedger,
-    L2: UnitLedger,
-    L3: UnitLedger,
-    L4: UnitLedger,
-    R: Wait,
-> LibraryService<'a, L0, L1, L2, L3, L4, R> {
+impl<'a, B: Ledgers, R: Wait> LibraryService<'a, B, R> {
     ghost use Rattle.std.specs.Prelude.{◌≡◌, OnOk, OnErr};
     ghost use Rattle.library_service.specs.LibraryService.{SettlesService};
 
     /// A service of one session after another.
     pub fn new(
         rt: &'a R,
-        library: &'a Library<L0, L1, L2, L3, L4, Device, Pass>,
+        library: &'a Library<B, Device, Pass>,
         directory: &'a Mutex<Directory>,
-        seat: Seat<L0, L1, L2, L3, L4>,
-    ) -> LibraryService<'a, L0, L1, L2, L3, L4, R>
+        seat: Seat<B>,
+    ) -> LibraryService<'a, B, R>
         ensures { result ≡ record { seat = seat; units = library.now.units } }
     {
         LibraryService {
@@ -77,11 +53,11 @@ impl<
         ensures ok { OnOk result (SettlesService drained.now self.old self.new) }
         ensures err { OnErr result (self.new ≡ self.old) }
     {
-        self.seat.settle(drained)
+        self.library.settle(self.rt, &mut self.seat, drained)
     }
 
     /// The seat, with which the library is closed.
-    pub fn into_seat(self) -> Seat<L0, L1, L2, L3, L4>
+    pub fn into_seat(self) -> Seat<B>
         ensures { result ≡ self.entry.seat }
     {
         let LibraryService {
@@ -94,15 +70,7 @@ impl<
     }
 }
 
-impl<
-    'a,
-    L0: UnitLedger,
-    L1: UnitLedger,
-    L2: UnitLedger,
-    L3: UnitLedger,
-    L4: UnitLedger,
-    R: Wait,
-> Service for LibraryService<'a, L0, L1, L2, L3, L4, R> {
+impl<'a, B: Ledgers, R: Wait> Service for LibraryService<'a, B, R> {
     ghost use Rattle.library_service.specs.LibraryService.{DoesToService};
 
     ghost notes = { DoesToService };
@@ -143,15 +111,7 @@ impl<
     }
 }
 
-impl<
-    'a,
-    L0: UnitLedger,
-    L1: UnitLedger,
-    L2: UnitLedger,
-    L3: UnitLedger,
-    L4: UnitLedger,
-    R: Wait,
-> SeatService for LibraryService<'a, L0, L1, L2, L3, L4, R> {
+impl<'a, B: Ledgers, R: Wait> SeatService for LibraryService<'a, B, R> {
     ghost use Rattle.library_service.specs.LibraryService.{SettlesService};
 
     ghost settles = { SettlesService };

@@ -2,3 +2,5 @@ pub mod Rising
 pub mod SameNotes
 pub mod Settled
 pub mod Places
+pub mod HandingOver
+pub mod Accounting

@@ -7,7 +7,7 @@ use Rattle.std.proofs.lemmas.List.{length-map, map-append}
 use Rattle.std.proofs.lemmas.List.Elements.{filter-append}
 use Rattle.std.proofs.lemmas.List.Sums.{sum_by-cons, length-filter}
 use Rattle.logical_unit.specs.declared.entry.Entry.{Entry}
-use Rattle.kept_unit.specs.declared.number_range.NumberRange.{NumberRange}
+use Rattle.settled_numbers.specs.declared.number_range.NumberRange.{NumberRange}
 use Rattle.logical_unit.specs.Answers.{at, count_at}
 use Rattle.kept_unit.specs.Listing.{listed_at}
 use Rattle.kept_unit.specs.Ranges.{numbers_in_ranges}

@@ -17,7 +17,8 @@ abbrev pub last_at : Option UnitView → ℕ
 last_at None = 0
 last_at (Some u) = last_number u
 
--- these are the last record numbers of the units that there are
-abbrev pub IsSince : List UnitView → (changer first second third fourth : ℕ) → Type 0
-IsSince us changer first second third fourth =
-    LastIs (slice_get us 0) changer × LastIs (slice_get us 1) first × LastIs (slice_get us 2) second × LastIs (slice_get us 3) third × LastIs (slice_get us 4) fourth
+-- these are the last record numbers of the units that there are, by logical unit number
+abbrev pub IsSince : List UnitView → (since_of : ℕ → ℕ) → Type 0
+IsSince us since_of =
+    LastIs (slice_get us 0) (since_of 0) × LastIs (slice_get us 1) (since_of 1) × LastIs (slice_get us 2) (since_of 2) × LastIs (slice_get us 3) (since_of 3)
+    × LastIs (slice_get us 4) (since_of 4)

@@ -3,8 +3,8 @@ use Rattle.std.specs.Prelude.{◌≡◌, ℕ, List, [], ◌∷◌, true, false, 
 use Rattle.std.proofs.Common.{lit≤}
 use Rattle.scsi_sense.specs.declared.status.Status.TheVariants.{Good}
 use Rattle.logical_unit.specs.declared.entry.Entry.{Entry}
-use Rattle.kept_unit.specs.declared.number_range.NumberRange.{NumberRange}
-use Rattle.lun_router.specs.Seats.{SeatValue, untold, settled_at, is_drained, drained_count, Settles}
+use Rattle.settled_numbers.specs.declared.number_range.NumberRange.{NumberRange}
+use Rattle.lun_router.specs.Seats.{SeatValue, untold, no_numbers, settled_at, handed_over_at, is_drained, drained_count, SettlesEntries, Settles}
 
 abbrev pub drained : List ℕ
 drained = 9 ∷ 3 ∷ 0 ∷ 0 ∷ 0 ∷ []
@@ -31,12 +31,20 @@ two_to_three = record { first = 2; last = 3; ordered = lit≤ tt }
 abbrev pub two_to_four : NumberRange
 two_to_four = record { first = 2; last = 4; ordered = lit≤ tt }
 
--- a seat with ranges of drive 1
+-- a seat with ranges of drive 1, whose numbers it handed over up to one
+abbrev pub seat_from : ℕ → List NumberRange → List Entry → SeatValue
+seat_from n rs es = record { handed_over = record no_numbers { one = n }; settled = record untold { one = rs }; entries = es; amounts = record { zero = 0; one = 3; two = 0; three = 0; four = 0 } }
+
+-- one that handed nothing over
 abbrev pub seat : List NumberRange → List Entry → SeatValue
-seat rs es = record { settled = record untold { one = rs }; entries = es; amounts = record { zero = 0; one = 3; two = 0; three = 0; four = 0 } }
+seat rs es = seat_from 0 rs es
+
+-- with 2 settled, and 3 and 4 listed
+abbrev pub before_from : ℕ → SeatValue
+before_from n = seat_from n (two ∷ []) (busy ∷ at_one 3 ∷ at_one 4 ∷ [])
 
 abbrev pub before : SeatValue
-before = seat (two ∷ []) (busy ∷ at_one 3 ∷ at_one 4 ∷ [])
+before = before_from 0
 
 pub record SettlingRows : Type 0 where
   pub own : is_drained drained (at_one 3) ≡ true
@@ -53,9 +61,18 @@ pub record SettlingRows : Type 0 where
   pub all : drained_count drained (at_one 3 ∷ []) ≡ 1
   pub at_its_unit : settled_at 1 before.settled ≡ two ∷ []
   pub at_another : settled_at 2 before.settled ≡ []
+  pub handed_over_there : handed_over_at 1 (seat_from 3 [] []).handed_over ≡ 3
+  pub handed_over_elsewhere : handed_over_at 2 (seat_from 3 [] []).handed_over ≡ 0
   -- the number 3 joins the range; not a number fewer, not an entry fewer, none too many
-  pub settles : Settles drained before (seat (two_to_three ∷ []) (at_one 4 ∷ []))
-  pub in_ranges : Settles drained before (seat (two ∷ three ∷ []) (at_one 4 ∷ []))
-  pub number_lost : Settles drained before (seat (three ∷ []) (at_one 4 ∷ [])) → ⊥
-  pub too_many : Settles drained before (seat (two_to_four ∷ []) []) → ⊥
-  pub too_few : Settles drained before (seat (two ∷ []) (at_one 3 ∷ at_one 4 ∷ [])) → ⊥
+  pub settles : SettlesEntries drained before (seat (two_to_three ∷ []) (at_one 4 ∷ []))
+  pub in_ranges : SettlesEntries drained before (seat (two ∷ three ∷ []) (at_one 4 ∷ []))
+  pub number_lost : SettlesEntries drained before (seat (three ∷ []) (at_one 4 ∷ [])) → ⊥
+  pub too_many : SettlesEntries drained before (seat (two_to_four ∷ []) []) → ⊥
+  pub too_few : SettlesEntries drained before (seat (two ∷ []) (at_one 3 ∷ at_one 4 ∷ [])) → ⊥
+  -- 2 and 3 are handed over, or the unit took 2 alone, or nothing
+  pub over : Settles drained before (seat_from 3 [] (at_one 4 ∷ []))
+  pub one_over : Settles drained before (seat_from 2 (three ∷ []) (at_one 4 ∷ []))
+  pub none_over : Settles drained before (seat (two_to_three ∷ []) (at_one 4 ∷ []))
+  -- they are gone and the seat doesn't know, or they are below one that it handed over
+  pub unknown : Settles drained before (seat [] (at_one 4 ∷ [])) → ⊥
+  pub below : Settles drained (before_from 5) (seat_from 3 [] (at_one 4 ∷ [])) → ⊥

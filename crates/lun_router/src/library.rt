@@ -1,5 +1,5 @@
 use device_server::DeviceServer;
-use kept_unit::UnitLedger;
+use kept_unit::Ledgers;
 use std::marker::Model;
 use unit_locks::{Gate, UnitLocks};
 
@@ -15,44 +15,23 @@ use unit_locks::{Gate, UnitLocks};
 /// let histories = library.close(alloc, seats)?;
 /// ```
 #[derive(Drop)]
-pub struct Library<
-    L0: UnitLedger,
-    L1: UnitLedger,
-    L2: UnitLedger,
-    L3: UnitLedger,
-    L4: UnitLedger,
-    D: DeviceServer,
-    G: Gate,
-> {
+pub struct Library<B: Ledgers, D: DeviceServer, G: Gate> {
     pub(crate) seats: usize,
-    pub(crate) locks: UnitLocks<L0, L1, L2, L3, L4, D, G>,
+    pub(crate) locks: UnitLocks<B, D, G>,
 }
 
-impl<
-    L0: UnitLedger,
-    L1: UnitLedger,
-    L2: UnitLedger,
-    L3: UnitLedger,
-    L4: UnitLedger,
-    D: DeviceServer,
-    G: Gate,
-> Model for Library<L0, L1, L2, L3, L4, D, G> {
+impl<B: Ledgers, D: DeviceServer, G: Gate> Model for Library<B, D, G> {
+    ghost use Rattle.std.specs.Prelude.{◌≡◌, ◌<◌, ◌+◌};
     ghost use Rattle.lun_router.specs.Opening.{LibraryValue};
 
     ghost Value = { LibraryValue };
 
     ghost view = { λ l. record { seats = l.seats; units = l.locks.units } };
+
+    ghost invariant = { λ l. (0 < l.seats) × (B.all_parts ≡ l.seats + 1) };
 }
 
-impl<
-    L0: UnitLedger,
-    L1: UnitLedger,
-    L2: UnitLedger,
-    L3: UnitLedger,
-    L4: UnitLedger,
-    D: DeviceServer,
-    G: Gate,
-> Library<L0, L1, L2, L3, L4, D, G> {
+impl<B: Ledgers, D: DeviceServer, G: Gate> Library<B, D, G> {
     ghost use Rattle.std.specs.Prelude.{◌≡◌};
 
     /// How many units there are.

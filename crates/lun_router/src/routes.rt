@@ -1,4 +1,4 @@
-ghost use Rattle.std.specs.Prelude.{◌≡◌, ◌<◌, ◌≤◌, [], true, false, Some, None, IsNone, IfSome, IsTrue, ◌↔◌};
+ghost use Rattle.std.specs.Prelude.{◌≡◌, ◌<◌, ◌≤◌, [], true, false, Some, None, IsNone, IfSome, IsTrue, OnOk, OnErr, ◌↔◌};
 ghost use Rattle.device_server.specs.Attending.{WasAsked};
 ghost use Rattle.judgement.specs.Commands.{act_of};
 ghost use Rattle.logical_unit.specs.declared.act_kind.ActKind.TheVariants as kind;
@@ -7,30 +7,22 @@ ghost use Rattle.logical_unit.specs.Answers.{IsAnswer};
 ghost use Rattle.logical_unit.specs.ActKinds.{act_kind_of, act_kind_if};
 ghost use Rattle.scsi_cdb.specs.Kinds.{kind_at};
 ghost use Rattle.unit_locks.specs.Answering.{AnswersAsAbsent, LeavesNoneFor, LosesNoneFor, RefusesAsAbsent, IsSomeTrail};
-ghost use Rattle.lun_router.specs.Seats.{Notes};
+ghost use Rattle.lun_router.specs.Seats.{Notes, Settles};
 
 use crate::library::Library;
 use crate::seat::Seat;
 use audit_log::Record;
 use device_server::{Attendant, DeviceServer};
 use judgement::ReceivedCommand;
-use kept_unit::UnitLedger;
+use kept_unit::Ledgers;
 use logical_unit::{Done, EventKind};
 use scsi_cdb::kind_at;
 use scsi_nexus::Nexus;
-use std::alloc::Global;
+use std::alloc::{AllocError, Global};
 use std::sync::Wait;
 use unit_locks::Gate;
 
-impl<
-    L0: UnitLedger,
-    L1: UnitLedger,
-    L2: UnitLedger,
-    L3: UnitLedger,
-    L4: UnitLedger,
-    D: DeviceServer,
-    G: Gate,
-> Library<L0, L1, L2, L3, L4, D, G> {
+impl<B: Ledgers, D: DeviceServer, G: Gate> Library<B, D, G> {
     /// A command of a nexus to a logical unit, with an entry of its answer in the seat. A MOVE MEDIUM goes to the changer
     /// with the drives that it names. The seat's room comes first: where it is refused, the answer is BUSY, and nothing has
     /// changed. May wait for another call at the same units.
@@ -38,7 +30,7 @@ impl<
         &self,
         rt: &R,
         alloc: Global,
-        seat: &mut Seat<L0, L1, L2, L3, L4>,
+        seat: &mut Seat<B>,
         nexus: Nexus,
         lun: u8,
         cdb: &'a [u8],
@@ -65,7 +57,7 @@ impl<
         &self,
         rt: &R,
         alloc: Global,
-        seat: &mut Seat<L0, L1, L2, L3, L4>,
+        seat: &mut Seat<B>,
         nexus: Nexus,
         lun: u8,
     ) -> Done<'static>
@@ -89,7 +81,7 @@ impl<
         &self,
         rt: &R,
         alloc: Global,
-        seat: &mut Seat<L0, L1, L2, L3, L4>,
+        seat: &mut Seat<B>,
         lun: u8,
     ) -> Done<'static>
         ensures answer { IsAnswer result None lun event.Reset }
@@ -105,6 +97,32 @@ impl<
         let done = self.locks.reset(rt, alloc, parts, lun);
         entries.push_reserved(done.entry());
         done
+    }
+
+    /// Settles what a seat has noted: the longest beginning of its entries whose records were handed out leaves the list, also an
+    /// entry without a number, and the numbers go over to their units. `drained` says by logical unit number up to which number each
+    /// unit's records were handed out, 0 where none was. It is a beginning because the numbers of a unit rise along a seat. What a
+    /// unit can't take yet, the seat keeps as ranges of 16 bytes each, and offers again next time; a unit keeps one range for all
+    /// numbers without a gap. On an error nothing has changed. Takes time for as many entries as are settled; may wait for a call at
+    /// a unit.
+    pub fn settle<R: Wait>(
+        &self,
+        rt: &R,
+        seat: &mut Seat<B>,
+        drained: &[u64; 5],
+    ) -> Result<(), AllocError>
+        ensures ok { OnOk result (Settles drained.now seat.old seat.new) }
+        ensures err { OnErr result (seat.new ≡ seat.old) }
+    {
+        seat.settle_entries(drained)?;
+        let Seat {
+            parts,
+            ranges,
+            handed_over,
+            ..
+        } = seat;
+        self.locks.hand_over(rt, parts, ranges, handed_over);
+        Ok(())
     }
 
     /// Whether a nexus has a slot at a unit, or finds one: where it doesn't, its commands there are BUSY until the library is

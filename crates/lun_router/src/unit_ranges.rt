@@ -4,19 +4,10 @@ ghost use Rattle.kept_unit.specs.Ranges.{numbers_in_ranges};
 ghost use Rattle.lun_router.specs.Settling.{ranges_of, HasRoom};
 ghost use Rattle.lun_router.specs.Seats.{untold};
 
-use kept_unit::{NumberRange, add_ranges, listed_ranges, make_room};
+use kept_unit::{add_ranges, listed_ranges, make_room};
 use logical_unit::Entry;
 use std::alloc::{AllocError, Global};
-
-/// Ranges of the record numbers of each unit, by its logical unit number.
-#[derive(Drop)]
-pub(crate) struct UnitRanges {
-    pub(crate) zero: Vec<NumberRange>,
-    pub(crate) one: Vec<NumberRange>,
-    pub(crate) two: Vec<NumberRange>,
-    pub(crate) three: Vec<NumberRange>,
-    pub(crate) four: Vec<NumberRange>,
-}
+use unit_locks::UnitRanges;
 
 /// No range of any unit.
 pub(crate) fn no_ranges(alloc: Global) -> UnitRanges

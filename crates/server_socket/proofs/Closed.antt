@@ -37,22 +37,18 @@ writes_before (AtTheEnd audit) w v b left one two = two ∙ one
 writes_before AsTheyCome w v b left one two = hands_more w v b [] left [] one two
 
 -- a library that was served, from its closing
-pub library_served : (core : List UnitView) (count : ℕ) (records : RecordOutput) (audit : Audit) (seats : List SeatValue) (none left : List ℕ) (n0 n1 n2 n3 n4 : ℕ) (w v b w' : Option (List ℕ)) → audit ≡ of_the_rest records
-    → All (IsOfSessions (length core)) seats × (length seats ≡ count) → IsSince core n0 n1 n2 n3 n4 → none ≡ [] → WritesOut records w v none left → WritesOut records v b left []
-    → IsClosed seats audit n0 n1 n2 n3 n4 b w' → ServesLibrary core count records w w'
-library_served core count records audit seats none left n0 n1 n2 n3 n4 w v b w' wanted served since empty came rest closed = record {
+pub library_served : (core : List UnitView) (count : ℕ) (records : RecordOutput) (audit : Audit) (seats : List SeatValue) (none left : List ℕ) (since_of : ℕ → ℕ) (w v b w' : Option (List ℕ)) → audit ≡ of_the_rest records
+    → All (IsOfSessions (length core)) seats × (length seats ≡ count) → IsSince core since_of → none ≡ [] → WritesOut records w v none left → WritesOut records v b left []
+    → IsClosed seats audit since_of b w' → ServesLibrary core count records w w'
+library_served core count records audit seats none left since_of w v b w' wanted served since empty came rest closed = record {
   before = b;
   as_they_came = writes_before records w v b left (subst (λ (l : List ℕ). WritesOut records w v l left) empty came) rest;
   rest = record {
-    zero = n0;
-    one = n1;
-    two = n2;
-    three = n3;
-    four = n4;
+    since_of = since_of;
     seats = seats;
     many = served.1;
     served = served.0;
     since = since;
-    closed = subst (λ (a : Audit). IsClosed seats a n0 n1 n2 n3 n4 b w') wanted closed;
+    closed = subst (λ (a : Audit). IsClosed seats a since_of b w') wanted closed;
   };
 }

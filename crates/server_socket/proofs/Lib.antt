@@ -4,3 +4,4 @@ pub mod PlaceLemmas
 pub mod Seats
 pub mod ServedSeats
 pub mod Told
+pub mod Asking

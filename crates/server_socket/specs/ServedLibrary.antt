@@ -13,16 +13,12 @@ use Rattle.server_socket.specs.ServedSeats.{IsOfSessions}
 
 -- a library that was closed, over the units of a target and with so many seats, of which each was told of the sessions of one worker alone
 pub record ClosesOver (core : List UnitView) (count : ℕ) (audit : Audit) (written written' : Option (List ℕ)) : Type 0 where
-  pub zero : ℕ
-  pub one : ℕ
-  pub two : ℕ
-  pub three : ℕ
-  pub four : ℕ
+  pub since_of : ℕ → ℕ
   pub seats : List SeatValue
   pub many : length seats ≡ count
   pub served : All (IsOfSessions (length core)) seats
-  pub since : IsSince core zero one two three four
-  pub closed : IsClosed seats audit zero one two three four written written'
+  pub since : IsSince core since_of
+  pub closed : IsClosed seats audit since_of written written'
 
 -- what is written before the end: nothing, or the lines of records as units handed them out, each time a legal trail
 abbrev pub WritesBefore : RecordOutput → (written written' : Option (List ℕ)) → Type 0

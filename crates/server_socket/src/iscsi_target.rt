@@ -1,7 +1,7 @@
 //! The target of a library's portals, and the secrets of those who come in there.
 ghost use Rattle.std.specs.Prelude.{◌≡◌, IfOk, vec_len};
 ghost use Rattle.server_socket.specs.Places.{portals_of};
-ghost use Rattle.server_socket.specs.Targets.{AuthenticatesBy, digests_of};
+ghost use Rattle.server_socket.specs.Targets.{AsksFor, AuthenticatesBy, digests_of};
 
 use crate::secrets_file::secrets_at;
 use crate::socket_fault::SocketFault;
@@ -21,6 +21,23 @@ pub(crate) struct PortalTarget {
     pub paths: Paths,
     /// How many nexuses of hosts that aren't named may be let in.
     pub most_strangers: u8,
+}
+
+/// By what initiators show who they are: by CHAP exactly where a file of secrets is named.
+fn authentication_of<R: AllocGlobal + Files>(
+    rt: &R,
+    chap: Option<String>,
+    digests: program_options::ChapDigests,
+) -> Result<Authentication, SocketFault>
+    ensures { IfOk result (λ by. AsksFor chap digests by) }
+{
+    match chap {
+        Some(path) => Ok(Authentication::Chap(ChapAccess {
+            secrets: secrets_at(rt, path)?,
+            digests: digests_of(digests),
+        })),
+        None => Ok(Authentication::None),
+    }
 }
 
 /// The target that is asked for. Where none is, it has no portals. Its initiators show who they are by CHAP exactly where a file of secrets is
@@ -52,13 +69,7 @@ pub(crate) fn target_of<R: AllocGlobal + Files>(
         chap_digests,
     } = options;
     let hosts = hosts_of(alloc, hosts)?;
-    let authentication = match chap {
-        Some(path) => Authentication::Chap(ChapAccess {
-            secrets: secrets_at(rt, path)?,
-            digests: digests_of(chap_digests),
-        }),
-        None => Authentication::None,
-    };
+    let authentication = authentication_of(rt, chap, chap_digests)?;
     Ok(PortalTarget {
         target: target_named(alloc, target_name.as_str(), hosts, any_host, authentication)?,
         portals,

@@ -2,7 +2,7 @@ ghost use Rattle.std.specs.Prelude.{◌≡◌, ◌<◌};
 ghost use Rattle.scsi_cdb.specs.Kinds.{kind_at};
 
 use device_server::Attendant;
-use kept_unit::UnitLedger;
+use kept_unit::Ledgers;
 use library_device::Device;
 use lun_router::{Library, Pass};
 use std::sync::Wait;
@@ -10,20 +10,11 @@ use tape_keeper::TapeSource;
 
 /// The tapes of a library, whichever ledgers it has.
 #[derive(Drop)]
-pub(crate) struct LibraryTapes<
-    'a,
-    L0: UnitLedger,
-    L1: UnitLedger,
-    L2: UnitLedger,
-    L3: UnitLedger,
-    L4: UnitLedger,
-> {
-    pub library: &'a Library<L0, L1, L2, L3, L4, Device, Pass>,
+pub(crate) struct LibraryTapes<'a, B: Ledgers> {
+    pub library: &'a Library<B, Device, Pass>,
 }
 
-impl<'a, L0: UnitLedger, L1: UnitLedger, L2: UnitLedger, L3: UnitLedger, L4: UnitLedger> TapeSource<
-    Device,
-> for LibraryTapes<'a, L0, L1, L2, L3, L4> {
+impl<'a, B: Ledgers> TapeSource<Device> for LibraryTapes<'a, B> {
     ghost has_unit = { λ tapes lun kind. (lun < tapes.library.now.units) × (kind ≡ kind_at lun) };
 
     fn units(&self) -> u8 {

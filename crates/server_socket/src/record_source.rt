@@ -2,7 +2,7 @@ ghost use Rattle.std.specs.Prelude.{◌≡◌, ◌<◌, ◌↔◌, [], IsTrue, f
 ghost use Rattle.lun_router.specs.Answering.{IsSomeTrail};
 
 use audit_log::Record;
-use kept_unit::UnitLedger;
+use kept_unit::Ledgers;
 use library_device::Device;
 use lun_router::{Library, Pass};
 use std::sync::Wait;
@@ -30,8 +30,7 @@ pub(crate) trait RecordSource {
         ensures absent { result ≡ false → records.new ≡ records.old };
 }
 
-impl<L0: UnitLedger, L1: UnitLedger, L2: UnitLedger, L3: UnitLedger, L4: UnitLedger> RecordSource
-    for Library<L0, L1, L2, L3, L4, Device, Pass> {
+impl<B: Ledgers> RecordSource for Library<B, Device, Pass> {
     ghost count = { λ library. library.units };
 
     ghost hands_out = { λ _ _ records. IsSomeTrail records };

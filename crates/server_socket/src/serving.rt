@@ -1,6 +1,7 @@
 ghost use Rattle.std.specs.Prelude.{◌≡◌, ◌+◌, ◌*◌, ◌<◌, ◌≤◌, ◌⊎◌, [], None, length, IfErr, IfSome, OnOk};
 ghost use Rattle.std.specs.List.{AllZip};
 ghost use Rattle.logical_unit.specs.UnitView.{units_of};
+ghost use Rattle.lun_router.specs.Blanks.{AreBlanks};
 ghost use Rattle.lun_router.specs.Opening.{IsSince};
 ghost use Rattle.server.specs.Sessions.{ComesBySessions};
 ghost use Rattle.output_lines.specs.LeftLines.{GoesOn};
@@ -17,7 +18,7 @@ use crate::library_tapes::LibraryTapes;
 use crate::record_source::RecordSource;
 use crate::server_fault::{ServerFault, closing_fault, earlier, own_fault, told_of};
 use crate::unwritten_teller::UnwrittenTeller;
-use kept_unit::UnitLedger;
+use kept_unit::Ledgers;
 use library_closing::close_and_write;
 use library_device::Device;
 use library_service::{give_back, services_of};
@@ -76,7 +77,7 @@ pub fn serve_library<
     ensures fault { IfErr result (λ fault. MayTell limits.entry.term fault) }
 {
     let seats = seats_at(limits.workers, limits.spare, doors.len());
-    let parts = seats as u64;
+    let parts = seats as u64 + 1;
     let blanks = Blanks {
         zero: Blank::new(parts),
         one: Blank::new(parts),
@@ -85,9 +86,7 @@ pub fn serve_library<
         four: Blank::new(parts),
     };
     let acceptor = Acceptor::new(doors, limits);
-    serve_with_ledgers::<Brand, Brand, Brand, Brand, Brand, R, K, E, W>(
-        means, core, seats, blanks, &acceptor, writer,
-    )
+    serve_with_ledgers::<Brand, R, K, E, W>(means, core, seats, blanks, &acceptor, writer)
 }
 
 /// How many seats there are at so many doors, each with so many workers and so many more.
@@ -101,13 +100,9 @@ fn seats_at(workers: u8, spare: u8, doors: usize) -> usize
     (usize::from(workers) + usize::from(spare)) * doors
 }
 
-/// The same, generic over the five ledgers.
+/// The same, generic over the ledgers.
 fn serve_with_ledgers<
-    L0: UnitLedger + Send + Sync,
-    L1: UnitLedger + Send + Sync,
-    L2: UnitLedger + Send + Sync,
-    L3: UnitLedger + Send + Sync,
-    L4: UnitLedger + Send + Sync,
+    B: Ledgers + Send + Sync,
     R: Clock + PollSource + RandomSource + Threads + Wait + Sync,
     K: TapeKeeper<Device> + Sync,
     E: Write + Send,
@@ -121,19 +116,14 @@ fn serve_with_ledgers<
     writer: &mut W,
 ) -> Result<(), ServerFault>
     requires some { 0 < workers }
-    requires zero { (blanks.zero.name ≡ L0.name) × (blanks.zero.parts ≡ L0.parts) × (L0.parts ≡ workers) }
-    requires one { (blanks.one.name ≡ L1.name) × (blanks.one.parts ≡ L1.parts) × (L1.parts ≡ workers) }
-    requires two { (blanks.two.name ≡ L2.name) × (blanks.two.parts ≡ L2.parts) × (L2.parts ≡ workers) }
-    requires three { (blanks.three.name ≡ L3.name) × (blanks.three.parts ≡ L3.parts) × (L3.parts ≡ workers) }
-    requires four { (blanks.four.name ≡ L4.name) × (blanks.four.parts ≡ L4.parts) × (L4.parts ≡ workers) }
-    requires since { IsSince (units_of core) L0.since L1.since L2.since L3.since L4.since }
+    requires blanks { AreBlanks B.names B.all_parts blanks }
+    requires parts { B.all_parts ≡ workers + 1 }
+    requires since { IsSince (units_of core) B.since_of }
     ensures served { OnOk result (ServesLibrary (units_of core) workers means.now.records (W.contents writer.old) (W.contents writer.new)) }
     ensures fault { IfErr result (λ fault. MayTell acceptor.now.limits.term fault) }
 {
     let (rt, alloc, teller) = (means.rt, means.alloc, means.teller);
-    let opened = Library::<L0, L1, L2, L3, L4, Device, Pass>::new(
-        alloc, core, workers, blanks, Pass,
-    );
+    let opened = Library::<B, Device, Pass>::new(alloc, core, workers, blanks, Pass);
     let (library, mut seats) = match opened {
         Ok(opened) => opened,
         Err((refused, _)) => return Err(refused.into()),
@@ -154,19 +144,15 @@ fn serve_with_ledgers<
 
 /// Serves sessions with a worker at each seat. Then the seats are back.
 fn serve_seats<
-    L0: UnitLedger + Send + Sync,
-    L1: UnitLedger + Send + Sync,
-    L2: UnitLedger + Send + Sync,
-    L3: UnitLedger + Send + Sync,
-    L4: UnitLedger + Send + Sync,
+    B: Ledgers + Send + Sync,
     R: Clock + PollSource + RandomSource + Threads + Wait + Sync,
     K: TapeKeeper<Device> + Sync,
     E: Write + Send,
     W: Write + Send,
 >(
     means: &ServiceMeans<'_, R, K, E>,
-    library: &Library<L0, L1, L2, L3, L4, Device, Pass>,
-    seats: &mut Vec<Seat<L0, L1, L2, L3, L4>>,
+    library: &Library<B, Device, Pass>,
+    seats: &mut Vec<Seat<B>>,
     acceptor: &Acceptor<'_>,
     batch: &mut Batch,
     writer: &mut W,

@@ -1,3 +1,5 @@
 pub mod Shares
 pub mod Units
 pub mod Answering
+pub mod Blanks
+pub mod HandingOver

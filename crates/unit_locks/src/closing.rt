@@ -1,13 +1,17 @@
-ghost use Rattle.std.specs.Prelude.{◌≡◌, is_some};
+ghost use Rattle.std.specs.Prelude.{◌≡◌, ◌+◌, IfSome, is_some};
 ghost use Rattle.std.specs.Option.{option_map};
+ghost use Rattle.logical_unit.specs.UnitView.{last_number};
+ghost use Rattle.settled_numbers.specs.Numbers.{count};
 ghost use Rattle.unit_locks.specs.Units.{HasUnits};
 
 use crate::all_locks::UnitLocks;
 use crate::gate::Gate;
 use crate::locked::Locked;
+use crate::seat_shares::AllShares;
 use device_server::DeviceServer;
-use kept_unit::{Kept, UnitLedger};
+use kept_unit::{At, Kept, Ledgers, UnitLedger};
 use logical_unit::LogicalUnit;
+use std::sync::ledger::Share;
 
 /// The units of a library that was closed, each with its trail.
 #[derive(Drop)]
@@ -21,19 +25,12 @@ pub struct Histories<D: DeviceServer> {
 
 /// What lay under the locks.
 #[derive(Drop)]
-pub struct TakenUnits<
-    L0: UnitLedger,
-    L1: UnitLedger,
-    L2: UnitLedger,
-    L3: UnitLedger,
-    L4: UnitLedger,
-    D: DeviceServer,
-> {
-    pub changer: Kept<0, L0, D>,
-    pub first: Kept<1, L1, D>,
-    pub second: Option<Kept<2, L2, D>>,
-    pub third: Option<Kept<3, L3, D>>,
-    pub fourth: Option<Kept<4, L4, D>>,
+pub struct TakenUnits<B: Ledgers, D: DeviceServer> {
+    pub changer: Kept<0, At<0, B>, D>,
+    pub first: Kept<1, At<1, B>, D>,
+    pub second: Option<Kept<2, At<2, B>, D>>,
+    pub third: Option<Kept<3, At<3, B>, D>>,
+    pub fourth: Option<Kept<4, At<4, B>, D>>,
 }
 
 /// What lay under a lock, if there is one.
@@ -60,34 +57,37 @@ fn put_back<const LUN: u8, L: UnitLedger, D: DeviceServer>(
     }
 }
 
-/// The unit that was kept, if there is one.
+/// The unit that was kept, if there is one, once all other parts of its ledger are here.
 fn unit_if_there<const LUN: u8, L: UnitLedger, D: DeviceServer>(
     kept: Option<Kept<LUN, L, D>>,
+    rest: Share<L>,
 ) -> Option<LogicalUnit<D>>
+    requires { rest.parts + 1 ≡ L.parts }
     ensures unit { option_map (λ u. u.unit) result ≡ option_map (λ k. k.unit) kept }
     ensures there { is_some result ≡ is_some kept }
+    ensures sum { IfSome result (λ u. IfSome kept (λ k. last_number u.unit ≡ L.since + (count k.handed_over + rest.amount))) }
 {
     match kept {
-        Some(kept) => Some(kept.into_unit()),
+        Some(kept) => Some(kept.close(rest)),
         None => None,
     }
 }
 
-impl<
-    L0: UnitLedger,
-    L1: UnitLedger,
-    L2: UnitLedger,
-    L3: UnitLedger,
-    L4: UnitLedger,
-    D: DeviceServer,
-> TakenUnits<L0, L1, L2, L3, L4, D> {
-    /// The units.
-    pub fn histories(self) -> Histories<D>
+impl<B: Ledgers, D: DeviceServer> TakenUnits<B, D> {
+    /// The units, once all other parts of their ledgers are here: the numbers that each has used since are as many as were handed
+    /// over to it and as those parts count.
+    pub fn histories(self, rest: AllShares<B>) -> Histories<D>
+        requires { (rest.zero.parts + 1 ≡ B.all_parts) × (rest.one.parts + 1 ≡ B.all_parts) × (rest.two.parts + 1 ≡ B.all_parts) × (rest.three.parts + 1 ≡ B.all_parts) × (rest.four.parts + 1 ≡ B.all_parts) }
         ensures changer { result.changer.unit ≡ self.changer.unit }
         ensures first { result.first.unit ≡ self.first.unit }
         ensures second { option_map (λ u. u.unit) result.second ≡ option_map (λ k. k.unit) self.second }
         ensures third { option_map (λ u. u.unit) result.third ≡ option_map (λ k. k.unit) self.third }
         ensures fourth { option_map (λ u. u.unit) result.fourth ≡ option_map (λ k. k.unit) self.fourth }
+        ensures changer_sum { last_number result.changer.unit ≡ B.since_of 0 + (count self.changer.handed_over + rest.zero.amount) }
+        ensures first_sum { last_number result.first.unit ≡ B.since_of 1 + (count self.first.handed_over + rest.one.amount) }
+        ensures second_sum { IfSome result.second (λ u. IfSome self.second (λ k. last_number u.unit ≡ B.since_of 2 + (count k.handed_over + rest.two.amount))) }
+        ensures third_sum { IfSome result.third (λ u. IfSome self.third (λ k. last_number u.unit ≡ B.since_of 3 + (count k.handed_over + rest.three.amount))) }
+        ensures fourth_sum { IfSome result.fourth (λ u. IfSome self.fourth (λ k. last_number u.unit ≡ B.since_of 4 + (count k.handed_over + rest.four.amount))) }
         ensures there { (is_some result.second ≡ is_some self.second) × (is_some result.third ≡ is_some self.third) × (is_some result.fourth ≡ is_some self.fourth) }
     {
         let TakenUnits {
@@ -97,27 +97,26 @@ impl<
             third,
             fourth,
         } = self;
+        let AllShares {
+            zero,
+            one,
+            two,
+            three,
+            four,
+        } = rest;
         Histories {
-            changer: changer.into_unit(),
-            first: first.into_unit(),
-            second: unit_if_there(second),
-            third: unit_if_there(third),
-            fourth: unit_if_there(fourth),
+            changer: changer.close(zero),
+            first: first.close(one),
+            second: unit_if_there(second, two),
+            third: unit_if_there(third, three),
+            fourth: unit_if_there(fourth, four),
         }
     }
 }
 
-impl<
-    L0: UnitLedger,
-    L1: UnitLedger,
-    L2: UnitLedger,
-    L3: UnitLedger,
-    L4: UnitLedger,
-    D: DeviceServer,
-    G: Gate,
-> UnitLocks<L0, L1, L2, L3, L4, D, G> {
+impl<B: Ledgers, D: DeviceServer, G: Gate> UnitLocks<B, D, G> {
     /// The units, taken out of their locks, and the gate.
-    pub fn take(self) -> (TakenUnits<L0, L1, L2, L3, L4, D>, G)
+    pub fn take(self) -> (TakenUnits<B, D>, G)
         ensures { HasUnits self.units result.0.second result.0.third result.0.fourth }
     {
         let UnitLocks {
@@ -140,11 +139,7 @@ impl<
     }
 
     /// The locks again, as they were.
-    pub fn put(
-        count: u8,
-        units: TakenUnits<L0, L1, L2, L3, L4, D>,
-        gate: G,
-    ) -> UnitLocks<L0, L1, L2, L3, L4, D, G>
+    pub fn put(count: u8, units: TakenUnits<B, D>, gate: G) -> UnitLocks<B, D, G>
         requires { HasUnits count units.second units.third units.fourth }
         ensures { result.units ≡ count }
     {

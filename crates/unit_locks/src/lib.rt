@@ -5,6 +5,7 @@
 mod all_locks;
 mod closing;
 mod gate;
+mod handing_over;
 mod locked;
 mod locks;
 mod moves;
@@ -15,6 +16,7 @@ mod seat_shares;
 pub use all_locks::UnitLocks;
 pub use closing::{Histories, TakenUnits};
 pub use gate::{Gate, Pass};
+pub use handing_over::{UnitNumbers, UnitRanges};
 pub use locked::CachePadding;
 pub use opening::{Blanks, UnitsByLun};
 pub use seat_shares::{AllShares, SeatShares};

@@ -16,27 +16,19 @@ use crate::locks::{move_with_one, move_with_two};
 use crate::seat_shares::SeatShares;
 use device_server::DeviceServer;
 use judgement::ReceivedCommand;
-use kept_unit::{Kept, UnitLedger};
+use kept_unit::{At, Kept, Ledgers};
 use logical_unit::{Done, named};
 use std::alloc::Global;
 use std::sync::Wait;
 
-impl<
-    L0: UnitLedger,
-    L1: UnitLedger,
-    L2: UnitLedger,
-    L3: UnitLedger,
-    L4: UnitLedger,
-    D: DeviceServer,
-    G: Gate,
-> UnitLocks<L0, L1, L2, L3, L4, D, G> {
+impl<B: Ledgers, D: DeviceServer, G: Gate> UnitLocks<B, D, G> {
     /// A MOVE MEDIUM that names one drive, with the changer's lock held.
     fn move_one<'a, R: Wait>(
         &self,
         rt: &R,
         alloc: Global,
-        changer: &mut Kept<0, L0, D>,
-        parts: &mut SeatShares<L0, L1, L2, L3, L4>,
+        changer: &mut Kept<0, At<0, B>, D>,
+        parts: &mut SeatShares<B>,
         drive: u8,
         received: &ReceivedCommand<'a>,
     ) -> Done<'a>
@@ -77,8 +69,8 @@ impl<
         &self,
         rt: &R,
         alloc: Global,
-        changer: &mut Kept<0, L0, D>,
-        parts: &mut SeatShares<L0, L1, L2, L3, L4>,
+        changer: &mut Kept<0, At<0, B>, D>,
+        parts: &mut SeatShares<B>,
         low: u8,
         high: u8,
         received: &ReceivedCommand<'a>,
@@ -134,7 +126,7 @@ impl<
         &self,
         rt: &R,
         alloc: Global,
-        parts: &mut SeatShares<L0, L1, L2, L3, L4>,
+        parts: &mut SeatShares<B>,
         received: &ReceivedCommand<'a>,
     ) -> Done<'a>
         requires kind { received.now.kind ≡ Changer }

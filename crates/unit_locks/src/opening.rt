@@ -1,6 +1,7 @@
-ghost use Rattle.std.specs.Prelude.{◌≡◌, is_some};
+ghost use Rattle.std.specs.Prelude.{◌≡◌, ◌+◌, ◌<◌, is_some};
 ghost use Rattle.std.specs.Option.{ForSome};
 ghost use Rattle.logical_unit.specs.UnitView.{last_number};
+ghost use Rattle.unit_locks.specs.Blanks.{AreBlanks};
 ghost use Rattle.unit_locks.specs.Units.{IsAt, HasUnits};
 
 use crate::all_locks::UnitLocks;
@@ -8,8 +9,9 @@ use crate::gate::Gate;
 use crate::locked::Locked;
 use crate::seat_shares::AllShares;
 use device_server::DeviceServer;
-use kept_unit::{Kept, UnitLedger};
+use kept_unit::{Kept, Ledgers, UnitLedger};
 use logical_unit::LogicalUnit;
+use std::alloc::Global;
 use std::sync::ledger::{Blank, Share};
 
 /// The units of a target, one by one.
@@ -23,7 +25,7 @@ pub struct UnitsByLun<D: DeviceServer> {
     pub fourth: Option<LogicalUnit<D>>,
 }
 
-/// A new ledger for each logical unit number that a unit can have, each cut into as many parts as there will be seats.
+/// A new ledger for each logical unit number that a unit can have, each cut into one part more than there will be seats.
 #[derive(Drop)]
 pub struct Blanks {
     pub zero: Blank,
@@ -33,81 +35,75 @@ pub struct Blanks {
     pub four: Blank,
 }
 
-/// Puts a unit under a lock.
+/// Puts a unit under a lock, with one part of its ledger for what will be handed over.
 fn put_under_lock<const LUN: u8, L: UnitLedger, D: DeviceServer>(
+    alloc: Global,
     unit: LogicalUnit<D>,
     blank: Blank,
 ) -> (Locked<LUN, L, D>, Share<L>)
+    requires parts { 0 < L.parts }
     requires blank { (blank.name ≡ L.name) × (blank.parts ≡ L.parts) }
     requires unit { IsAt LUN unit.unit }
     requires since { last_number unit.unit ≡ L.since }
-    ensures parts { result.1.parts ≡ L.parts }
+    ensures parts { result.1.parts + 1 ≡ L.parts }
     ensures amount { result.1.amount ≡ 0 }
 {
-    let (book, share) = blank.open::<L>();
-    (Locked::new(Kept::new(unit, book)), share)
+    let (book, mut share) = blank.open::<L>();
+    let part = share.split_off(1, 0);
+    (Locked::new(Kept::new(alloc, unit, book, part)), share)
 }
 
 /// The same where the unit may be absent. Its book then goes, and the shares stay at nothing.
 fn put_under_lock_if_there<const LUN: u8, L: UnitLedger, D: DeviceServer>(
+    alloc: Global,
     unit: Option<LogicalUnit<D>>,
     blank: Blank,
 ) -> (Option<Locked<LUN, L, D>>, Share<L>)
+    requires parts { 0 < L.parts }
     requires blank { (blank.name ≡ L.name) × (blank.parts ≡ L.parts) }
     requires unit { ForSome unit (λ u. IsAt LUN u.unit) }
     requires since { ForSome unit (λ u. last_number u.unit ≡ L.since) }
     ensures there { is_some result.0 ≡ is_some unit }
-    ensures parts { result.1.parts ≡ L.parts }
+    ensures parts { result.1.parts + 1 ≡ L.parts }
     ensures amount { result.1.amount ≡ 0 }
 {
     match unit {
         Some(unit) => {
-            let (lock, share) = put_under_lock(unit, blank);
+            let (lock, share) = put_under_lock(alloc, unit, blank);
             (Some(lock), share)
         }
         None => {
-            let (_, share) = blank.open::<L>();
+            let (_, mut share) = blank.open::<L>();
+            let _ = share.split_off(1, 0);
             (None, share)
         }
     }
 }
 
-impl<
-    L0: UnitLedger,
-    L1: UnitLedger,
-    L2: UnitLedger,
-    L3: UnitLedger,
-    L4: UnitLedger,
-    D: DeviceServer,
-    G: Gate,
-> UnitLocks<L0, L1, L2, L3, L4, D, G> {
-    /// Puts each unit under a lock of its own, with the shares of all ledgers, also of those that have no unit.
+impl<B: Ledgers, D: DeviceServer, G: Gate> UnitLocks<B, D, G> {
+    /// Puts each unit under a lock of its own, with one part of its ledger. The other parts come back, also of ledgers that have no
+    /// unit.
     pub fn open(
+        alloc: Global,
         units: UnitsByLun<D>,
         blanks: Blanks,
         gate: G,
-    ) -> (
-        UnitLocks<L0, L1, L2, L3, L4, D, G>,
-        AllShares<L0, L1, L2, L3, L4>,
-    )
-        requires zero { (blanks.zero.name ≡ L0.name) × (blanks.zero.parts ≡ L0.parts) }
-        requires one { (blanks.one.name ≡ L1.name) × (blanks.one.parts ≡ L1.parts) }
-        requires two { (blanks.two.name ≡ L2.name) × (blanks.two.parts ≡ L2.parts) }
-        requires three { (blanks.three.name ≡ L3.name) × (blanks.three.parts ≡ L3.parts) }
-        requires four { (blanks.four.name ≡ L4.name) × (blanks.four.parts ≡ L4.parts) }
+    ) -> (UnitLocks<B, D, G>, AllShares<B>)
+        requires blanks { AreBlanks B.names B.all_parts blanks }
+        requires some { 0 < B.all_parts }
         requires units { HasUnits units.count units.second units.third units.fourth }
         requires changer { IsAt 0 units.changer.unit }
         requires first { IsAt 1 units.first.unit }
         requires second { ForSome units.second (λ u. IsAt 2 u.unit) }
         requires third { ForSome units.third (λ u. IsAt 3 u.unit) }
         requires fourth { ForSome units.fourth (λ u. IsAt 4 u.unit) }
-        requires changer_since { last_number units.changer.unit ≡ L0.since }
-        requires first_since { last_number units.first.unit ≡ L1.since }
-        requires second_since { ForSome units.second (λ u. last_number u.unit ≡ L2.since) }
-        requires third_since { ForSome units.third (λ u. last_number u.unit ≡ L3.since) }
-        requires fourth_since { ForSome units.fourth (λ u. last_number u.unit ≡ L4.since) }
+        requires changer_since { last_number units.changer.unit ≡ B.since_of 0 }
+        requires first_since { last_number units.first.unit ≡ B.since_of 1 }
+        requires second_since { ForSome units.second (λ u. last_number u.unit ≡ B.since_of 2) }
+        requires third_since { ForSome units.third (λ u. last_number u.unit ≡ B.since_of 3) }
+        requires fourth_since { ForSome units.fourth (λ u. last_number u.unit ≡ B.since_of 4) }
         ensures units { result.0.units ≡ units.count }
-        ensures parts { (result.1.zero.parts ≡ L0.parts) × (result.1.one.parts ≡ L1.parts) × (result.1.two.parts ≡ L2.parts) × (result.1.three.parts ≡ L3.parts) × (result.1.four.parts ≡ L4.parts) }
+        ensures parts { (result.1.zero.parts + 1 ≡ B.all_parts) × (result.1.one.parts + 1 ≡ B.all_parts) × (result.1.two.parts + 1 ≡ B.all_parts) × (result.1.three.parts + 1 ≡ B.all_parts) × (result.1.four.parts + 1 ≡ B.all_parts) }
         ensures amounts { (result.1.zero.amount ≡ 0) × (result.1.one.amount ≡ 0) × (result.1.two.amount ≡ 0) × (result.1.three.amount ≡ 0) × (result.1.four.amount ≡ 0) }
     {
         let UnitsByLun {
@@ -125,11 +121,11 @@ impl<
             three,
             four,
         } = blanks;
-        let (changer, zero) = put_under_lock(changer, zero);
-        let (first, one) = put_under_lock(first, one);
-        let (second, two) = put_under_lock_if_there(second, two);
-        let (third, three) = put_under_lock_if_there(third, three);
-        let (fourth, four) = put_under_lock_if_there(fourth, four);
+        let (changer, zero) = put_under_lock(alloc, changer, zero);
+        let (first, one) = put_under_lock(alloc, first, one);
+        let (second, two) = put_under_lock_if_there(alloc, second, two);
+        let (third, three) = put_under_lock_if_there(alloc, third, three);
+        let (fourth, four) = put_under_lock_if_there(alloc, fourth, four);
         let shares = AllShares {
             zero,
             one,

@@ -20,28 +20,20 @@ use crate::seat_shares::SeatShares;
 use audit_log::Record;
 use device_server::{Attendant, DeviceServer};
 use judgement::ReceivedCommand;
-use kept_unit::UnitLedger;
+use kept_unit::Ledgers;
 use logical_unit::Done;
 use scsi_nexus::Nexus;
 use std::alloc::Global;
 use std::sync::Wait;
 
-impl<
-    L0: UnitLedger,
-    L1: UnitLedger,
-    L2: UnitLedger,
-    L3: UnitLedger,
-    L4: UnitLedger,
-    D: DeviceServer,
-    G: Gate,
-> UnitLocks<L0, L1, L2, L3, L4, D, G> {
+impl<B: Ledgers, D: DeviceServer, G: Gate> UnitLocks<B, D, G> {
     /// A command at its unit, or at none. A MOVE MEDIUM goes to the changer with the drives that it names. May wait for another
     /// call at the same units.
     pub fn step<'a, R: Wait>(
         &self,
         rt: &R,
         alloc: Global,
-        parts: &mut SeatShares<L0, L1, L2, L3, L4>,
+        parts: &mut SeatShares<B>,
         lun: u8,
         received: &ReceivedCommand<'a>,
     ) -> Done<'a>
@@ -68,7 +60,7 @@ impl<
         &self,
         rt: &R,
         alloc: Global,
-        parts: &mut SeatShares<L0, L1, L2, L3, L4>,
+        parts: &mut SeatShares<B>,
         nexus: Nexus,
         lun: u8,
     ) -> Done<'static>
@@ -93,7 +85,7 @@ impl<
         &self,
         rt: &R,
         alloc: Global,
-        parts: &mut SeatShares<L0, L1, L2, L3, L4>,
+        parts: &mut SeatShares<B>,
         lun: u8,
     ) -> Done<'static>
         ensures answer { IsAnswer result None lun event.Reset }

@@ -1,28 +1,21 @@
 ghost use Rattle.std.specs.Prelude.{◌≡◌, ◌<◌, ◌+◌};
 ghost use Rattle.unit_locks.specs.Shares.{nothing};
 
-use kept_unit::UnitLedger;
+use kept_unit::{At, Ledgers};
 use std::marker::Model;
 use std::sync::ledger::Share;
 
 /// One part of each unit's ledger, with the count of the numbers that it was told. Contracts see the counts.
 #[derive(Drop)]
-pub struct SeatShares<
-    L0: UnitLedger,
-    L1: UnitLedger,
-    L2: UnitLedger,
-    L3: UnitLedger,
-    L4: UnitLedger,
-> {
-    pub(crate) zero: Share<L0>,
-    pub(crate) one: Share<L1>,
-    pub(crate) two: Share<L2>,
-    pub(crate) three: Share<L3>,
-    pub(crate) four: Share<L4>,
+pub struct SeatShares<B: Ledgers> {
+    pub(crate) zero: Share<At<0, B>>,
+    pub(crate) one: Share<At<1, B>>,
+    pub(crate) two: Share<At<2, B>>,
+    pub(crate) three: Share<At<3, B>>,
+    pub(crate) four: Share<At<4, B>>,
 }
 
-impl<L0: UnitLedger, L1: UnitLedger, L2: UnitLedger, L3: UnitLedger, L4: UnitLedger> Model
-    for SeatShares<L0, L1, L2, L3, L4> {
+impl<B: Ledgers> Model for SeatShares<B> {
     ghost use Rattle.std.specs.Prelude.{◌≡◌};
     ghost use Rattle.unit_locks.specs.Shares.{Amounts};
 
@@ -33,31 +26,59 @@ impl<L0: UnitLedger, L1: UnitLedger, L2: UnitLedger, L3: UnitLedger, L4: UnitLed
     ghost invariant = { λ p. (p.zero.parts ≡ 1) × (p.one.parts ≡ 1) × (p.two.parts ≡ 1) × (p.three.parts ≡ 1) × (p.four.parts ≡ 1) };
 }
 
-/// The shares of all ledgers, before they are cut.
+/// The shares of all ledgers: before they are cut for seats, and once they are gathered from them.
 #[derive(Drop)]
-pub struct AllShares<
-    L0: UnitLedger,
-    L1: UnitLedger,
-    L2: UnitLedger,
-    L3: UnitLedger,
-    L4: UnitLedger,
-> {
-    pub zero: Share<L0>,
-    pub one: Share<L1>,
-    pub two: Share<L2>,
-    pub three: Share<L3>,
-    pub four: Share<L4>,
+pub struct AllShares<B: Ledgers> {
+    pub zero: Share<At<0, B>>,
+    pub one: Share<At<1, B>>,
+    pub two: Share<At<2, B>>,
+    pub three: Share<At<3, B>>,
+    pub four: Share<At<4, B>>,
 }
 
-impl<L0: UnitLedger, L1: UnitLedger, L2: UnitLedger, L3: UnitLedger, L4: UnitLedger> AllShares<
-    L0,
-    L1,
-    L2,
-    L3,
-    L4,
-> {
+impl<B: Ledgers> AllShares<B> {
+    /// Those of one seat.
+    pub fn of_seat(shares: SeatShares<B>) -> AllShares<B>
+        ensures amounts { (result.zero.amount ≡ shares.zero) × (result.one.amount ≡ shares.one) × (result.two.amount ≡ shares.two) × (result.three.amount ≡ shares.three) × (result.four.amount ≡ shares.four) }
+        ensures parts { (result.zero.parts ≡ 1) × (result.one.parts ≡ 1) × (result.two.parts ≡ 1) × (result.three.parts ≡ 1) × (result.four.parts ≡ 1) }
+    {
+        let SeatShares {
+            zero,
+            one,
+            two,
+            three,
+            four,
+        } = shares;
+        AllShares {
+            zero,
+            one,
+            two,
+            three,
+            four,
+        }
+    }
+
+    /// Adds those of one seat.
+    pub fn merge(&mut self, shares: SeatShares<B>)
+        ensures amounts { (self.new.zero.amount ≡ self.old.zero.amount + shares.zero) × (self.new.one.amount ≡ self.old.one.amount + shares.one) × (self.new.two.amount ≡ self.old.two.amount + shares.two) × (self.new.three.amount ≡ self.old.three.amount + shares.three) × (self.new.four.amount ≡ self.old.four.amount + shares.four) }
+        ensures parts { (self.new.zero.parts ≡ self.old.zero.parts + 1) × (self.new.one.parts ≡ self.old.one.parts + 1) × (self.new.two.parts ≡ self.old.two.parts + 1) × (self.new.three.parts ≡ self.old.three.parts + 1) × (self.new.four.parts ≡ self.old.four.parts + 1) }
+    {
+        let SeatShares {
+            zero,
+            one,
+            two,
+            three,
+            four,
+        } = shares;
+        self.zero.merge(zero);
+        self.one.merge(one);
+        self.two.merge(two);
+        self.three.merge(three);
+        self.four.merge(four);
+    }
+
     /// A part of each, which was told nothing.
-    pub fn cut(&mut self) -> SeatShares<L0, L1, L2, L3, L4>
+    pub fn cut(&mut self) -> SeatShares<B>
         requires parts { (0 < self.old.zero.parts) × (0 < self.old.one.parts) × (0 < self.old.two.parts) × (0 < self.old.three.parts) × (0 < self.old.four.parts) }
         requires amounts { (self.old.zero.amount ≡ 0) × (self.old.one.amount ≡ 0) × (self.old.two.amount ≡ 0) × (self.old.three.amount ≡ 0) × (self.old.four.amount ≡ 0) }
         ensures nothing { result ≡ nothing }

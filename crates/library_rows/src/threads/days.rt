@@ -1,12 +1,13 @@
 //! Opens a library for a scene.
-ghost use Rattle.std.specs.Prelude.{◌≡◌, ◌<◌};
+ghost use Rattle.std.specs.Prelude.{◌≡◌, ◌<◌, ◌+◌};
 ghost use Rattle.logical_unit.specs.UnitView.{units_of};
+ghost use Rattle.lun_router.specs.Blanks.{AreBlanks};
 ghost use Rattle.lun_router.specs.Opening.{IsSince};
 
 use super::gates::{Flags, TestGate};
 use super::playing::play;
 use super::targets::two_drives;
-use kept_unit::UnitLedger;
+use kept_unit::Ledgers;
 use library_device::Device;
 use lun_router::{Blanks, Library};
 use std::alloc::Global;
@@ -21,14 +22,7 @@ use target_core::TargetCore;
 /// How many seats the libraries have.
 const SEATS: usize = 2;
 
-fn day<
-    L0: UnitLedger + Send + Sync,
-    L1: UnitLedger + Send + Sync,
-    L2: UnitLedger + Send + Sync,
-    L3: UnitLedger + Send + Sync,
-    L4: UnitLedger + Send + Sync,
-    R: Abort + Clock + Threads + Wait + Sync,
->(
+fn day<B: Ledgers + Send + Sync, R: Abort + Clock + Threads + Wait + Sync>(
     rt: &R,
     alloc: Global,
     core: TargetCore<Device>,
@@ -39,16 +33,11 @@ fn day<
     scene: usize,
 )
     requires some { 0 < seats }
-    requires zero { (blanks.zero.name ≡ L0.name) × (blanks.zero.parts ≡ L0.parts) × (L0.parts ≡ seats) }
-    requires one { (blanks.one.name ≡ L1.name) × (blanks.one.parts ≡ L1.parts) × (L1.parts ≡ seats) }
-    requires two { (blanks.two.name ≡ L2.name) × (blanks.two.parts ≡ L2.parts) × (L2.parts ≡ seats) }
-    requires three { (blanks.three.name ≡ L3.name) × (blanks.three.parts ≡ L3.parts) × (L3.parts ≡ seats) }
-    requires four { (blanks.four.name ≡ L4.name) × (blanks.four.parts ≡ L4.parts) × (L4.parts ≡ seats) }
-    requires since { IsSince (units_of core) L0.since L1.since L2.since L3.since L4.since }
+    requires blanks { AreBlanks B.names B.all_parts blanks }
+    requires parts { B.all_parts ≡ seats + 1 }
+    requires since { IsSince (units_of core) B.since_of }
 {
-    match Library::<L0, L1, L2, L3, L4, Device, TestGate<'_>>::new(
-        alloc, core, seats, blanks, gate,
-    ) {
+    match Library::<B, Device, TestGate<'_>>::new(alloc, core, seats, blanks, gate) {
         Ok((library, all)) => play(rt, alloc, library, all, flags, scene),
         Err(_) => rt.panic("no library"),
     }
@@ -63,7 +52,7 @@ pub(super) fn run<R: Abort + Clock + Threads + Wait + Sync>(
     scene: usize,
 ) {
     let core = two_drives(alloc).expect(rt, "a target");
-    let parts = SEATS as u64;
+    let parts = SEATS as u64 + 1;
     let blanks = Blanks {
         zero: Blank::new(parts),
         one: Blank::new(parts),
@@ -71,5 +60,5 @@ pub(super) fn run<R: Abort + Clock + Threads + Wait + Sync>(
         three: Blank::new(parts),
         four: Blank::new(parts),
     };
-    day::<Brand, Brand, Brand, Brand, Brand, R>(rt, alloc, core, SEATS, blanks, gate, flags, scene);
+    day::<Brand, R>(rt, alloc, core, SEATS, blanks, gate, flags, scene);
 }

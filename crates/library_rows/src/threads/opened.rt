@@ -1,7 +1,7 @@
 //! An open library as scenes see it: by what comes back alone. The contracts of its calls, which no row needs, stay behind the trait.
 
 use super::gates::TestGate;
-use kept_unit::{NumberRange, UnitLedger};
+use kept_unit::{Ledgers, NumberRange};
 use library_closing::{ClosingFault, close_and_write};
 use library_device::Device;
 use logical_unit::{Done, EventKind};
@@ -47,14 +47,21 @@ pub(super) trait Opened: Sized + Drop {
     /// How many entries a seat has.
     fn entries(seat: &Self::Seat) -> usize;
 
+    /// The last number of a unit that a seat handed over.
+    fn handed_over(seat: &Self::Seat, lun: u8) -> u64;
+
     fn settled(seat: &Self::Seat, lun: u8) -> &[NumberRange];
 
-    fn settle(seat: &mut Self::Seat, drained: &[u64; 5]) -> Result<(), AllocError>;
+    fn settle<R: Wait>(
+        &self,
+        rt: &R,
+        seat: &mut Self::Seat,
+        drained: &[u64; 5],
+    ) -> Result<(), AllocError>;
 }
 
-impl<'a, L0: UnitLedger, L1: UnitLedger, L2: UnitLedger, L3: UnitLedger, L4: UnitLedger> Opened
-    for Library<L0, L1, L2, L3, L4, Device, TestGate<'a>> {
-    type Seat = Seat<L0, L1, L2, L3, L4>;
+impl<'a, B: Ledgers> Opened for Library<B, Device, TestGate<'a>> {
+    type Seat = Seat<B>;
 
     fn units(&self) -> u8 {
         Library::units(self)
@@ -64,7 +71,7 @@ impl<'a, L0: UnitLedger, L1: UnitLedger, L2: UnitLedger, L3: UnitLedger, L4: Uni
         &self,
         rt: &R,
         alloc: Global,
-        seat: &mut Seat<L0, L1, L2, L3, L4>,
+        seat: &mut Seat<B>,
         nexus: Nexus,
         lun: u8,
         event: EventKind<'static>,
@@ -88,8 +95,8 @@ impl<'a, L0: UnitLedger, L1: UnitLedger, L2: UnitLedger, L3: UnitLedger, L4: Uni
     fn close(
         self,
         alloc: Global,
-        seats: Vec<Seat<L0, L1, L2, L3, L4>>,
-    ) -> Closed<Library<L0, L1, L2, L3, L4, Device, TestGate<'a>>, Seat<L0, L1, L2, L3, L4>> {
+        seats: Vec<Seat<B>>,
+    ) -> Closed<Library<B, Device, TestGate<'a>>, Seat<B>> {
         Library::close(self, alloc, seats)
     }
 
@@ -104,15 +111,24 @@ impl<'a, L0: UnitLedger, L1: UnitLedger, L2: UnitLedger, L3: UnitLedger, L4: Uni
         close_and_write(rt, alloc, self, seats, Audit::Lines, lines, listener)
     }
 
-    fn entries(seat: &Seat<L0, L1, L2, L3, L4>) -> usize {
+    fn entries(seat: &Seat<B>) -> usize {
         seat.entries().len()
     }
 
-    fn settled(seat: &Seat<L0, L1, L2, L3, L4>, lun: u8) -> &[NumberRange] {
+    fn handed_over(seat: &Seat<B>, lun: u8) -> u64 {
+        seat.handed_over(lun)
+    }
+
+    fn settled(seat: &Seat<B>, lun: u8) -> &[NumberRange] {
         seat.settled(lun)
     }
 
-    fn settle(seat: &mut Seat<L0, L1, L2, L3, L4>, drained: &[u64; 5]) -> Result<(), AllocError> {
-        seat.settle(drained)
+    fn settle<R: Wait>(
+        &self,
+        rt: &R,
+        seat: &mut Seat<B>,
+        drained: &[u64; 5],
+    ) -> Result<(), AllocError> {
+        Library::settle(self, rt, seat, drained)
     }
 }

@@ -42,16 +42,16 @@ const FOUR_SETTLED: [Settled; 2] = [
         NO_UNIT_THERE,
         [0; 5],
         4,
-        (1, NONE),
-        (2, NONE),
+        (1, 0, NONE),
+        (2, 0, NONE),
         "nothing was drained",
     ),
     (
         1,
         [0, 4, 0, 0, 0],
         0,
-        (1, (2, (1, 1), (3, 4))),
-        (2, NONE),
+        (1, 4, NONE),
+        (2, 0, NONE),
         "A's, and of no other unit",
     ),
 ];
@@ -60,18 +60,18 @@ const OF_B: [Settled; 1] = [(
     NO_UNIT_THERE,
     [0, 4, 0, 0, 0],
     0,
-    (1, (1, (2, 2), (0, 0))),
-    (2, NONE),
+    (1, 2, NONE),
+    (2, 0, NONE),
     "B's",
 )];
 
-const ONE_JOINED: [Settled; 1] = [(
+const ONE_STAYS: [Settled; 1] = [(
     NO_UNIT_THERE,
     [0, 5, 0, 0, 0],
     1,
-    (1, (2, (1, 1), (3, 5))),
-    (2, NONE),
-    "one is joined, and record 6 isn't drained",
+    (1, 4, (1, (5, 5), (0, 0))),
+    (2, 0, NONE),
+    "the drive has not handed record 5 out, and record 6 is none of these",
 )];
 
 /// Records 1 and 2 of the changer, of which the second is also record 1 of drive 1.
@@ -85,16 +85,16 @@ const MOVES_SETTLED: [Settled; 2] = [
         0,
         [2, 0, 0, 0, 0],
         1,
-        (0, (1, (1, 1), (0, 0))),
-        (1, NONE),
+        (0, 1, NONE),
+        (1, 0, NONE),
         "before the move: the drive isn't drained",
     ),
     (
         1,
         [2, 1, 0, 0, 0],
         0,
-        (0, (1, (1, 2), (0, 0))),
-        (1, (1, (1, 1), (0, 0))),
+        (0, 2, NONE),
+        (1, 1, NONE),
         "of the changer and of the drive: both are drained",
     ),
 ];
@@ -124,16 +124,16 @@ const NO_SEAT: Plan = Plan {
     ..QUIET
 };
 
-/// What each of two seats asks at one drive between its drains is settled, and what is settled has to be drained before the
-/// library is closed.
+/// What each of two seats asks at one drive between its drains is settled and handed over, and what is settled has to be drained before
+/// the library is closed.
 const SETTLING: Plan = Plan {
-    shows: "settle makes drained entries into ranges",
+    shows: "settle hands the numbers of drained entries over",
     acts: &[
         (0, &A_FIRST, &[]),
         (1, &B_ONCE, &[]),
         (0, &A_TWICE_AND_NO_RECORD, &FOUR_SETTLED),
         (1, &[], &OF_B),
-        (0, &A_TWICE, &ONE_JOINED),
+        (0, &A_TWICE, &ONE_STAYS),
     ],
     closing: Closing::Undrained,
     ..QUIET

@@ -3,7 +3,7 @@ use Rattle.std.proofs.lemmas.Grind.{flat_map-append, common_steps}
 use Rattle.std.proofs.lemmas.List.Elements.{All-append, All-cons, All-nil}
 use Rattle.std.proofs.Math.Seq.{take-suc}
 use Rattle.audit_log.specs.declared.record.Record.{Record}
-use Rattle.kept_unit.specs.declared.number_range.NumberRange.{NumberRange}
+use Rattle.settled_numbers.specs.declared.number_range.NumberRange.{NumberRange}
 use Rattle.kept_unit.specs.Agreeing.{numbers_of, SeatFits}
 use Rattle.kept_unit.specs.Listing.{NotesValue, numbers_in, listed_at}
 use Rattle.kept_unit.specs.Ranges.{numbers_between, numbers_in_ranges}
@@ -19,13 +19,13 @@ take_more xs i x lt is = rw add-one (take-suc xs i x lt ∙ ap (λ y. take i xs 
 ranges_three : (xs ys zs : List NumberRange) → numbers_in_ranges (xs ++ ys ++ zs) ≡ numbers_in_ranges xs ++ (numbers_in_ranges ys ++ numbers_in_ranges zs)
 ranges_three xs ys zs = flat_map-append numbers_between (xs ++ ys) zs ∙ ap (λ l. l ++ numbers_in_ranges zs) (flat_map-append numbers_between xs ys) ∙ append_assoc (numbers_in_ranges xs) (numbers_in_ranges ys) (numbers_in_ranges zs)
 
-one_more : {S : Type 0} (of : S → NotesValue) (lun first base : ℕ) (records : List Record) (seats : List S) (i : ℕ) (s : S) (items now own : List NumberRange) → i < length seats → s ≡ get_or seats i s
-    → numbers_in_ranges items ≡ numbers_of of lun (take i seats) → All (λ t. SeatFits lun first base records (of t)) (take i seats)
-    → SeatFits lun first base records (of s) → numbers_in_ranges own ≡ listed_at lun (of s).listed → now ≡ items ++ (of s).settled ++ own
-    → (numbers_in_ranges now ≡ numbers_of of lun (take (i + 1) seats)) × All (λ t. SeatFits lun first base records (of t)) (take (i + 1) seats)
-one_more {S} of lun first base records seats i s items now own lt is before fit fits told more =
+one_more : {S : Type 0} (of : S → NotesValue) (lun base : ℕ) (records : List Record) (seats : List S) (i : ℕ) (s : S) (items now own : List NumberRange) → i < length seats → s ≡ get_or seats i s
+    → numbers_in_ranges items ≡ numbers_of of lun (take i seats) → All (λ t. SeatFits lun base records (of t)) (take i seats)
+    → SeatFits lun base records (of s) → numbers_in_ranges own ≡ listed_at lun (of s).listed → now ≡ items ++ (of s).settled ++ own
+    → (numbers_in_ranges now ≡ numbers_of of lun (take (i + 1) seats)) × All (λ t. SeatFits lun base records (of t)) (take (i + 1) seats)
+one_more {S} of lun base records seats i s items now own lt is before fit fits told more =
     let taken : take (i + 1) seats ≡ take i seats ++ s ∷ [] = take_more seats i s lt is in
-    let P : S → Type 0 = λ t. SeatFits lun first base records (of t) in (
+    let P : S → Type 0 = λ t. SeatFits lun base records (of t) in (
       ap numbers_in_ranges more
           ∙ ranges_three items (of s).settled own
           ∙ ap (λ l. l ++ (numbers_in_ranges (of s).settled ++ numbers_in_ranges own)) before
@@ -38,7 +38,7 @@ one_more {S} of lun first base records seats i s items now own lt is before fit 
 pub loop-seat-preserved : goal.loop-seat-preserved
 loop-seat-preserved c =
     let got = rw c.in-Some.is at c.in_ok-fitting_ranges.ensures in
-    one_more notes_value c.args.lun c.args.first c.args.base c.args.records.now c.args.seats.now c.loop-seat.seat-index c.seat-item.result c.loop-seat.all.items c.add_noted.new.all.items c.in-Some.listed.items (omega arith) c.seat-item.is c.loop-seat.invariant.0 c.loop-seat.invariant.1 got.0 got.1 (c.in_ok-add_noted-in-Some.ensures ∙ ap (λ (l : List NumberRange). c.loop-seat.all.items ++ c.seat-item.result.settled.now ++ l) c.as_slice.ensures.value)
+    one_more notes_value c.args.lun c.args.base c.args.records.now c.args.seats.now c.loop-seat.seat-index c.seat-item.result c.loop-seat.all.items c.add_noted.new.all.items c.in-Some.listed.items (omega arith) c.seat-item.is c.loop-seat.invariant.0 c.loop-seat.invariant.1 got.0 got.1 (c.in_ok-add_noted-in-Some.ensures ∙ ap (λ (l : List NumberRange). c.loop-seat.all.items ++ c.seat-item.result.settled.now ++ l) c.as_slice.ensures.value)
 
 pub returns : goal.returns
 returns c = grind (arith, common_steps)

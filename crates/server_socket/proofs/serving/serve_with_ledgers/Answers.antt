@@ -18,7 +18,7 @@ returns-clause-served g c =
     (λ rest closed.
     let seats = seats_back (units_of c.args.core) c.in-Ok.opened.0.units c.args.workers c.in-Ok.opened.0.seats c.in-Ok.opened.1.items c.serve_seats.new.seats.items _ _
     c.in-Ok.ensures.units c.in-Ok.ensures.untold c.in_ok-served.ensures.served c.in-Ok.ensures.seats c.in-Ok.opened.1.ok.0 c.serve_seats.new.seats.ok.0 in
-    library_served (units_of c.args.core) c.args.workers c.args.means.now.records c.of_the_rest-audit.result _ _ _ _ _ _ _ _ _ _ _ _ c.of_the_rest-audit.ensures seats.0 c.requires.since c.new-batch.ensures
+    library_served (units_of c.args.core) c.args.workers c.args.means.now.records c.of_the_rest-audit.result _ _ _ _ _ _ _ _ c.of_the_rest-audit.ensures seats.0 c.requires.since c.new-batch.ensures
     c.serve_seats.ensures.lines rest closed)
     c.write_rest-left.ensures.left c.close_and_write-closed.ensures.closed
 

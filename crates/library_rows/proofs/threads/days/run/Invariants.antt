@@ -1,34 +1,12 @@
-use Rattle.std.specs.Prelude.{slice_get}
+use Rattle.std.proofs.Common.{◌==◌}
+use Rattle.std.specs.Prelude.{slice_get, if◌then◌else◌}
 use Rattle.logical_unit.specs.UnitView.{units_of}
 use Rattle.lun_router.specs.Opening.{last_at}
 use Rattle.library_rows.proofs.threads.days.run.Given as goal
 
-abbrev pub ghosts-day-L0-Ledger : goal.ghosts-day-L0-Ledger
-ghosts-day-L0-Ledger g a = record { name = a.blanks.zero.name; parts = a.blanks.zero.parts }
-
-abbrev pub ghosts-day-L0-UnitLedger : goal.ghosts-day-L0-UnitLedger
-ghosts-day-L0-UnitLedger g a = record { since = last_at (slice_get (units_of a.core) 0) }
-
-abbrev pub ghosts-day-L1-Ledger : goal.ghosts-day-L1-Ledger
-ghosts-day-L1-Ledger g a = record { name = a.blanks.one.name; parts = a.blanks.one.parts }
-
-abbrev pub ghosts-day-L1-UnitLedger : goal.ghosts-day-L1-UnitLedger
-ghosts-day-L1-UnitLedger g a = record { since = last_at (slice_get (units_of a.core) 1) }
-
-abbrev pub ghosts-day-L2-Ledger : goal.ghosts-day-L2-Ledger
-ghosts-day-L2-Ledger g a = record { name = a.blanks.two.name; parts = a.blanks.two.parts }
-
-abbrev pub ghosts-day-L2-UnitLedger : goal.ghosts-day-L2-UnitLedger
-ghosts-day-L2-UnitLedger g a = record { since = last_at (slice_get (units_of a.core) 2) }
-
-abbrev pub ghosts-day-L3-Ledger : goal.ghosts-day-L3-Ledger
-ghosts-day-L3-Ledger g a = record { name = a.blanks.three.name; parts = a.blanks.three.parts }
-
-abbrev pub ghosts-day-L3-UnitLedger : goal.ghosts-day-L3-UnitLedger
-ghosts-day-L3-UnitLedger g a = record { since = last_at (slice_get (units_of a.core) 3) }
-
-abbrev pub ghosts-day-L4-Ledger : goal.ghosts-day-L4-Ledger
-ghosts-day-L4-Ledger g a = record { name = a.blanks.four.name; parts = a.blanks.four.parts }
-
-abbrev pub ghosts-day-L4-UnitLedger : goal.ghosts-day-L4-UnitLedger
-ghosts-day-L4-UnitLedger g a = record { since = last_at (slice_get (units_of a.core) 4) }
+abbrev pub ghosts-day : goal.ghosts-day
+ghosts-day g a = record {
+  names = λ lun. if lun == 0 then a.blanks.zero.name else if lun == 1 then a.blanks.one.name else if lun == 2 then a.blanks.two.name else if lun == 3 then a.blanks.three.name else a.blanks.four.name;
+  all_parts = a.blanks.zero.parts;
+  since_of = λ lun. last_at (slice_get (units_of a.core) lun);
+}
