@@ -4,5 +4,6 @@ pub mod Settling
 pub mod SettlingRows
 pub mod Opening
 pub mod Closing
+pub mod ServedSteps
 pub use Rattle.unit_locks.specs.Answering
 pub use Rattle.unit_locks.specs.Blanks

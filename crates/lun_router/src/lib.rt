@@ -14,7 +14,7 @@ mod unit_ranges;
 mod units_by_lun;
 
 pub use closing::CloseFault;
-pub use laws::settling_rows;
+pub use laws::{calls_are_steps, settling_rows};
 pub use library::Library;
 pub use seat::Seat;
 pub use unit_locks::{Blanks, Gate, Histories, Pass, SeatShares};
