@@ -2,8 +2,8 @@ ghost use Rattle.std.specs.Prelude.{◌≡◌};
 
 use crate::door::{Door, Visitor};
 use crate::event::Event;
-use crate::live_sessions::LiveSessions;
 use crate::teller::Teller;
+use live_sessions::LiveSessions;
 use std::io::Write;
 use std::sync::Wait;
 use std::sync::atomic::{AtomicU64, Ordering};

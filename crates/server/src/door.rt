@@ -1,6 +1,6 @@
-use crate::live_session::Origin;
 use crate::worker_service::Replies;
 use iscsi_login::LoginTarget;
+use live_sessions::Origin;
 use std::io;
 use std::net::{Shutdown, SocketAddr, TcpListener};
 use std::os::fd::OwnedFd;

@@ -1,5 +1,5 @@
 use crate::faulty_session::FaultySession;
-use crate::no_room::NoRoom;
+use live_sessions::NoRoom;
 use scsi_nexus::Nexus;
 use std::fmt;
 use std::net::SocketAddr;

@@ -1,14 +1,12 @@
 use crate::caretaker::Caretaker;
 use crate::event::Event;
-use crate::live_session::{Initiator, Origin};
-use crate::live_sessions::{EndInPlace, LiveSessions};
 use crate::logged_in::{LoggedIn, shown_name};
 use crate::record_drain::RecordDrain;
-use crate::reset_counts::ResetCounts;
 use crate::session_flags::SessionFlags;
 use crate::teller::Teller;
 use iscsi_pdu::{LoginStatus, SerialNumber};
 use iscsi_session::{Entrant, Joined, NexusEnd, SessionIdentity, SessionRegister};
+use live_sessions::{EndInPlace, Initiator, LiveSessions, Origin, ResetCounts};
 use scsi_nexus::Nexus;
 use std::cell::Cell;
 use std::io::Write;

@@ -58,6 +58,10 @@ pub(crate) struct TimedReader<'a, R: Clock + PollSource + Wait> {
     silence: Duration,
     /// How long of that since a read was given up for a ping.
     unasked: Duration,
+    /// How long a read waits of a host that is logged in and was heard just now.
+    usual: Option<Duration>,
+    /// Whether the last read gave something, and waited for as long as that.
+    is_usual: bool,
     /// How long a read of the stream waits now. `None`: nothing was said.
     wait: Option<Option<Duration>>,
     /// What the session waits by that holds replies. `None`: it has held none yet, or there was no descriptor for it.
@@ -87,6 +91,8 @@ impl<'a, R: Clock + PollSource + Wait> TimedReader<'a, R> {
             login_by,
             silence: Duration::ZERO,
             unasked: Duration::ZERO,
+            usual: shorter(shorter(patience.idle, patience.ping), patience.look),
+            is_usual: false,
             wait: None,
             waiting: None,
             is_late: false,
@@ -124,6 +130,7 @@ impl<'a, R: Clock + PollSource + Wait> TimedReader<'a, R> {
 
     /// Why a read failed for which nothing came in so long.
     fn kind_behind(&mut self, waited: Duration) -> ErrorKind {
+        self.is_usual = false;
         if self.flags.is_in() {
             // A host that waits for a reply has nothing to say.
             if !self.flags.holds() {
@@ -150,6 +157,9 @@ impl<'a, R: Clock + PollSource + Wait> TimedReader<'a, R> {
 
     /// How long the next read may wait. Fails where the host is late already.
     fn due_wait(&mut self) -> io::Result<Option<Duration>> {
+        if self.is_usual && self.flags.is_in() {
+            return Ok(self.usual);
+        }
         let wait = self.next_wait()?;
         if self.is_late || wait == Some(Duration::ZERO) {
             self.is_late = true;
@@ -169,6 +179,7 @@ impl<'a, R: Clock + PollSource + Wait> TimedReader<'a, R> {
                 Ok(count) => {
                     self.silence = Duration::ZERO;
                     self.unasked = Duration::ZERO;
+                    self.is_usual = wait == self.usual;
                     return Ok(count);
                 }
                 Err(error) => match error.kind() {

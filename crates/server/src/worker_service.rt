@@ -4,10 +4,10 @@ use crate::caretaker::Caretaker;
 use crate::event::Event;
 use crate::keeping::KeepTeller;
 use crate::record_drain::RecordDrain;
-use crate::reset_counts::ResetCounts;
 use crate::session_flags::SessionFlags;
 use crate::teller::Teller;
 use iscsi_session::KeepingService;
+use live_sessions::ResetCounts;
 use logical_unit::{ActKind, Done};
 use scsi_nexus::Nexus;
 use scsi_sense::Status;
@@ -86,6 +86,8 @@ pub(crate) struct SessionSoFar {
     pub commands: u64,
     /// The last record that it has left at a unit which was full by it.
     pub awaited: Option<RecordTicket>,
+    /// Whether its last command has left it.
+    pub is_full: bool,
 }
 
 impl SessionSoFar {
@@ -102,6 +104,7 @@ impl SessionSoFar {
             nexus: None,
             commands: 0,
             awaited: None,
+            is_full: false,
         }
     }
 }
@@ -226,6 +229,7 @@ impl<'a, S: SeatService, C: Caretaker, R: Wait, E: Write> WorkerService<'a, S, C
                 if self.flags.unpaced() >= MOST_UNPACED {
                     self.await_room(record);
                     self.flags.forget_unpaced();
+                    self.session.is_full = false;
                 }
             }
         }
@@ -256,11 +260,10 @@ impl<'a, S: SeatService, C: Caretaker, R: Wait, E: Write> WorkerService<'a, S, C
         }
     }
 
-    /// The record of a command whose unit is full by it.
+    /// The record of the last command, if its unit is full by it.
     fn record_to_await(&self, done: &Done<'_>) -> Option<RecordTicket> {
-        let record = record_of(done);
-        if self.drain?.is_full(self.rt, record) {
-            Some(record)
+        if self.session.is_full {
+            Some(record_of(done))
         } else {
             None
         }
@@ -300,7 +303,8 @@ impl<'a, S: SeatService, C: Caretaker, R: Wait, E: Write> Service
             Status::CheckCondition | Status::ReservationConflict => {}
         }
         let record = record_of(&done);
-        if self.tend(record) {
+        self.session.is_full = self.tend(record);
+        if self.session.is_full {
             self.pace(record);
         }
         done

@@ -2,7 +2,7 @@ use std::sync::atomic::{AtomicU64, Ordering};
 
 /// How often each unit was reset, by LUN, as far as it is known to whoever has these counts.
 #[derive(Drop)]
-pub(crate) struct ResetCounts {
+pub struct ResetCounts {
     zero: AtomicU64,
     one: AtomicU64,
     two: AtomicU64,

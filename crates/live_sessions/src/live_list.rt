@@ -11,13 +11,11 @@ use slab::Slab;
 use std::alloc::{AllocError, Global};
 use std::net::IpAddr;
 use std::os::unix::net::UnixStream;
-
-/// As many nexuses as a logical unit has slots.
-const SLOTS: usize = 128;
+use unit_attention::SLOTS;
 
 /// What comes of a connection.
 #[derive(Clone, Copy)]
-pub(crate) enum Entry {
+pub enum Entry {
     /// A session with this key, and what may be the target's part of its session's identifier.
     Begins { key: usize, tsih: u16 },
     /// No session may begin any more.
@@ -28,7 +26,7 @@ pub(crate) enum Entry {
 
 /// What is told of a session whose initiator wasn't let in.
 #[derive(Drop)]
-pub(crate) struct RefusedInitiator {
+pub struct RefusedInitiator {
     pub name: InitiatorName,
     pub no_room: Option<NoRoom>,
 }
@@ -81,7 +79,7 @@ impl Beside {
 pub(crate) struct LiveList {
     pub is_closed: bool,
     sessions: Slab<LiveSession>,
-    /// The nexuses of hosts that aren't named which were let in.
+    /// The nexuses of hosts that aren't named which were let in: no more than a logical unit has slots.
     strangers: ArrayVec<Nexus, SLOTS>,
     /// Whether it was told that one more wasn't.
     has_told_stranger: bool,

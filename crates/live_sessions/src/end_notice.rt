@@ -2,7 +2,7 @@ use std::sync::atomic::{AtomicBool, AtomicU16, Ordering};
 
 /// Whether all sessions are to end, and within how many seconds. Those that go on look at it without a lock.
 #[derive(Drop)]
-pub(crate) struct EndNotice {
+pub struct EndNotice {
     /// Set once the seconds are there.
     is_given: AtomicBool,
     seconds: AtomicU16,

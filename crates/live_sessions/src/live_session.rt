@@ -9,18 +9,18 @@ use std::net::{IpAddr, Shutdown, SocketAddr};
 use std::os::unix::net::UnixStream;
 
 /// The iSCSI name that an initiator has given, empty where it has given none.
-pub(crate) type InitiatorName = ArrayVec<u8, LONGEST_NAME>;
+pub type InitiatorName = ArrayVec<u8, LONGEST_NAME>;
 
 /// Who a session of iSCSI is.
 #[derive(Clone, Copy, PartialEq, Eq)]
-pub(crate) struct Initiator {
+pub struct Initiator {
     pub nexus: Nexus,
     pub session: SessionIdentity,
 }
 
 /// Where a connection came from, and the portal group that it came to.
 #[derive(Clone, Copy)]
-pub(crate) struct Origin {
+pub struct Origin {
     pub peer: SocketAddr,
     pub group: u16,
 }

@@ -32,7 +32,7 @@ pub struct LiveSessions {
 
 /// How a session has ended whose place another one takes.
 #[derive(Clone, Copy)]
-pub(crate) enum EndInPlace {
+pub enum EndInPlace {
     /// In time. It was this one in the order of accepting.
     Ended(u64),
     /// There was none any more.
@@ -62,12 +62,12 @@ impl LiveSessions {
     }
 
     /// The resets that are made, to which those who make them add.
-    pub(crate) fn resets(&self) -> &ResetCounts {
+    pub fn resets(&self) -> &ResetCounts {
         &self.resets
     }
 
     /// Whether and when all sessions are to end.
-    pub(crate) fn end_notice(&self) -> &EndNotice {
+    pub fn end_notice(&self) -> &EndNotice {
         &self.end_notice
     }
 
@@ -94,7 +94,7 @@ impl LiveSessions {
     }
 
     /// Enters a session of a place in the order of accepting by a second descriptor of its stream, where one may begin.
-    pub(crate) fn begin<R: Wait>(
+    pub fn begin<R: Wait>(
         &self,
         rt: &R,
         stream: &UnixStream,
@@ -106,24 +106,19 @@ impl LiveSessions {
     }
 
     /// Forgets a session that has ended, by its key.
-    pub(crate) fn forget<R: Wait>(&self, rt: &R, key: usize) {
+    pub fn forget<R: Wait>(&self, rt: &R, key: usize) {
         let mut live = self.live.lock(rt);
         live.forget(key);
         self.changed.notify_all();
     }
 
     /// The session of an ISID that lives as a nexus, if there is one.
-    pub(crate) fn living<R: Wait>(
-        &self,
-        rt: &R,
-        nexus: Nexus,
-        isid: u64,
-    ) -> Option<SessionIdentity> {
+    pub fn living<R: Wait>(&self, rt: &R, nexus: Nexus, isid: u64) -> Option<SessionIdentity> {
         self.live.lock(rt).living(nexus, isid)
     }
 
     /// Shuts down the session of an initiator, and waits until it has ended.
-    pub(crate) fn end<R: Clock + Wait>(&self, rt: &R, initiator: Initiator) -> EndInPlace {
+    pub fn end<R: Clock + Wait>(&self, rt: &R, initiator: Initiator) -> EndInPlace {
         let live = self.live.lock(rt);
         let Some(number) = live.shut_down(initiator) else {
             return EndInPlace::WasGone;
@@ -140,14 +135,14 @@ impl LiveSessions {
     }
 
     /// Notes the name that the initiator of a session has given.
-    pub(crate) fn note_name<R: Wait>(&self, rt: &R, key: usize, name: &[u8]) {
+    pub fn note_name<R: Wait>(&self, rt: &R, key: usize, name: &[u8]) {
         if let Some(live) = self.live.lock(rt).session_mut(key) {
             live.note_name(name);
         }
     }
 
     /// Lets a session in as one of discovery, or says how it is refused.
-    pub(crate) fn admit_discovery<R: Wait>(&self, rt: &R, key: usize) -> Result<(), LoginStatus> {
+    pub fn admit_discovery<R: Wait>(&self, rt: &R, key: usize) -> Result<(), LoginStatus> {
         let mut live = self.live.lock(rt);
         match live.admit_discovery(key, self.terms) {
             Ok(()) => Ok(()),
@@ -156,7 +151,7 @@ impl LiveSessions {
     }
 
     /// Lets a session in as one of a nexus, once that isn't about to change, or says how it is refused.
-    pub(crate) fn admit<R: Clock + Wait>(
+    pub fn admit<R: Clock + Wait>(
         &self,
         rt: &R,
         key: usize,
@@ -178,17 +173,17 @@ impl LiveSessions {
     }
 
     /// The nexus of a session that is one of a nexus.
-    pub(crate) fn nexus_of<R: Wait>(&self, rt: &R, key: usize) -> Option<Nexus> {
+    pub fn nexus_of<R: Wait>(&self, rt: &R, key: usize) -> Option<Nexus> {
         self.live.lock(rt).nexus_of(key)
     }
 
     /// How many sessions a nexus has.
-    pub(crate) fn count_of<R: Wait>(&self, rt: &R, nexus: Nexus) -> usize {
+    pub fn count_of<R: Wait>(&self, rt: &R, nexus: Nexus) -> usize {
         self.live.lock(rt).count_of(nexus)
     }
 
     /// Notes the key in the directory of the nexus of a session.
-    pub(crate) fn note_key<R: Wait>(&self, rt: &R, key: usize, directory_key: usize) {
+    pub fn note_key<R: Wait>(&self, rt: &R, key: usize, directory_key: usize) {
         let mut live = self.live.lock(rt);
         if let Some(session) = live.session_mut(key) {
             session.note_key(directory_key);
@@ -197,7 +192,7 @@ impl LiveSessions {
     }
 
     /// Notes that a session isn't let in after all, since its nexus has a session at the Unix socket, or for want of memory.
-    pub(crate) fn withdraw<R: Wait>(&self, rt: &R, key: usize, status: LoginStatus) {
+    pub fn withdraw<R: Wait>(&self, rt: &R, key: usize, status: LoginStatus) {
         let mut live = self.live.lock(rt);
         if let Some(session) = live.session_mut(key) {
             session.withdraw();
@@ -209,12 +204,12 @@ impl LiveSessions {
     }
 
     /// Ends a session of a nexus, and says what becomes of that.
-    pub(crate) fn leave<R: Wait>(&self, rt: &R, key: usize, nexus: Nexus) -> NexusEnd {
+    pub fn leave<R: Wait>(&self, rt: &R, key: usize, nexus: Nexus) -> NexusEnd {
         self.live.lock(rt).leave(key, nexus)
     }
 
     /// What is to be told of a session whose initiator wasn't let in, if something is.
-    pub(crate) fn refused<R: Wait>(&self, rt: &R, key: usize) -> Option<RefusedInitiator> {
+    pub fn refused<R: Wait>(&self, rt: &R, key: usize) -> Option<RefusedInitiator> {
         self.live.lock(rt).refused(key)
     }
 }

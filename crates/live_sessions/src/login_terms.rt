@@ -1,7 +1,7 @@
 //! On which terms initiators of iSCSI are let in.
 
 /// How many workers a portal has more than sessions may log in there: they hear who hasn't logged in yet.
-pub(crate) const SPARE_WORKERS: u8 = 8;
+pub const SPARE_WORKERS: u8 = 8;
 
 /// The most connections of one address whose initiators haven't logged in.
 pub(crate) const MOST_BEFORE_LOGIN: usize = 4;

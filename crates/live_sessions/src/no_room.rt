@@ -4,7 +4,7 @@ use std::net::IpAddr;
 
 /// Why an initiator isn't let in whose login is as it should be.
 #[derive(Clone, Copy)]
-pub(crate) enum NoRoom {
+pub enum NoRoom {
     /// As many sessions as may have logged in at the portal.
     Portal,
     /// As many sessions of its nexus as there may be.
@@ -44,7 +44,7 @@ impl NoRoom {
 
 impl fmt::Display for NoRoom {
     ghost use Rattle.std.specs.Prelude.{Some};
-    ghost use Rattle.server.specs.RefusedLogins.{no_room_text};
+    ghost use Rattle.live_sessions.specs.NoRooms.{no_room_text};
 
     ghost output = { λ reason. Some (no_room_text reason) };
 
