@@ -1,7 +1,7 @@
 -- What a record says was asked.
 use Rattle.std.specs.Prelude.{Option, Some, None}
-use Rattle.permit_tables.specs.declared.classes.Class.{Class}
-use Rattle.permit_tables.specs.Classes.{class_of_action}
+use Rattle.scsi_cdb.specs.declared.classes.Class.{Class}
+use Rattle.scsi_cdb.specs.Classes.{class_of_action}
 use Rattle.audit_log.specs.declared.act.Act.{Act}
 use Rattle.audit_log.specs.declared.act.Act.TheVariants.{Command, ReserveOut, Invalid, Loss, Reset, MediumIn, MediumOut}
 

@@ -1,7 +1,7 @@
 -- Worked records and their lines: A at port 1.
 use Rattle.std.specs.Prelude.{◌≡◌, ℕ, ◌+◌, false, List, [], ◌∷◌, length, Some, None}
-use Rattle.permit_tables.specs.declared.classes.Class.TheVariants as class
-use Rattle.permit_tables.specs.declared.service_action.OutServiceAction.TheVariants as out
+use Rattle.scsi_cdb.specs.declared.classes.Class.TheVariants as class
+use Rattle.scsi_cdb.specs.declared.service_action.OutServiceAction.TheVariants as out
 use Rattle.scsi_sense.specs.Conditions.{sense_for}
 use Rattle.scsi_sense.specs.declared.condition.Condition.TheVariants.{PowerOnOrResetOccurred, NotReadyToReadyChange, InvalidCommandOperationCode, InvalidFieldInParameterList}
 use Rattle.scsi_sense.specs.declared.status.Status.TheVariants.{Good, CheckCondition, ReservationConflict}
@@ -108,7 +108,7 @@ refused_field = record wrong_key {
   sense = Some (sense_for InvalidFieldInParameterList);
 }
 
--- bytes of A that spell no command
+-- bytes of A that decode to no command
 abbrev pub unknown_opcode : Record
 unknown_opcode = record first_contact { act = Invalid; stage = Decoding; sense = Some (sense_for InvalidCommandOperationCode) }
 

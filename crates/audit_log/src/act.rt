@@ -1,6 +1,7 @@
 ghost use Rattle.std.specs.Prelude.{◌≡◌};
 
-use permit_tables::{Class, KeptParams};
+use permit_tables::KeptParams;
+use scsi_cdb::Class;
 
 /// What a record says was asked of the unit.
 #[derive(Drop)]
@@ -9,7 +10,7 @@ pub enum Act {
     Command(Class),
     /// PERSISTENT RESERVE OUT with its parameter list.
     ReserveOut(KeptParams),
-    /// Bytes that spell no command of the unit, or a parameter list of a wrong length.
+    /// Bytes that decode to no command of the unit, or a parameter list of a wrong length.
     Invalid,
     /// An I_T nexus loss.
     Loss,

@@ -4,7 +4,7 @@ ghost use Rattle.std.specs.Prelude.{◌≡◌};
 /// answered the command, and `Device` for what isn't a command. What is answered BUSY has no record.
 #[derive(Clone, Copy, PartialEq, Eq)]
 pub enum Stage {
-    /// What the bytes spell: the operation code, the length of the CDB, the service action, NACA and
+    /// What the bytes decode to: the operation code, the length of the CDB, the service action, NACA and
     /// the length of a parameter list of PERSISTENT RESERVE OUT.
     Decoding,
     /// A unit attention condition of ADDITIONAL SENSE CODE 29h that waits for the sender.

@@ -8,7 +8,7 @@ use clap::ArgMatches;
 use clap::parser::ValueSource;
 use output_lines::{Audit, Explanations};
 use permission_chart::class_named;
-use permit_tables::Class;
+use scsi_cdb::Class;
 use program_options::{
     ChapDigests, CommandLineFault, GivenLibrary, LibraryOptions, NamedHost, OptionFault,
     PortalOptions, ServeTimes, ServeUntil, WithoutLibrary, chap_digests_of, host_beside,

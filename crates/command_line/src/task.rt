@@ -1,5 +1,5 @@
 use output_lines::{Audit, Explanations};
-use permit_tables::Class;
+use scsi_cdb::Class;
 use program_options::{
     ChapDigests, GivenLibrary, LibraryOptions, NamedHost, PortalOptions, ServeTimes, ServeUntil,
     WithoutLibrary,

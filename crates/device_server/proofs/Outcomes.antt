@@ -2,7 +2,7 @@
 use Rattle.std.proofs.Common.{◌≡◌, ℕ, Bool, true, false, List, [], Option, Some, None, Result, Ok, Err, refl, inl, inr}
 use Rattle.std.specs.Prelude.{cond, take, length, ◌==◌, ◌||◌, ◌&&◌, ◌-◌, ◌*◌, nat_le, unsigned_abs}
 use Rattle.std.specs.List.{flat_map}
-use Rattle.permit_tables.specs.declared.classes.Class.TheVariants.{ModeSelect}
+use Rattle.scsi_cdb.specs.declared.classes.Class.TheVariants.{ModeSelect}
 use Rattle.scsi_cdb.specs.declared.request.Request.{Request}
 use Rattle.scsi_cdb.specs.declared.request.Request.TheVariants as request
 use Rattle.scsi_cdb.specs.Classes.{class_of}

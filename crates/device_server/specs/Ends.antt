@@ -1,6 +1,6 @@
 -- What holds of every end of a command at a device, and what a device stays through it.
 use Rattle.std.specs.Prelude.{◌≡◌, ◌⊎◌, ℕ, true, List, None, IsSome}
-use Rattle.permit_tables.specs.declared.classes.Class.TheVariants.{ModeSelect}
+use Rattle.scsi_cdb.specs.declared.classes.Class.TheVariants.{ModeSelect}
 use Rattle.scsi_cdb.specs.declared.request.Request.{Request}
 use Rattle.scsi_cdb.specs.Classes.{class_of}
 use Rattle.scsi_sense.specs.declared.status.Status.TheVariants.{Good, CheckCondition}

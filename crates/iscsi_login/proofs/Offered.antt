@@ -15,7 +15,7 @@ use Rattle.iscsi_chap.specs.declared.challenge.Challenge.{Challenge}
 use Rattle.iscsi_chap.specs.declared.entry.ChapEntry.{ChapEntry}
 use Rattle.iscsi_chap.specs.declared.phase.ChapPhase.{ChapPhase}
 use Rattle.iscsi_chap.specs.declared.phase.ChapPhase.TheVariants as phase
-use Rattle.iscsi_login.specs.Authentications.{is_agreed, may_go_on, shown_by, verdict_by}
+use Rattle.iscsi_login.specs.Authentications.{is_agreed, may_go_on, shown_by, after_authentication}
 use Rattle.iscsi_login.specs.ChapKeys.{algorithm_key, challenge_key, identifier_key, name_key, response_key}
 use Rattle.iscsi_login.specs.Chaps.{Verdict, silent, unproven, phase_after, says, says_any, says_challenge, says_response, challenged, asked_for, asked, shown, proven, answered_by, answered, chap_turn}
 use Rattle.iscsi_login.specs.ExchangeRuns.{first_offer, unless_offered}
@@ -154,17 +154,17 @@ none_asked before (Ok p) = tt
 none_asked before (Err fault) = tt
 
 verdict_none : (au : Authentication) (before : List (List ℕ)) (stays : Login) (r : LoginRequest) (q : Result ChapPhase LoginStatus) → OkNone au before q
-    → OkNone au before (verdict_by au stays r q)
+    → OkNone au before (after_authentication au stays r q)
 verdict_none au before stays r (Err fault) h = tt
 verdict_none au before stays r (Ok p) h =
     either_of (OkNone au before) (may_go_on au stays r p) (Ok p) (Err status.AuthenticationFailure) h tt
 
 text_none : (au : Authentication) (name text : List ℕ) (chap : ChapState) (stays : Login) (r : LoginRequest) (before : List (List ℕ))
     → NoneBefore au chap.phase before
-    → OkNone au (heard_with r.continues before text) (verdict_by au stays r (phase_after (shown_by au name chap stays r text)))
+    → OkNone au (heard_with r.continues before text) (after_authentication au stays r (phase_after (shown_by au name chap stays r text)))
 text_none authentication.None name text chap stays r before h =
     none_asked (heard_with r.continues before text)
-    (verdict_by authentication.None stays r (phase_after (shown_by authentication.None name chap stays r text)))
+    (after_authentication authentication.None stays r (phase_after (shown_by authentication.None name chap stays r text)))
 text_none (authentication.Chap access) name text chap stays r before h =
     verdict_none (authentication.Chap access) (heard_with r.continues before text) stays r
     (phase_after (shown_by (authentication.Chap access) name chap stays r text))
@@ -182,10 +182,10 @@ any_turn au before p (Refuses s) h = tt
 any_turn au before p (Goes l) h = h
 any_turn au before p (Stays l) h = h
 
-by_verdict : (au : Authentication) (before : List (List ℕ)) (old : ChapPhase) (q : Result ChapPhase LoginStatus) (next stays : Login) (count : ℕ)
+by_authentication : (au : Authentication) (before : List (List ℕ)) (old : ChapPhase) (q : Result ChapPhase LoginStatus) (next stays : Login) (count : ℕ)
     → OkNone au before q → TurnNone au before (phase_or old q) (turn_by au q next stays count)
-by_verdict au before old (Err s) next stays count h = tt
-by_verdict au before old (Ok p) next stays count h = any_turn au before p (turn_by au (Ok p) next stays count) h
+by_authentication au before old (Err s) next stays count h = tt
+by_authentication au before old (Ok p) next stays count h = any_turn au before p (turn_by au (Ok p) next stays count) h
 
 judged_none : (au : Authentication) (name text : List ℕ) (chap : ChapState) (r : LoginRequest) (next stays : Login) (count : ℕ) (before : List (List ℕ))
     → NoneBefore au chap.phase before
@@ -193,10 +193,10 @@ judged_none : (au : Authentication) (name text : List ℕ) (chap : ChapState) (r
     ((judgement_at next au name chap stays r text).turn count)
 judged_none au name text chap r (Ended (ends.Refused s)) stays count before h = tt
 judged_none au name text chap r (Ended (ends.FullFeature f)) stays count before h =
-    by_verdict au (heard_with r.continues before text) chap.phase (verdict_by au stays r (phase_after (shown_by au name chap stays r text)))
+    by_authentication au (heard_with r.continues before text) chap.phase (after_authentication au stays r (phase_after (shown_by au name chap stays r text)))
     (Ended (ends.FullFeature f)) stays count (text_none au name text chap stays r before h)
 judged_none au name text chap r (Open l) stays count before h =
-    by_verdict au (heard_with r.continues before text) chap.phase (verdict_by au stays r (phase_after (shown_by au name chap stays r text)))
+    by_authentication au (heard_with r.continues before text) chap.phase (after_authentication au stays r (phase_after (shown_by au name chap stays r text)))
     (Open l) stays count (text_none au name text chap stays r before h)
 
 -- ---- one request

@@ -14,7 +14,7 @@ use Rattle.iscsi_chap.specs.declared.entry.ChapEntry.{ChapEntry}
 use Rattle.iscsi_chap.specs.declared.entry.Credentials.{Credentials}
 use Rattle.iscsi_chap.specs.declared.authentication.ChapAccess.{ChapAccess}
 use Rattle.iscsi_chap.specs.Authentications.{is_passed}
-use Rattle.iscsi_login.specs.Authentications.{is_agreed, may_go_on, shown_by, verdict_by}
+use Rattle.iscsi_login.specs.Authentications.{is_agreed, may_go_on, shown_by, after_authentication}
 use Rattle.iscsi_login.specs.ChapKeys.{algorithm_key, identifier_key, challenge_key, name_key, response_key}
 use Rattle.iscsi_chap.specs.Responses.{is_digest, is_response}
 use Rattle.iscsi_login.specs.Chaps.{Verdict, silent, unproven, phase_after, says, says_challenge, says_response, says_any, challenged, asked_for, asked, identifier_in, is_own, response_items, shown_as, shown, proven, answered_by, answered, chap_turn}
@@ -240,7 +240,7 @@ pub text_shown : (au : Authentication) (challenge : Option Challenge) (texts : L
 text_shown authentication.None challenge texts name text chap stays r same t h = tt
 text_shown (authentication.Chap access) challenge texts name text chap stays r same t h = by_request r.continues access challenge texts name text chap (is_agreed stays) same t h
 
-pub going_on : (P : ChapPhase → Type 0) (au : Authentication) (old : ChapPhase) (stays : Login) (r : LoginRequest) (q : Result ChapPhase LoginStatus) → P old → P (phase_or old q) → P (phase_or old (verdict_by au stays r q))
+pub going_on : (P : ChapPhase → Type 0) (au : Authentication) (old : ChapPhase) (stays : Login) (r : LoginRequest) (q : Result ChapPhase LoginStatus) → P old → P (phase_or old q) → P (phase_or old (after_authentication au stays r q))
 going_on P au old stays r (Err fault) h i = h
 going_on P au old stays r (Ok p) h i = either_of (λ (w : Result ChapPhase LoginStatus). P (phase_or old w)) (may_go_on au stays r p) (Ok p) (Err status.AuthenticationFailure) i h
 

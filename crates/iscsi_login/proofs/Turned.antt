@@ -8,7 +8,7 @@ use Rattle.iscsi_pdu.specs.declared.login_status.LoginStatus.TheVariants as stat
 use Rattle.iscsi_keys.specs.declared.key.Key.TheVariants as key
 use Rattle.iscsi_login.specs.Admissions.{admitted_by, names_free, offered_by, says_the_same}
 use Rattle.iscsi_chap.specs.Authentications.{is_free, proved_by}
-use Rattle.iscsi_login.specs.Authentications.{shown_by, verdict_by}
+use Rattle.iscsi_login.specs.Authentications.{shown_by, after_authentication}
 use Rattle.iscsi_login.specs.Chaps.{phase_after, shown}
 use Rattle.iscsi_login.specs.Exchanges.{ExchangeValue, refused_with, refused_after, is_out_of_turn, ready, name_unless, judged, turn_in, gone, taken_at, taken}
 use Rattle.iscsi_login.specs.ExchangeRuns.{IsEntryOf, IsAuthenticated}
@@ -140,9 +140,9 @@ pub on_judged : (target : LoginTarget) (challenge : Option Challenge) (texts : L
     × TurnShown target challenge texts name (judgement_on target.authentication name chap next stays r text).phase ((judgement_on target.authentication name chap next stays r text).turn count)
 on_judged target challenge texts name text chap r next stays count same t h sound fresh i =
     let q : Result ChapPhase LoginStatus = phase_after (shown_by target.authentication name chap stays r text) in
-    let shown : PhaseShown target.authentication challenge texts name (phase_or chap.phase (verdict_by target.authentication stays r q)) =
+    let shown : PhaseShown target.authentication challenge texts name (phase_or chap.phase (after_authentication target.authentication stays r q)) =
     going_on (PhaseShown target.authentication challenge texts name) target.authentication chap.phase stays r q h (text_shown target.authentication challenge texts name text chap stays r same t h) in
-    (shown, by_turn target challenge texts name chap.phase (verdict_by target.authentication stays r q) next stays count shown sound fresh i)
+    (shown, by_turn target challenge texts name chap.phase (after_authentication target.authentication stays r q) next stays count shown sound fresh i)
 
 pub at_judged : (target : LoginTarget) (challenge : Option Challenge) (texts : List (List ℕ)) (name text : List ℕ) (chap : ChapState) (r : LoginRequest) (next stays : Login) (count : ℕ)
     → chap.challenge ≡ challenge → (r.continues ≡ false → IsHeard target.authentication chap.phase texts text) → PhaseShown target.authentication challenge texts name chap.phase

@@ -48,6 +48,6 @@ shown_by (authentication.Chap access) host chap stays r text =
     else chap_turn access host chap.challenge (is_agreed stays) chap.phase text
 
 -- the phase that the initiator has come to, where it may go on
-abbrev pub verdict_by : Authentication → (stays : Login) → LoginRequest → (shown : Result ChapPhase LoginStatus) → Result ChapPhase LoginStatus
-verdict_by authentication stays r (Err fault) = Err fault
-verdict_by authentication stays r (Ok p) = if may_go_on authentication stays r p then Ok p else Err status.AuthenticationFailure
+abbrev pub after_authentication : Authentication → (stays : Login) → LoginRequest → (shown : Result ChapPhase LoginStatus) → Result ChapPhase LoginStatus
+after_authentication authentication stays r (Err fault) = Err fault
+after_authentication authentication stays r (Ok p) = if may_go_on authentication stays r p then Ok p else Err status.AuthenticationFailure

@@ -4,7 +4,7 @@ use Rattle.iscsi_pdu.specs.declared.login_request.LoginRequest.{LoginRequest}
 use Rattle.iscsi_pdu.specs.declared.login_status.LoginStatus.{LoginStatus}
 use Rattle.iscsi_keys.specs.declared.parameters.SessionParameters.{SessionParameters}
 use Rattle.iscsi_chap.specs.Authentications.{is_free, proved_by}
-use Rattle.iscsi_login.specs.Authentications.{shown_by, verdict_by}
+use Rattle.iscsi_login.specs.Authentications.{shown_by, after_authentication}
 use Rattle.iscsi_login.specs.Chaps.{Verdict, phase_after, answer_in}
 use Rattle.iscsi_login.specs.Logins.{stepped, with_proof}
 use Rattle.iscsi_login.specs.declared.admitted.Admitted.{Admitted}
@@ -70,7 +70,7 @@ judgement_by authentication old next stays shown verdict =
 abbrev pub judgement_on : Authentication → (host : List ℕ) → ChapState → (next stays : Login) → LoginRequest → (text : List ℕ) → Judgement
 judgement_on authentication host chap next stays r text =
     let shown = shown_by authentication host chap stays r text in
-    judgement_by authentication chap.phase next stays shown (verdict_by authentication stays r (phase_after shown))
+    judgement_by authentication chap.phase next stays shown (after_authentication authentication stays r (phase_after shown))
 
 -- a login that is refused by its names and keys is so before all
 abbrev pub judgement_at : (next : Login) → Authentication → (host : List ℕ) → ChapState → (stays : Login) → LoginRequest → (text : List ℕ) → Judgement

@@ -6,7 +6,7 @@ use crate::login::{Login, LoginEnd, LoginStep, OpenLogin};
 use crate::progress::LoginProgress;
 use crate::responding::{name_in, pass, window_end, write_response};
 use crate::target::LoginTarget;
-use crate::turn::{Turn, judge};
+use crate::turn::{Turn, answer_request};
 use iscsi_chap::{Challenge, ChapPhase};
 use iscsi_pdu::{LoginRequest, LoginResponse, LoginStatus, SerialNumber};
 use std::alloc::{AllocError, Global};
@@ -165,7 +165,7 @@ impl LoginExchange {
         }
         self.gathered.extend_from_slice(payload)?;
         self.note_name(request)?;
-        let turn = self.judge(target, request)?;
+        let turn = self.answer_request(target, request)?;
         self.answer(turn, request, out)
     }
 
@@ -194,12 +194,12 @@ impl LoginExchange {
     }
 
     /// Judges the request, and adds its answer to what is unsent.
-    fn judge(&mut self, target: &LoginTarget, request: &LoginRequest) -> Result<Turn, AllocError>
+    fn answer_request(&mut self, target: &LoginTarget, request: &LoginRequest) -> Result<Turn, AllocError>
         requires { length self.old.gathered ≤ 65536 }
         ensures state { OnOk result (self.new ≡ judged self.old target.now request.now) }
         ensures turn { IfOk result (λ turn. turn ≡ turn_in self.old target.now request.now) }
     {
-        let judged = judge(
+        let judged = answer_request(
             self.login,
             self.name.as_slice(),
             self.chap,

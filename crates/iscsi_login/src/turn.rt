@@ -1,6 +1,6 @@
 ghost use Rattle.std.specs.Prelude.{◌≡◌, ◌≤◌, ◌++◌, length, OnOk, IfOk};
 ghost use Rattle.iscsi_login.specs.AnswerTexts.{answer_text};
-ghost use Rattle.iscsi_login.specs.Authentications.{verdict_by};
+ghost use Rattle.iscsi_login.specs.Authentications.{after_authentication};
 ghost use Rattle.iscsi_login.specs.Turns.{held, judgement, judgement_on, turn_by, turn_when};
 
 use crate::authentication::{may_go_on, shown_by};
@@ -65,7 +65,7 @@ struct Ways {
 }
 
 /// Judges a request whose text is whole, and adds the answer to what is still unsent.
-pub(crate) fn judge(
+pub(crate) fn answer_request(
     login: Login,
     host: &[u8],
     chap: ChapState,
@@ -112,7 +112,7 @@ fn judge_initiator(
     ensures phase { IfOk result (λ judged. judged.phase ≡ (judgement_on target.now.authentication host.now chap ways.next ways.stays request.now text.now).phase) }
 {
     let shown = shown_by(target, host, chap, ways.stays, request, text, unsent)?;
-    let verdict = verdict_by(target, ways.stays, request, shown);
+    let verdict = after_authentication(target, ways.stays, request, shown);
     let count = unsent.as_slice().len();
     Ok(Judged {
         turn: turn_by(target, verdict, ways, count),
@@ -121,13 +121,13 @@ fn judge_initiator(
 }
 
 /// The phase that the initiator has come to, where it may go on.
-fn verdict_by(
+fn after_authentication(
     target: &LoginTarget,
     stays: Login,
     request: &LoginRequest,
     shown: ChapVerdict,
 ) -> ChapVerdict
-    ensures { result ≡ verdict_by target.now.authentication stays request.now shown }
+    ensures { result ≡ after_authentication target.now.authentication stays request.now shown }
 {
     let phase = shown?;
     if may_go_on(target, stays, request, phase) {

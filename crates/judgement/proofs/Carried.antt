@@ -38,17 +38,17 @@ use Rattle.judgement.proofs.Ways.{by_let_through, by_ways}
 -- a present with a device of the same kind and marks, its number and its target's units as they were
 pub record IsSame (u v : JudgedUnit) : Type 0 where
   pub device : KeepsMarks u.device v.device
-  pub lun : v.kept.lun ≡ u.kept.lun
-  pub units : v.kept.units ≡ u.kept.units
+  pub lun : v.state.lun ≡ u.state.lun
+  pub units : v.state.units ≡ u.state.units
 
--- of a command, or of bytes that spell none: the unit stays the same one, and its reservations are what the history says
+-- of a command, or of bytes that decode to none: the unit stays the same one, and its reservations are what the history says
 pub record IsKept (u : JudgedUnit) (n : Nexus) (c : Result Command Condition) (x : JudgedUnit × Decision × Reply) : Type 0 where
   pub same : IsSame u x.0
-  pub reservations : x.0.kept.reservations ≡ after_history u.kept.reservations (accepted_as n x.2.status c)
+  pub reservations : x.0.state.reservations ≡ after_history u.state.reservations (accepted_as n x.2.status c)
 
 -- and of a command by its own rules: GOOD without sense data, or CHECK CONDITION with it
 pub record IsCarried (u : JudgedUnit) (n : Nexus) (c : Command) (x : JudgedUnit × Decision × Reply) : Type 0 where
-  pub kept : IsKept u n (Ok c) x
+  pub state : IsKept u n (Ok c) x
   pub whole : IsWhole x.2.status x.2.sense
 
 same_device : (d : DeviceView) → KeepsMarks d d
@@ -59,32 +59,32 @@ same_as u = record { device = same_device u.device; lun = refl; units = refl }
 
 module _ (u : JudgedUnit) (n : Nexus) where
   -- a refusal that changes nothing
-  checks : (at : Cell) (c : Command) (f : Decision) (condition : Condition) → after_history u.kept.reservations (accepted_as n CheckCondition (Ok c)) ≡ u.kept.reservations
+  checks : (at : Cell) (c : Command) (f : Decision) (condition : Condition) → after_history u.state.reservations (accepted_as n CheckCondition (Ok c)) ≡ u.state.reservations
       → IsCarried u n c (at_cell at (u, f, check condition))
-  checks at c f condition h = record { kept = record { same = same_as u; reservations = sym h }; whole = inr (refl, refl) }
+  checks at c f condition h = record { state = record { same = same_as u; reservations = sym h }; whole = inr (refl, refl) }
 
-  data_is : (at : Cell) (c : Command) (o : Option (List ℕ)) (l : ℕ) → ((s : Status) → after_history u.kept.reservations (accepted_as n s (Ok c)) ≡ u.kept.reservations)
+  data_is : (at : Cell) (c : Command) (o : Option (List ℕ)) (l : ℕ) → ((s : Status) → after_history u.state.reservations (accepted_as n s (Ok c)) ≡ u.state.reservations)
       → IsCarried u n c (at_cell at (u, at_stage (data_reply o l).0, (data_reply o l).1))
-  data_is at c (Some payload) l h = record { kept = record { same = same_as u; reservations = sym (h Good) }; whole = inl (refl, refl) }
-  data_is at c None l h = record { kept = record { same = same_as u; reservations = sym (h CheckCondition) }; whole = inr (refl, refl) }
+  data_is at c (Some payload) l h = record { state = record { same = same_as u; reservations = sym (h Good) }; whole = inl (refl, refl) }
+  data_is at c None l h = record { state = record { same = same_as u; reservations = sym (h CheckCondition) }; whole = inr (refl, refl) }
 
-  sensed_is : (at : Cell) (l : ℕ) (o : Option Kind) → let x : UnitStateView × Decision × Reply = sensed u.kept n l o in IsCarried u n (RequestSense false l) (at_cell at (record u { kept = x.0 }, x.1, x.2))
-  sensed_is at l (Some kind) = record { kept = record { same = record { device = same_device u.device; lun = refl; units = refl }; reservations = refl }; whole = inl (refl, refl) }
-  sensed_is at l None = record { kept = record { same = same_as u; reservations = refl }; whole = inl (refl, refl) }
+  sensed_is : (at : Cell) (l : ℕ) (o : Option Kind) → let x : UnitStateView × Decision × Reply = sensed u.state n l o in IsCarried u n (RequestSense false l) (at_cell at (record u { state = x.0 }, x.1, x.2))
+  sensed_is at l (Some kind) = record { state = record { same = record { device = same_device u.device; lun = refl; units = refl }; reservations = refl }; whole = inl (refl, refl) }
+  sensed_is at l None = record { state = record { same = same_as u; reservations = refl }; whole = inl (refl, refl) }
 
   -- PREVENT ALLOW MEDIUM REMOVAL, by whether it says 0, and whether it says 1
   abbrev pub prevents_by : (zero one : Bool) → JudgedUnit × Decision × Reply
   prevents_by zero one =
-      if zero then (record u { kept = allowed u.kept n }, at_stage stage.Device, good [])
-      else if one then (record u { kept = prevented u.kept n }, at_stage stage.Device, good [])
+      if zero then (record u { state = allowed u.state n }, at_stage stage.Device, good [])
+      else if one then (record u { state = prevented u.state n }, at_stage stage.Device, good [])
       else (u, at_stage Fields, check InvalidFieldInCdb)
 
   prevents_is : (at : Cell) (p : ℕ) (zero one : Bool) → IsCarried u n (Prevent p) (at_cell at (prevents_by zero one))
-  prevents_is at p true one = record { kept = record { same = record { device = same_device u.device; lun = refl; units = refl }; reservations = refl }; whole = inl (refl, refl) }
-  prevents_is at p false true = record { kept = record { same = record { device = same_device u.device; lun = refl; units = refl }; reservations = refl }; whole = inl (refl, refl) }
+  prevents_is at p true one = record { state = record { same = record { device = same_device u.device; lun = refl; units = refl }; reservations = refl }; whole = inl (refl, refl) }
+  prevents_is at p false true = record { state = record { same = record { device = same_device u.device; lun = refl; units = refl }; reservations = refl }; whole = inl (refl, refl) }
   prevents_is at p false false = checks at (Prevent p) (at_stage Fields) InvalidFieldInCdb refl
 
-  mode_is : (d : DeviceView) (b : Bool) → KeepsMarks u.device d → IsSame u (record { device = d; kept = after_mode u.kept n b }) × ((after_mode u.kept n b).reservations ≡ u.kept.reservations)
+  mode_is : (d : DeviceView) (b : Bool) → KeepsMarks u.device d → IsSame u (record { device = d; state = after_mode u.state n b }) × ((after_mode u.state n b).reservations ≡ u.state.reservations)
   mode_is d true h = (record { device = h; lun = refl; units = refl }, refl)
   mode_is d false h = (record { device = h; lun = refl; units = refl }, refl)
 
@@ -94,26 +94,26 @@ module _ (u : JudgedUnit) (n : Nexus) where
   steps_is at r bytes false =
       let step = performed u.device r bytes in
       let mode = mode_is step.0 step.1.mode_changed (commands_keep_marks u.device r bytes) in
-      record { kept = record { same = mode.0; reservations = mode.1 }; whole = (performed_own u.device r bytes).ended }
+      record { state = record { same = mode.0; reservations = mode.1 }; whole = (performed_own u.device r bytes).ended }
 
   performs_is : (at : Cell) (r : Request) (bytes : List ℕ) → IsCarried u n (Device r) (at_cell at (performs u n r bytes))
   performs_is at r bytes =
-      elim (field_fault u.device r bytes) as (λ (o : Option Condition). IsCarried u n (Device r) (at_cell at (elim o [ Some condition ↦ (u, at_stage Fields, check condition) | None ↦ cond (unloads r && is_prevented u.kept) (u, at_stage stage.Device, check MediumRemovalPrevented) (steps u n (performed u.device r bytes)) ]))) [
+      elim (field_fault u.device r bytes) as (λ (o : Option Condition). IsCarried u n (Device r) (at_cell at (elim o [ Some condition ↦ (u, at_stage Fields, check condition) | None ↦ cond (unloads r && is_prevented u.state) (u, at_stage stage.Device, check MediumRemovalPrevented) (steps u n (performed u.device r bytes)) ]))) [
         | Some condition ↦ checks at (Device r) (at_stage Fields) condition refl
-        | None ↦ steps_is at r bytes (unloads r && is_prevented u.kept)
+        | None ↦ steps_is at r bytes (unloads r && is_prevented u.state)
       ]
 
   pub carried_is : (at : Cell) (c : Command) (bytes : List ℕ) → IsCarried u n c (at_cell at (carried_out u n c bytes))
   carried_is at (ReserveOut p) bytes =
-      elim (refusal u.kept.reservations n p) as (λ (o : Option PrFault). IsCarried u n (ReserveOut p) (at_cell at (elim o [ Some fault ↦ (u, at_stage Fields, check (condition_of_refusal fault)) | None ↦ (record u { kept = accepted u.kept n p }, at_stage stage.Device, good []) ]))) [
+      elim (refusal u.state.reservations n p) as (λ (o : Option PrFault). IsCarried u n (ReserveOut p) (at_cell at (elim o [ Some fault ↦ (u, at_stage Fields, check (condition_of_refusal fault)) | None ↦ (record u { state = accepted u.state n p }, at_stage stage.Device, good []) ]))) [
         | Some fault ↦ checks at (ReserveOut p) (at_stage Fields) (condition_of_refusal fault) refl
-        | None ↦ record { kept = record { same = record { device = same_device u.device; lun = refl; units = refl }; reservations = refl }; whole = inl (refl, refl) }
+        | None ↦ record { state = record { same = record { device = same_device u.device; lun = refl; units = refl }; reservations = refl }; whole = inl (refl, refl) }
       ]
-  carried_is at (ReserveIn a l) bytes = record { kept = record { same = same_as u; reservations = refl }; whole = inl (refl, refl) }
-  carried_is at (Inquiry e p l) bytes = data_is at (Inquiry e p l) (inquiry_data (kind_of u.device) u.kept.lun e p) l (λ s. refl)
-  carried_is at (ReportLuns s l) bytes = data_is at (ReportLuns s l) (selected_luns u.kept.units s) l (λ t. refl)
+  carried_is at (ReserveIn a l) bytes = record { state = record { same = same_as u; reservations = refl }; whole = inl (refl, refl) }
+  carried_is at (Inquiry e p l) bytes = data_is at (Inquiry e p l) (inquiry_data (kind_of u.device) u.state.lun e p) l (λ s. refl)
+  carried_is at (ReportLuns s l) bytes = data_is at (ReportLuns s l) (selected_luns u.state.units s) l (λ t. refl)
   carried_is at (RequestSense true l) bytes = checks at (RequestSense true l) (at_stage Fields) InvalidFieldInCdb refl
-  carried_is at (RequestSense false l) bytes = sensed_is at l (pending_of u.kept.slots n)
+  carried_is at (RequestSense false l) bytes = sensed_is at l (pending_of u.state.slots n)
   carried_is at (Prevent p) bytes = prevents_is at p (p == 0) (p == 1)
   carried_is at (Device r) bytes = performs_is at r bytes
 
@@ -131,15 +131,15 @@ nothing_added v n (Prevent p) s h = refl
 nothing_added v n (Device r) s h = refl
 
 told_is : (u : JudgedUnit) (n : Nexus) (c : Command) (kind : Kind) (f : Decision) → IsKept u n (Ok c) (tells u n kind f)
-told_is u n c kind f = record { same = record { device = same_device u.device; lun = refl; units = refl }; reservations = nothing_added u.kept.reservations n c CheckCondition (λ e. cc) }
+told_is u n c kind f = record { same = record { device = same_device u.device; lun = refl; units = refl }; reservations = nothing_added u.state.reservations n c CheckCondition (λ e. cc) }
 
 -- what is judged is the same unit, with what the history says of its reservations
 pub judged_is : (u : JudgedUnit) (n : Nexus) (c : Result Command Condition) (bytes : List ℕ) → IsKept u n c (judged_as u n c bytes)
 judged_is u n (Err condition) bytes = record { same = same_as u; reservations = refl }
 judged_is u n (Ok c) bytes =
     by_ways (IsKept u n (Ok c)) u n c bytes (λ kind. told_is u n c kind _)
-    (λ v barred. record { same = same_as u; reservations = nothing_added u.kept.reservations n c ReservationConflict (λ e. cc) })
-    (λ kind. told_is u n c kind _) (carried_is u n (cell_of u n c) c bytes).kept
+    (λ v barred. record { same = same_as u; reservations = nothing_added u.state.reservations n c ReservationConflict (λ e. cc) })
+    (λ kind. told_is u n c kind _) (carried_is u n (cell_of u n c) c bytes).state
 
 -- what a status can be that is GOOD or CHECK CONDITION
 whole_free : (s : Status) (o : Option Sense) → IsWhole s o → s ≢ Busy

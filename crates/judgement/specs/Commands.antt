@@ -1,11 +1,11 @@
--- The command that a CDB and the data sent with it spell, its class, and what a record says was asked.
+-- The command that a CDB and the data sent with it decode to, its class, and what a record says was asked.
 use Rattle.std.specs.Prelude.{ℕ, Bool, true, false, List, Option, Some, None, Result, Ok, Err}
 use Rattle.scsi_cdb.specs.declared.kind.Kind.{Kind}
-use Rattle.permit_tables.specs.declared.classes.Class.{Class}
-use Rattle.permit_tables.specs.declared.classes.Class.TheVariants as class
+use Rattle.scsi_cdb.specs.declared.classes.Class.{Class}
+use Rattle.scsi_cdb.specs.declared.classes.Class.TheVariants as class
 use Rattle.scsi_cdb.specs.declared.request.Request.{Request}
 use Rattle.scsi_cdb.specs.declared.request.Request.TheVariants.{PreventAllowMediumRemoval, PersistentReserveIn, PersistentReserveOut, Inquiry, ReportLuns, RequestSense}
-use Rattle.permit_tables.specs.Classes.{class_of_action}
+use Rattle.scsi_cdb.specs.Classes.{class_of_action}
 use Rattle.scsi_cdb.specs.Classes.{class_of}
 use Rattle.scsi_cdb.specs.Commands.{decoded}
 use Rattle.scsi_sense.specs.declared.condition.Condition.{Condition}
@@ -30,7 +30,7 @@ command_of (RequestSense desc allocation_length) bytes = Ok (command.RequestSens
 command_of (PreventAllowMediumRemoval prevent) bytes = Ok (command.Prevent prevent)
 command_of request bytes = Ok (Device request)
 
--- the command, or what is reported of bytes that spell none
+-- the command, or what is reported of bytes that decode to none
 abbrev pub decoded_command : Kind → (cdb bytes : List ℕ) → Result Command Condition
 decoded_command kind cdb bytes = elim (decoded kind cdb) [ Ok request ↦ command_of request bytes | Err fault ↦ Err (condition_of_fault fault) ]
 
@@ -55,12 +55,12 @@ abbrev pub list_of : Command → Option OutParams
 list_of (ReserveOut params) = Some params
 list_of command = None
 
--- whether bytes spell PERSISTENT RESERVE OUT
+-- whether bytes decode to PERSISTENT RESERVE OUT
 abbrev pub is_reserve_out : Result Command Condition → Bool
 is_reserve_out (Ok (ReserveOut params)) = true
 is_reserve_out decoded_command = false
 
--- what a record says was asked: a class, and for PERSISTENT RESERVE OUT its list; INVALID of bytes that spell no command
+-- what a record says was asked: a class, and for PERSISTENT RESERVE OUT its list; INVALID of bytes that decode to no command
 abbrev pub act_of_command : Command → Act
 act_of_command (ReserveOut params) = act.ReserveOut params
 act_of_command command = act.Command (class_of_command command)

@@ -8,7 +8,7 @@ use Rattle.unit_attention.specs.declared.kind.Kind.TheVariants.{PowerOn, BusDevi
 use Rattle.permit_tables.specs.declared.pr_fault.PrFault.{PrFault}
 use Rattle.permit_tables.specs.declared.pr_fault.PrFault.TheVariants.{InvalidField, InvalidParam, InvalidRelease, NoRegistrationRoom}
 
--- a CDB that spells no command
+-- a CDB that decodes to no command
 abbrev pub condition_of_fault : CdbFault → Condition
 condition_of_fault Opcode = condition.InvalidCommandOperationCode
 condition_of_fault ShortCdb = condition.InvalidFieldInCdb

@@ -1,8 +1,8 @@
--- How a command is judged: the stages in their order, the first that applies answers. Stage 1 is what the bytes spell, stage 2 an
+-- How a command is judged: the stages in their order, the first that applies answers. Stage 1 is what the bytes decode to, stage 2 an
 -- attention of ASC 29h that waits, stage 3 the reservation check, stage 4 another attention, stages 5 and 6 the command itself. Beside
 -- the unit and the reply it is said what a record says: the stage, the cell and the rule.
 use Rattle.std.specs.Prelude.{ℕ, Bool, true, false, not, ◌&&◌, ◌==◌, List, [], take, Option, None, Some, is_none, Result, Ok, Err, if◌then◌else◌}
-use Rattle.permit_tables.specs.declared.classes.Class.{Class}
+use Rattle.scsi_cdb.specs.declared.classes.Class.{Class}
 use Rattle.scsi_cdb.specs.declared.request.Request.{Request}
 use Rattle.scsi_cdb.specs.declared.request.Request.TheVariants.{LoadUnload}
 use Rattle.scsi_nexus.specs.declared.nexus.Nexus.{Nexus}
@@ -38,23 +38,23 @@ use Rattle.judgement.specs.Readings.{verdict_of, status_data, pending_of}
 
 -- the cell of the permission table that a command of a sender stands in
 abbrev pub cell_of : JudgedUnit → Nexus → Command → Cell
-cell_of u n command = cell u.kept.reservations n (class_of_command command)
+cell_of u n command = cell u.state.reservations n (class_of_command command)
 
 -- an attention is reported, and waits no more
 abbrev pub tells : JudgedUnit → Nexus → Kind → Decision → JudgedUnit × Decision × Reply
-tells u n kind decision = (record u { kept = reported u.kept n kind }, decision, check (condition_of_attention kind))
+tells u n kind decision = (record u { state = reported u.state n kind }, decision, check (condition_of_attention kind))
 
 -- an allowed PERSISTENT RESERVE OUT command is refused, or accepted
 abbrev pub reserves : JudgedUnit → Nexus → OutParams → JudgedUnit × Decision × Reply
-reserves u n params = elim (refusal u.kept.reservations n params) [
+reserves u n params = elim (refusal u.state.reservations n params) [
   | Some fault ↦ (u, at_stage Fields, check (condition_of_refusal fault))
-  | None ↦ (record u { kept = accepted u.kept n params }, at_stage Device, good [])
+  | None ↦ (record u { state = accepted u.state n params }, at_stage Device, good [])
 ]
 
 -- the device's step; every other slot is told of mode parameters that it changed
 abbrev pub steps : JudgedUnit → Nexus → DeviceView × Outcome → JudgedUnit × Decision × Reply
 steps u n step = (
-  record { device = step.0; kept = after_mode u.kept n step.1.mode_changed },
+  record { device = step.0; state = after_mode u.state n step.1.mode_changed },
   at_device step.1.mode_changed,
   replied step.1,
 )
@@ -69,7 +69,7 @@ abbrev pub performs : JudgedUnit → Nexus → Request → List ℕ → JudgedUn
 performs u n request bytes = elim (field_fault u.device request bytes) [
   | Some condition ↦ (u, at_stage Fields, check condition)
   | None ↦
-      if unloads request && is_prevented u.kept then (u, at_stage Device, check MediumRemovalPrevented)
+      if unloads request && is_prevented u.state then (u, at_stage Device, check MediumRemovalPrevented)
       else steps u n (performed u.device request bytes)
 ]
 
@@ -85,14 +85,14 @@ requests_sense k n true allocation_length = (k, at_stage Fields, check InvalidFi
 requests_sense k n false allocation_length = sensed k n allocation_length (pending_of k.slots n)
 
 abbrev pub senses : JudgedUnit → UnitStateView × Decision × Reply → JudgedUnit × Decision × Reply
-senses u answer = (record u { kept = answer.0 }, answer.1, answer.2)
+senses u answer = (record u { state = answer.0 }, answer.1, answer.2)
 
 -- PREVENT ALLOW MEDIUM REMOVAL (SPC-4, "PREVENT ALLOW MEDIUM REMOVAL command"): 0 allows, 1 prevents, and the obsolete 2 and 3 aren't
 -- offered
 abbrev pub prevents : JudgedUnit → Nexus → (prevent : ℕ) → JudgedUnit × Decision × Reply
 prevents u n prevent =
-    if prevent == 0 then (record u { kept = allowed u.kept n }, at_stage Device, good [])
-    else if prevent == 1 then (record u { kept = prevented u.kept n }, at_stage Device, good [])
+    if prevent == 0 then (record u { state = allowed u.state n }, at_stage Device, good [])
+    else if prevent == 1 then (record u { state = prevented u.state n }, at_stage Device, good [])
     else (u, at_stage Fields, check InvalidFieldInCdb)
 
 -- an answer that changes nothing
@@ -103,11 +103,11 @@ answers u answer = (u, at_stage answer.0, answer.1)
 abbrev pub carried_out : JudgedUnit → Nexus → Command → List ℕ → JudgedUnit × Decision × Reply
 carried_out u n (ReserveOut params) bytes = reserves u n params
 carried_out u n (ReserveIn action allocation_length) bytes =
-    (u, at_stage Device, good (take allocation_length (status_data u.kept.reservations action)))
+    (u, at_stage Device, good (take allocation_length (status_data u.state.reservations action)))
 carried_out u n (Inquiry evpd page allocation_length) bytes =
-    answers u (data_reply (inquiry_data (kind_of u.device) u.kept.lun evpd page) allocation_length)
-carried_out u n (ReportLuns select allocation_length) bytes = answers u (data_reply (selected_luns u.kept.units select) allocation_length)
-carried_out u n (RequestSense desc allocation_length) bytes = senses u (requests_sense u.kept n desc allocation_length)
+    answers u (data_reply (inquiry_data (kind_of u.device) u.state.lun evpd page) allocation_length)
+carried_out u n (ReportLuns select allocation_length) bytes = answers u (data_reply (selected_luns u.state.units select) allocation_length)
+carried_out u n (RequestSense desc allocation_length) bytes = senses u (requests_sense u.state n desc allocation_length)
 carried_out u n (Prevent prevent) bytes = prevents u n prevent
 carried_out u n (command.Device request) bytes = performs u n request bytes
 
@@ -121,14 +121,14 @@ waiting class pending = if passes_over class then None else pending
 
 -- stage 4: an attention of another ASC waits, or the command is carried out
 abbrev pub let_through : JudgedUnit → Nexus → Command → List ℕ → JudgedUnit × Decision × Reply
-let_through u n command bytes = elim (waiting (class_of_command command) (first_other_of u.kept.slots n)) [
+let_through u n command bytes = elim (waiting (class_of_command command) (first_other_of u.state.slots n)) [
   | Some kind ↦ tells u n kind (let_in (cell_of u n command) OtherAttention)
   | None ↦ at_cell (cell_of u n command) (carried_out u n command bytes)
 ]
 
 -- stage 3: the reservation check
 abbrev pub checked : JudgedUnit → Nexus → Command → List ℕ → JudgedUnit × Decision × Reply
-checked u n command bytes = elim (verdict_of u.kept.reservations n command) [
+checked u n command bytes = elim (verdict_of u.state.reservations n command) [
   | Allowed ↦ let_through u n command bytes
   | Denied cell ↦ (u, in_conflict (cell_of u n command) None, conflict)
   | Rule rule ↦ (u, in_conflict (cell_of u n command) (Some rule), conflict)
@@ -136,12 +136,12 @@ checked u n command bytes = elim (verdict_of u.kept.reservations n command) [
 
 -- stage 2: an attention of ASC 29h waits, or the command comes to the reservation check
 abbrev pub commanded : JudgedUnit → Nexus → Command → List ℕ → JudgedUnit × Decision × Reply
-commanded u n command bytes = elim (waiting (class_of_command command) (first_reset_of u.kept.slots n)) [
+commanded u n command bytes = elim (waiting (class_of_command command) (first_reset_of u.state.slots n)) [
   | Some kind ↦ tells u n kind (at_stage ResetAttention)
   | None ↦ checked u n command bytes
 ]
 
--- stage 1: the bytes spell no command, or one
+-- stage 1: the bytes decode to no command, or one
 abbrev pub judged_as : JudgedUnit → Nexus → Result Command Condition → (bytes : List ℕ) → JudgedUnit × Decision × Reply
 judged_as u n (Err condition) bytes = (u, at_stage Decoding, check condition)
 judged_as u n (Ok command) bytes = commanded u n command bytes
@@ -157,8 +157,8 @@ is_allowed_by verdict = false
 -- whether a command comes to its own rules: no attention waits that it doesn't pass over, and the reservation check allows it
 abbrev pub is_carried_out : JudgedUnit → Nexus → Command → Bool
 is_carried_out u n command =
-    is_none (waiting (class_of_command command) (first_reset_of u.kept.slots n))
-    && (is_allowed_by (verdict_of u.kept.reservations n command) && is_none (waiting (class_of_command command) (first_other_of u.kept.slots n)))
+    is_none (waiting (class_of_command command) (first_reset_of u.state.slots n))
+    && (is_allowed_by (verdict_of u.state.reservations n command) && is_none (waiting (class_of_command command) (first_other_of u.state.slots n)))
 
 -- whether a command's own rules may take memory: PREVENT ALLOW MEDIUM REMOVAL, PERSISTENT RESERVE OUT and MOVE MEDIUM take none
 abbrev pub asks_memory : Command → Bool

@@ -5,4 +5,4 @@ use Rattle.judgement.specs.UnitStateView.{UnitStateView}
 -- a device, and what its unit keeps beside it: what commands are judged by
 pub record JudgedUnit : Type 0 where
   pub device : DeviceView
-  pub kept : UnitStateView
+  pub state : UnitStateView

@@ -1,7 +1,7 @@
 -- What is read off what a unit keeps: what the reservation check says of a command, the data of PERSISTENT RESERVE IN, and the attention
 -- that waits.
 use Rattle.std.specs.Prelude.{ℕ, List, Option, None, Some, if◌then◌else◌}
-use Rattle.permit_tables.specs.declared.classes.Class.{Class}
+use Rattle.scsi_cdb.specs.declared.classes.Class.{Class}
 use Rattle.scsi_cdb.specs.declared.action.InServiceAction.{InServiceAction}
 use Rattle.scsi_cdb.specs.declared.action.InServiceAction.TheVariants.{ReadKeys, ReadReservation, ReportCapabilities, ReadFullStatus}
 use Rattle.scsi_nexus.specs.declared.nexus.Nexus.{Nexus}

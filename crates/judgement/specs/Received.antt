@@ -17,6 +17,6 @@ pub record ReceivedValue : Type 0 where
 abbrev pub IsFor : DeviceView → ReceivedValue → Type 0
 IsFor device received = received.kind ≡ kind_of device
 
--- the command that it is, or what is reported of bytes that spell none
+-- the command that it is, or what is reported of bytes that decode to none
 abbrev pub command_in : ReceivedValue → Result Command Condition
 command_in received = decoded_command received.kind received.cdb received.bytes

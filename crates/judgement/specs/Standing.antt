@@ -20,15 +20,15 @@ use Rattle.judgement.specs.Judge.{at_cell, carried_out, commanded, is_allowed_by
 
 -- whether a command that the reservation check allows comes to its own rules
 abbrev pub is_clear : JudgedUnit → Nexus → Command → Bool
-is_clear u n command = is_none (waiting (class_of_command command) (first_other_of u.kept.slots n))
+is_clear u n command = is_none (waiting (class_of_command command) (first_other_of u.state.slots n))
 
 -- whether one that comes to the reservation check does
 abbrev pub is_let_in : JudgedUnit → Nexus → Command → Bool
-is_let_in u n command = is_allowed_by (verdict_of u.kept.reservations n command) && is_clear u n command
+is_let_in u n command = is_allowed_by (verdict_of u.state.reservations n command) && is_clear u n command
 
 -- what a unit keeps once a sender made contact, with a device
 abbrev pub met : DeviceView → UnitStateView → Nexus → JudgedUnit
-met device kept n = record { device = device; kept = after_contact kept n }
+met device state n = record { device = device; state = after_contact state n }
 
 -- A command that comes to a stage ends there or behind it, before its own rules, whatever its device is;
 pub record EndsBefore (stage : JudgedUnit → Nexus → Command → List ℕ → JudgedUnit × Decision × Reply)
@@ -36,7 +36,7 @@ pub record EndsBefore (stage : JudgedUnit → Nexus → Command → List ℕ →
     (old new : UnitStateView) (n : Nexus) (c : Command) (decision : Decision) (reply : Reply) : Type 0 where
   pub barred : (device : DeviceView) → comes (met device old n) n c ≡ false
   pub ended : (device : DeviceView) (bytes : List ℕ) → stage (met device old n) n c bytes ≡
-      (record { device = device; kept = new }, decision, reply)
+      (record { device = device; state = new }, decision, reply)
 
 -- or it comes to its own rules, in its cell of the permission table, with nothing changed yet
 pub record ComesThrough (stage : JudgedUnit → Nexus → Command → List ℕ → JudgedUnit × Decision × Reply)
@@ -55,6 +55,6 @@ abbrev pub StandsBy : (stage : JudgedUnit → Nexus → Command → List ℕ →
 StandsBy stage comes old new n c (Ended decision reply) = EndsBefore stage comes old new n c decision reply
 StandsBy stage comes old new n c (LetThrough at) = ComesThrough stage comes old new n c at
 
--- of a command that bytes spell, which comes to the first of these stages
+-- of a decoded command, which comes to the first of these stages
 abbrev pub StandsBefore : (old new : UnitStateView) → Nexus → Command → Standing → Type 0
 StandsBefore old new n c standing = StandsBy commanded is_carried_out old new n c standing

@@ -1,8 +1,8 @@
 -- How what a unit keeps changes.
 use Rattle.std.specs.Prelude.{◌≡◌, ℕ, ◌&&◌, ◌||◌, ◌==◌, not, Bool, true, if◌then◌else◌, List, [], ◌∷◌, ◌++◌, filter, map, length}
 use Rattle.std.specs.List.{fold, list_all}
-use Rattle.permit_tables.specs.declared.service_action.OutServiceAction.{OutServiceAction}
-use Rattle.permit_tables.specs.declared.service_action.OutServiceAction.TheVariants.{PreemptAndAbort}
+use Rattle.scsi_cdb.specs.declared.service_action.OutServiceAction.{OutServiceAction}
+use Rattle.scsi_cdb.specs.declared.service_action.OutServiceAction.TheVariants.{PreemptAndAbort}
 use Rattle.scsi_nexus.specs.declared.nexus.Nexus.{Nexus}
 use Rattle.scsi_nexus.specs.Order.{same_nexus}
 use Rattle.unit_attention.specs.declared.kind.Kind.{Kind}

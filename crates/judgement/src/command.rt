@@ -6,13 +6,12 @@ use crate::conditions::condition_of_fault;
 use crate::received::ReceivedCommand;
 use crate::reserve_params::ReserveParams;
 use audit_log::Act;
-use permit_tables::Class;
 use pr_params::read_out;
-use scsi_cdb::{InServiceAction, Request, class, class_of_prevent};
+use scsi_cdb::{Class, InServiceAction, Request, class, class_of_prevent};
 use scsi_sense::Condition;
 use std::alloc::{AllocError, Global};
 
-/// A command that its CDB and parameter list spell, as far as their lengths and codes go.
+/// A command, decoded from its CDB and parameter list, as far as their lengths and codes go.
 #[derive(Drop)]
 pub enum Command {
     /// PERSISTENT RESERVE OUT with its parameter list.
@@ -46,7 +45,7 @@ pub enum Command {
 }
 
 impl Command {
-    /// The command that a CDB spells with the data sent with it, or what is reported of bytes that spell none. PERSISTENT RESERVE OUT alone
+    /// The command that a CDB decodes to with the data sent with it, or what is reported of bytes that decode to none. PERSISTENT RESERVE OUT alone
     /// takes memory, for its list.
     pub fn of(
         alloc: Global,

@@ -6,7 +6,7 @@ use scsi_cdb::CdbFault;
 use scsi_sense::Condition;
 use unit_attention::Kind;
 
-/// What is reported of a CDB that spells no command of the unit.
+/// What is reported of a CDB that decodes to no command of the unit.
 pub fn condition_of_fault(fault: CdbFault) -> Condition
     ensures { result ≡ condition_of_fault fault }
 {

@@ -1,4 +1,4 @@
-//! What a logical unit makes of a command: the command that its bytes spell, what the unit keeps beside its device and
+//! What a logical unit makes of a command: the command that its bytes decode to, what the unit keeps beside its device and
 //! its records, the replies and the data of the commands that every unit has, and the stages in which a command is
 //! judged, of which the first that applies answers.
 #![tactic(auto)]

@@ -28,26 +28,26 @@ use std::alloc::{AllocError, Global};
 /// A command by its own rules, where nothing stands before it. Want of memory changes nothing.
 fn carry_out<D: DeviceServer>(
     alloc: Global,
-    server: &mut Box<D>,
-    kept: &mut UnitState,
+    device: &mut Box<D>,
+    state: &mut UnitState,
     nexus: Nexus,
     command: &Command,
     bytes: &[u8],
 ) -> Result<(Decision, Reply), AllocError>
-    requires room { has_room kept.old nexus ≡ true }
-    requires allowed { verdict_of kept.old.reservations nexus command.now ≡ Allowed }
-    ensures ok { IfOk result (λ it. carried_out (record { device = D.shown server.old.value; kept = after_contact kept.old nexus }) nexus command.now bytes.now ≡ (record { device = D.shown server.new.value; kept = kept.new }, it.0, it.1)) }
-    ensures err { OnErr result ((D.shown server.new.value ≡ D.shown server.old.value) × (kept.new ≡ kept.old)) }
+    requires room { has_room state.old nexus ≡ true }
+    requires allowed { verdict_of state.old.reservations nexus command.now ≡ Allowed }
+    ensures ok { IfOk result (λ it. carried_out (record { device = D.shown device.old.value; state = after_contact state.old nexus }) nexus command.now bytes.now ≡ (record { device = D.shown device.new.value; state = state.new }, it.0, it.1)) }
+    ensures err { OnErr result ((D.shown device.new.value ≡ D.shown device.old.value) × (state.new ≡ state.old)) }
     ensures want { OnErr result (asks_memory command.now ≡ true) }
 {
     match command {
-        Command::ReserveOut(list) => Ok(reserve(alloc, kept, nexus, list.params())),
+        Command::ReserveOut(list) => Ok(reserve(alloc, state, nexus, list.params())),
         Command::ReserveIn {
             service_action,
             allocation_length,
         } => {
-            let payload = kept.read_status(alloc, *service_action, *allocation_length)?;
-            kept.make_contact(nexus);
+            let payload = state.read_status(alloc, *service_action, *allocation_length)?;
+            state.make_contact(nexus);
             Ok((Decision::at_stage(Stage::Device), Reply::good(payload)))
         }
         Command::Inquiry {
@@ -55,40 +55,40 @@ fn carry_out<D: DeviceServer>(
             page_code,
             allocation_length,
         } => {
-            let kind = server.kind();
-            let payload = inquiry(alloc, kind, kept.lun(), *vital_product_data, *page_code)?;
-            kept.make_contact(nexus);
+            let kind = device.kind();
+            let payload = inquiry(alloc, kind, state.lun(), *vital_product_data, *page_code)?;
+            state.make_contact(nexus);
             Ok(answer(alloc, payload, usize::from(*allocation_length)))
         }
         Command::ReportLuns {
             select_report,
             allocation_length,
         } => {
-            let payload = report_luns(alloc, kept.units(), *select_report)?;
-            kept.make_contact(nexus);
+            let payload = report_luns(alloc, state.units(), *select_report)?;
+            state.make_contact(nexus);
             Ok(answer(alloc, payload, *allocation_length as usize))
         }
         Command::RequestSense {
             descriptor_format,
             allocation_length,
-        } => request_sense(alloc, kept, nexus, *descriptor_format, *allocation_length),
-        Command::Prevent { prevent } => Ok(prevent_or_allow(alloc, kept, nexus, *prevent)),
-        Command::Device(request) => perform(alloc, server, kept, nexus, request, bytes),
+        } => request_sense(alloc, state, nexus, *descriptor_format, *allocation_length),
+        Command::Prevent { prevent } => Ok(prevent_or_allow(alloc, state, nexus, *prevent)),
+        Command::Device(request) => perform(alloc, device, state, nexus, request, bytes),
     }
 }
 
 /// An allowed PERSISTENT RESERVE OUT command.
 fn reserve(
     alloc: Global,
-    kept: &mut UnitState,
+    state: &mut UnitState,
     nexus: Nexus,
     params: &OutParams,
 ) -> (Decision, Reply)
-    requires room { has_room kept.old nexus ≡ true }
-    requires allowed { verdict kept.old.reservations nexus params.now ≡ Allowed }
-    ensures { (device : DeviceView) → reserves (record { device = device; kept = after_contact kept.old nexus }) nexus params.now ≡ (record { device = device; kept = kept.new }, result.0, result.1) }
+    requires room { has_room state.old nexus ≡ true }
+    requires allowed { verdict state.old.reservations nexus params.now ≡ Allowed }
+    ensures { (device : DeviceView) → reserves (record { device = device; state = after_contact state.old nexus }) nexus params.now ≡ (record { device = device; state = state.new }, result.0, result.1) }
 {
-    match kept.reserve(nexus, params) {
+    match state.reserve(nexus, params) {
         Ok(()) => (
             Decision::at_stage(Stage::Device),
             Reply::good(Payload::none(alloc)),
@@ -118,30 +118,30 @@ fn unloads(request: &Request) -> bool
 /// A command of the device. Want of memory changes nothing.
 fn perform<D: DeviceServer>(
     alloc: Global,
-    server: &mut Box<D>,
-    kept: &mut UnitState,
+    device: &mut Box<D>,
+    state: &mut UnitState,
     nexus: Nexus,
     request: &Request,
     bytes: &[u8],
 ) -> Result<(Decision, Reply), AllocError>
-    requires { has_room kept.old nexus ≡ true }
-    ensures ok { IfOk result (λ it. performs (record { device = D.shown server.old.value; kept = after_contact kept.old nexus }) nexus request.now bytes.now ≡ (record { device = D.shown server.new.value; kept = kept.new }, it.0, it.1)) }
-    ensures err { OnErr result ((D.shown server.new.value ≡ D.shown server.old.value) × (kept.new ≡ kept.old)) }
+    requires { has_room state.old nexus ≡ true }
+    ensures ok { IfOk result (λ it. performs (record { device = D.shown device.old.value; state = after_contact state.old nexus }) nexus request.now bytes.now ≡ (record { device = D.shown device.new.value; state = state.new }, it.0, it.1)) }
+    ensures err { OnErr result ((D.shown device.new.value ≡ D.shown device.old.value) × (state.new ≡ state.old)) }
     ensures want { OnErr result (is_move request.now ≡ false) }
 {
-    if let Some(condition) = field_fault(server.kind(), request, bytes) {
-        kept.make_contact(nexus);
+    if let Some(condition) = field_fault(device.kind(), request, bytes) {
+        state.make_contact(nexus);
         let reply = Reply::check(alloc, condition);
         return Ok((Decision::at_stage(Stage::Fields), reply));
     }
-    if unloads(request) && kept.is_prevented() {
-        kept.make_contact(nexus);
+    if unloads(request) && state.is_prevented() {
+        state.make_contact(nexus);
         let reply = Reply::check(alloc, Condition::MediumRemovalPrevented);
         return Ok((Decision::at_stage(Stage::Device), reply));
     }
-    let outcome = server.perform(alloc, request, bytes)?;
-    kept.make_contact(nexus);
-    kept.note_mode(nexus, outcome.mode_changed);
+    let outcome = device.perform(alloc, request, bytes)?;
+    state.make_contact(nexus);
+    state.note_mode(nexus, outcome.mode_changed);
     Ok((
         Decision::at_device(outcome.mode_changed),
         Reply::of(outcome),
@@ -151,18 +151,18 @@ fn perform<D: DeviceServer>(
 /// PREVENT ALLOW MEDIUM REMOVAL (SPC-4, "PREVENT ALLOW MEDIUM REMOVAL command"), which takes no memory.
 fn prevent_or_allow(
     alloc: Global,
-    kept: &mut UnitState,
+    state: &mut UnitState,
     nexus: Nexus,
     prevent: u8,
 ) -> (Decision, Reply)
-    requires { has_room kept.old nexus ≡ true }
-    ensures { (device : DeviceView) → prevents (record { device = device; kept = after_contact kept.old nexus }) nexus prevent ≡ (record { device = device; kept = kept.new }, result.0, result.1) }
+    requires { has_room state.old nexus ≡ true }
+    ensures { (device : DeviceView) → prevents (record { device = device; state = after_contact state.old nexus }) nexus prevent ≡ (record { device = device; state = state.new }, result.0, result.1) }
 {
     match prevent {
-        0 => kept.allow(nexus),
-        1 => kept.prevent(nexus),
+        0 => state.allow(nexus),
+        1 => state.prevent(nexus),
         _ => {
-            kept.make_contact(nexus);
+            state.make_contact(nexus);
             let reply = Reply::check(alloc, Condition::InvalidFieldInCdb);
             return (Decision::at_stage(Stage::Fields), reply);
         }
@@ -174,54 +174,54 @@ fn prevent_or_allow(
 /// REQUEST SENSE. Want of memory changes nothing.
 fn request_sense(
     alloc: Global,
-    kept: &mut UnitState,
+    state: &mut UnitState,
     nexus: Nexus,
     descriptor_format: bool,
     allocation_length: u8,
 ) -> Result<(Decision, Reply), AllocError>
-    requires { has_room kept.old nexus ≡ true }
-    ensures ok { IfOk result (λ it. requests_sense (after_contact kept.old nexus) nexus descriptor_format allocation_length ≡ (kept.new, it.0, it.1)) }
-    ensures err { OnErr result (kept.new ≡ kept.old) }
+    requires { has_room state.old nexus ≡ true }
+    ensures ok { IfOk result (λ it. requests_sense (after_contact state.old nexus) nexus descriptor_format allocation_length ≡ (state.new, it.0, it.1)) }
+    ensures err { OnErr result (state.new ≡ state.old) }
 {
     if descriptor_format {
-        kept.make_contact(nexus);
+        state.make_contact(nexus);
         let reply = Reply::check(alloc, Condition::InvalidFieldInCdb);
         return Ok((Decision::at_stage(Stage::Fields), reply));
     }
     let length = usize::from(allocation_length);
     let decision = Decision::at_stage(Stage::Device);
-    match kept.pending(nexus) {
+    match state.pending(nexus) {
         Some(kind) => {
             let payload = sense_data(alloc, condition_of_attention(kind))?;
-            let _ = kept.report_attention(alloc, nexus, kind);
+            let _ = state.report_attention(alloc, nexus, kind);
             Ok((decision, Reply::good(payload.cut(length))))
         }
         None => {
             let payload = sense_data(alloc, Condition::NoAdditionalSenseInformation)?;
-            kept.make_contact(nexus);
+            state.make_contact(nexus);
             Ok((decision, Reply::good(payload.cut(length))))
         }
     }
 }
 
-/// A command that bytes spell: it ends by what stands before it, or is carried out by its own rules.
+/// A command, decoded: it ends by what stands before it, or is carried out by its own rules.
 fn judge_command<D: DeviceServer>(
     alloc: Global,
-    server: &mut Box<D>,
-    kept: &mut UnitState,
+    device: &mut Box<D>,
+    state: &mut UnitState,
     nexus: Nexus,
     command: &Command,
     bytes: &[u8],
 ) -> Result<(Decision, Reply), AllocError>
-    requires { has_room kept.old nexus ≡ true }
-    ensures ok { IfOk result (λ it. commanded (record { device = D.shown server.old.value; kept = after_contact kept.old nexus }) nexus command.now bytes.now ≡ (record { device = D.shown server.new.value; kept = kept.new }, it.0, it.1)) }
-    ensures err { OnErr result ((D.shown server.new.value ≡ D.shown server.old.value) × (kept.new ≡ kept.old)) }
-    ensures want { OnErr result ((asks_memory command.now && is_carried_out (record { device = D.shown server.old.value; kept = after_contact kept.old nexus }) nexus command.now) ≡ true) }
+    requires { has_room state.old nexus ≡ true }
+    ensures ok { IfOk result (λ it. commanded (record { device = D.shown device.old.value; state = after_contact state.old nexus }) nexus command.now bytes.now ≡ (record { device = D.shown device.new.value; state = state.new }, it.0, it.1)) }
+    ensures err { OnErr result ((D.shown device.new.value ≡ D.shown device.old.value) × (state.new ≡ state.old)) }
+    ensures want { OnErr result ((asks_memory command.now && is_carried_out (record { device = D.shown device.old.value; state = after_contact state.old nexus }) nexus command.now) ≡ true) }
 {
-    match stands_before(alloc, kept, nexus, command) {
+    match stands_before(alloc, state, nexus, command) {
         Standing::Ended(decision, reply) => Ok((decision, reply)),
         Standing::LetThrough(in_cell) => {
-            let (decision, reply) = carry_out(alloc, server, kept, nexus, command, bytes)?;
+            let (decision, reply) = carry_out(alloc, device, state, nexus, command, bytes)?;
             Ok((decision.in_cell(in_cell), reply))
         }
     }
@@ -230,21 +230,21 @@ fn judge_command<D: DeviceServer>(
 /// A command by the stages in their order, with what its record says. Want of memory changes nothing.
 pub fn judge<D: DeviceServer>(
     alloc: Global,
-    server: &mut Box<D>,
-    kept: &mut UnitState,
+    device: &mut Box<D>,
+    state: &mut UnitState,
     nexus: Nexus,
     decoded: &Result<Command, Condition>,
     bytes: &[u8],
 ) -> Result<(Decision, Reply), AllocError>
-    requires { has_room kept.old nexus ≡ true }
-    ensures ok { IfOk result (λ it. judged_as (record { device = D.shown server.old.value; kept = after_contact kept.old nexus }) nexus decoded.now bytes.now ≡ (record { device = D.shown server.new.value; kept = kept.new }, it.0, it.1)) }
-    ensures err { OnErr result ((D.shown server.new.value ≡ D.shown server.old.value) × (kept.new ≡ kept.old)) }
-    ensures want { OnErr result (takes_memory (record { device = D.shown server.old.value; kept = after_contact kept.old nexus }) nexus decoded.now ≡ true) }
+    requires { has_room state.old nexus ≡ true }
+    ensures ok { IfOk result (λ it. judged_as (record { device = D.shown device.old.value; state = after_contact state.old nexus }) nexus decoded.now bytes.now ≡ (record { device = D.shown device.new.value; state = state.new }, it.0, it.1)) }
+    ensures err { OnErr result ((D.shown device.new.value ≡ D.shown device.old.value) × (state.new ≡ state.old)) }
+    ensures want { OnErr result (takes_memory (record { device = D.shown device.old.value; state = after_contact state.old nexus }) nexus decoded.now ≡ true) }
 {
     match decoded {
-        Ok(command) => judge_command(alloc, server, kept, nexus, command, bytes),
+        Ok(command) => judge_command(alloc, device, state, nexus, command, bytes),
         Err(condition) => {
-            kept.make_contact(nexus);
+            state.make_contact(nexus);
             Ok((
                 Decision::at_stage(Stage::Decoding),
                 Reply::check(alloc, *condition),

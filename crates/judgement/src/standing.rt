@@ -14,7 +14,8 @@ use crate::decision::Decision;
 use crate::reply::Reply;
 use crate::unit_state::UnitState;
 use audit_log::Stage;
-use permit_tables::{Cell, Class};
+use permit_tables::Cell;
+use scsi_cdb::Class;
 use pr_core::Verdict;
 use scsi_nexus::Nexus;
 use std::alloc::Global;
@@ -39,58 +40,58 @@ fn waiting(class: Class, pending: Option<Kind>) -> Option<Kind>
 /// What stands before a command that the reservation check allows: another attention.
 fn stands_after_check(
     alloc: Global,
-    kept: &mut UnitState,
+    state: &mut UnitState,
     nexus: Nexus,
     command: &Command,
     in_cell: Cell,
 ) -> Standing
-    requires room { has_room kept.old nexus ≡ true }
-    requires known { in_cell ≡ cell kept.old.reservations nexus (class_of_command command.now) }
-    requires allowed { verdict_of kept.old.reservations nexus command.now ≡ Allowed }
-    ensures { StandsBy let_through is_clear kept.old kept.new nexus command.now result }
+    requires room { has_room state.old nexus ≡ true }
+    requires known { in_cell ≡ cell state.old.reservations nexus (class_of_command command.now) }
+    requires allowed { verdict_of state.old.reservations nexus command.now ≡ Allowed }
+    ensures { StandsBy let_through is_clear state.old state.new nexus command.now result }
 {
-    match waiting(command.class(), kept.first_other(nexus)) {
+    match waiting(command.class(), state.first_other(nexus)) {
         Some(kind) => Standing::Ended(
             Decision::let_in(in_cell, Stage::OtherAttention),
-            kept.report_attention(alloc, nexus, kind),
+            state.report_attention(alloc, nexus, kind),
         ),
         None => Standing::LetThrough(in_cell),
     }
 }
 
 /// What stands before a command for whose sender no attention of ASC 29h waits: a conflict by the reservation check, or another attention.
-fn stands_at_check(alloc: Global, kept: &mut UnitState, nexus: Nexus, command: &Command) -> Standing
-    requires { has_room kept.old nexus ≡ true }
-    ensures { StandsBy checked is_let_in kept.old kept.new nexus command.now result }
+fn stands_at_check(alloc: Global, state: &mut UnitState, nexus: Nexus, command: &Command) -> Standing
+    requires { has_room state.old nexus ≡ true }
+    ensures { StandsBy checked is_let_in state.old state.new nexus command.now result }
 {
-    let in_cell = kept.cell(nexus, command);
-    let rule = match kept.verdict(nexus, command, in_cell) {
+    let in_cell = state.cell(nexus, command);
+    let rule = match state.verdict(nexus, command, in_cell) {
         Verdict::Allowed => {
-            return stands_after_check(alloc, kept, nexus, command, in_cell);
+            return stands_after_check(alloc, state, nexus, command, in_cell);
         }
         Verdict::Denied(_) => None,
         Verdict::Rule(rule) => Some(rule),
     };
-    kept.make_contact(nexus);
+    state.make_contact(nexus);
     Standing::Ended(Decision::in_conflict(in_cell, rule), Reply::conflict(alloc))
 }
 
-/// What stands before a command that bytes spell: an attention of ASC 29h, a conflict by the reservation check, or another attention. The
+/// What stands before a decoded command: an attention of ASC 29h, a conflict by the reservation check, or another attention. The
 /// device isn't asked. A command that is let through has made no contact yet.
 pub fn stands_before(
     alloc: Global,
-    kept: &mut UnitState,
+    state: &mut UnitState,
     nexus: Nexus,
     command: &Command,
 ) -> Standing
-    requires { has_room kept.old nexus ≡ true }
-    ensures { StandsBefore kept.old kept.new nexus command.now result }
+    requires { has_room state.old nexus ≡ true }
+    ensures { StandsBefore state.old state.new nexus command.now result }
 {
-    match waiting(command.class(), kept.first_reset(nexus)) {
+    match waiting(command.class(), state.first_reset(nexus)) {
         Some(kind) => Standing::Ended(
             Decision::at_stage(Stage::ResetAttention),
-            kept.report_attention(alloc, nexus, kind),
+            state.report_attention(alloc, nexus, kind),
         ),
-        None => stands_at_check(alloc, kept, nexus, command),
+        None => stands_at_check(alloc, state, nexus, command),
     }
 }

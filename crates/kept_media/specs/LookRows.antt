@@ -39,6 +39,6 @@ loaded_drive = drive_of_marks 2
 abbrev pub settled_drive : VolumeTag → DriveView
 settled_drive = drive_of_marks 1
 
--- notes each device behind those before, and leaves it as it is
-abbrev pub Notes : List DeviceView → (before after : DeviceView) → List DeviceView → Type 0
-Notes old before after new = (after ≡ before) × (new ≡ old ++ before ∷ [])
+-- notes each device after those before, with the number of its unit, and leaves it as it is
+abbrev pub Notes : List (ℕ × DeviceView) → (lun : ℕ) → (before after : DeviceView) → List (ℕ × DeviceView) → Type 0
+Notes old lun before after new = (after ≡ before) × (new ≡ old ++ (lun, before) ∷ [])

@@ -1,7 +1,7 @@
 -- What is to be kept of a command that ended GOOD, by its class (SSC-4, SMC-3, and profile).
 use Rattle.std.specs.Prelude.{Bool, true, false, if◌then◌else◌}
-use Rattle.permit_tables.specs.declared.classes.Class.{Class}
-use Rattle.permit_tables.specs.declared.classes.Class.TheVariants as class
+use Rattle.scsi_cdb.specs.declared.classes.Class.{Class}
+use Rattle.scsi_cdb.specs.declared.classes.Class.TheVariants as class
 use Rattle.kept_media.specs.declared.wish.Wish.{Wish}
 use Rattle.kept_media.specs.declared.wish.Wish.TheVariants.{Nothing, Behind, Volume, VolumeBehind, Move}
 

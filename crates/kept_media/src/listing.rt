@@ -40,9 +40,9 @@ impl Listing {
 }
 
 impl Attendant<Device> for Listing {
-    ghost looks_after = { λ _ before after _. after ≡ before };
+    ghost looks_after = { λ _ _ before after _. after ≡ before };
 
-    fn attend(&mut self, device: &mut Device) {
+    fn attend(&mut self, _: u8, device: &mut Device) {
         let size = self.inventory.size();
         for number in 0..u16::from(size.drives) {
             let address = FIRST_DATA_TRANSFER.saturating_add(number);

@@ -32,9 +32,9 @@ pub(crate) struct BayLook {
 }
 
 impl Attendant<Device> for BayLook {
-    ghost looks_after = { λ old before after new. (new.found ≡ held_in before 0) × (after ≡ before) };
+    ghost looks_after = { λ old lun before after new. (new.found ≡ held_in before 0) × (after ≡ before) };
 
-    fn attend(&mut self, device: &mut Device) {
+    fn attend(&mut self, _: u8, device: &mut Device) {
         self.found = device.held(0);
     }
 }
@@ -69,9 +69,9 @@ impl VolumeLook {
 }
 
 impl Attendant<Device> for VolumeLook {
-    ghost looks_after = { λ _ before after _. after ≡ before };
+    ghost looks_after = { λ _ _ before after _. after ≡ before };
 
-    fn attend(&mut self, device: &mut Device) {
+    fn attend(&mut self, _: u8, device: &mut Device) {
         match device.kind() {
             Kind::Drive => self.look_from(device, 0, 1),
             Kind::Changer => {
@@ -108,9 +108,9 @@ impl<'a, S: ImageStore> PartLook<'a, S> {
 }
 
 impl<'a, S: ImageStore> Attendant<Device> for PartLook<'a, S> {
-    ghost looks_after = { λ old before after new. WasTaken old.kept.now before old.at.place old.at.tag new.taken new.part.now × (after ≡ settled_by new.taken old.at.place before) };
+    ghost looks_after = { λ old lun before after new. WasTaken old.kept.now before old.at.place old.at.tag new.taken new.part.now × (after ≡ settled_by new.taken old.at.place before) };
 
-    fn attend(&mut self, device: &mut Device) {
+    fn attend(&mut self, _: u8, device: &mut Device) {
         let taken = self.take(device);
         if let Some(Ok(range)) = taken {
             device.settle(self.at.place, range.end);

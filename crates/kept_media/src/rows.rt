@@ -1,4 +1,4 @@
-ghost use Rattle.std.specs.Prelude.{◌≡◌, ◌≢◌, [], ◌∷◌, Err, None, Ok, Some};
+ghost use Rattle.std.specs.Prelude.{◌≡◌, ◌≢◌, ℕ, [], ◌∷◌, Err, None, Ok, Some};
 ghost use Rattle.device_server.specs.Attending.{WasAsked};
 ghost use Rattle.device_server.specs.Drive.{empty_drive};
 ghost use Rattle.device_server.specs.View.{DeviceView, Drive, Changer};
@@ -26,10 +26,11 @@ pub fn look_rows(a: VolumeTag, b: VolumeTag)
     ensures unsettled { (fault : FlushFault) → (settled_by (Some (Err fault)) 0 (Drive (loaded_drive b)) ≡ Drive (loaded_drive b)) × (settled_by None 0 (Drive (loaded_drive b)) ≡ Drive (loaded_drive b)) }
 {}
 
-/// Worked rows: an attendant that notes each device which it is let at was asked once, and at a drive.
+/// Worked rows: an attendant that notes each device which it is let at was asked once, at a drive, and at that of unit 1.
 pub fn asked_rows()
-    ensures once { WasAsked Notes kind.Drive [] (Drive empty_drive ∷ []) }
-    ensures never { ¬ WasAsked Notes kind.Drive [] [] }
-    ensures twice { (first second : DeviceView) → ¬ WasAsked Notes kind.Drive [] (first ∷ second ∷ []) }
-    ensures another_kind { ¬ WasAsked Notes kind.Changer [] (Drive empty_drive ∷ []) }
+    ensures once { WasAsked Notes 1 kind.Drive [] ((1, Drive empty_drive) ∷ []) }
+    ensures never { ¬ WasAsked Notes 1 kind.Drive [] [] }
+    ensures twice { (first second : ℕ × DeviceView) → ¬ WasAsked Notes 1 kind.Drive [] (first ∷ second ∷ []) }
+    ensures another_kind { ¬ WasAsked Notes 1 kind.Changer [] ((1, Drive empty_drive) ∷ []) }
+    ensures another_unit { ¬ WasAsked Notes 2 kind.Drive [] ((1, Drive empty_drive) ∷ []) }
 {}

@@ -1,7 +1,7 @@
 ghost use Rattle.std.specs.Prelude.{◌≡◌};
 ghost use Rattle.kept_media.specs.Wishes.{wish_of};
 
-use permit_tables::Class;
+use scsi_cdb::Class;
 
 /// What is to be kept of a command that ended GOOD.
 #[derive(Clone, Copy)]

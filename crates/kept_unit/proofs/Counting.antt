@@ -65,7 +65,7 @@ same_kept lun u v count total total' was since same kept grew more =
 record Happened (lun : ℕ) (u v : UnitView) (r : Reply) : Type 0 where
   pub kind : kind_of v.device ≡ kind_of u.device
   pub drives : drives_of v.device ≡ drives_of u.device
-  pub place : v.kept.lun ≡ u.kept.lun
+  pub place : v.state.lun ≡ u.state.lun
   pub last : last_number v ≡ last_number u + count_at lun (own_number lun r.number)
 
 unchanged : (lun : ℕ) (u v : UnitView) (r : Reply) → v ≡ u → r.number ≡ 0 → Happened lun u v r
@@ -82,7 +82,7 @@ loses_as lun true u v n number r h is =
 
 lost_happened : (lun : ℕ) (u v : UnitView) (n : Nexus) (r : Reply) → IsLost u n (v, r) → Happened lun u v r
 lost_happened lun u v n r (inl same) = unchanged lun u v r (ap (λ (x : UnitView × Reply). x.0) same.0) (ap (λ (x : UnitView × Reply). x.1.number) same.0)
-lost_happened lun u v n r (inr lost) = loses_as lun (has_slot u.kept.slots n) u v n lost.0 r lost.1 (ap (λ (x : Reply). x.number) lost.2)
+lost_happened lun u v n r (inr lost) = loses_as lun (has_slot u.state.slots n) u v n lost.0 r lost.1 (ap (λ (x : Reply). x.number) lost.2)
 
 pub lost_kept : (lun : ℕ) (u v : UnitView) (n : Nexus) (r : Reply) (count total total' was since : ℕ) → IsLost u n (v, r)
     → IsKept lun u total was since → count ≡ count_at lun (own_number lun r.number) → total' ≡ total + count → IsKept lun v total' was since
@@ -105,14 +105,14 @@ count_single k n = grind (arith, nat_tests)
 count_apart : (k l n : ℕ) → k ≢ l → count_at k ((l, n) ∷ []) ≡ 0
 count_apart k l n apart = grind (arith, nat_tests)
 
-pub count_own : (k : ℕ) (u v : UnitView) → NoneOrOne u v → u.kept.lun ≡ k → last_number v ≡ last_number u + count_at k (numbers_of u v)
+pub count_own : (k : ℕ) (u v : UnitView) → NoneOrOne u v → u.state.lun ≡ k → last_number v ≡ last_number u + count_at k (numbers_of u v)
 count_own k u v (inl same) is = same ∙ rw (none_more u v same) (omega arith)
 count_own k u v (inr more) is =
     more ∙ ap (λ c. last_number u + c) (sym (ap (count_at k) (one_more u v more ∙ ap (λ (l : ℕ). (l, last_number u + 1) ∷ []) is) ∙ count_single k (last_number u + 1)))
 
-pub count_other : (k : ℕ) (u v : UnitView) → NoneOrOne u v → k ≢ u.kept.lun → count_at k (numbers_of u v) ≡ 0
+pub count_other : (k : ℕ) (u v : UnitView) → NoneOrOne u v → k ≢ u.state.lun → count_at k (numbers_of u v) ≡ 0
 count_other k u v (inl same) apart = ap (count_at k) (none_more u v same)
-count_other k u v (inr more) apart = ap (count_at k) (one_more u v more) ∙ count_apart k u.kept.lun (last_number u + 1) apart
+count_other k u v (inr more) apart = ap (count_at k) (one_more u v more) ∙ count_apart k u.state.lun (last_number u + 1) apart
 
 pub count_both : (k : ℕ) (xs ys : List (ℕ × ℕ)) → count_at k (xs ++ ys) ≡ count_at k xs + count_at k ys
 count_both k xs ys = sum_by-append (λ (p : ℕ × ℕ). cond (nat_eq p.0 k) 1 0) xs ys

@@ -11,7 +11,7 @@ pub record OneCounts (c d v e : UnitView) (lun : ℕ) (items : List (ℕ × ℕ)
   pub drive : last_number e ≡ last_number d + count_at lun items
   pub only : (k : ℕ) → k ≢ 0 → k ≢ lun → count_at k items ≡ 0
 
-pub one_counts : (c d v e : UnitView) (lun : ℕ) (items : List (ℕ × ℕ)) → items ≡ numbers_of c v ++ numbers_of d e → c.kept.lun ≡ 0 → d.kept.lun ≡ lun → 0 < lun → NoneOrOne c v → NoneOrOne d e → OneCounts c d v e lun items
+pub one_counts : (c d v e : UnitView) (lun : ℕ) (items : List (ℕ × ℕ)) → items ≡ numbers_of c v ++ numbers_of d e → c.state.lun ≡ 0 → d.state.lun ≡ lun → 0 < lun → NoneOrOne c v → NoneOrOne d e → OneCounts c d v e lun items
 one_counts c d v e lun items is at_c at_d drive changer moved =
     let split = λ (k : ℕ). ap (count_at k) is ∙ count_both k (numbers_of c v) (numbers_of d e) in
     let own_c = count_own 0 c v changer at_c in
@@ -35,7 +35,7 @@ pub record TwoCounts (c l h v m i : UnitView) (lower upper : ℕ) (items : List 
   pub high : last_number i ≡ last_number h + count_at upper items
   pub only : (k : ℕ) → k ≢ 0 → k ≢ lower → k ≢ upper → count_at k items ≡ 0
 
-pub two_counts : (c l h v m i : UnitView) (low high : ℕ) (items : List (ℕ × ℕ)) → items ≡ numbers_of c v ++ numbers_of l m ++ numbers_of h i → c.kept.lun ≡ 0 → l.kept.lun ≡ low → h.kept.lun ≡ high → 0 < low → low < high
+pub two_counts : (c l h v m i : UnitView) (low high : ℕ) (items : List (ℕ × ℕ)) → items ≡ numbers_of c v ++ numbers_of l m ++ numbers_of h i → c.state.lun ≡ 0 → l.state.lun ≡ low → h.state.lun ≡ high → 0 < low → low < high
     → NoneOrOne c v → NoneOrOne l m → NoneOrOne h i → TwoCounts c l h v m i low high items
 two_counts c l h v m i low high items is at_c at_l at_h drive above changer lower upper =
     let split = λ (k : ℕ). ap (count_at k) is ∙ count_both k (numbers_of c v ++ numbers_of l m) (numbers_of h i) ∙ ap (λ n. n + count_at k (numbers_of h i)) (count_both k (numbers_of c v) (numbers_of l m)) in

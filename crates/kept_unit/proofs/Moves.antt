@@ -19,7 +19,7 @@ pub record OneMove (c d v e : UnitView) (lun : ℕ) (items : List (ℕ × ℕ)) 
 
 pub one_move : (c d v e : UnitView) (lun : ℕ) (n : Nexus) (cdb bytes : List ℕ) (r : Reply) (items : List (ℕ × ℕ))
     → named (drives_of c.device) cdb ≡ lun ∷ [] → MovesOne c d n cdb bytes ((v, r), e) → items ≡ numbers_of c v ++ numbers_of d e
-    → c.kept.lun ≡ 0 → d.kept.lun ≡ lun → 0 < lun → OneMove c d v e lun items
+    → c.state.lun ≡ 0 → d.state.lun ≡ lun → 0 < lun → OneMove c d v e lun items
 one_move c d v e lun n cdb bytes r items names moves numbers at_c at_d above =
     let told = one_told c d v e (act_of (kind_of c.device) cdb bytes) r items (one_settled c d v e n cdb bytes r lun [] names moves) numbers in
     let same = one_same c d v e n cdb bytes r lun [] names moves in
@@ -34,7 +34,7 @@ pub record TwoMove (c v : UnitView) (ds es : TwoDrives) (lower upper : ℕ) (ite
 
 pub two_move : (c v : UnitView) (ds es : TwoDrives) (lower upper : ℕ) (n : Nexus) (cdb bytes : List ℕ) (r : Reply) (items : List (ℕ × ℕ))
     → named (drives_of c.device) cdb ≡ lower ∷ upper ∷ [] → MovesTwo c ds n cdb bytes ((v, r), es) → items ≡ numbers_of c v ++ numbers_of ds.low es.low ++ numbers_of ds.high es.high
-    → c.kept.lun ≡ 0 → ds.low.kept.lun ≡ lower → ds.high.kept.lun ≡ upper → 0 < lower → lower < upper → TwoMove c v ds es lower upper items
+    → c.state.lun ≡ 0 → ds.low.state.lun ≡ lower → ds.high.state.lun ≡ upper → 0 < lower → lower < upper → TwoMove c v ds es lower upper items
 two_move c v ds es lower upper n cdb bytes r items names moves numbers at_c at_l at_h above over =
     let told = two_told c v ds es (act_of (kind_of c.device) cdb bytes) r items (two_settled c v ds es n cdb bytes r lower (upper ∷ []) names moves) numbers in
     let same = two_same c v ds es n cdb bytes r lower (upper ∷ []) names moves in

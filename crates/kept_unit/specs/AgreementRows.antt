@@ -1,7 +1,7 @@
 -- Worked rows: what seats have noted that agrees with a trail of drive 1, and what doesn't. Five numbers were used before; the trail has record 6, of
 -- A's TEST UNIT READY, and record 7, of a volume that came in by B's move at the changer.
 use Rattle.std.specs.Prelude.{ℕ, false, List, [], ◌∷◌, Some, None}
-use Rattle.permit_tables.specs.declared.classes.Class.TheVariants as class
+use Rattle.scsi_cdb.specs.declared.classes.Class.TheVariants as class
 use Rattle.scsi_nexus.specs.declared.nexus.Nexus.{Nexus}
 use Rattle.scsi_sense.specs.declared.status.Status.{Status}
 use Rattle.scsi_sense.specs.declared.status.Status.TheVariants.{Good, ReservationConflict}

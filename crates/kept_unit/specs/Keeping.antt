@@ -14,7 +14,7 @@ pub record KeptValue : Type 0 where
 -- the unit is that of the number, and the book's total is how many numbers it has used since
 pub record IsKept (lun : ℕ) (unit : UnitView) (total was since : ℕ) : Type 0 where
   pub kind : kind_of unit.device ≡ kind_at lun
-  pub place : unit.kept.lun ≡ lun
+  pub place : unit.state.lun ≡ lun
   pub few : drives_of unit.device < 2 ^ 8
   pub last : last_number unit ≡ since + total
   pub first : was ≡ since

@@ -60,7 +60,7 @@ impl<const LUN: u8, L: UnitLedger, D: DeviceServer> Kept<LUN, L, D> {
         part: Share<L>,
     ) -> Kept<LUN, L, D>
         requires kind { kind_of unit.unit.device ≡ kind_at LUN }
-        requires lun { unit.unit.kept.lun ≡ LUN }
+        requires lun { unit.unit.state.lun ≡ LUN }
         requires few { drives_of unit.unit.device < 2 ^ 8 }
         requires since { last_number unit.unit ≡ L.since }
         requires unused { book.total ≡ 0 }
@@ -87,7 +87,7 @@ impl<const LUN: u8, L: UnitLedger, D: DeviceServer> Kept<LUN, L, D> {
 
     /// Whether a nexus has a slot at the unit, or finds one. Nothing changes.
     pub fn has_room(&mut self, nexus: Nexus) -> bool
-        ensures room { result ≡ has_room self.old.unit.kept nexus }
+        ensures room { result ≡ has_room self.old.unit.state nexus }
         ensures same { self.new ≡ self.old }
     {
         self.unit.has_room(nexus)
@@ -141,7 +141,7 @@ impl<const LUN: u8, L: UnitLedger, D: DeviceServer> Kept<LUN, L, D> {
         requires { rest.parts + 1 ≡ L.parts }
         ensures unit { result.unit ≡ self.unit }
         ensures kind { kind_of result.unit.device ≡ kind_at LUN }
-        ensures lun { result.unit.kept.lun ≡ LUN }
+        ensures lun { result.unit.state.lun ≡ LUN }
         ensures sum { last_number result.unit ≡ L.since + (count self.handed_over + rest.amount) }
     {
         let Kept {
@@ -158,7 +158,7 @@ impl<const LUN: u8, L: UnitLedger, D: DeviceServer> Kept<LUN, L, D> {
     /// memory.
     pub fn drain(&mut self, alloc: Global) -> Vec<Record>
         ensures records { result.items ≡ self.old.unit.records }
-        ensures trail { IsTrail self.old.unit.base self.old.unit.records self.old.unit.kept }
+        ensures trail { IsTrail self.old.unit.base self.old.unit.records self.old.unit.state }
         ensures unit { self.new.unit ≡ drained self.old.unit }
         ensures book { self.new.total ≡ self.old.total }
         ensures handed_over { self.new.handed_over ≡ self.old.handed_over }
@@ -172,7 +172,7 @@ impl<const LUN: u8, L: UnitLedger, D: DeviceServer> Kept<LUN, L, D> {
     pub fn drain_into(&mut self, records: &mut Vec<Record>)
         requires { records.old.items ≡ [] }
         ensures records { records.new.items ≡ self.old.unit.records }
-        ensures trail { IsTrail self.old.unit.base self.old.unit.records self.old.unit.kept }
+        ensures trail { IsTrail self.old.unit.base self.old.unit.records self.old.unit.state }
         ensures unit { self.new.unit ≡ drained self.old.unit }
         ensures book { self.new.total ≡ self.old.total }
         ensures handed_over { self.new.handed_over ≡ self.old.handed_over }
@@ -184,7 +184,7 @@ impl<const LUN: u8, L: UnitLedger, D: DeviceServer> Kept<LUN, L, D> {
     /// unchanged.
     #[tactic(auto, using(device_server::proofs::SettledLemmas::same_settled))]
     pub fn attend<A: Attendant<D>>(&mut self, attendant: &mut A)
-        ensures asked { A.looks_after attendant.old self.old.unit.device self.new.unit.device attendant.new }
+        ensures asked { A.looks_after attendant.old LUN self.old.unit.device self.new.unit.device attendant.new }
         ensures kind { kind_of self.old.unit.device ≡ kind_at LUN }
         ensures same { SameButSettled self.old.unit.device self.new.unit.device }
         ensures rest { self.new ≡ record self.old { unit = record self.old.unit { device = self.new.unit.device } } }

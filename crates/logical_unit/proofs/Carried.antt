@@ -31,7 +31,7 @@ Settled c v act r drives after carried =
 
 ends_recorded : (c v : UnitView) (n : Nexus) (cdb bytes : List ℕ) (r : Reply) (device : DeviceView) (reply : Reply) → Ends c v n cdb bytes r device reply → Recorded c v (act_of (kind_of c.device) cdb bytes)
 ends_recorded c v n cdb bytes r device reply ends =
-    recorded_one c v n (act_of (kind_of c.device) cdb bytes) (record { device = device; kept = c.kept }) ends.decision reply r ends.unit
+    recorded_one c v n (act_of (kind_of c.device) cdb bytes) (record { device = device; state = c.state }) ends.decision reply r ends.unit
 
 pub settled : {A : Type 0} (c v : UnitView) (n : Nexus) (cdb bytes : List ℕ) (r : Reply) (drives after : A) (carried : Result (DeviceView × A) Condition) → Became c v n cdb bytes r drives after carried
     → Settled c v (act_of (kind_of c.device) cdb bytes) r drives after carried
@@ -130,7 +130,7 @@ recorded_kind items c v act r records kind (inr one) is none last = last c.recor
 
 has_number : (c v : UnitView) (items others : List (ℕ × ℕ)) → last_number v ≡ last_number c + 1 → items ≡ numbers_of c v ++ others → items ≡ [] → ⊥
 has_number c v items others more is none =
-    let one : items ≡ (c.kept.lun, last_number c + 1) ∷ others = is ∙ ap (λ (ns : List (ℕ × ℕ)). ns ++ others) (one_more c v more) in
+    let one : items ≡ (c.state.lun, last_number c + 1) ∷ others = is ∙ ap (λ (ns : List (ℕ × ℕ)). ns ++ others) (one_more c v more) in
     absurd cc
 
 -- with one drive, by the numbers that the changer and the drive have more

@@ -179,36 +179,36 @@ module _ (ty : ResType) (ro : Role) (closed : row_allows Changing ty ro ≡ fals
         | None ↦ stepped_same d r bytes h
       ]
 
-module _ (u : JudgedUnit) (n : Nexus) (closed : MayNotChange u.kept.reservations n) where
+module _ (u : JudgedUnit) (n : Nexus) (closed : MayNotChange u.state.reservations n) where
   abbrev Keeps : JudgedUnit × Decision × Reply → Type 0
   Keeps x = SameContents u.device x.0.device
 
   self : SameContents u.device u.device
-  self = device_self (res_type u.kept.reservations) (role u.kept.reservations n) closed u.device
+  self = device_self (res_type u.state.reservations) (role u.state.reservations n) closed u.device
 
   prevents_keeps : (zero one : Bool) → Keeps (prevents_by u n zero one)
   prevents_keeps true one = self
   prevents_keeps false true = self
   prevents_keeps false false = self
 
-  steps_keeps : (at : Cell) (r : Request) (bytes : List ℕ) (b : Bool) → is_allowed (class_of r) (res_type u.kept.reservations) (role u.kept.reservations n) ≡ true → Keeps (at_cell at (cond b (u, at_stage stage.Device, check MediumRemovalPrevented) (steps u n (performed u.device r bytes))))
+  steps_keeps : (at : Cell) (r : Request) (bytes : List ℕ) (b : Bool) → is_allowed (class_of r) (res_type u.state.reservations) (role u.state.reservations n) ≡ true → Keeps (at_cell at (cond b (u, at_stage stage.Device, check MediumRemovalPrevented) (steps u n (performed u.device r bytes))))
   steps_keeps at r bytes true lets = self
-  steps_keeps at r bytes false lets = performed_same (res_type u.kept.reservations) (role u.kept.reservations n) closed u.device r bytes lets
+  steps_keeps at r bytes false lets = performed_same (res_type u.state.reservations) (role u.state.reservations n) closed u.device r bytes lets
 
-  performs_keeps : (at : Cell) (r : Request) (bytes : List ℕ) → is_allowed (class_of r) (res_type u.kept.reservations) (role u.kept.reservations n) ≡ true → Keeps (at_cell at (performs u n r bytes))
+  performs_keeps : (at : Cell) (r : Request) (bytes : List ℕ) → is_allowed (class_of r) (res_type u.state.reservations) (role u.state.reservations n) ≡ true → Keeps (at_cell at (performs u n r bytes))
   performs_keeps at r bytes lets =
-      elim (field_fault u.device r bytes) as (λ (o : Option Condition). Keeps (at_cell at (elim o [ Some condition ↦ (u, at_stage Fields, check condition) | None ↦ cond (unloads r && is_prevented u.kept) (u, at_stage stage.Device, check MediumRemovalPrevented) (steps u n (performed u.device r bytes)) ]))) [
+      elim (field_fault u.device r bytes) as (λ (o : Option Condition). Keeps (at_cell at (elim o [ Some condition ↦ (u, at_stage Fields, check condition) | None ↦ cond (unloads r && is_prevented u.state) (u, at_stage stage.Device, check MediumRemovalPrevented) (steps u n (performed u.device r bytes)) ]))) [
         | Some condition ↦ self
-        | None ↦ steps_keeps at r bytes (unloads r && is_prevented u.kept) lets
+        | None ↦ steps_keeps at r bytes (unloads r && is_prevented u.state) lets
       ]
 
   allowed_class : (b : Bool) (c : Cell) → cond b Allowed (Denied c) ≡ Allowed → b ≡ true
   allowed_class true c h = refl
   allowed_class false c h = cc
 
-  carried_keeps : (at : Cell) (c : Command) (bytes : List ℕ) → verdict_of u.kept.reservations n c ≡ Allowed → Keeps (at_cell at (carried_out u n c bytes))
+  carried_keeps : (at : Cell) (c : Command) (bytes : List ℕ) → verdict_of u.state.reservations n c ≡ Allowed → Keeps (at_cell at (carried_out u n c bytes))
   carried_keeps at (ReserveOut p) bytes v =
-      elim (refusal u.kept.reservations n p) as (λ (o : Option PrFault). Keeps (at_cell at (elim o [ Some fault ↦ (u, at_stage Fields, check (condition_of_refusal fault)) | None ↦ (record u { kept = accepted u.kept n p }, at_stage stage.Device, good []) ]))) [
+      elim (refusal u.state.reservations n p) as (λ (o : Option PrFault). Keeps (at_cell at (elim o [ Some fault ↦ (u, at_stage Fields, check (condition_of_refusal fault)) | None ↦ (record u { state = accepted u.state n p }, at_stage stage.Device, good []) ]))) [
         | Some fault ↦ self
         | None ↦ self
       ]

@@ -1,9 +1,9 @@
--- A command that a CDB spells for the device is none that every unit has, so what it changes of what is kept are the attentions of
--- changed mode parameters alone; and bytes that spell none are reported by three conditions.
+-- A command that a CDB decodes to for the device is none that every unit has, so what it changes of what is kept are the attentions of
+-- changed mode parameters alone; and bytes that decode to none are reported by three conditions.
 use Rattle.std.proofs.Common.{◌≡◌, ℕ, Bool, true, false, List, Result, Ok, Err, refl}
 use Rattle.std.specs.Prelude.{cond}
-use Rattle.permit_tables.specs.declared.classes.Class.{Class}
-use Rattle.permit_tables.specs.declared.classes.Class.TheVariants as class
+use Rattle.scsi_cdb.specs.declared.classes.Class.{Class}
+use Rattle.scsi_cdb.specs.declared.classes.Class.TheVariants as class
 use Rattle.scsi_cdb.specs.declared.fault.CdbFault.{CdbFault}
 use Rattle.scsi_cdb.specs.declared.fault.CdbFault.TheVariants.{Opcode, ShortCdb, ServiceAction, Naca}
 use Rattle.scsi_cdb.specs.declared.kind.Kind.{Kind}

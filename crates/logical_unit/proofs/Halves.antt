@@ -58,14 +58,14 @@ passed_by changer taker r o = elim o [ Ok it ↦ handed changer r it.0 it.1 (rec
 -- OUT OF A DRIVE
 pub record IsOut (d e : UnitView) (v : Volume) : Type 0 where
   pub kind : kind_of d.device ≡ kind.Drive
-  pub free : is_prevented d.kept ≡ false
+  pub free : is_prevented d.state ≡ false
   pub device : DeviceView
   pub taken : taken d.device 0 ≡ Ok (v, device)
-  pub unit : e ≡ with_event d None MediumOut (record { device = device; kept = d.kept })
+  pub unit : e ≡ with_event d None MediumOut (record { device = device; state = d.state })
 
-out_as : (d e : UnitView) (v : Volume) (o : Result (Volume × DeviceView) TakeFault) → taken d.device 0 ≡ o → kind_of d.device ≡ kind.Drive → is_prevented d.kept ≡ false → taken_as d o ≡ Ok (v, e) → IsOut d e v
+out_as : (d e : UnitView) (v : Volume) (o : Result (Volume × DeviceView) TakeFault) → taken d.device 0 ≡ o → kind_of d.device ≡ kind.Drive → is_prevented d.state ≡ false → taken_as d o ≡ Ok (v, e) → IsOut d e v
 out_as d e v (Ok it) there k free h =
-    let is : ◌≡◌ {A = Volume × UnitView} (it.0, with_event d None MediumOut (record { device = it.1; kept = d.kept })) (v, e) = cc in
+    let is : ◌≡◌ {A = Volume × UnitView} (it.0, with_event d None MediumOut (record { device = it.1; state = d.state })) (v, e) = cc in
     record {
       kind = k;
       free = free;
@@ -78,20 +78,20 @@ out_as d e v (Err fault) there k free h = absurd cc
 abbrev pub out_by : UnitView → Kind → Bool → Result (Volume × UnitView) MediumFault
 out_by d k prevented = elim k [ kind.Changer ↦ Err NotADrive | kind.Drive ↦ cond prevented (Err Prevented) (taken_as d (taken d.device 0)) ]
 
-out_kind : (d e : UnitView) (v : Volume) (k : Kind) (prevented : Bool) → kind_of d.device ≡ k → is_prevented d.kept ≡ prevented → out_by d k prevented ≡ Ok (v, e) → IsOut d e v
+out_kind : (d e : UnitView) (v : Volume) (k : Kind) (prevented : Bool) → kind_of d.device ≡ k → is_prevented d.state ≡ prevented → out_by d k prevented ≡ Ok (v, e) → IsOut d e v
 out_kind d e v kind.Changer prevented k p h = absurd cc
 out_kind d e v kind.Drive true k p h = absurd cc
 out_kind d e v kind.Drive false k p h = out_as d e v (taken d.device 0) refl k p h
 
 pub is_out : (d e : UnitView) (v : Volume) → taken_out d ≡ Ok (v, e) → IsOut d e v
-is_out d e v h = out_kind d e v (kind_of d.device) (is_prevented d.kept) refl refl h
+is_out d e v h = out_kind d e v (kind_of d.device) (is_prevented d.state) refl refl h
 
 -- INTO A DRIVE
 pub record IsIn (d e : UnitView) (v : Volume) : Type 0 where
   pub kind : kind_of d.device ≡ kind.Drive
   pub device : DeviceView
   pub put : put d.device 0 v ≡ Ok device
-  pub unit : e ≡ with_event d None MediumIn (record { device = device; kept = with_medium d.kept })
+  pub unit : e ≡ with_event d None MediumIn (record { device = device; state = with_medium d.state })
 
 in_as : (d e : UnitView) (v : Volume) (o : Result DeviceView PutFault) → put d.device 0 v ≡ o → kind_of d.device ≡ kind.Drive → put_as d o ≡ Ok e → IsIn d e v
 in_as d e v (Ok device) there k h = record { kind = k; device = device; put = there; unit = cc }

@@ -31,14 +31,14 @@ busy_keeps v n (Ok (Device r)) = refl
 -- a unit with the same device, its number, its target's units, and what the history says of its reservations
 pub record Stays (u : UnitView) (n : Nexus) (c : Result Command Condition) (x : UnitView × Reply) : Type 0 where
   pub device : IsSameDevice u.device x.0.device
-  pub lun : x.0.kept.lun ≡ u.kept.lun
-  pub units : x.0.kept.units ≡ u.kept.units
-  pub reservations : x.0.kept.reservations ≡ after_history u.kept.reservations (accepted_as n x.1.status c)
+  pub lun : x.0.state.lun ≡ u.state.lun
+  pub units : x.0.state.units ≡ u.state.units
+  pub reservations : x.0.state.reservations ≡ after_history u.state.reservations (accepted_as n x.1.status c)
 
 pub executes_stays : (u v : UnitView) (n : Nexus) (cdb bytes : List ℕ) (r : Reply) → Executes u n cdb bytes (v, r) → Stays u n (decoded_command (kind_of u.device) cdb bytes) (v, r)
 executes_stays u v n cdb bytes r (inl e) =
     let c = decoded_command (kind_of u.device) cdb bytes in
-    subst (Stays u n c) (sym e) (record { device = record { kind = refl; drives = refl }; lun = refl; units = refl; reservations = busy_keeps u.kept.reservations n c })
+    subst (Stays u n c) (sym e) (record { device = record { kind = refl; drives = refl }; lun = refl; units = refl; reservations = busy_keeps u.state.reservations n c })
 executes_stays u v n cdb bytes r (inr e) =
     let c = decoded_command (kind_of u.device) cdb bytes in
     let judged = judged_is (contacted_present u n) n c bytes in
@@ -52,7 +52,7 @@ executes_marks u v n cdb bytes r (inr e) =
     subst (λ (x : UnitView × Reply). KeepsMarks u.device x.0.device) (sym e.2) (judged_is (contacted_present u n) n (decoded_command (kind_of u.device) cdb bytes) bytes).same.device
 
 pub executes_keeps : (u v : UnitView) (n : Nexus) (cdb bytes : List ℕ) (r : Reply) → Executes u n cdb bytes (v, r)
-    → v.kept.reservations ≡ after_history u.kept.reservations (accepted_by (kind_of u.device) n cdb bytes r.status)
+    → v.state.reservations ≡ after_history u.state.reservations (accepted_by (kind_of u.device) n cdb bytes r.status)
 executes_keeps u v n cdb bytes r e = (executes_stays u v n cdb bytes r e).reservations
 
 pub answers_no_busy : AnswersNoBusy

@@ -1,8 +1,8 @@
 -- In a legal trail each record changes the registrations, the reservation and the generation as the accepted history says.
 use Rattle.std.proofs.Common.{◌≡◌, ◌≢◌, Bool, true, false, List, [], ◌∷◌, ◌++◌, Option, Some, None, refl, sym, ap, ◌∙◌}
-use Rattle.permit_tables.specs.declared.classes.Class.{Class}
-use Rattle.permit_tables.specs.declared.classes.Class.TheVariants as class
-use Rattle.permit_tables.specs.Classes.{class_of_action}
+use Rattle.scsi_cdb.specs.declared.classes.Class.{Class}
+use Rattle.scsi_cdb.specs.declared.classes.Class.TheVariants as class
+use Rattle.scsi_cdb.specs.Classes.{class_of_action}
 use Rattle.scsi_nexus.specs.declared.nexus.Nexus.{Nexus}
 use Rattle.scsi_sense.specs.declared.status.Status.{Status}
 use Rattle.scsi_sense.specs.declared.status.Status.TheVariants.{Good, CheckCondition, Busy, ReservationConflict}
@@ -149,4 +149,4 @@ all_show k (e ∷ es) j =
     ∙ sym (after-append k.reservations (accepted_in e) (shown_history es))
 
 pub trail_shows : TrailHistory
-trail_shows base es now trail = ap (λ (v : UnitStateView). v.reservations) trail.present ∙ all_show base.kept es trail.judged
+trail_shows base es now trail = ap (λ (v : UnitStateView). v.reservations) trail.present ∙ all_show base.state es trail.judged

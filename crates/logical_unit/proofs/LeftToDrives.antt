@@ -3,7 +3,7 @@ use Rattle.std.proofs.Common.{◌≡◌, ℕ, Bool, true, false, List, Option, S
 use Rattle.std.specs.Prelude.{cond, is_some, [], ◌∷◌}
 use Rattle.std.specs.FinMap.{put}
 use Rattle.scsi_nexus.specs.Order.{nexus_cmp}
-use Rattle.permit_tables.specs.declared.classes.Class.TheVariants.{MoveMedium}
+use Rattle.scsi_cdb.specs.declared.classes.Class.TheVariants.{MoveMedium}
 use Rattle.scsi_cdb.specs.declared.kind.Kind.TheVariants as kind
 use Rattle.scsi_cdb.specs.declared.request.Request.{Request}
 use Rattle.scsi_cdb.specs.declared.request.Request.TheVariants as request
@@ -69,9 +69,9 @@ refusal_ends DestinationFull l = cc
 
 -- nothing stands before a command's own rules
 pub record GoesOn (u : JudgedUnit) (n : Nexus) (c : Command) : Type 0 where
-  pub ready : waiting (class_of_command c) (first_reset_of u.kept.slots n) ≡ None
-  pub allowed : verdict_of u.kept.reservations n c ≡ Allowed
-  pub clear : waiting (class_of_command c) (first_other_of u.kept.slots n) ≡ None
+  pub ready : waiting (class_of_command c) (first_reset_of u.state.slots n) ≡ None
+  pub allowed : verdict_of u.state.reservations n c ≡ Allowed
+  pub clear : waiting (class_of_command c) (first_other_of u.state.slots n) ≡ None
 
 module _ (u : JudgedUnit) (n : Nexus) (c : Command) (bytes : List ℕ) where
   -- the stages, by what each tests
@@ -112,14 +112,14 @@ module _ (u : JudgedUnit) (n : Nexus) (c : Command) (bytes : List ℕ) where
 
   pub left_is_own : is_left (commanded u n c bytes).2.sense ≡ true → IsOwn
   left_is_own l =
-      let ready = is_ready (waiting (class_of_command c) (first_reset_of u.kept.slots n)) l in
+      let ready = is_ready (waiting (class_of_command c) (first_reset_of u.state.slots n)) l in
       let at_check : commanded u n c bytes ≡ checked u n c bytes =
       ap by_reset ready in
       let checked_left = subst (λ (x : JudgedUnit × Decision × Reply). is_left x.2.sense ≡ true) at_check l in
-      let allowed = is_allowed (verdict_of u.kept.reservations n c) checked_left in
+      let allowed = is_allowed (verdict_of u.state.reservations n c) checked_left in
       let through : checked u n c bytes ≡ let_through u n c bytes = ap by_verdict allowed in
       let through_left = subst (λ (x : JudgedUnit × Decision × Reply). is_left x.2.sense ≡ true) through checked_left in
-      let clear = is_clear (waiting (class_of_command c) (first_other_of u.kept.slots n)) through_left in
+      let clear = is_clear (waiting (class_of_command c) (first_other_of u.state.slots n)) through_left in
       let own : let_through u n c bytes ≡ at_cell (cell_of u n c) (carried_out u n c bytes) =
       ap by_other clear in
       record { goes_on = record { ready = ready; allowed = allowed; clear = clear }; by_rules = at_check ∙ through ∙ own }
@@ -141,23 +141,23 @@ left_by e s d None l = record { free = refl; same = left_alone e (moves e s d) l
 -- a unit's device as it carries out a move, with what is kept
 abbrev pub after_step : UnitStateView → Nexus → Cell → Elements × Outcome → JudgedUnit × Decision × Reply
 after_step k n at step = at_cell at (
-  record { device = Changer step.0; kept = after_mode k n step.1.mode_changed },
+  record { device = Changer step.0; state = after_mode k n step.1.mode_changed },
   at_device
       step.1.mode_changed,
   replied step.1,
 )
 
 abbrev pub left_answer : Elements → UnitStateView → Cell → JudgedUnit × Decision × Reply
-left_answer e k at = (record { device = Changer e; kept = k }, in_cell at (at_device false), check InternalTargetFailure)
+left_answer e k at = (record { device = Changer e; state = k }, in_cell at (at_device false), check InternalTargetFailure)
 
 pub record IsLeftAt (e : Elements) (k : UnitStateView) (at : Cell) (t s d : ℕ) (x : JudgedUnit × Decision × Reply) : Type 0 where
   pub free : move_refusal e t s d ≡ None
   pub answer : x ≡ left_answer e k at
 
 pub by_field : (e : Elements) (k : UnitStateView) (n : Nexus) (at : Cell) (t s d : ℕ) (i : Bool) (bytes : List ℕ)
-    → is_left (at_cell at (carried_out (record { device = Changer e; kept = k }) n (Device (request.MoveMedium t s d i)) bytes)).2.sense ≡
+    → is_left (at_cell at (carried_out (record { device = Changer e; state = k }) n (Device (request.MoveMedium t s d i)) bytes)).2.sense ≡
     true
-    → IsLeftAt e k at t s d (at_cell at (carried_out (record { device = Changer e; kept = k }) n (Device (request.MoveMedium t s d i))
+    → IsLeftAt e k at t s d (at_cell at (carried_out (record { device = Changer e; state = k }) n (Device (request.MoveMedium t s d i))
     bytes))
 by_field e k n at t s d true bytes l = absurd cc
 by_field e k n at t s d false bytes l =
@@ -188,7 +188,7 @@ own_says m n at status sense class whole = record {
 
 module _ (device : DeviceView) (k : UnitStateView) (n : Nexus) (t s d : ℕ) (i : Bool) where
   abbrev pub unit : JudgedUnit
-  unit = record { device = device; kept = after_contact k n }
+  unit = record { device = device; state = after_contact k n }
 
   abbrev pub move : Command
   move = Device (request.MoveMedium t s d i)
@@ -231,16 +231,16 @@ module _ (device : DeviceView) (k : UnitStateView) (n : Nexus) (t s d : ℕ) (i 
   awaits : GoesOn unit n move → has_room k n ≡ true → after_contact k n ≡ k → AwaitsEnd k n (act.Command MoveMedium) found
   awaits goes room same = record {
     judged = λ m status sense whole. record { room = room; listless = refl; judged = commands goes m status sense whole };
-    kept = λ m status sense. same;
+    state = λ m status sense. same;
   }
 
 -- what is left, with nothing changed
 pub record Opens (device : DeviceView) (k : UnitStateView) (n : Nexus) (cdb bytes : List ℕ) (r : Route) (a : Act) (after : JudgedUnit)
     (f : Decision) (x : JudgedUnit × Decision × Reply) : Type 0 where
   pub left : is_left x.2.sense ≡ true
-  pub present : x.0 ≡ record { device = device; kept = k }
+  pub present : x.0 ≡ record { device = device; state = k }
   pub decision : x.1 ≡ f
-  pub same : after ≡ record { device = device; kept = k }
+  pub same : after ≡ record { device = device; state = k }
   pub awaits : AwaitsEnd k n a f
   pub ways : HasWays device r
 
@@ -248,12 +248,12 @@ pub opens : (device : DeviceView) (k : UnitStateView) (n : Nexus) (cdb bytes : L
     (after : JudgedUnit) (f : Decision) (reply : Reply)
     → kind_of device ≡ kind.Changer → DecodesTo (drives_of device) cdb r → has_room k n ≡ true → s ≡ decoded_command (kind_of device) cdb
     bytes → a ≡ act_of_decoded s
-    → judged_as (record { device = device; kept = after_contact k n }) n s bytes ≡ (after, f, reply) → is_left reply.sense ≡ true
-    → Opens device k n cdb bytes r a after f (judged_as (record { device = device; kept = after_contact k n }) n
+    → judged_as (record { device = device; state = after_contact k n }) n s bytes ≡ (after, f, reply) → is_left reply.sense ≡ true
+    → Opens device k n cdb bytes r a after f (judged_as (record { device = device; state = after_contact k n }) n
     (decoded_command (kind_of device) cdb bytes) bytes)
 opens (Drive v) k n cdb bytes r s a after f reply changer decodes room spelt asked judged l = absurd cc
 opens (Changer e) k n cdb bytes r s a after f reply changer decodes room spelt asked judged l =
-    let u : JudgedUnit = record { device = Changer e; kept = after_contact k n } in
+    let u : JudgedUnit = record { device = Changer e; state = after_contact k n } in
     let c : Command = Device (request.MoveMedium decodes.transport r.source r.destination decodes.invert) in
     let is : decoded_command kind.Changer cdb bytes ≡ Ok c = ap (λ (o : Result Request CdbFault). elim o
     [ Ok q ↦ command_of q bytes | Err fault ↦ Err (condition_of_fault fault) ]) decodes.reads in
@@ -274,10 +274,10 @@ opens (Changer e) k n cdb bytes r s a after f reply changer decodes room spelt a
     record {
       left = ap (λ (x : JudgedUnit × Decision × Reply). is_left x.2.sense) at_changer ∙ left_here;
       present = ap (λ (x : JudgedUnit × Decision × Reply). x.0) (at_changer ∙ answer) ∙ ap
-          (λ (v : UnitStateView). record { device = Changer e; kept = v }) met_is;
+          (λ (v : UnitStateView). record { device = Changer e; state = v }) met_is;
       decision = ap (λ (x : JudgedUnit × Decision × Reply). x.1) (at_changer ∙ judged_is);
       same = sym (ap (λ (x : JudgedUnit × Decision × Reply). x.0) judged_is) ∙ ap (λ (x : JudgedUnit × Decision × Reply). x.0) answer ∙ ap
-          (λ (v : UnitStateView). record { device = Changer e; kept = v }) met_is;
+          (λ (v : UnitStateView). record { device = Changer e; state = v }) met_is;
       awaits = subst (λ (x : Act). AwaitsEnd k n x f) asked_is (subst (λ (x : Decision). AwaitsEnd k n (act.Command MoveMedium) x)
           decision_is (awaits (Changer e) k n decodes.transport r.source r.destination decodes.invert own.goes_on room met_is));
       ways = has_ways e decodes.transport r by.free decodes.from decodes.to;

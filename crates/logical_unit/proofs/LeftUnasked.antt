@@ -48,14 +48,14 @@ left_fails None = refl
 -- a command before which nothing stands comes to its own rules
 comes : (u : JudgedUnit) (n : Nexus) (c : Command) → GoesOn u n c → is_carried_out u n c ≡ true
 comes u n c goes =
-    let clear : Bool = is_none (waiting (class_of_command c) (first_other_of u.kept.slots n)) in
-    ap (λ (o : Option Kind). is_none o && (is_allowed_by (verdict_of u.kept.reservations n c) && clear)) goes.ready
+    let clear : Bool = is_none (waiting (class_of_command c) (first_other_of u.state.slots n)) in
+    ap (λ (o : Option Kind). is_none o && (is_allowed_by (verdict_of u.state.reservations n c) && clear)) goes.ready
     ∙ ap (λ (v : Verdict). is_allowed_by v && clear) goes.allowed
     ∙ ap (λ (o : Option Kind). is_none o) goes.clear
 
 -- A MOVE AT A CHANGER, by its own rules
 own_fails : (e : Elements) (k : UnitStateView) (n : Nexus) (t s d : ℕ) (i : Bool) (bytes : List ℕ)
-    → is_left (carried_out (record { device = Changer e; kept = k }) n (Device (request.MoveMedium t s d i)) bytes).2.sense ≡ is_for_drives
+    → is_left (carried_out (record { device = Changer e; state = k }) n (Device (request.MoveMedium t s d i)) bytes).2.sense ≡ is_for_drives
     e (request.MoveMedium t s d i)
 own_fails e k n t s d true bytes = refl
 own_fails e k n t s d false bytes = left_fails (performed (Changer e) (request.MoveMedium t s d false) bytes).1.sense ∙
@@ -63,14 +63,14 @@ own_fails e k n t s d false bytes = left_fails (performed (Changer e) (request.M
 
 -- one that is left
 pub record IsLeftUnasked (e : Elements) (k : UnitStateView) (n : Nexus) (t s d : ℕ) (i : Bool) : Type 0 where
-  pub comes : is_carried_out (record { device = Changer e; kept = k }) n (Device (request.MoveMedium t s d i)) ≡ true
+  pub comes : is_carried_out (record { device = Changer e; state = k }) n (Device (request.MoveMedium t s d i)) ≡ true
   pub for_drives : is_for_drives e (request.MoveMedium t s d i) ≡ true
 
 left_unasked : (e : Elements) (k : UnitStateView) (n : Nexus) (t s d : ℕ) (i : Bool) (bytes : List ℕ)
-    → is_left (commanded (record { device = Changer e; kept = k }) n (Device (request.MoveMedium t s d i)) bytes).2.sense ≡ true →
+    → is_left (commanded (record { device = Changer e; state = k }) n (Device (request.MoveMedium t s d i)) bytes).2.sense ≡ true →
     IsLeftUnasked e k n t s d i
 left_unasked e k n t s d i bytes l =
-    let u : JudgedUnit = record { device = Changer e; kept = k } in
+    let u : JudgedUnit = record { device = Changer e; state = k } in
     let c : Command = Device (request.MoveMedium t s d i) in
     let own = left_is_own u n c bytes l in
     record {
@@ -98,14 +98,14 @@ ends_before (Changer e) old new n s c f reply bytes changer is move h =
 -- nor is what isn't for the drives
 answered_at : (e : Elements) (k : UnitStateView) (n : Nexus) (c : Command) (after : JudgedUnit) (f : Decision) (reply : Reply)
     (bytes : List ℕ)
-    → spells_move (Ok c) ≡ true → leaves (Changer e) c ≡ false → commanded (record { device = Changer e; kept = k }) n c bytes ≡
+    → spells_move (Ok c) ≡ true → leaves (Changer e) c ≡ false → commanded (record { device = Changer e; state = k }) n c bytes ≡
     (after, f, reply) → is_left reply.sense ≡ false
 answered_at e k n (Device (request.MoveMedium t s d i)) after f reply bytes move own h =
     is_false _ (λ l. apart _ (left_unasked e k n t s d i bytes (ap (λ (x : JudgedUnit × Decision × Reply). is_left x.2.sense) h ∙
     l)).for_drives own)
 answered_at e k n c after f reply bytes move own h = absurd cc
 
--- a command that bytes spell
+-- a decoded command
 abbrev pub leaves_as : DeviceView → Result Command Condition → Bool
 leaves_as device (Ok c) = leaves device c
 leaves_as device (Err condition) = false
@@ -113,7 +113,7 @@ leaves_as device (Err condition) = false
 pub answered_alone : (device : DeviceView) (k : UnitStateView) (n : Nexus) (s : Result Command Condition) (after : JudgedUnit)
     (f : Decision) (reply : Reply) (bytes : List ℕ)
     → kind_of device ≡ kind.Changer → spells_move s ≡ true → leaves_as device s ≡ false
-    → judged_as (record { device = device; kept = k }) n s bytes ≡ (after, f, reply) → is_left reply.sense ≡ false
+    → judged_as (record { device = device; state = k }) n s bytes ≡ (after, f, reply) → is_left reply.sense ≡ false
 answered_alone (Drive v) k n s after f reply bytes changer move own h = absurd cc
 answered_alone (Changer e) k n (Err condition) after f reply bytes changer move own h = absurd cc
 answered_alone (Changer e) k n (Ok c) after f reply bytes changer move own h = answered_at e k n c after f reply bytes move own h
@@ -121,7 +121,7 @@ answered_alone (Changer e) k n (Ok c) after f reply bytes changer move own h = a
 -- and what is left is answered by the device as it was, with nothing changed
 left_by_map : (e : Elements) (k : UnitStateView) (n : Nexus) (c : Command) (at : Cell) (bytes : List ℕ) → spells_move (Ok c) ≡ true → leaves
     (Changer e) c ≡ true
-    → at_cell at (carried_out (record { device = Changer e; kept = k }) n c bytes) ≡ left_answer e k at
+    → at_cell at (carried_out (record { device = Changer e; state = k }) n c bytes) ≡ left_answer e k at
 left_by_map e k n (Device (request.MoveMedium t s d i)) at bytes move left = (by_field e k n at t s d i bytes
     (own_fails e k n t s d i bytes ∙ left)).answer
 left_by_map e k n c at bytes move left = absurd cc
@@ -130,11 +130,11 @@ pub left_at : (device : DeviceView) (old new : UnitStateView) (n : Nexus) (s : R
     (bytes : List ℕ)
     → kind_of device ≡ kind.Changer → s ≡ Ok c → spells_move s ≡ true → leaves device c ≡ true → ComesThrough commanded is_carried_out old
     new n c at
-    → judged_as (record { device = device; kept = after_contact old n }) n s bytes
-    ≡ (record { device = device; kept = after_contact new n }, in_cell at (at_device false), check InternalTargetFailure)
+    → judged_as (record { device = device; state = after_contact old n }) n s bytes
+    ≡ (record { device = device; state = after_contact new n }, in_cell at (at_device false), check InternalTargetFailure)
 left_at (Drive v) old new n s c at bytes changer is move left h = absurd cc
 left_at (Changer e) old new n s c at bytes changer is move left h =
-    ap (λ (x : Result Command Condition). judged_as (record { device = Changer e; kept = after_contact old n }) n x bytes) is
+    ap (λ (x : Result Command Condition). judged_as (record { device = Changer e; state = after_contact old n }) n x bytes) is
     ∙ h.carried (Changer e) bytes
     ∙ left_by_map e (after_contact old n) n c at bytes (subst (λ (x : Result Command Condition). spells_move x ≡ true) is move) left
     ∙ ap (λ (k : UnitStateView). left_answer e (after_contact k n) at) (sym h.same)

@@ -1,7 +1,7 @@
 -- What is judged leaves a legal trail.
 use Rattle.std.proofs.Common.{◌≡◌, ℕ, Bool, true, false, ◌==◌, List, [], ◌∷◌, ◌++◌, Option, Some, None, Result, Ok, Err, refl, sym, ap, ◌∙◌, subst, inl, inr}
-use Rattle.permit_tables.specs.declared.classes.Class.{Class}
-use Rattle.permit_tables.specs.declared.classes.Class.TheVariants as class
+use Rattle.scsi_cdb.specs.declared.classes.Class.{Class}
+use Rattle.scsi_cdb.specs.declared.classes.Class.TheVariants as class
 use Rattle.scsi_nexus.specs.declared.nexus.Nexus.{Nexus}
 use Rattle.scsi_sense.specs.declared.condition.Condition.{Condition}
 use Rattle.scsi_sense.specs.declared.condition.Condition.TheVariants.{InvalidFieldInCdb, MediumRemovalPrevented}
@@ -52,7 +52,7 @@ entry m n a x = record_of m (Some n) a x.1 x.2.status x.2.sense
 
 -- a judgement's record says the right thing, and what is kept is what it leaves
 abbrev pub Fits : (Record → Type 0) → UnitStateView → Nexus → Command → ℕ → Act → JudgedUnit × Decision × Reply → Type 0
-Fits J k n c m a x = J (entry m n a x) × (x.0.kept ≡ left_at x.1.stage k n (list_of c) (class_of_command c) x.2.status x.1.mode_changed)
+Fits J k n c m a x = J (entry m n a x) × (x.0.state ≡ left_at x.1.stage k n (list_of c) (class_of_command c) x.2.status x.1.mode_changed)
 
 says : (m : ℕ) (n : Nexus) (a : Act) (f : Decision) (r : Reply) → Says (record_of m (Some n) a f r.status r.sense) f r
 says m n a f r = record { stage = refl; cell = refl; rule = refl; mode_changed = refl; status = refl; sense = refl }
@@ -90,20 +90,20 @@ data_left : (k : UnitStateView) (n : Nexus) (class : Class) (s : Status) (o : Op
 data_left k n class s (Some payload) l h = h
 data_left k n class s None l h = refl
 
-sensed_fits : (u : JudgedUnit) (n : Nexus) (at : Cell) (l : ℕ) (m : ℕ) (a : Act) (o : Option Kind) → pending_of u.kept.slots n ≡ o
-    → Fits (λ e. SaysItsOwn e at) u.kept n (RequestSense false l) m a (at_cell at (senses u (sensed u.kept n l o)))
-sensed_fits u n at l m a (Some kind) h = (good_says m n a at [], sym (ap (reported_if u.kept n) h))
-sensed_fits u n at l m a None h = (good_says m n a at [], sym (ap (reported_if u.kept n) h))
+sensed_fits : (u : JudgedUnit) (n : Nexus) (at : Cell) (l : ℕ) (m : ℕ) (a : Act) (o : Option Kind) → pending_of u.state.slots n ≡ o
+    → Fits (λ e. SaysItsOwn e at) u.state n (RequestSense false l) m a (at_cell at (senses u (sensed u.state n l o)))
+sensed_fits u n at l m a (Some kind) h = (good_says m n a at [], sym (ap (reported_if u.state n) h))
+sensed_fits u n at l m a None h = (good_says m n a at [], sym (ap (reported_if u.state n) h))
 
 prevent_fits : (u : JudgedUnit) (n : Nexus) (at : Cell) (m : ℕ) (a : Act) (zero one : Bool) → at.class ≡ (if zero then class.AllowRemoval else class.PreventRemoval)
     → SaysItsOwn (entry m n a (at_cell at (prevents_by u n zero one))) at
-    × ((prevents_by u n zero one).0.kept ≡ left_at (prevents_by u n zero one).1.stage u.kept n None (if zero then class.AllowRemoval else class.PreventRemoval) (prevents_by u n zero one).2.status (prevents_by u n zero one).1.mode_changed)
+    × ((prevents_by u n zero one).0.state ≡ left_at (prevents_by u n zero one).1.stage u.state n None (if zero then class.AllowRemoval else class.PreventRemoval) (prevents_by u n zero one).2.status (prevents_by u n zero one).1.mode_changed)
 prevent_fits u n at m a true one h = (good_says m n a at [], refl)
 prevent_fits u n at m a false true h = (good_says m n a at [], refl)
 prevent_fits u n at m a false false h = (field_says m n a at InvalidFieldInCdb (ap (λ k. is_field_fault k InvalidFieldInCdb) h), refl)
 
 steps_fits : (u : JudgedUnit) (n : Nexus) (r : Request) (bytes : List ℕ) (m : ℕ) (a : Act) → IsPlain (Device r) → (prevented : Bool)
-    → Fits (IsCarriedOut u.kept n None (class_of r)) u.kept n (Device r) m a (at_cell (cell_of u n (Device r)) (cond prevented (u, at_stage stage.Device, check MediumRemovalPrevented) (steps u n (performed u.device r bytes))))
+    → Fits (IsCarriedOut u.state n None (class_of r)) u.state n (Device r) m a (at_cell (cell_of u n (Device r)) (cond prevented (u, at_stage stage.Device, check MediumRemovalPrevented) (steps u n (performed u.device r bytes))))
 steps_fits u n r bytes m a plain true = (
   record {
     stage = inr refl;
@@ -114,7 +114,7 @@ steps_fits u n r bytes m a plain true = (
     unit = λ own e. let no = plain.own in absurd cc;
     mode = λ e. absurd cc;
   },
-  plain.tells u.kept n false,
+  plain.tells u.state n false,
 )
 steps_fits u n r bytes m a plain false =
     let own = performed_own u.device r bytes in (
@@ -127,72 +127,72 @@ steps_fits u n r bytes m a plain false =
         unit = λ every e. let no = plain.own in absurd cc;
         mode = λ e. let changed = own.mode e in record { class = changed.0; stage = refl; status = changed.1 };
       },
-      plain.tells u.kept n (performed u.device r bytes).1.mode_changed,
+      plain.tells u.state n (performed u.device r bytes).1.mode_changed,
     )
 
 performs_fits : (u : JudgedUnit) (n : Nexus) (r : Request) (bytes : List ℕ) (m : ℕ) (a : Act) → IsPlain (Device r)
-    → Fits (IsCarriedOut u.kept n None (class_of r)) u.kept n (Device r) m a (at_cell (cell_of u n (Device r)) (performs u n r bytes))
+    → Fits (IsCarriedOut u.state n None (class_of r)) u.state n (Device r) m a (at_cell (cell_of u n (Device r)) (performs u n r bytes))
 performs_fits u n r bytes m a plain =
-    elim (field_fault u.device r bytes) as (λ (o : Option Condition). IsFaultIf (class_of r) o → Fits (IsCarriedOut u.kept n None (class_of r)) u.kept n (Device r) m a (at_cell (cell_of u n (Device r)) (elim o [ Some condition ↦ (u, at_stage Fields, check condition) | None ↦ cond (unloads r && is_prevented u.kept) (u, at_stage stage.Device, check MediumRemovalPrevented) (steps u n (performed u.device r bytes)) ]))) [
+    elim (field_fault u.device r bytes) as (λ (o : Option Condition). IsFaultIf (class_of r) o → Fits (IsCarriedOut u.state n None (class_of r)) u.state n (Device r) m a (at_cell (cell_of u n (Device r)) (elim o [ Some condition ↦ (u, at_stage Fields, check condition) | None ↦ cond (unloads r && is_prevented u.state) (u, at_stage stage.Device, check MediumRemovalPrevented) (steps u n (performed u.device r bytes)) ]))) [
       | Some condition ↦ λ of_class. (field_says m n a (cell_of u n (Device r)) condition of_class, refl)
-      | None ↦ λ nothing. steps_fits u n r bytes m a plain (unloads r && is_prevented u.kept)
+      | None ↦ λ nothing. steps_fits u n r bytes m a plain (unloads r && is_prevented u.state)
     ] (fields_fit (kind_of u.device) r bytes)
 
 carried_fits : (u : JudgedUnit) (n : Nexus) (c : Command) (bytes : List ℕ) (m : ℕ) (a : Act) → IsPlain c
-    → Fits (IsCarriedOut u.kept n (list_of c) (class_of_command c)) u.kept n c m a (at_cell (cell_of u n c) (carried_out u n c bytes))
+    → Fits (IsCarriedOut u.state n (list_of c) (class_of_command c)) u.state n c m a (at_cell (cell_of u n c) (carried_out u n c bytes))
 carried_fits u n (ReserveOut p) bytes m a plain =
     let at = cell_of u n (ReserveOut p) in
-    elim (refusal u.kept.reservations n p) as (λ (o : Option PrFault). Fits (λ e. elim o [ Some fault ↦ Says e (let_in at Fields) (check (condition_of_refusal fault)) | None ↦ Says e (let_in at stage.Device) (good []) ]) u.kept n (ReserveOut p) m a (at_cell at (elim o [ Some fault ↦ (u, at_stage Fields, check (condition_of_refusal fault)) | None ↦ (record u { kept = accepted u.kept n p }, at_stage stage.Device, good []) ]))) [
+    elim (refusal u.state.reservations n p) as (λ (o : Option PrFault). Fits (λ e. elim o [ Some fault ↦ Says e (let_in at Fields) (check (condition_of_refusal fault)) | None ↦ Says e (let_in at stage.Device) (good []) ]) u.state n (ReserveOut p) m a (at_cell at (elim o [ Some fault ↦ (u, at_stage Fields, check (condition_of_refusal fault)) | None ↦ (record u { state = accepted u.state n p }, at_stage stage.Device, good []) ]))) [
       | Some fault ↦ (says m n a (let_in at Fields) (check (condition_of_refusal fault)), refl)
       | None ↦ (says m n a (let_in at stage.Device) (good []), refl)
     ]
 carried_fits u n (ReserveIn act l) bytes m a plain = (good_says m n a (cell_of u n (ReserveIn act l)) [], refl)
 carried_fits u n (Inquiry e p l) bytes m a plain =
-    let o = inquiry_data (kind_of u.device) u.kept.lun e p in
-    (data_says m n a (cell_of u n (Inquiry e p l)) o l refl, data_left u.kept n class.Inquiry (data_reply o l).1.status o l refl)
+    let o = inquiry_data (kind_of u.device) u.state.lun e p in
+    (data_says m n a (cell_of u n (Inquiry e p l)) o l refl, data_left u.state n class.Inquiry (data_reply o l).1.status o l refl)
 carried_fits u n (ReportLuns s l) bytes m a plain =
-    let o = selected_luns u.kept.units s in
-    (data_says m n a (cell_of u n (ReportLuns s l)) o l refl, data_left u.kept n class.ReportLuns (data_reply o l).1.status o l refl)
+    let o = selected_luns u.state.units s in
+    (data_says m n a (cell_of u n (ReportLuns s l)) o l refl, data_left u.state n class.ReportLuns (data_reply o l).1.status o l refl)
 carried_fits u n (RequestSense true l) bytes m a plain = (field_says m n a (cell_of u n (RequestSense true l)) InvalidFieldInCdb refl, refl)
-carried_fits u n (RequestSense false l) bytes m a plain = sensed_fits u n (cell_of u n (RequestSense false l)) l m a (pending_of u.kept.slots n) refl
+carried_fits u n (RequestSense false l) bytes m a plain = sensed_fits u n (cell_of u n (RequestSense false l)) l m a (pending_of u.state.slots n) refl
 carried_fits u n (Prevent p) bytes m a plain = prevent_fits u n (cell_of u n (Prevent p)) m a (p == 0) (p == 1) refl
 carried_fits u n (Device r) bytes m a plain = performs_fits u n r bytes m a plain
 
-let_through_as : (u : JudgedUnit) (n : Nexus) (c : Command) (bytes : List ℕ) (m : ℕ) (a : Act) → IsPlain c → (o : Option Kind) → waiting (class_of_command c) (first_other_of u.kept.slots n) ≡ o
-    → Fits (λ e. elim o [ Some kind ↦ Says e (let_in (cell_of u n c) OtherAttention) (check (condition_of_attention kind)) | None ↦ IsCarriedOut u.kept n (list_of c) (class_of_command c) e ]) u.kept n c m a
+let_through_as : (u : JudgedUnit) (n : Nexus) (c : Command) (bytes : List ℕ) (m : ℕ) (a : Act) → IsPlain c → (o : Option Kind) → waiting (class_of_command c) (first_other_of u.state.slots n) ≡ o
+    → Fits (λ e. elim o [ Some kind ↦ Says e (let_in (cell_of u n c) OtherAttention) (check (condition_of_attention kind)) | None ↦ IsCarriedOut u.state n (list_of c) (class_of_command c) e ]) u.state n c m a
     (elim o [ Some kind ↦ tells u n kind (let_in (cell_of u n c) OtherAttention) | None ↦ at_cell (cell_of u n c) (carried_out u n c bytes) ])
-let_through_as u n c bytes m a plain (Some kind) h = (says m n a (let_in (cell_of u n c) OtherAttention) (check (condition_of_attention kind)), sym (ap (reported_if u.kept n) h))
+let_through_as u n c bytes m a plain (Some kind) h = (says m n a (let_in (cell_of u n c) OtherAttention) (check (condition_of_attention kind)), sym (ap (reported_if u.state n) h))
 let_through_as u n c bytes m a plain None h = carried_fits u n c bytes m a plain
 
 let_through_fits : (u : JudgedUnit) (n : Nexus) (c : Command) (bytes : List ℕ) (m : ℕ) (a : Act) → IsPlain c
-    → Fits (IsLetThrough u.kept n (list_of c) (class_of_command c)) u.kept n c m a (let_through u n c bytes)
-let_through_fits u n c bytes m a plain = let_through_as u n c bytes m a plain (waiting (class_of_command c) (first_other_of u.kept.slots n)) refl
+    → Fits (IsLetThrough u.state n (list_of c) (class_of_command c)) u.state n c m a (let_through u n c bytes)
+let_through_fits u n c bytes m a plain = let_through_as u n c bytes m a plain (waiting (class_of_command c) (first_other_of u.state.slots n)) refl
 
 checked_fits : (u : JudgedUnit) (n : Nexus) (c : Command) (bytes : List ℕ) (m : ℕ) (a : Act) → IsPlain c
-    → Fits (IsChecked u.kept n (list_of c) (class_of_command c)) u.kept n c m a (checked u n c bytes)
+    → Fits (IsChecked u.state n (list_of c) (class_of_command c)) u.state n c m a (checked u n c bytes)
 checked_fits u n c bytes m a plain =
     let at = cell_of u n c in
-    elim (verdict_of u.kept.reservations n c) as (λ (v : Verdict). Fits (λ e. elim v [ Allowed ↦ IsLetThrough u.kept n (list_of c) (class_of_command c) e | Denied cell ↦ Says e (in_conflict at None) conflict | Rule rule ↦ Says e (in_conflict at (Some rule)) conflict ]) u.kept n c m a
+    elim (verdict_of u.state.reservations n c) as (λ (v : Verdict). Fits (λ e. elim v [ Allowed ↦ IsLetThrough u.state n (list_of c) (class_of_command c) e | Denied cell ↦ Says e (in_conflict at None) conflict | Rule rule ↦ Says e (in_conflict at (Some rule)) conflict ]) u.state n c m a
     (elim v [ Allowed ↦ let_through u n c bytes | Denied cell ↦ (u, in_conflict at None, conflict) | Rule rule ↦ (u, in_conflict at (Some rule), conflict) ])) [
       | Allowed ↦ let_through_fits u n c bytes m a plain
       | Denied cell ↦ (says m n a (in_conflict at None) conflict, refl)
       | Rule rule ↦ (says m n a (in_conflict at (Some rule)) conflict, refl)
     ]
 
-commanded_as : (u : JudgedUnit) (n : Nexus) (c : Command) (bytes : List ℕ) (m : ℕ) (a : Act) → IsPlain c → (o : Option Kind) → waiting (class_of_command c) (first_reset_of u.kept.slots n) ≡ o
-    → Fits (λ e. elim o [ Some kind ↦ Says e (at_stage ResetAttention) (check (condition_of_attention kind)) | None ↦ IsChecked u.kept n (list_of c) (class_of_command c) e ]) u.kept n c m a
+commanded_as : (u : JudgedUnit) (n : Nexus) (c : Command) (bytes : List ℕ) (m : ℕ) (a : Act) → IsPlain c → (o : Option Kind) → waiting (class_of_command c) (first_reset_of u.state.slots n) ≡ o
+    → Fits (λ e. elim o [ Some kind ↦ Says e (at_stage ResetAttention) (check (condition_of_attention kind)) | None ↦ IsChecked u.state n (list_of c) (class_of_command c) e ]) u.state n c m a
     (elim o [ Some kind ↦ tells u n kind (at_stage ResetAttention) | None ↦ checked u n c bytes ])
-commanded_as u n c bytes m a plain (Some kind) h = (says m n a (at_stage ResetAttention) (check (condition_of_attention kind)), sym (ap (reported_if u.kept n) h))
+commanded_as u n c bytes m a plain (Some kind) h = (says m n a (at_stage ResetAttention) (check (condition_of_attention kind)), sym (ap (reported_if u.state n) h))
 commanded_as u n c bytes m a plain None h = checked_fits u n c bytes m a plain
 
 commanded_fits : (u : JudgedUnit) (n : Nexus) (c : Command) (bytes : List ℕ) (m : ℕ) (a : Act) → IsPlain c
-    → Fits (IsCommand u.kept n (list_of c) (class_of_command c)) u.kept n c m a (commanded u n c bytes)
-commanded_fits u n c bytes m a plain = commanded_as u n c bytes m a plain (waiting (class_of_command c) (first_reset_of u.kept.slots n)) refl
+    → Fits (IsCommand u.state n (list_of c) (class_of_command c)) u.state n c m a (commanded u n c bytes)
+commanded_fits u n c bytes m a plain = commanded_as u n c bytes m a plain (waiting (class_of_command c) (first_reset_of u.state.slots n)) refl
 
 -- a record that may stand after what was kept, with what is kept then
 pub record IsNext (k : UnitStateView) (e : Record) (now : UnitStateView) : Type 0 where
   pub judged : IsJudged k e
-  pub kept : now ≡ kept_by k e
+  pub state : now ≡ kept_by k e
 
 -- what doesn't stand with a list
 listless_either : (b : Bool) → is_reserve_out (if b then class.AllowRemoval else class.PreventRemoval) ≡ false
@@ -200,30 +200,30 @@ listless_either true = refl
 listless_either false = refl
 
 judged_next : (k : UnitStateView) (d : DeviceView) (n : Nexus) (s : Result Command Condition) (bytes : List ℕ) (m : ℕ) → has_room k n ≡ true → IsPlainIf s
-    → IsNext k (entry m n (act_of_decoded s) (judged_as (record { device = d; kept = after_contact k n }) n s bytes)) (judged_as (record { device = d; kept = after_contact k n }) n s bytes).0.kept
+    → IsNext k (entry m n (act_of_decoded s) (judged_as (record { device = d; state = after_contact k n }) n s bytes)) (judged_as (record { device = d; state = after_contact k n }) n s bytes).0.state
 judged_next k d n (Err condition) bytes m room plain =
-    record { judged = record { room = room; condition = condition; decoding = plain; says = says m n act.Invalid (at_stage stage.Decoding) (check condition) }; kept = refl }
+    record { judged = record { room = room; condition = condition; decoding = plain; says = says m n act.Invalid (at_stage stage.Decoding) (check condition) }; state = refl }
 judged_next k d n (Ok (ReserveOut p)) bytes m room plain =
-    let f = commanded_fits (record { device = d; kept = after_contact k n }) n (ReserveOut p) bytes m (act_of_decoded (Ok (ReserveOut p))) plain in
-    record { judged = record { room = room; judged = f.0 }; kept = f.1 }
+    let f = commanded_fits (record { device = d; state = after_contact k n }) n (ReserveOut p) bytes m (act_of_decoded (Ok (ReserveOut p))) plain in
+    record { judged = record { room = room; judged = f.0 }; state = f.1 }
 judged_next k d n (Ok (ReserveIn a l)) bytes m room plain =
-    let f = commanded_fits (record { device = d; kept = after_contact k n }) n (ReserveIn a l) bytes m (act_of_decoded (Ok (ReserveIn a l))) plain in
-    record { judged = record { room = room; listless = refl; judged = f.0 }; kept = f.1 }
+    let f = commanded_fits (record { device = d; state = after_contact k n }) n (ReserveIn a l) bytes m (act_of_decoded (Ok (ReserveIn a l))) plain in
+    record { judged = record { room = room; listless = refl; judged = f.0 }; state = f.1 }
 judged_next k d n (Ok (Inquiry e p l)) bytes m room plain =
-    let f = commanded_fits (record { device = d; kept = after_contact k n }) n (Inquiry e p l) bytes m (act_of_decoded (Ok (Inquiry e p l))) plain in
-    record { judged = record { room = room; listless = refl; judged = f.0 }; kept = f.1 }
+    let f = commanded_fits (record { device = d; state = after_contact k n }) n (Inquiry e p l) bytes m (act_of_decoded (Ok (Inquiry e p l))) plain in
+    record { judged = record { room = room; listless = refl; judged = f.0 }; state = f.1 }
 judged_next k d n (Ok (ReportLuns s l)) bytes m room plain =
-    let f = commanded_fits (record { device = d; kept = after_contact k n }) n (ReportLuns s l) bytes m (act_of_decoded (Ok (ReportLuns s l))) plain in
-    record { judged = record { room = room; listless = refl; judged = f.0 }; kept = f.1 }
+    let f = commanded_fits (record { device = d; state = after_contact k n }) n (ReportLuns s l) bytes m (act_of_decoded (Ok (ReportLuns s l))) plain in
+    record { judged = record { room = room; listless = refl; judged = f.0 }; state = f.1 }
 judged_next k d n (Ok (RequestSense e l)) bytes m room plain =
-    let f = commanded_fits (record { device = d; kept = after_contact k n }) n (RequestSense e l) bytes m (act_of_decoded (Ok (RequestSense e l))) plain in
-    record { judged = record { room = room; listless = refl; judged = f.0 }; kept = f.1 }
+    let f = commanded_fits (record { device = d; state = after_contact k n }) n (RequestSense e l) bytes m (act_of_decoded (Ok (RequestSense e l))) plain in
+    record { judged = record { room = room; listless = refl; judged = f.0 }; state = f.1 }
 judged_next k d n (Ok (Prevent p)) bytes m room plain =
-    let f = commanded_fits (record { device = d; kept = after_contact k n }) n (Prevent p) bytes m (act_of_decoded (Ok (Prevent p))) plain in
-    record { judged = record { room = room; listless = listless_either (p == 0); judged = f.0 }; kept = f.1 }
+    let f = commanded_fits (record { device = d; state = after_contact k n }) n (Prevent p) bytes m (act_of_decoded (Ok (Prevent p))) plain in
+    record { judged = record { room = room; listless = listless_either (p == 0); judged = f.0 }; state = f.1 }
 judged_next k d n (Ok (Device r)) bytes m room plain =
-    let f = commanded_fits (record { device = d; kept = after_contact k n }) n (Device r) bytes m (act_of_decoded (Ok (Device r))) plain in
-    record { judged = record { room = room; listless = plain.listless; judged = f.0 }; kept = f.1 }
+    let f = commanded_fits (record { device = d; state = after_contact k n }) n (Device r) bytes m (act_of_decoded (Ok (Device r))) plain in
+    record { judged = record { room = room; listless = plain.listless; judged = f.0 }; state = f.1 }
 
 AreJudged-push : (k : UnitStateView) (es : List Record) (e : Record) → AreJudged k es → IsJudged (kept_after k es) e → AreJudged k (es ++ e ∷ [])
 AreJudged-push k [] e all last = (last, tt)
@@ -237,40 +237,40 @@ kept_after-push k (x ∷ xs) e = kept_after-push (kept_by k x) xs e
 abbrev pub Stands : (base : UnitStateView) → List Record → UnitStateView → Type 0
 Stands base es now = AreJudged base es × (now ≡ kept_after base es)
 
-next_stands : (base kept now : UnitStateView) (es : List Record) (e : Record) → Stands base es kept → IsNext kept e now → Stands base (es ++ e ∷ []) now
-next_stands base kept now es e old next =
+next_stands : (base state now : UnitStateView) (es : List Record) (e : Record) → Stands base es state → IsNext state e now → Stands base (es ++ e ∷ []) now
+next_stands base state now es e old next =
     let there : IsNext (kept_after base es) e now = subst (λ k. IsNext k e now) old.1 next in
-    (AreJudged-push base es e old.0 there.judged, there.kept ∙ sym (kept_after-push base es e))
+    (AreJudged-push base es e old.0 there.judged, there.state ∙ sym (kept_after-push base es e))
 
 -- a command's record
-pub answered_stands : (base kept now : UnitStateView) (es : List Record) (d after : DeviceView) (n : Nexus) (s : Result Command Condition) (bytes : List ℕ) (m : ℕ) (a : Act) (f : Decision) (r : Reply)
-    → Stands base es kept → has_room kept n ≡ true → IsPlainIf s → a ≡ act_of_decoded s
-    → judged_as (record { device = d; kept = after_contact kept n }) n s bytes ≡ (record { device = after; kept = now }, f, r)
+pub answered_stands : (base state now : UnitStateView) (es : List Record) (d after : DeviceView) (n : Nexus) (s : Result Command Condition) (bytes : List ℕ) (m : ℕ) (a : Act) (f : Decision) (r : Reply)
+    → Stands base es state → has_room state n ≡ true → IsPlainIf s → a ≡ act_of_decoded s
+    → judged_as (record { device = d; state = after_contact state n }) n s bytes ≡ (record { device = after; state = now }, f, r)
     → Stands base (es ++ record_of m (Some n) a f r.status r.sense ∷ []) now
-answered_stands base kept now es d after n s bytes m a f r old room plain asked judged =
-    let next : IsNext kept (record_of m (Some n) (act_of_decoded s) f r.status r.sense) now = subst (λ (x : JudgedUnit × Decision × Reply). IsNext kept (entry m n (act_of_decoded s) x) x.0.kept) judged (judged_next kept d n s bytes m room plain) in
-    next_stands base kept now es _ old (subst (λ (x : Act). IsNext kept (record_of m (Some n) x f r.status r.sense) now) (sym asked) next)
+answered_stands base state now es d after n s bytes m a f r old room plain asked judged =
+    let next : IsNext state (record_of m (Some n) (act_of_decoded s) f r.status r.sense) now = subst (λ (x : JudgedUnit × Decision × Reply). IsNext state (entry m n (act_of_decoded s) x) x.0.state) judged (judged_next state d n s bytes m room plain) in
+    next_stands base state now es _ old (subst (λ (x : Act). IsNext state (record_of m (Some n) x f r.status r.sense) now) (sym asked) next)
 
 -- the record of a command that judgement left open, ended by a whole answer
-pub ended_stands : (base kept : UnitStateView) (es : List Record) (n : Nexus) (status : Status) (sense : Option Sense) (a : Act) (f : Decision) (m : ℕ) → Stands base es kept → AwaitsEnd kept n a f → IsWhole status sense
-    → Stands base (es ++ record_of m (Some n) a f status sense ∷ []) kept
-ended_stands base kept es n status sense a f m old awaits whole =
-    next_stands base kept kept es (record_of m (Some n) a f status sense) old (record { judged = awaits.judged m status sense whole; kept = sym (awaits.kept m status sense) })
+pub ended_stands : (base state : UnitStateView) (es : List Record) (n : Nexus) (status : Status) (sense : Option Sense) (a : Act) (f : Decision) (m : ℕ) → Stands base es state → AwaitsEnd state n a f → IsWhole status sense
+    → Stands base (es ++ record_of m (Some n) a f status sense ∷ []) state
+ended_stands base state es n status sense a f m old awaits whole =
+    next_stands base state state es (record_of m (Some n) a f status sense) old (record { judged = awaits.judged m status sense whole; state = sym (awaits.state m status sense) })
 
 -- the record of a loss, and of a reset
-pub lost_stands : (base kept : UnitStateView) (es : List Record) (n : Nexus) (m : ℕ) → has_slot kept.slots n ≡ true → Stands base es kept → Stands base (es ++ event_of m (Some n) act.Loss ∷ []) (kept_after_loss kept n)
-lost_stands base kept es n m slot old =
-    next_stands base kept (kept_after_loss kept n) es (event_of m (Some n) act.Loss) old (record { judged = record { slot = slot; says = record { stage = refl; cell = refl; rule = refl; mode_changed = refl; status = refl; sense = refl } }; kept = refl })
+pub lost_stands : (base state : UnitStateView) (es : List Record) (n : Nexus) (m : ℕ) → has_slot state.slots n ≡ true → Stands base es state → Stands base (es ++ event_of m (Some n) act.Loss ∷ []) (kept_after_loss state n)
+lost_stands base state es n m slot old =
+    next_stands base state (kept_after_loss state n) es (event_of m (Some n) act.Loss) old (record { judged = record { slot = slot; says = record { stage = refl; cell = refl; rule = refl; mode_changed = refl; status = refl; sense = refl } }; state = refl })
 
-pub reset_stands : (base kept : UnitStateView) (es : List Record) (m : ℕ) → Stands base es kept → Stands base (es ++ event_of m None act.Reset ∷ []) (kept_after_reset kept)
-reset_stands base kept es m old =
-    next_stands base kept (kept_after_reset kept) es (event_of m None act.Reset) old (record { judged = record { stage = refl; cell = refl; rule = refl; mode_changed = refl; status = refl; sense = refl }; kept = refl })
+pub reset_stands : (base state : UnitStateView) (es : List Record) (m : ℕ) → Stands base es state → Stands base (es ++ event_of m None act.Reset ∷ []) (kept_after_reset state)
+reset_stands base state es m old =
+    next_stands base state (kept_after_reset state) es (event_of m None act.Reset) old (record { judged = record { stage = refl; cell = refl; rule = refl; mode_changed = refl; status = refl; sense = refl }; state = refl })
 
 -- the record of a volume that came in, and of one that was taken out
-pub medium_in_stands : (base kept : UnitStateView) (es : List Record) (m : ℕ) → Stands base es kept → Stands base (es ++ event_of m None act.MediumIn ∷ []) (with_medium kept)
-medium_in_stands base kept es m old =
-    next_stands base kept (with_medium kept) es (event_of m None act.MediumIn) old (record { judged = record { stage = refl; cell = refl; rule = refl; mode_changed = refl; status = refl; sense = refl }; kept = refl })
+pub medium_in_stands : (base state : UnitStateView) (es : List Record) (m : ℕ) → Stands base es state → Stands base (es ++ event_of m None act.MediumIn ∷ []) (with_medium state)
+medium_in_stands base state es m old =
+    next_stands base state (with_medium state) es (event_of m None act.MediumIn) old (record { judged = record { stage = refl; cell = refl; rule = refl; mode_changed = refl; status = refl; sense = refl }; state = refl })
 
-pub medium_out_stands : (base kept : UnitStateView) (es : List Record) (m : ℕ) → is_prevented kept ≡ false → Stands base es kept → Stands base (es ++ event_of m None act.MediumOut ∷ []) kept
-medium_out_stands base kept es m free old =
-    next_stands base kept kept es (event_of m None act.MediumOut) old (record { judged = record { free = free; says = record { stage = refl; cell = refl; rule = refl; mode_changed = refl; status = refl; sense = refl } }; kept = refl })
+pub medium_out_stands : (base state : UnitStateView) (es : List Record) (m : ℕ) → is_prevented state ≡ false → Stands base es state → Stands base (es ++ event_of m None act.MediumOut ∷ []) state
+medium_out_stands base state es m free old =
+    next_stands base state state es (event_of m None act.MediumOut) old (record { judged = record { free = free; says = record { stage = refl; cell = refl; rule = refl; mode_changed = refl; status = refl; sense = refl } }; state = refl })

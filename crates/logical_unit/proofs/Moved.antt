@@ -23,14 +23,14 @@ use Rattle.logical_unit.proofs.NamedDrives.{HasRoute, has_route}
 
 -- the changer ends a move that was left to the drives by a reply, with this device
 pub record Ends (c v : UnitView) (n : Nexus) (cdb bytes : List ℕ) (r : Reply) (device : DeviceView) (reply : Reply) : Type 0 where
-  pub room : has_room c.kept n ≡ true
+  pub room : has_room c.state n ≡ true
   pub number : HasNumber c
   pub left : is_left (judged_at c n cdb bytes).2.sense ≡ true
   pub decision : Decision
   pub found : (judged_at c n cdb bytes).1 ≡ decision
-  pub present : (judged_at c n cdb bytes).0 ≡ record { device = c.device; kept = c.kept }
+  pub present : (judged_at c n cdb bytes).0 ≡ record { device = c.device; state = c.state }
   pub ways : (route : Route) → route_at c cdb ≡ Some route → HasWays c.device route
-  pub unit : (v, r) ≡ recorded c n (act_of (kind_of c.device) cdb bytes) (record { device = device; kept = c.kept }, decision, reply)
+  pub unit : (v, r) ≡ recorded c n (act_of (kind_of c.device) cdb bytes) (record { device = device; state = c.state }, decision, reply)
 
 -- the three ways, with the drives before and after; what the changer answered alone, but for BUSY, wasn't left
 abbrev pub IsAlone : {A : Type 0} → UnitView → UnitView → Nexus → (cdb bytes : List ℕ) → Reply → (drives after : A) → Type 0
@@ -63,11 +63,11 @@ concluded_by b alone left = cond b left alone
 
 module _ {A : Type 0} (c v : UnitView) (n : Nexus) (cdb bytes : List ℕ) (r : Reply) (drives after : A) where
   -- the answer of a changer that was left a move, whatever is reported
-  ends_by : (l : ℕ) (more : List ℕ) (device : DeviceView) (reply : Reply) → HasRoute c.device cdb l more → has_room c.kept n ≡ true → HasNumber c → is_left (judged_at c n cdb bytes).2.sense ≡ true
+  ends_by : (l : ℕ) (more : List ℕ) (device : DeviceView) (reply : Reply) → HasRoute c.device cdb l more → has_room c.state n ≡ true → HasNumber c → is_left (judged_at c n cdb bytes).2.sense ≡ true
       → (v, r) ≡ recorded c n (act_of (kind_of c.device) cdb bytes) (record (judged_at c n cdb bytes).0 { device = device }, (judged_at c n cdb bytes).1, reply) → Ends c v n cdb bytes r device reply
   ends_by l more device reply route room number left unit =
       let j = judged_at c n cdb bytes in
-      let o = opens c.device c.kept n cdb bytes route.route (decoded_command (kind_of c.device) cdb bytes) (act_of (kind_of c.device) cdb bytes) j.0 j.1 j.2 route.changer route.decodes room refl refl refl left in
+      let o = opens c.device c.state n cdb bytes route.route (decoded_command (kind_of c.device) cdb bytes) (act_of (kind_of c.device) cdb bytes) j.0 j.1 j.2 route.changer route.decodes room refl refl refl left in
       record {
         room = room;
         number = number;
@@ -79,7 +79,7 @@ module _ {A : Type 0} (c v : UnitView) (n : Nexus) (cdb bytes : List ℕ) (r : R
         unit = unit ∙ ap (λ (p : JudgedUnit). recorded c n (act_of (kind_of c.device) cdb bytes) (record p { device = device }, j.1, reply)) o.present;
       }
 
-  became_left : (l : ℕ) (more : List ℕ) (carried now : Result (DeviceView × A) Condition) → carried ≡ now → HasRoute c.device cdb l more → has_room c.kept n ≡ true → HasNumber c → is_left (judged_at c n cdb bytes).2.sense ≡ true
+  became_left : (l : ℕ) (more : List ℕ) (carried now : Result (DeviceView × A) Condition) → carried ≡ now → HasRoute c.device cdb l more → has_room c.state n ≡ true → HasNumber c → is_left (judged_at c n cdb bytes).2.sense ≡ true
       → ((v, r), after) ≡ ended c n cdb bytes drives (judged_at c n cdb bytes) now → Became c v n cdb bytes r drives after carried
   became_left l more carried (Ok it) is route room number left e =
       inr (inr (record {
@@ -89,7 +89,7 @@ module _ {A : Type 0} (c v : UnitView) (n : Nexus) (cdb bytes : List ℕ) (r : R
       }))
   became_left l more carried (Err condition) is route room number left e =
       let j = judged_at c n cdb bytes in
-      let o = opens c.device c.kept n cdb bytes route.route (decoded_command (kind_of c.device) cdb bytes) (act_of (kind_of c.device) cdb bytes) j.0 j.1 j.2 route.changer route.decodes room refl refl refl left in
+      let o = opens c.device c.state n cdb bytes route.route (decoded_command (kind_of c.device) cdb bytes) (act_of (kind_of c.device) cdb bytes) j.0 j.1 j.2 route.changer route.decodes room refl refl refl left in
       inr (inl (record {
         condition = condition;
         refused = is;
@@ -98,13 +98,13 @@ module _ {A : Type 0} (c v : UnitView) (n : Nexus) (cdb bytes : List ℕ) (r : R
         drives_stay = ap (λ (x : (UnitView × Reply) × A). x.1) e;
       }))
 
-  became_by : (l : ℕ) (more : List ℕ) (b : Bool) (carried : Result (DeviceView × A) Condition) → is_left (judged_at c n cdb bytes).2.sense ≡ b → HasRoute c.device cdb l more → has_room c.kept n ≡ true → HasNumber c
+  became_by : (l : ℕ) (more : List ℕ) (b : Bool) (carried : Result (DeviceView × A) Condition) → is_left (judged_at c n cdb bytes).2.sense ≡ b → HasRoute c.device cdb l more → has_room c.state n ≡ true → HasNumber c
       → ((v, r), after) ≡ concluded_by b (recorded c n (act_of (kind_of c.device) cdb bytes) (judged_at c n cdb bytes), drives) (ended c n cdb bytes drives (judged_at c n cdb bytes) carried) → Became c v n cdb bytes r drives after carried
   became_by l more true carried left route room number e = became_left l more carried carried refl route room number left e
   became_by l more false carried left route room number e =
       inl (inr (room, number, ap (λ (x : (UnitView × Reply) × A). x.0) e), ap (λ (x : (UnitView × Reply) × A). x.1) e, λ free. left)
 
-  pub became : (l : ℕ) (more : List ℕ) (carried : Result (DeviceView × A) Condition) → named (drives_of c.device) cdb ≡ l ∷ more → has_room c.kept n ≡ true → HasNumber c
+  pub became : (l : ℕ) (more : List ℕ) (carried : Result (DeviceView × A) Condition) → named (drives_of c.device) cdb ≡ l ∷ more → has_room c.state n ≡ true → HasNumber c
       → ((v, r), after) ≡ concluded c n cdb bytes drives (judged_at c n cdb bytes) carried → Became c v n cdb bytes r drives after carried
   became l more carried names room number e = became_by l more (is_left (judged_at c n cdb bytes).2.sense) carried refl (has_route c.device cdb l more names) room number e
 

@@ -8,7 +8,7 @@ use Rattle.scsi_cdb.specs.declared.kind.Kind.{Kind}
 use Rattle.scsi_cdb.specs.declared.kind.Kind.TheVariants as kind
 use Rattle.scsi_cdb.specs.declared.request.Request.{Request}
 use Rattle.scsi_cdb.specs.declared.request.Request.TheVariants as request
-use Rattle.permit_tables.specs.declared.classes.Class.TheVariants as class
+use Rattle.scsi_cdb.specs.declared.classes.Class.TheVariants as class
 use Rattle.audit_log.specs.declared.act.Act.TheVariants as act
 use Rattle.judgement.specs.Conditions.{condition_of_fault}
 use Rattle.judgement.specs.Commands.{command_of, act_of, act_of_decoded}

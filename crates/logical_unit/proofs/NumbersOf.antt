@@ -20,30 +20,30 @@ use Rattle.logical_unit.specs.declared.move_judgement.MoveStop.{MoveStop}
 use Rattle.logical_unit.specs.declared.move_judgement.MoveStop.TheVariants.{Refused, Busy}
 use Rattle.logical_unit.specs.Medium.{taken_out, put_in}
 use Rattle.logical_unit.specs.Move.{numbers_of, judged_at}
-use Rattle.logical_unit.specs.Step.{recorded, record_of, event_of, with_entry}
+use Rattle.logical_unit.specs.Step.{recorded, record_of, event_of, with_record}
 use Rattle.logical_unit.specs.UnitView.{UnitView, UnitWithRoom, last_number}
 use Rattle.logical_unit.proofs.Halves.{is_out, is_in}
 
 -- a record more
-entry_last : (u : UnitView) (now : JudgedUnit) (e : Record) → last_number (with_entry u now e) ≡ last_number u + 1
+entry_last : (u : UnitView) (now : JudgedUnit) (e : Record) → last_number (with_record u now e) ≡ last_number u + 1
 entry_last u now e = grind (arith, common_steps)
 
 -- a volume that went out, or came in, has a record
 pub out_last : (d e : UnitView) (v : Volume) → taken_out d ≡ Ok (v, e) → last_number e ≡ last_number d + 1
 out_last d e v h =
     let out = is_out d e v h in
-    ap last_number out.unit ∙ entry_last d (record { device = out.device; kept = d.kept }) (event_of (last_number d + 1) None MediumOut)
+    ap last_number out.unit ∙ entry_last d (record { device = out.device; state = d.state }) (event_of (last_number d + 1) None MediumOut)
 
 pub in_last : (d e : UnitView) (v : Volume) → put_in d v ≡ Ok e → last_number e ≡ last_number d + 1
 in_last d e v h =
     let come = is_in d e v h in
-    ap last_number come.unit ∙ entry_last d (record { device = come.device; kept = with_medium d.kept }) (event_of (last_number d + 1) None MediumIn)
+    ap last_number come.unit ∙ entry_last d (record { device = come.device; state = with_medium d.state }) (event_of (last_number d + 1) None MediumIn)
 
 -- no record more, and one
 pub none_more : (u v : UnitView) → last_number v ≡ last_number u → numbers_of u v ≡ []
 none_more u v h = grind (arith, common_steps)
 
-pub one_more : (u v : UnitView) → last_number v ≡ last_number u + 1 → numbers_of u v ≡ (u.kept.lun, last_number u + 1) ∷ []
+pub one_more : (u v : UnitView) → last_number v ≡ last_number u + 1 → numbers_of u v ≡ (u.state.lun, last_number u + 1) ∷ []
 one_more u v h = grind (arith, common_steps)
 
 -- the number on a receipt
@@ -53,11 +53,11 @@ noted lun reply = cond (reply.number == 0) [] ((lun, reply.number) ∷ [])
 noted_one : (lun m : ℕ) (reply : Reply) → reply.number ≡ m + 1 → noted lun reply ≡ (lun, m + 1) ∷ []
 noted_one lun m reply h = grind (arith, common_steps)
 
-pub recorded_noted : (u v : UnitView) (reply : Reply) → reply.number ≡ last_number u + 1 → last_number v ≡ last_number u + 1 → noted u.kept.lun reply ≡ numbers_of u v
-recorded_noted u v reply number last = noted_one u.kept.lun (last_number u) reply number ∙ sym (one_more u v last)
+pub recorded_noted : (u v : UnitView) (reply : Reply) → reply.number ≡ last_number u + 1 → last_number v ≡ last_number u + 1 → noted u.state.lun reply ≡ numbers_of u v
+recorded_noted u v reply number last = noted_one u.state.lun (last_number u) reply number ∙ sym (one_more u v last)
 
-pub answered_noted : (x y : UnitWithRoom) (n : Nexus) (cdb bytes : List ℕ) (reply : Reply) → IsPutOff x y n cdb bytes reply ⊎ IsEnded x y n cdb bytes reply → noted x.unit.kept.lun reply ≡ numbers_of x.unit y.unit
-answered_noted x y n cdb bytes reply (inl off) = ap (noted x.unit.kept.lun) off.refuses ∙ sym (none_more x.unit y.unit (ap last_number off.unit))
+pub answered_noted : (x y : UnitWithRoom) (n : Nexus) (cdb bytes : List ℕ) (reply : Reply) → IsPutOff x y n cdb bytes reply ⊎ IsEnded x y n cdb bytes reply → noted x.unit.state.lun reply ≡ numbers_of x.unit y.unit
+answered_noted x y n cdb bytes reply (inl off) = ap (noted x.unit.state.lun) off.refuses ∙ sym (none_more x.unit y.unit (ap last_number off.unit))
 answered_noted x y n cdb bytes reply (inr ended) =
     let j = judged_at x.unit n cdb bytes in
     let answer = ended.answer.answer in
@@ -66,18 +66,18 @@ answered_noted x y n cdb bytes reply (inr ended) =
 
 -- a command that judgement left open, ended
 abbrev pub recorded_in : UnitView → Nexus → Act → Decision → Reply → UnitView × Reply
-recorded_in u n act f reply = recorded u n act (record { device = u.device; kept = u.kept }, f, reply)
+recorded_in u n act f reply = recorded u n act (record { device = u.device; state = u.state }, f, reply)
 
-ends_recorded : (u w v : UnitView) (n : Nexus) (act : Act) (f : Decision) (given reply : Reply) → last_number w ≡ last_number u → (v, reply) ≡ recorded_in w n act f given → noted u.kept.lun reply ≡ numbers_of u v
+ends_recorded : (u w v : UnitView) (n : Nexus) (act : Act) (f : Decision) (given reply : Reply) → last_number w ≡ last_number u → (v, reply) ≡ recorded_in w n act f given → noted u.state.lun reply ≡ numbers_of u v
 ends_recorded u w v n act f given reply same h =
     recorded_noted u v reply (ap (λ (z : UnitView × Reply). z.1.number) h ∙ ap (λ m. m + 1) same)
-    (ap (λ (z : UnitView × Reply). last_number z.0) h ∙ entry_last w (record { device = w.device; kept = w.kept }) (record_of (last_number w + 1) (Some n) act f given.status given.sense) ∙ ap (λ m. m + 1) same)
+    (ap (λ (z : UnitView × Reply). last_number z.0) h ∙ entry_last w (record { device = w.device; state = w.state }) (record_of (last_number w + 1) (Some n) act f given.status given.sense) ∙ ap (λ m. m + 1) same)
 
 pub ends_noted : (u : UnitView) (x y : UnitWithRoom) (n : Nexus) (act : Act) (f : Decision) (stop : Option MoveStop) (reply : Reply) → last_number x.unit ≡ last_number u → Finishes x y n act f stop reply
-    → noted u.kept.lun reply ≡ numbers_of u y.unit
+    → noted u.state.lun reply ≡ numbers_of u y.unit
 ends_noted u x y n act f None reply same h = ends_recorded u x.unit y.unit n act f (good []) reply same h
 ends_noted u x y n act f (Some (Refused condition)) reply same h = ends_recorded u x.unit y.unit n act f (check condition) reply same h
-ends_noted u x y n act f (Some Busy) reply same h = ap (noted u.kept.lun) h.0 ∙ sym (none_more u y.unit (ap last_number h.1 ∙ same))
+ends_noted u x y n act f (Some Busy) reply same h = ap (noted u.state.lun) h.0 ∙ sym (none_more u y.unit (ap last_number h.1 ∙ same))
 
 -- the numbers of one unit, and then of others
 pub joined : (items a b c d : List (ℕ × ℕ)) → items ≡ a ++ b → a ≡ c → b ≡ d → items ≡ c ++ d
@@ -90,8 +90,8 @@ unmoved items a c d e h p same = h ∙ p ∙ sym (append-nil c) ∙ ap (λ (x : 
 abbrev pub numbered : (lun number : ℕ) → List (ℕ × ℕ)
 numbered lun number = (lun, number) ∷ []
 
-pub drive_noted : (d e : UnitView) (lun number : ℕ) → lun ≡ d.kept.lun → number ≡ last_number d + 1 → last_number e ≡ last_number d + 1 → numbered lun number ≡ numbers_of d e
-drive_noted d e lun number p q h = ap (λ l. numbered l number) p ∙ ap (numbered d.kept.lun) q ∙ sym (one_more d e h)
+pub drive_noted : (d e : UnitView) (lun number : ℕ) → lun ≡ d.state.lun → number ≡ last_number d + 1 → last_number e ≡ last_number d + 1 → numbered lun number ≡ numbers_of d e
+drive_noted d e lun number p q h = ap (λ l. numbered l number) p ∙ ap (numbered d.state.lun) q ∙ sym (one_more d e h)
 
 -- the same with two drives
 pub joined_two : (items first a b c p q r : List (ℕ × ℕ)) → first ≡ a ++ b → items ≡ first ++ c → a ≡ p → b ≡ q → c ≡ r → items ≡ p ++ q ++ r

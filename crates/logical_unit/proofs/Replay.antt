@@ -1,8 +1,8 @@
 -- What a legal trail accepted may be carried out again, and leaves what stood before each record.
 use Rattle.std.proofs.Common.{◌≡◌, ℕ, zero, suc, List, [], ◌∷◌, Option, Some, None, refl, sym, ap, ◌∙◌, subst}
 use Rattle.std.specs.Prelude.{slice_get, take}
-use Rattle.permit_tables.specs.declared.classes.Class.{Class}
-use Rattle.permit_tables.specs.Classes.{class_of_action}
+use Rattle.scsi_cdb.specs.declared.classes.Class.{Class}
+use Rattle.scsi_cdb.specs.Classes.{class_of_action}
 use Rattle.scsi_nexus.specs.declared.nexus.Nexus.{Nexus}
 use Rattle.scsi_sense.specs.declared.status.Status.{Status}
 use Rattle.scsi_sense.specs.declared.status.Status.TheVariants.{Good, CheckCondition, Busy, ReservationConflict}
@@ -86,7 +86,7 @@ judged_replay k [] h = tt
 judged_replay k (e ∷ es) h = (replay_as k e e.nexus e.act h.0, subst (λ (v : State). AreReplayable v es) (one_shows k e.nexus e.act e h.0) (judged_replay (kept_by k e) es h.1))
 
 pub trails_replay : TrailsReplay
-trails_replay base es now trail = judged_replay base.kept es trail.judged
+trails_replay base es now trail = judged_replay base.state es trail.judged
 
 -- the walk's step is that of the trail
 judged_show : (k : UnitStateView) (es : List Record) (place : ℕ) (e : Record) → AreJudged k es → slice_get es place ≡ Some e → slice_get (span_lines k.reservations es) place ≡ Some (span_line (kept_after k (take place es)).reservations e)
@@ -96,4 +96,4 @@ judged_show k (x ∷ es) (suc place) e j h =
     ap (λ (v : State). slice_get (span_lines v es) place) (sym (one_shows k x.nexus x.act x j.0)) ∙ judged_show (kept_by k x) es place e j.1 h
 
 pub shows_reservations : ShowsReservations
-shows_reservations base es now place e trail h = judged_show base.kept es place e trail.judged h
+shows_reservations base es now place e trail h = judged_show base.state es place e trail.judged h

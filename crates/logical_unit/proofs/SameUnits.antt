@@ -145,7 +145,7 @@ alone_same c v n cdb bytes r l more route e =
       device = s.device;
       lun = s.lun;
       units = s.units;
-      reservations = s.reservations ∙ ap (λ (x : Result Command Condition). after_history c.kept.reservations (accepted_as n r.status x)) (decodes_move c.device cdb bytes l more route);
+      reservations = s.reservations ∙ ap (λ (x : Result Command Condition). after_history c.state.reservations (accepted_as n r.status x)) (decodes_move c.device cdb bytes l more route);
     }
 
 ends_same : (c v : UnitView) (n : Nexus) (cdb bytes : List ℕ) (r : Reply) (device : DeviceView) (reply : Reply) → Ends c v n cdb bytes r device reply → IsSameDevice c.device device → IsSameUnit c v

@@ -1,6 +1,6 @@
 -- What an entry keeps of an act.
 use Rattle.std.specs.Prelude.{ℕ, List, [], ◌∷◌, Option, Some, None}
-use Rattle.permit_tables.specs.Classes.{class_of_action}
+use Rattle.scsi_cdb.specs.Classes.{class_of_action}
 use Rattle.audit_log.specs.declared.act.Act.{Act}
 use Rattle.audit_log.specs.declared.act.Act.TheVariants as act
 use Rattle.logical_unit.specs.declared.act_kind.ActKind.{ActKind}

@@ -22,13 +22,13 @@ span_lines v (e ∷ es) = span_line v e ∷ span_lines (after_history v (accepte
 
 -- of a unit: from its base
 abbrev pub audit_of : UnitView → List (List ℕ)
-audit_of u = span_lines u.base.kept.reservations u.records
+audit_of u = span_lines u.base.state.reservations u.records
 
 -- in a legal trail the line at each place has the reservation that the records before it leave of what was kept before the first
 abbrev pub ShowsReservations : Type 0
 ShowsReservations =
     (base : Base) (es : List Record) (now : UnitStateView) (place : ℕ) (e : Record) → IsTrail base es now → slice_get es place ≡ Some e
-    → slice_get (span_lines base.kept.reservations es) place ≡ Some (span_line (kept_after base.kept (take place es)).reservations e)
+    → slice_get (span_lines base.state.reservations es) place ≡ Some (span_line (kept_after base.state (take place es)).reservations e)
 
 -- what a record accepted is allowed and not refused where it stands, so that it may be carried out again
 abbrev pub IsReplayable : State → List Accepted → Type 0
@@ -41,4 +41,4 @@ AreReplayable v (e ∷ es) = IsReplayable v (accepted_in e) × AreReplayable (af
 
 -- in a legal trail it is so of each record
 abbrev pub TrailsReplay : Type 0
-TrailsReplay = (base : Base) (es : List Record) (now : UnitStateView) → IsTrail base es now → AreReplayable base.kept.reservations es
+TrailsReplay = (base : Base) (es : List Record) (now : UnitStateView) → IsTrail base es now → AreReplayable base.state.reservations es

@@ -21,4 +21,4 @@ MayNotChange v n = row_allows Changing (res_type v) (role v n) ≡ false
 
 -- a command of such a nexus leaves what is in the unit
 abbrev pub OutsiderChangesNothing : Type 0
-OutsiderChangesNothing = (u v : UnitView) (n : Nexus) (cdb bytes : List ℕ) (r : Reply) → MayNotChange u.kept.reservations n → Executes u n cdb bytes (v, r) → SameContents u.device v.device
+OutsiderChangesNothing = (u v : UnitView) (n : Nexus) (cdb bytes : List ℕ) (r : Reply) → MayNotChange u.state.reservations n → Executes u n cdb bytes (v, r) → SameContents u.device v.device

@@ -12,7 +12,7 @@ use Rattle.logical_unit.specs.UnitView.{UnitView}
 -- one command changes the registrations, the reservation and the generation just as its part of the history says
 abbrev pub KeepsHistory : Type 0
 KeepsHistory = (u v : UnitView) (n : Nexus) (cdb bytes : List ℕ) (r : Reply) → Executes u n cdb bytes (v, r)
-    → v.kept.reservations ≡ after_history u.kept.reservations (accepted_by (kind_of u.device) n cdb bytes r.status)
+    → v.state.reservations ≡ after_history u.state.reservations (accepted_by (kind_of u.device) n cdb bytes r.status)
 
 -- no command that is judged is answered BUSY
 abbrev pub AnswersNoBusy : Type 0

@@ -1,9 +1,9 @@
 -- Legal trails: what each record changes in what is kept, and how it must have been judged after the records before it.
 use Rattle.std.specs.Prelude.{◌≡◌, ◌↔◌, Bool, true, false, List, [], ◌∷◌, Option, None, Some, if◌then◌else◌, ◌⊎◌}
 use Rattle.std.specs.List.{All, flat_map}
-use Rattle.permit_tables.specs.declared.classes.Class.{Class}
-use Rattle.permit_tables.specs.declared.classes.Class.TheVariants.{TestUnitReady, Rewind, ReadBlockLimits, InitializeElementStatus, Erase, ReadPosition, Inquiry, ReportLuns, RequestSense, PersistentReserveIn, PreventRemoval, AllowRemoval, ModeSense, ModeSelect, Register, Reserve, Release, Clear, Preempt, PreemptAndAbort, RegisterAndIgnoreExistingKey, RegisterAndMove}
-use Rattle.permit_tables.specs.Classes.{class_of_action}
+use Rattle.scsi_cdb.specs.declared.classes.Class.{Class}
+use Rattle.scsi_cdb.specs.declared.classes.Class.TheVariants.{TestUnitReady, Rewind, ReadBlockLimits, InitializeElementStatus, Erase, ReadPosition, Inquiry, ReportLuns, RequestSense, PersistentReserveIn, PreventRemoval, AllowRemoval, ModeSense, ModeSelect, Register, Reserve, Release, Clear, Preempt, PreemptAndAbort, RegisterAndIgnoreExistingKey, RegisterAndMove}
+use Rattle.scsi_cdb.specs.Classes.{class_of_action}
 use Rattle.scsi_nexus.specs.declared.nexus.Nexus.{Nexus}
 use Rattle.scsi_sense.specs.declared.condition.Condition.{Condition}
 use Rattle.scsi_sense.specs.declared.condition.Condition.TheVariants.{InvalidCommandOperationCode, InvalidFieldInCdb, InvalidFieldInParameterList, ParameterListLengthError, SavingParametersNotSupported}
@@ -79,7 +79,7 @@ abbrev pub kept_after : UnitStateView → List Record → UnitStateView
 kept_after k [] = k
 kept_after k (e ∷ es) = kept_after (kept_by k e) es
 
--- a record of this finding and this answer
+-- a record of this decision and this answer
 pub record Says (e : Record) (decision : Decision) (reply : Reply) : Type 0 where
   pub stage : e.stage ≡ decision.stage
   pub cell : e.cell ≡ decision.cell
@@ -194,7 +194,7 @@ is_reserve_out RegisterAndIgnoreExistingKey = true
 is_reserve_out RegisterAndMove = true
 is_reserve_out class = false
 
--- what is reported of bytes that spell no command: 20h/00h, 24h/00h, or 1Ah/00h
+-- what is reported of bytes that decode to no command: 20h/00h, 24h/00h, or 1Ah/00h
 abbrev pub is_of_decoding : Condition → Bool
 is_of_decoding InvalidCommandOperationCode = true
 is_of_decoding InvalidFieldInCdb = true
@@ -212,7 +212,7 @@ pub record IsOfList (k : UnitStateView) (n : Nexus) (params : OutParams) (e : Re
   pub room : has_room k n ≡ true
   pub judged : IsCommand (after_contact k n) n (Some params) (class_of_action params.act) e
 
--- stage 1: bytes that spell no command
+-- stage 1: bytes that decode to no command
 pub record IsInvalid (k : UnitStateView) (n : Nexus) (e : Record) : Type 0 where
   pub room : has_room k n ≡ true
   pub condition : Condition
@@ -251,8 +251,8 @@ AreJudged k (e ∷ es) = IsJudged k e × AreJudged (kept_by k e) es
 -- a legal trail: the records from a base, with what is kept after them
 pub record IsTrail (base : Base) (es : List Record) (now : UnitStateView) : Type 0 where
   pub numbered : IsNumbered base.last es
-  pub judged : AreJudged base.kept es
-  pub present : now ≡ kept_after base.kept es
+  pub judged : AreJudged base.state es
+  pub present : now ≡ kept_after base.state es
 
 -- in a legal trail RESERVATION CONFLICT stands exactly at stage 3
 abbrev pub ConflictsAtTheCheck : Type 0
@@ -275,4 +275,4 @@ shown_history es = flat_map accepted_in es
 -- in a legal trail the registrations, the reservation and the generation now are those of the base and that history
 abbrev pub TrailHistory : Type 0
 TrailHistory = (base : Base) (es : List Record) (now : UnitStateView) → IsTrail base es now
-    → now.reservations ≡ after_history base.kept.reservations (shown_history es)
+    → now.reservations ≡ after_history base.state.reservations (shown_history es)

@@ -14,18 +14,18 @@ use Rattle.logical_unit.specs.Step.{with_event}
 
 -- the volume and the unit without it, or why it isn't taken out, in the order of the tests
 abbrev pub taken_as : UnitView → Result (Volume × DeviceView) TakeFault → Result (Volume × UnitView) MediumFault
-taken_as u (Ok it) = Ok (it.0, with_event u None MediumOut (record { device = it.1; kept = u.kept }))
+taken_as u (Ok it) = Ok (it.0, with_event u None MediumOut (record { device = it.1; state = u.state }))
 taken_as u (Err fault) = Err Empty
 
 abbrev pub taken_out : UnitView → Result (Volume × UnitView) MediumFault
 taken_out u = elim (kind_of u.device) [
   | Changer ↦ Err NotADrive
-  | Drive ↦ if is_prevented u.kept then Err Prevented else taken_as u (taken u.device 0)
+  | Drive ↦ if is_prevented u.state then Err Prevented else taken_as u (taken u.device 0)
 ]
 
 -- the unit with the volume, or why it isn't put in; who prevents removal prevents nothing here, and every slot is told
 abbrev pub put_as : UnitView → Result DeviceView PutFault → Result UnitView MediumFault
-put_as u (Ok device) = Ok (with_event u None MediumIn (record { device = device; kept = with_medium u.kept }))
+put_as u (Ok device) = Ok (with_event u None MediumIn (record { device = device; state = with_medium u.state }))
 put_as u (Err fault) = Err Full
 
 abbrev pub put_in : UnitView → Volume → Result UnitView MediumFault

@@ -155,21 +155,21 @@ is_carried answer carried = is_left answer.2.sense && is_ok carried
 abbrev pub MovesOne : (c d : UnitView) → Nexus → (cdb bytes : List ℕ) → (UnitView × Reply) × UnitView → Type 0
 MovesOne c d n cdb bytes new =
     (new ≡ ((c, busy), d))
-    ⊎ ((has_room c.kept n ≡ true) × HasNumber c
+    ⊎ ((has_room c.state n ≡ true) × HasNumber c
     × (is_carried (judged_at c n cdb bytes) (carried_one c.device d (route_at c cdb)) ≡ true → HasNumber d)
     × (new ≡ moved_one c d n cdb bytes))
 
 abbrev pub MovesTwo : UnitView → TwoDrives → Nexus → (cdb bytes : List ℕ) → (UnitView × Reply) × TwoDrives → Type 0
 MovesTwo c ds n cdb bytes new =
     (new ≡ ((c, busy), ds))
-    ⊎ ((has_room c.kept n ≡ true) × HasNumber c
+    ⊎ ((has_room c.state n ≡ true) × HasNumber c
     × (is_carried (judged_at c n cdb bytes) (carried_two c.device ds (route_at c cdb)) ≡ true → HasNumber ds.low × HasNumber ds.high)
     × (new ≡ moved_two c ds n cdb bytes))
 
 -- BUSY comes only where there is no slot for the sender, or no room or no number for the record at the changer; or where the volume would
 -- be carried, and there is no room or no number for the record of a drive. A move takes no other memory.
 abbrev pub LacksAtChanger : UnitWithRoom → Nexus → Type 0
-LacksAtChanger c n = (has_room c.unit.kept n ≡ false) ⊎ LacksRecord c
+LacksAtChanger c n = (has_room c.unit.state n ≡ false) ⊎ LacksRecord c
 
 abbrev pub OneIsBusyOnlyFor : (c d : UnitWithRoom) → Nexus → (cdb bytes : List ℕ) → Reply → Type 0
 OneIsBusyOnlyFor c d n cdb bytes reply = reply.status ≡ status.Busy
@@ -183,14 +183,14 @@ TwoAreBusyOnlyFor c low high n cdb bytes reply = reply.status ≡ status.Busy
 
 -- the record that a unit has more, by its logical unit number and the record's
 abbrev pub numbers_of : (before after : UnitView) → List (ℕ × ℕ)
-numbers_of before after = if last_number after == last_number before then [] else (before.kept.lun, last_number after) ∷ []
+numbers_of before after = if last_number after == last_number before then [] else (before.state.lun, last_number after) ∷ []
 
 -- a unit that stays the same one: its device of the same kind and size, its number, its target's units, its registrations and reservation
 pub record IsSameUnit (u v : UnitView) : Type 0 where
   pub device : IsSameDevice u.device v.device
-  pub lun : v.kept.lun ≡ u.kept.lun
-  pub units : v.kept.units ≡ u.kept.units
-  pub reservations : v.kept.reservations ≡ u.kept.reservations
+  pub lun : v.state.lun ≡ u.state.lun
+  pub units : v.state.units ≡ u.state.units
+  pub reservations : v.state.reservations ≡ u.state.reservations
 
 -- a move leaves each unit the same one
 abbrev pub OneStays : Type 0

@@ -16,7 +16,7 @@ use Rattle.logical_unit.specs.declared.move_finding.MoveFinding.{MoveFinding}
 use Rattle.logical_unit.specs.declared.move_finding.MoveFinding.TheVariants.{Ended, Left}
 use Rattle.logical_unit.specs.Move.{is_left}
 
--- whether bytes spell MOVE MEDIUM
+-- whether bytes decode to MOVE MEDIUM
 abbrev pub spells_move : Result Command Condition → Bool
 spells_move (Ok (Device request)) = is_move request
 spells_move decoded = false
@@ -31,6 +31,6 @@ abbrev pub FindsMove : (device after : DeviceView) → (old new : UnitStateView)
     MoveFinding → Type 0
 FindsMove device after old new n decoded bytes (Ended decision reply) =
     (is_left reply.sense ≡ false) × (judged_as (met device old n) n decoded bytes ≡
-    (record { device = after; kept = new }, decision, reply))
+    (record { device = after; state = new }, decision, reply))
 FindsMove device after old new n decoded bytes (Left decision) =
-    judged_as (met device old n) n decoded bytes ≡ (record { device = after; kept = new }, decision, check InternalTargetFailure)
+    judged_as (met device old n) n decoded bytes ≡ (record { device = after; state = new }, decision, check InternalTargetFailure)

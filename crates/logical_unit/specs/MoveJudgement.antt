@@ -27,7 +27,7 @@ use Rattle.logical_unit.specs.Route.{drive_at}
 use Rattle.logical_unit.specs.Step.{answered, record_of, recorded, HasNumber, IsBusyOnlyFor}
 use Rattle.logical_unit.specs.UnitView.{UnitView, UnitWithRoom, RecordedUnitView}
 
--- a CDB spells MOVE MEDIUM by this route
+-- a CDB decodes to MOVE MEDIUM by this route
 pub record DecodesTo (drives : ℕ) (cdb : List ℕ) (r : Route) : Type 0 where
   pub transport : ℕ
   pub invert : Bool
@@ -43,7 +43,7 @@ pub record HasWays (changer : DeviceView) (r : Route) : Type 0 where
 -- any whole answer may end the command, whose record leaves what is kept
 pub record AwaitsEnd (k : UnitStateView) (n : Nexus) (act : Act) (decision : Decision) : Type 0 where
   pub judged : (number : ℕ) (status : Status) (sense : Option Sense) → IsWhole status sense → IsJudged k (record_of number (Some n) act decision status sense)
-  pub kept : (number : ℕ) (status : Status) (sense : Option Sense) → kept_by k (record_of number (Some n) act decision status sense) ≡ k
+  pub state : (number : ℕ) (status : Status) (sense : Option Sense) → kept_by k (record_of number (Some n) act decision status sense) ≡ k
 
 pub record IsAnswered (u v : UnitView) (n : Nexus) (cdb bytes : List ℕ) (reply : Reply) : Type 0 where
   pub ended : is_left (judged_at u n cdb bytes).2.sense ≡ false
@@ -51,10 +51,10 @@ pub record IsAnswered (u v : UnitView) (n : Nexus) (cdb bytes : List ℕ) (reply
 
 pub record IsLeft (u : UnitView) (n : Nexus) (cdb bytes : List ℕ) (r : Route) (act : Act) (decision : Decision) : Type 0 where
   pub left : is_left (judged_at u n cdb bytes).2.sense ≡ true
-  pub present : (judged_at u n cdb bytes).0 ≡ record { device = u.device; kept = u.kept }
+  pub present : (judged_at u n cdb bytes).0 ≡ record { device = u.device; state = u.state }
   pub found : (judged_at u n cdb bytes).1 ≡ decision
   pub asked : act ≡ act_of (kind_of u.device) cdb bytes
-  pub awaits : AwaitsEnd u.kept n act decision
+  pub awaits : AwaitsEnd u.state n act decision
   pub ways : HasWays u.device r
 
 abbrev pub Begins : (u v : UnitView) → Nexus → (cdb bytes : List ℕ) → Route → MoveJudgement → Type 0
@@ -73,13 +73,13 @@ StaysIf s t (Left act decision) = t ≡ s
 -- the same at a unit that may be BUSY
 pub record IsOpen (x y : UnitWithRoom) (n : Nexus) (cdb bytes : List ℕ) (r : Route) (act : Act) (decision : Decision) : Type 0 where
   pub left : IsLeft x.unit n cdb bytes r act decision
-  pub slot : has_room x.unit.kept n ≡ true
+  pub slot : has_room x.unit.state n ≡ true
   pub number : HasNumber x.unit
   pub unit : y.unit ≡ x.unit
   pub room : 0 < y.room
 
 pub record IsEnded (x y : UnitWithRoom) (n : Nexus) (cdb bytes : List ℕ) (reply : Reply) : Type 0 where
-  pub slot : has_room x.unit.kept n ≡ true
+  pub slot : has_room x.unit.state n ≡ true
   pub number : HasNumber x.unit
   pub answer : IsAnswered x.unit y.unit n cdb bytes reply
 
@@ -99,7 +99,7 @@ StopsMove carried Lacks Busy = IsOk carried × Lacks
 
 -- the end of a command that judgement left open, by what became of the volume
 abbrev pub Finishes : (x y : UnitWithRoom) → Nexus → Act → Decision → Option MoveStop → Reply → Type 0
-Finishes x y n act decision None reply = (y.unit, reply) ≡ recorded x.unit n act (record { device = x.unit.device; kept = x.unit.kept }, decision, good [])
+Finishes x y n act decision None reply = (y.unit, reply) ≡ recorded x.unit n act (record { device = x.unit.device; state = x.unit.state }, decision, good [])
 Finishes x y n act decision (Some (Refused condition)) reply =
-    (y.unit, reply) ≡ recorded x.unit n act (record { device = x.unit.device; kept = x.unit.kept }, decision, check condition)
+    (y.unit, reply) ≡ recorded x.unit n act (record { device = x.unit.device; state = x.unit.state }, decision, check condition)
 Finishes x y n act decision (Some Busy) reply = (reply ≡ busy) × (y.unit ≡ x.unit)

@@ -17,7 +17,7 @@ route_in drives (MoveMedium transport source destination invert) =
     Some (record { source = source; destination = destination; from = drive_at drives source; to = drive_at drives destination })
 route_in drives request = None
 
--- the route that a CDB spells; other commands have none
+-- the route that a CDB decodes to; other commands have none
 abbrev pub route_of : (drives : ℕ) → (cdb : List ℕ) → Option Route
 route_of drives cdb = elim (decoded Changer cdb) [ Ok request ↦ route_in drives request | Err fault ↦ None ]
 

@@ -24,8 +24,8 @@ use Rattle.judgement.specs.Judge.{judged, takes_memory}
 abbrev pub made : DeviceView → (lun units last : ℕ) → UnitView
 made device lun units last = record {
   device = device;
-  kept = at_power_on lun units;
-  base = record { kept = at_power_on lun units; last = last };
+  state = at_power_on lun units;
+  base = record { state = at_power_on lun units; last = last };
   records = [];
 }
 
@@ -44,17 +44,17 @@ record_of number nexus act decision status sense = record {
 }
 
 -- a unit after an event: its present, and one record more
-abbrev pub with_entry : UnitView → JudgedUnit → Record → UnitView
-with_entry u now e = record { device = now.device; kept = now.kept; base = u.base; records = u.records ++ e ∷ [] }
+abbrev pub with_record : UnitView → JudgedUnit → Record → UnitView
+with_record u now e = record { device = now.device; state = now.state; base = u.base; records = u.records ++ e ∷ [] }
 
 -- what a unit's commands are judged by, once the sender made contact
 abbrev pub contacted_present : UnitView → Nexus → JudgedUnit
-contacted_present u n = record { device = u.device; kept = after_contact u.kept n }
+contacted_present u n = record { device = u.device; state = after_contact u.state n }
 
 -- a judged command has a record with the next number, and so has its reply
 abbrev pub recorded : UnitView → Nexus → Act → JudgedUnit × Decision × Reply → UnitView × Reply
 recorded u n act answer = (
-  with_entry u answer.0 (record_of (last_number u + 1) (Some n) act answer.1 answer.2.status answer.2.sense),
+  with_record u answer.0 (record_of (last_number u + 1) (Some n) act answer.1 answer.2.status answer.2.sense),
   numbered answer.2 (last_number u + 1),
 )
 
@@ -69,7 +69,7 @@ HasNumber u = last_number u + 1 < 2 ^ 64
 -- BUSY with nothing changed, which must come where there is no slot for the sender or the last record number is used, and may come
 -- for want of memory; or the answer
 abbrev pub Executes : UnitView → Nexus → (cdb bytes : List ℕ) → UnitView × Reply → Type 0
-Executes u n cdb bytes new = (new ≡ (u, busy)) ⊎ ((has_room u.kept n ≡ true) × HasNumber u × (new ≡ answered u n cdb bytes))
+Executes u n cdb bytes new = (new ≡ (u, busy)) ⊎ ((has_room u.state n ≡ true) × HasNumber u × (new ≡ answered u n cdb bytes))
 
 -- why an event finds no record: there is no room for it, or the last number is used
 abbrev pub LacksRecord : UnitWithRoom → Type 0
@@ -79,7 +79,7 @@ LacksRecord x = (x.room ≡ 0) ⊎ (last_number x.unit + 1 ≡ 2 ^ 64)
 abbrev pub IsBusyOnlyFor : UnitWithRoom → Nexus → (cdb bytes : List ℕ) → Reply → Type 0
 IsBusyOnlyFor x n cdb bytes reply = reply.status ≡ Busy
     → (takes_memory (contacted_present x.unit n) n (decoded_command (kind_of x.unit.device) cdb bytes) ≡ true)
-    ⊎ ((has_room x.unit.kept n ≡ false) ⊎ LacksRecord x)
+    ⊎ ((has_room x.unit.state n ≡ false) ⊎ LacksRecord x)
 
 -- an event that isn't a command is BUSY only where there is no room or no number for its record
 abbrev pub IsBusyOnlyForRecord : UnitWithRoom → Reply → Type 0
@@ -90,14 +90,14 @@ abbrev pub event_of : (number : ℕ) → Option Nexus → Act → Record
 event_of number nexus act = record_of number nexus act (at_stage Device) Good None
 
 abbrev pub with_event : UnitView → Option Nexus → Act → JudgedUnit → UnitView
-with_event u nexus act now = with_entry u now (event_of (last_number u + 1) nexus act)
+with_event u nexus act now = with_record u now (event_of (last_number u + 1) nexus act)
 
 -- the unit after the loss of a nexus that has a slot, and after a reset, by which the device is reset too
 abbrev pub loses : UnitView → Nexus → UnitView
-loses u n = with_event u (Some n) Loss (record { device = u.device; kept = kept_after_loss u.kept n })
+loses u n = with_event u (Some n) Loss (record { device = u.device; state = kept_after_loss u.state n })
 
 abbrev pub resets : UnitView → UnitView
-resets u = with_event u None Reset (record { device = reset_of u.device; kept = kept_after_reset u.kept })
+resets u = with_event u None Reset (record { device = reset_of u.device; state = kept_after_reset u.state })
 
 -- a loss that isn't BUSY, with the number of its record: nothing for a nexus without a slot
 abbrev pub LosesAs : (known : Bool) → UnitView → Nexus → UnitView × Option ℕ → Type 0
@@ -105,7 +105,7 @@ LosesAs false u n new = new ≡ (u, None)
 LosesAs true u n new = HasNumber u × (new ≡ (loses u n, Some (last_number u + 1)))
 
 abbrev pub Loses : UnitView → Nexus → UnitView × Option ℕ → Type 0
-Loses u n new = LosesAs (has_slot u.kept.slots n) u n new
+Loses u n new = LosesAs (has_slot u.state.slots n) u n new
 
 -- a reset that isn't BUSY, with the number of its record
 abbrev pub Resets : UnitView → UnitView × ℕ → Type 0
@@ -122,7 +122,7 @@ number_or_0 (Some number) = number
 -- an I_T nexus loss at a unit: BUSY with nothing changed, where the nexus has a slot; or the loss
 abbrev pub IsLost : UnitView → Nexus → UnitView × Reply → Type 0
 IsLost u n new =
-    ((new ≡ (u, busy)) × (has_slot u.kept.slots n ≡ true))
+    ((new ≡ (u, busy)) × (has_slot u.state.slots n ≡ true))
     ⊎ ((number : Option ℕ) × Loses u n (new.0, number) × (new.1 ≡ event_reply (number_or_0 number)))
 
 -- a reset of a unit: BUSY with nothing changed, or the reset
@@ -133,7 +133,7 @@ IsReset u new = (new ≡ (u, busy)) ⊎ ((number : ℕ) × Resets u (new.0, numb
 abbrev pub drained : UnitView → UnitView
 drained u = record {
   device = u.device;
-  kept = u.kept;
-  base = record { kept = u.kept; last = last_number u };
+  state = u.state;
+  base = record { state = u.state; last = last_number u };
   records = [];
 }

@@ -6,12 +6,12 @@ use Rattle.judgement.specs.UnitStateView.{UnitStateView}
 
 -- what records are read from: what was kept before the first of them, and the last number that was used then
 pub record Base : Type 0 where
-  pub kept : UnitStateView
+  pub state : UnitStateView
   pub last : ℕ
 
 pub record UnitView : Type 0 where
   pub device : DeviceView
-  pub kept : UnitStateView
+  pub state : UnitStateView
   pub base : Base
   -- one for each event since the base, oldest first
   pub records : List Record
@@ -27,14 +27,14 @@ units_of us = map (λ u. u.unit) us
 
 -- a unit without its device, and for how many records more there is room
 pub record RecordedUnitView : Type 0 where
-  pub kept : UnitStateView
+  pub state : UnitStateView
   pub base : Base
   pub records : List Record
   pub room : ℕ
 
 -- the unit of a device
 abbrev pub unit_of : DeviceView → RecordedUnitView → UnitView
-unit_of device s = record { device = device; kept = s.kept; base = s.base; records = s.records }
+unit_of device s = record { device = device; state = s.state; base = s.base; records = s.records }
 
 abbrev pub unit_with_room : DeviceView → RecordedUnitView → UnitWithRoom
 unit_with_room device s = record { unit = unit_of device s; room = s.room }

@@ -2,14 +2,14 @@ ghost use Rattle.std.specs.Prelude.{◌≡◌};
 ghost use Rattle.logical_unit.specs.ActKinds.{act_kind_of};
 
 use audit_log::Act;
-use permit_tables::Class;
+use scsi_cdb::Class;
 
 /// What an entry keeps of an act: its kind, and of a command the class. It takes no memory; the parameters of a PERSISTENT
 /// RESERVE OUT are in the record alone.
 #[derive(Clone, Copy, PartialEq, Eq)]
 pub enum ActKind {
     Command(Class),
-    /// Bytes that spell no command of the unit.
+    /// Bytes that decode to no command of the unit.
     Invalid,
     /// An I_T nexus loss.
     Loss,

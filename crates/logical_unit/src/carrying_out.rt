@@ -70,9 +70,9 @@ impl<D: DeviceServer> LogicalUnit<D> {
     /// One command, as `execute` does it, with its answer. Without a number it is BUSY, and nothing has changed.
     pub fn carry_out<'a>(&mut self, alloc: Global, received: &ReceivedCommand<'a>) -> Done<'a>
         requires { IsFor self.old.unit.device received.now }
-        ensures answer { IsAnswer result (Some received.now.nexus) self.old.unit.kept.lun (event.Command received.now.cdb received.now.bytes) }
+        ensures answer { IsAnswer result (Some received.now.nexus) self.old.unit.state.lun (event.Command received.now.cdb received.now.bytes) }
         ensures step { Executes self.old.unit received.now.nexus received.now.cdb received.now.bytes (self.new.unit, result.reply) }
-        ensures numbers { result.numbers ≡ own_number self.old.unit.kept.lun result.reply.number }
+        ensures numbers { result.numbers ≡ own_number self.old.unit.state.lun result.reply.number }
         ensures act { result.act ≡ act_kind_if result.numbers (act_kind_of (act_of_decoded (command_in received.now))) }
         ensures volume { result.volume ≡ volume_after self.new.unit.device received.now.cdb }
         ensures unnumbered { result.numbers ≡ [] → result.reply ≡ busy }
@@ -96,9 +96,9 @@ impl<D: DeviceServer> LogicalUnit<D> {
     /// An I_T nexus loss, as `lose` does it, with its answer. Without a number it is BUSY with nothing changed, or the nexus
     /// has no slot.
     pub fn carry_out_loss(&mut self, alloc: Global, nexus: Nexus) -> Done<'static>
-        ensures answer { IsAnswer result (Some nexus) self.old.unit.kept.lun event.Loss }
+        ensures answer { IsAnswer result (Some nexus) self.old.unit.state.lun event.Loss }
         ensures step { IsLost self.old.unit nexus (self.new.unit, result.reply) }
-        ensures numbers { result.numbers ≡ own_number self.old.unit.kept.lun result.reply.number }
+        ensures numbers { result.numbers ≡ own_number self.old.unit.state.lun result.reply.number }
         ensures act { result.act ≡ act_kind_if result.numbers ActKind.Loss }
         ensures volume { result.volume ≡ None }
     {
@@ -111,9 +111,9 @@ impl<D: DeviceServer> LogicalUnit<D> {
 
     /// A reset of the unit, as `reset` does it, with its answer. Without a number it is BUSY, and nothing has changed.
     pub fn carry_out_reset(&mut self, alloc: Global) -> Done<'static>
-        ensures answer { IsAnswer result None self.old.unit.kept.lun event.Reset }
+        ensures answer { IsAnswer result None self.old.unit.state.lun event.Reset }
         ensures step { IsReset self.old.unit (self.new.unit, result.reply) }
-        ensures numbers { result.numbers ≡ own_number self.old.unit.kept.lun result.reply.number }
+        ensures numbers { result.numbers ≡ own_number self.old.unit.state.lun result.reply.number }
         ensures act { result.act ≡ act_kind_if result.numbers ActKind.Reset }
         ensures volume { result.volume ≡ None }
         ensures unnumbered { result.numbers ≡ [] → result.reply ≡ busy }
@@ -135,8 +135,8 @@ pub fn carry_out_move_one<'a, D: DeviceServer>(
     received: &ReceivedCommand<'a>,
 ) -> Done<'a>
     requires kind { IsFor changer.old.unit.device received.now }
-    requires named { named (drives_of changer.old.unit.device) received.now.cdb ≡ drive.old.unit.kept.lun ∷ [] }
-    ensures answer { IsAnswer result (Some received.now.nexus) changer.old.unit.kept.lun (event.Command received.now.cdb received.now.bytes) }
+    requires named { named (drives_of changer.old.unit.device) received.now.cdb ≡ drive.old.unit.state.lun ∷ [] }
+    ensures answer { IsAnswer result (Some received.now.nexus) changer.old.unit.state.lun (event.Command received.now.cdb received.now.bytes) }
     ensures step { MovesOne changer.old.unit drive.old.unit received.now.nexus received.now.cdb received.now.bytes ((changer.new.unit, result.reply), drive.new.unit) }
     ensures numbers { result.numbers ≡ numbers_of changer.old.unit changer.new.unit ++ numbers_of drive.old.unit drive.new.unit }
     ensures act { result.act ≡ act_kind_if result.numbers (act_kind_of (act_of_decoded (command_in received.now))) }
@@ -167,8 +167,8 @@ pub fn carry_out_move_two<'a, D: DeviceServer>(
     received: &ReceivedCommand<'a>,
 ) -> Done<'a>
     requires kind { IsFor changer.old.unit.device received.now }
-    requires named { named (drives_of changer.old.unit.device) received.now.cdb ≡ low.old.unit.kept.lun ∷ high.old.unit.kept.lun ∷ [] }
-    ensures answer { IsAnswer result (Some received.now.nexus) changer.old.unit.kept.lun (event.Command received.now.cdb received.now.bytes) }
+    requires named { named (drives_of changer.old.unit.device) received.now.cdb ≡ low.old.unit.state.lun ∷ high.old.unit.state.lun ∷ [] }
+    ensures answer { IsAnswer result (Some received.now.nexus) changer.old.unit.state.lun (event.Command received.now.cdb received.now.bytes) }
     ensures step { MovesTwo changer.old.unit (record { low = low.old.unit; high = high.old.unit }) received.now.nexus received.now.cdb received.now.bytes ((changer.new.unit, result.reply), record { low = low.new.unit; high = high.new.unit }) }
     ensures numbers { result.numbers ≡ numbers_of changer.old.unit changer.new.unit ++ numbers_of low.old.unit low.new.unit ++ numbers_of high.old.unit high.new.unit }
     ensures act { result.act ≡ act_kind_if result.numbers (act_kind_of (act_of_decoded (command_in received.now))) }

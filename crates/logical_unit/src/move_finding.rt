@@ -24,11 +24,11 @@ pub(crate) enum MoveFinding {
 }
 
 /// Whether a changer leaves a command to its drives.
-fn leaves<D: DeviceServer>(server: &Box<D>, command: &Command) -> bool
-    ensures { result ≡ leaves (D.shown server.now.value) command.now }
+fn leaves<D: DeviceServer>(device: &Box<D>, command: &Command) -> bool
+    ensures { result ≡ leaves (D.shown device.now.value) command.now }
 {
     match command {
-        Command::Device(request) => server.leaves_to_drives(request),
+        Command::Device(request) => device.leaves_to_drives(request),
         _ => false,
     }
 }
@@ -38,30 +38,30 @@ fn leaves<D: DeviceServer>(server: &Box<D>, command: &Command) -> bool
 /// it out. Want of memory changes nothing.
 pub(crate) fn judge_move<D: DeviceServer>(
     alloc: Global,
-    server: &mut Box<D>,
-    kept: &mut UnitState,
+    device: &mut Box<D>,
+    state: &mut UnitState,
     nexus: Nexus,
     decoded: &Result<Command, Condition>,
     bytes: &[u8],
 ) -> Result<MoveFinding, AllocError>
-    requires changer { kind_of (D.shown server.old.value) ≡ Changer }
+    requires changer { kind_of (D.shown device.old.value) ≡ Changer }
     requires moves { spells_move decoded.now ≡ true }
-    requires room { has_room kept.old nexus ≡ true }
-    ensures ok { IfOk result (FindsMove (D.shown server.old.value) (D.shown server.new.value) kept.old kept.new nexus decoded.now bytes.now) }
-    ensures err { OnErr result ((D.shown server.new.value ≡ D.shown server.old.value) × (kept.new ≡ kept.old)) }
-    ensures want { OnErr result (takes_memory (met (D.shown server.old.value) kept.old nexus) nexus decoded.now ≡ true) }
+    requires room { has_room state.old nexus ≡ true }
+    ensures ok { IfOk result (FindsMove (D.shown device.old.value) (D.shown device.new.value) state.old state.new nexus decoded.now bytes.now) }
+    ensures err { OnErr result ((D.shown device.new.value ≡ D.shown device.old.value) × (state.new ≡ state.old)) }
+    ensures want { OnErr result (takes_memory (met (D.shown device.old.value) state.old nexus) nexus decoded.now ≡ true) }
 {
     let command = match decoded {
-        Ok(command) if leaves(server, command) => command,
+        Ok(command) if leaves(device, command) => command,
         _ => {
-            let (decision, reply) = judge(alloc, server, kept, nexus, decoded, bytes)?;
+            let (decision, reply) = judge(alloc, device, state, nexus, decoded, bytes)?;
             return Ok(MoveFinding::Ended(decision, reply));
         }
     };
-    match stands_before(alloc, kept, nexus, command) {
+    match stands_before(alloc, state, nexus, command) {
         Standing::Ended(decision, reply) => Ok(MoveFinding::Ended(decision, reply)),
         Standing::LetThrough(cell) => {
-            kept.make_contact(nexus);
+            state.make_contact(nexus);
             Ok(MoveFinding::Left(Decision::at_device(false).in_cell(cell)))
         }
     }

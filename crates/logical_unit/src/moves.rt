@@ -202,7 +202,7 @@ fn finish<D: DeviceServer>(
     decision: Decision,
     stop: Option<MoveStop>,
 ) -> Reply
-    requires awaits { AwaitsEnd changer.old.unit.kept received.now.nexus act decision }
+    requires awaits { AwaitsEnd changer.old.unit.state received.now.nexus act decision }
     requires room { 0 < changer.old.room }
     requires number { HasNumber changer.old.unit }
     ensures { Finishes changer.old changer.new received.now.nexus act decision stop result }
@@ -231,12 +231,12 @@ pub fn move_one<D: DeviceServer>(
     received: &ReceivedCommand<'_>,
 ) -> Receipt
     requires kind { IsFor changer.old.unit.device received.now }
-    requires named { named (drives_of changer.old.unit.device) received.now.cdb ≡ drive.old.unit.kept.lun ∷ [] }
+    requires named { named (drives_of changer.old.unit.device) received.now.cdb ≡ drive.old.unit.state.lun ∷ [] }
     ensures units { MovesOne changer.old.unit drive.old.unit received.now.nexus received.now.cdb received.now.bytes ((changer.new.unit, result.reply), drive.new.unit) }
     ensures busy { OneIsBusyOnlyFor changer.old drive.old received.now.nexus received.now.cdb received.now.bytes result.reply }
     ensures numbers { result.numbers.items ≡ numbers_of changer.old.unit changer.new.unit ++ numbers_of drive.old.unit drive.new.unit }
-    ensures outsider { MayNotChange changer.old.unit.kept.reservations received.now.nexus → SameContents changer.old.unit.device changer.new.unit.device }
-    ensures stays { MayNotChange changer.old.unit.kept.reservations received.now.nexus → drive.new.unit ≡ drive.old.unit }
+    ensures outsider { MayNotChange changer.old.unit.state.reservations received.now.nexus → SameContents changer.old.unit.device changer.new.unit.device }
+    ensures stays { MayNotChange changer.old.unit.state.reservations received.now.nexus → drive.new.unit ≡ drive.old.unit }
 {
     let lun = changer.lun();
     let drive_lun = drive.lun();
@@ -266,12 +266,12 @@ pub fn move_two<D: DeviceServer>(
     received: &ReceivedCommand<'_>,
 ) -> Receipt
     requires kind { IsFor changer.old.unit.device received.now }
-    requires named { named (drives_of changer.old.unit.device) received.now.cdb ≡ low.old.unit.kept.lun ∷ high.old.unit.kept.lun ∷ [] }
+    requires named { named (drives_of changer.old.unit.device) received.now.cdb ≡ low.old.unit.state.lun ∷ high.old.unit.state.lun ∷ [] }
     ensures units { MovesTwo changer.old.unit (record { low = low.old.unit; high = high.old.unit }) received.now.nexus received.now.cdb received.now.bytes ((changer.new.unit, result.reply), record { low = low.new.unit; high = high.new.unit }) }
     ensures busy { TwoAreBusyOnlyFor changer.old low.old high.old received.now.nexus received.now.cdb received.now.bytes result.reply }
     ensures numbers { result.numbers.items ≡ numbers_of changer.old.unit changer.new.unit ++ numbers_of low.old.unit low.new.unit ++ numbers_of high.old.unit high.new.unit }
-    ensures outsider { MayNotChange changer.old.unit.kept.reservations received.now.nexus → SameContents changer.old.unit.device changer.new.unit.device }
-    ensures stay { MayNotChange changer.old.unit.kept.reservations received.now.nexus → (low.new.unit ≡ low.old.unit) × (high.new.unit ≡ high.old.unit) }
+    ensures outsider { MayNotChange changer.old.unit.state.reservations received.now.nexus → SameContents changer.old.unit.device changer.new.unit.device }
+    ensures stay { MayNotChange changer.old.unit.state.reservations received.now.nexus → (low.new.unit ≡ low.old.unit) × (high.new.unit ≡ high.old.unit) }
 {
     let lun = changer.lun();
     let low_lun = low.lun();

@@ -18,7 +18,7 @@ use std::marker::Model;
 #[derive(Drop)]
 pub(crate) struct RecordedUnit {
     trail: Trail,
-    kept: UnitState,
+    state: UnitState,
     base: UnitState,
 }
 
@@ -30,13 +30,13 @@ impl Model for RecordedUnit {
     ghost Value = { RecordedUnitView };
 
     ghost view = { λ s. record {
-      kept = s.kept;
-      base = record { kept = s.base; last = s.trail.base };
+      state = s.state;
+      base = record { state = s.base; last = s.trail.base };
       records = s.trail.records;
       room = s.trail.room;
     } };
 
-    ghost invariant = { λ s. AreJudged s.base s.trail.records × (s.kept ≡ kept_after s.base s.trail.records) };
+    ghost invariant = { λ s. AreJudged s.base s.trail.records × (s.state ≡ kept_after s.base s.trail.records) };
 }
 
 impl RecordedUnit {
@@ -50,25 +50,25 @@ impl RecordedUnit {
     /// At power on, for a unit of this number among so many. The first record will have the number
     /// after `last`.
     pub(crate) fn new(alloc: Global, lun: u8, units: u8, last: u64) -> RecordedUnit
-        ensures { result ≡ record { kept = at_power_on lun units; base = record { kept = at_power_on lun units; last = last }; records = []; room = 0 } }
+        ensures { result ≡ record { state = at_power_on lun units; base = record { state = at_power_on lun units; last = last }; records = []; room = 0 } }
     {
         RecordedUnit {
-            kept: UnitState::new(lun, units),
+            state: UnitState::new(lun, units),
             base: UnitState::new(lun, units),
             trail: Trail::new(alloc, last),
         }
     }
 
     pub(crate) fn lun(&self) -> u8
-        ensures { result ≡ self.now.kept.lun }
+        ensures { result ≡ self.now.state.lun }
     {
-        self.kept.lun()
+        self.state.lun()
     }
 
     pub(crate) fn units(&self) -> u8
-        ensures { result ≡ self.now.kept.units }
+        ensures { result ≡ self.now.state.units }
     {
-        self.kept.units()
+        self.state.units()
     }
 
     /// The last number that was used.
@@ -80,31 +80,31 @@ impl RecordedUnit {
 
     /// Whether a sender has a slot, or one is left for it.
     pub(crate) fn has_room(&mut self, nexus: Nexus) -> bool
-        ensures room { result ≡ has_room self.old.kept nexus }
+        ensures room { result ≡ has_room self.old.state nexus }
         ensures same { self.new ≡ self.old }
     {
-        self.kept.has_room(nexus)
+        self.state.has_room(nexus)
     }
 
     /// Whether a nexus has a slot.
     pub(crate) fn has_slot(&self, nexus: Nexus) -> bool
-        ensures { result ≡ has_slot self.now.kept.slots nexus }
+        ensures { result ≡ has_slot self.now.state.slots nexus }
     {
-        self.kept.has_slot(nexus)
+        self.state.has_slot(nexus)
     }
 
     /// Whether somebody prevents the removal of media. Each nexus that does has a slot, and is among them once.
     pub(crate) fn is_prevented(&self) -> bool
-        ensures prevented { result ≡ is_prevented self.now.kept }
-        ensures slots { HaveSlots self.now.kept.slots self.now.kept.preventers }
+        ensures prevented { result ≡ is_prevented self.now.state }
+        ensures slots { HaveSlots self.now.state.slots self.now.state.preventers }
     {
-        self.kept.is_prevented()
+        self.state.is_prevented()
     }
 
     /// The records, a legal trail.
     pub(crate) fn records(&self) -> &[Record]
         ensures records { result.now ≡ self.now.records }
-        ensures trail { IsTrail self.now.base self.now.records self.now.kept }
+        ensures trail { IsTrail self.now.base self.now.records self.now.state }
     {
         self.trail.records()
     }
@@ -112,7 +112,7 @@ impl RecordedUnit {
     /// A line for each record, with the reservation that stood before it.
     #[tactic(auto, using(crate::proofs::Replay::trails_replay))]
     pub(crate) fn audit(&self, alloc: Global) -> Result<Vec<String>, AllocError>
-        ensures { IfOk result (λ lines. map string_bytes lines.items ≡ span_lines self.now.base.kept.reservations self.now.records) }
+        ensures { IfOk result (λ lines. map string_bytes lines.items ≡ span_lines self.now.base.state.reservations self.now.records) }
     {
         let entries = self.records();
         span_lines(alloc, self.base.reservations(), entries)
@@ -156,17 +156,17 @@ impl RecordedUnit {
     pub(crate) fn answer<D: DeviceServer>(
         &mut self,
         alloc: Global,
-        server: &mut Box<D>,
+        device: &mut Box<D>,
         received: &ReceivedCommand<'_>,
     ) -> Result<(Reply, ActKind), AllocError>
-        requires kind { IsFor (D.shown server.old.value) received.now }
-        requires slot { has_room self.old.kept received.now.nexus ≡ true }
+        requires kind { IsFor (D.shown device.old.value) received.now }
+        requires slot { has_room self.old.state received.now.nexus ≡ true }
         requires room { 0 < self.old.room }
         requires number { last_in self.old + 1 < 2 ^ 64 }
-        ensures ok { IfOk result (λ it. answered (unit_of (D.shown server.old.value) self.old) received.now.nexus received.now.cdb received.now.bytes ≡ (unit_of (D.shown server.new.value) self.new, it.0)) }
+        ensures ok { IfOk result (λ it. answered (unit_of (D.shown device.old.value) self.old) received.now.nexus received.now.cdb received.now.bytes ≡ (unit_of (D.shown device.new.value) self.new, it.0)) }
         ensures act { IfOk result (λ it. it.1 ≡ act_kind_of (act_of_decoded (command_in received.now))) }
-        ensures err { OnErr result ((D.shown server.new.value ≡ D.shown server.old.value) × (self.new ≡ self.old)) }
-        ensures want { OnErr result (takes_memory (contacted_present (unit_of (D.shown server.old.value) self.old) received.now.nexus) received.now.nexus (command_in received.now) ≡ true) }
+        ensures err { OnErr result ((D.shown device.new.value ≡ D.shown device.old.value) × (self.new ≡ self.old)) }
+        ensures want { OnErr result (takes_memory (contacted_present (unit_of (D.shown device.old.value) self.old) received.now.nexus) received.now.nexus (command_in received.now) ≡ true) }
     {
         let nexus = received.nexus();
         let decoded = Command::of(alloc, received)?;
@@ -174,8 +174,8 @@ impl RecordedUnit {
         let kind = act_kind_of(&act);
         let (decision, reply) = judge(
             alloc,
-            server,
-            &mut self.kept,
+            device,
+            &mut self.state,
             nexus,
             &decoded,
             received.bytes(),
@@ -190,29 +190,29 @@ impl RecordedUnit {
     pub(crate) fn begin<D: DeviceServer>(
         &mut self,
         alloc: Global,
-        server: &mut Box<D>,
+        device: &mut Box<D>,
         received: &ReceivedCommand<'_>,
         route: Route,
     ) -> Result<MoveJudgement, AllocError>
-        requires changer { kind_of (D.shown server.old.value) ≡ Changer }
-        requires kind { IsFor (D.shown server.old.value) received.now }
-        requires route { DecodesTo (drives_of (D.shown server.old.value)) received.now.cdb route }
-        requires slot { has_room self.old.kept received.now.nexus ≡ true }
+        requires changer { kind_of (D.shown device.old.value) ≡ Changer }
+        requires kind { IsFor (D.shown device.old.value) received.now }
+        requires route { DecodesTo (drives_of (D.shown device.old.value)) received.now.cdb route }
+        requires slot { has_room self.old.state received.now.nexus ≡ true }
         requires room { 0 < self.old.room }
         requires number { last_in self.old + 1 < 2 ^ 64 }
-        ensures begins { IfOk result (Begins (unit_of (D.shown server.old.value) self.old) (unit_of (D.shown server.new.value) self.new) received.now.nexus received.now.cdb received.now.bytes route) }
+        ensures begins { IfOk result (Begins (unit_of (D.shown device.old.value) self.old) (unit_of (D.shown device.new.value) self.new) received.now.nexus received.now.cdb received.now.bytes route) }
         ensures stays { IfOk result (StaysIf self.old self.new) }
-        ensures device { IfOk result (λ begun. IsLeftOpen begun → D.shown server.new.value ≡ D.shown server.old.value) }
-        ensures err { OnErr result ((D.shown server.new.value ≡ D.shown server.old.value) × (self.new ≡ self.old)) }
-        ensures want { OnErr result (takes_memory (contacted_present (unit_of (D.shown server.old.value) self.old) received.now.nexus) received.now.nexus (command_in received.now) ≡ true) }
+        ensures device { IfOk result (λ begun. IsLeftOpen begun → D.shown device.new.value ≡ D.shown device.old.value) }
+        ensures err { OnErr result ((D.shown device.new.value ≡ D.shown device.old.value) × (self.new ≡ self.old)) }
+        ensures want { OnErr result (takes_memory (contacted_present (unit_of (D.shown device.old.value) self.old) received.now.nexus) received.now.nexus (command_in received.now) ≡ true) }
     {
         let nexus = received.nexus();
         let decoded = Command::of(alloc, received)?;
         let act = act_of(alloc, &decoded)?;
         let found = judge_move(
             alloc,
-            server,
-            &mut self.kept,
+            device,
+            &mut self.state,
             nexus,
             &decoded,
             received.bytes(),
@@ -228,11 +228,11 @@ impl RecordedUnit {
 
     /// Ends a command that judgement left open by an answer, with its record.
     pub(crate) fn end(&mut self, nexus: Nexus, act: Act, decision: Decision, reply: Reply) -> Reply
-        requires awaits { AwaitsEnd self.old.kept nexus act decision }
+        requires awaits { AwaitsEnd self.old.state nexus act decision }
         requires whole { IsWhole reply.status reply.sense }
         requires room { 0 < self.old.room }
         requires number { last_in self.old + 1 < 2 ^ 64 }
-        ensures kept { self.new.kept ≡ self.old.kept }
+        ensures state { self.new.state ≡ self.old.state }
         ensures base { self.new.base ≡ self.old.base }
         ensures records { self.new.records ≡ self.old.records ++ record_of (last_in self.old + 1) (Some nexus) act decision reply.status reply.sense ∷ [] }
         ensures reply { result ≡ numbered reply (last_in self.old + 1) }
@@ -244,15 +244,15 @@ impl RecordedUnit {
 
     /// The loss of a nexus that has a slot, with its record, whose number is answered.
     pub(crate) fn lose(&mut self, nexus: Nexus) -> u64
-        requires slot { has_slot self.old.kept.slots nexus ≡ true }
+        requires slot { has_slot self.old.state.slots nexus ≡ true }
         requires room { 0 < self.old.room }
         requires number { last_in self.old + 1 < 2 ^ 64 }
-        ensures kept { self.new.kept ≡ kept_after_loss self.old.kept nexus }
+        ensures state { self.new.state ≡ kept_after_loss self.old.state nexus }
         ensures base { self.new.base ≡ self.old.base }
         ensures records { self.new.records ≡ self.old.records ++ event_of (last_in self.old + 1) (Some nexus) Loss ∷ [] }
         ensures number { result ≡ last_in self.old + 1 }
     {
-        self.kept.lose(nexus);
+        self.state.lose(nexus);
         note_event(&mut self.trail, Some(nexus), Act::Loss)
     }
 
@@ -260,12 +260,12 @@ impl RecordedUnit {
     pub(crate) fn reset(&mut self) -> u64
         requires room { 0 < self.old.room }
         requires number { last_in self.old + 1 < 2 ^ 64 }
-        ensures kept { self.new.kept ≡ kept_after_reset self.old.kept }
+        ensures state { self.new.state ≡ kept_after_reset self.old.state }
         ensures base { self.new.base ≡ self.old.base }
         ensures records { self.new.records ≡ self.old.records ++ event_of (last_in self.old + 1) None Reset ∷ [] }
         ensures number { result ≡ last_in self.old + 1 }
     {
-        self.kept.reset();
+        self.state.reset();
         note_event(&mut self.trail, None, Act::Reset)
     }
 
@@ -273,12 +273,12 @@ impl RecordedUnit {
     pub(crate) fn take_in_medium(&mut self) -> u64
         requires room { 0 < self.old.room }
         requires number { last_in self.old + 1 < 2 ^ 64 }
-        ensures kept { self.new.kept ≡ with_medium self.old.kept }
+        ensures state { self.new.state ≡ with_medium self.old.state }
         ensures base { self.new.base ≡ self.old.base }
         ensures records { self.new.records ≡ self.old.records ++ event_of (last_in self.old + 1) None MediumIn ∷ [] }
         ensures number { result ≡ last_in self.old + 1 }
     {
-        self.kept.take_in_medium();
+        self.state.take_in_medium();
         note_event(&mut self.trail, None, Act::MediumIn)
     }
 
@@ -286,8 +286,8 @@ impl RecordedUnit {
     pub(crate) fn give_out_medium(&mut self) -> u64
         requires room { 0 < self.old.room }
         requires number { last_in self.old + 1 < 2 ^ 64 }
-        requires allowed { is_prevented self.old.kept ≡ false }
-        ensures kept { self.new.kept ≡ self.old.kept }
+        requires allowed { is_prevented self.old.state ≡ false }
+        ensures state { self.new.state ≡ self.old.state }
         ensures base { self.new.base ≡ self.old.base }
         ensures records { self.new.records ≡ self.old.records ++ event_of (last_in self.old + 1) None MediumOut ∷ [] }
         ensures number { result ≡ last_in self.old + 1 }
@@ -301,10 +301,10 @@ impl RecordedUnit {
         requires { records.old.items ≡ [] }
         ensures records { records.new.items ≡ self.old.records }
         ensures capacity { vec_capacity records.new ≡ length self.old.records + self.old.room }
-        ensures trail { IsTrail self.old.base self.old.records self.old.kept }
-        ensures rest { self.new ≡ record { kept = self.old.kept; base = record { kept = self.old.kept; last = last_in self.old }; records = []; room = vec_capacity records.old } }
+        ensures trail { IsTrail self.old.base self.old.records self.old.state }
+        ensures rest { self.new ≡ record { state = self.old.state; base = record { state = self.old.state; last = last_in self.old }; records = []; room = vec_capacity records.old } }
     {
-        self.base = self.kept.copy();
+        self.base = self.state.copy();
         self.trail.drain_into(records);
     }
 }

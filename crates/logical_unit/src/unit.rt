@@ -25,7 +25,7 @@ pub struct Busy;
 /// attentions that stand now.
 #[derive(Drop)]
 pub struct LogicalUnit<D: DeviceServer> {
-    server: Box<D>,
+    device: Box<D>,
     // the tables are some 25 KB: behind a pointer, a unit is small to move
     state: Box<RecordedUnit>,
 }
@@ -35,7 +35,7 @@ impl<D: DeviceServer> Model for LogicalUnit<D> {
 
     ghost Value = { UnitWithRoom };
 
-    ghost view = { λ u. unit_with_room (D.shown u.server.value) u.state.value };
+    ghost view = { λ u. unit_with_room (D.shown u.device.value) u.state.value };
 }
 
 impl<D: DeviceServer> LogicalUnit<D> {
@@ -53,12 +53,12 @@ impl<D: DeviceServer> LogicalUnit<D> {
         alloc: Global,
         lun: u8,
         units: u8,
-        server: Box<D>,
+        device: Box<D>,
     ) -> Result<LogicalUnit<D>, (AllocError, Box<D>)>
-        ensures ok { IfOk result (λ unit. unit ≡ record { unit = made (D.shown server.value) lun units 0; room = 0 }) }
-        ensures err { IfErr result (λ back. back.1.value ≡ server.value) }
+        ensures ok { IfOk result (λ unit. unit ≡ record { unit = made (D.shown device.value) lun units 0; room = 0 }) }
+        ensures err { IfErr result (λ back. back.1.value ≡ device.value) }
     {
-        LogicalUnit::new_after(alloc, lun, units, server, 0)
+        LogicalUnit::new_after(alloc, lun, units, device, 0)
     }
 
     /// The same, with its first record numbered after `last`.
@@ -66,29 +66,29 @@ impl<D: DeviceServer> LogicalUnit<D> {
         alloc: Global,
         lun: u8,
         units: u8,
-        server: Box<D>,
+        device: Box<D>,
         last: u64,
     ) -> Result<LogicalUnit<D>, (AllocError, Box<D>)>
-        ensures ok { IfOk result (λ unit. unit ≡ record { unit = made (D.shown server.value) lun units last; room = 0 }) }
-        ensures err { IfErr result (λ back. back.1.value ≡ server.value) }
+        ensures ok { IfOk result (λ unit. unit ≡ record { unit = made (D.shown device.value) lun units last; room = 0 }) }
+        ensures err { IfErr result (λ back. back.1.value ≡ device.value) }
     {
         match Box::new(alloc, RecordedUnit::new(alloc, lun, units, last)) {
-            Ok(state) => Ok(LogicalUnit { server, state }),
-            Err(refused) => Err((refused.into(), server)),
+            Ok(state) => Ok(LogicalUnit { device, state }),
+            Err(refused) => Err((refused.into(), device)),
         }
     }
 
     pub fn kind(&self) -> Kind
         ensures { result ≡ kind_of self.now.unit.device }
     {
-        self.server.kind()
+        self.device.kind()
     }
 
     /// How many data transfer elements a changer has; 0 for a drive.
     pub fn drives(&self) -> u16
         ensures { result ≡ drives_of self.now.unit.device }
     {
-        self.server.drives()
+        self.device.drives()
     }
 
     /// The tag of the volume at a place of the device: 0 is a drive's bay, a changer's are its elements
@@ -96,19 +96,19 @@ impl<D: DeviceServer> LogicalUnit<D> {
     pub fn held(&self, place: u16) -> Option<VolumeTag>
         ensures { result ≡ held_in self.now.unit.device place }
     {
-        self.server.held(place)
+        self.device.held(place)
     }
 
     /// The logical unit number.
     pub fn lun(&self) -> u8
-        ensures { result ≡ self.now.unit.kept.lun }
+        ensures { result ≡ self.now.unit.state.lun }
     {
         self.state.lun()
     }
 
     /// How many units the target has.
     pub fn units(&self) -> u8
-        ensures { result ≡ self.now.unit.kept.units }
+        ensures { result ≡ self.now.unit.state.units }
     {
         self.state.units()
     }
@@ -123,8 +123,8 @@ impl<D: DeviceServer> LogicalUnit<D> {
     /// Whether a nexus prevents the removal of media (SPC-4, "PREVENT ALLOW MEDIUM REMOVAL command").
     /// Each nexus that does has a slot, and is among them once.
     pub fn prevented(&self) -> bool
-        ensures prevented { result ≡ is_prevented self.now.unit.kept }
-        ensures slots { HaveSlots self.now.unit.kept.slots self.now.unit.kept.preventers }
+        ensures prevented { result ≡ is_prevented self.now.unit.state }
+        ensures slots { HaveSlots self.now.unit.state.slots self.now.unit.state.preventers }
     {
         self.state.is_prevented()
     }
@@ -132,7 +132,7 @@ impl<D: DeviceServer> LogicalUnit<D> {
     /// Whether a nexus has a slot here, or finds one. One that doesn't is answered BUSY until the target ends, since slots
     /// are never given up.
     pub fn has_room(&mut self, nexus: Nexus) -> bool
-        ensures room { result ≡ has_room self.old.unit.kept nexus }
+        ensures room { result ≡ has_room self.old.unit.state nexus }
         ensures same { self.new ≡ self.old }
     {
         self.state.has_room(nexus)
@@ -141,7 +141,7 @@ impl<D: DeviceServer> LogicalUnit<D> {
     /// The records since the base, oldest first: a legal trail, which gives what is kept now.
     pub fn records(&self) -> &[Record]
         ensures records { result.now ≡ self.now.unit.records }
-        ensures trail { IsTrail self.now.unit.base self.now.unit.records self.now.unit.kept }
+        ensures trail { IsTrail self.now.unit.base self.now.unit.records self.now.unit.state }
     {
         self.state.records()
     }
@@ -172,14 +172,14 @@ impl<D: DeviceServer> LogicalUnit<D> {
 
     /// One command, from its CDB and the data sent with it. BUSY leaves the unit as it was; any other
     /// answer leaves one record. A command to whose sender an attention is told, a conflict and bytes
-    /// that spell no command are BUSY only where there is no slot, no number or no room for the record;
+    /// that decode to no command are BUSY only where there is no slot, no number or no room for the record;
     /// PERSISTENT RESERVE OUT, and a command that comes to its own rules and takes memory there, also for want
     /// of memory. A sender to whom the permission table closes the changing classes leaves what is in the unit.
     pub fn execute(&mut self, alloc: Global, received: &ReceivedCommand<'_>) -> Reply
         requires { IsFor self.old.unit.device received.now }
         ensures unit { Executes self.old.unit received.now.nexus received.now.cdb received.now.bytes (self.new.unit, result) }
         ensures busy { IsBusyOnlyFor self.old received.now.nexus received.now.cdb received.now.bytes result }
-        ensures outsider { MayNotChange self.old.unit.kept.reservations received.now.nexus → SameContents self.old.unit.device self.new.unit.device }
+        ensures outsider { MayNotChange self.old.unit.state.reservations received.now.nexus → SameContents self.old.unit.device self.new.unit.device }
     {
         let (reply, _) = self.answer(alloc, received);
         reply
@@ -194,10 +194,10 @@ impl<D: DeviceServer> LogicalUnit<D> {
         requires { IsFor self.old.unit.device received.now }
         ensures unit { Executes self.old.unit received.now.nexus received.now.cdb received.now.bytes (self.new.unit, result.0) }
         ensures busy { IsBusyOnlyFor self.old received.now.nexus received.now.cdb received.now.bytes result.0 }
-        ensures act { result.1 ≡ act_kind_if (own_number self.old.unit.kept.lun result.0.number) (act_kind_of (act_of_decoded (command_in received.now))) }
-        ensures outsider { MayNotChange self.old.unit.kept.reservations received.now.nexus → SameContents self.old.unit.device self.new.unit.device }
+        ensures act { result.1 ≡ act_kind_if (own_number self.old.unit.state.lun result.0.number) (act_kind_of (act_of_decoded (command_in received.now))) }
+        ensures outsider { MayNotChange self.old.unit.state.reservations received.now.nexus → SameContents self.old.unit.device self.new.unit.device }
     {
-        let server = &mut self.server;
+        let device = &mut self.device;
         let state = &mut *self.state;
         if !state.has_room(received.nexus()) {
             return (Reply::busy(alloc), None);
@@ -205,7 +205,7 @@ impl<D: DeviceServer> LogicalUnit<D> {
         if !state.reserve() {
             return (Reply::busy(alloc), None);
         }
-        let Ok((reply, act)) = state.answer(alloc, server, received) else {
+        let Ok((reply, act)) = state.answer(alloc, device, received) else {
             return (Reply::busy(alloc), None);
         };
         (reply, Some(act))
@@ -216,7 +216,7 @@ impl<D: DeviceServer> LogicalUnit<D> {
     pub fn lose(&mut self, nexus: Nexus) -> Result<Option<u64>, Busy>
         ensures unit { IfOk result (λ number. Loses self.old.unit nexus (self.new.unit, number)) }
         ensures busy { OnErr result (self.new.unit ≡ self.old.unit) }
-        ensures known { OnErr result (has_slot self.old.unit.kept.slots nexus ≡ true) }
+        ensures known { OnErr result (has_slot self.old.unit.state.slots nexus ≡ true) }
         ensures lacks { OnErr result (LacksRecord self.old) }
     {
         if !self.state.has_slot(nexus) {
@@ -238,7 +238,7 @@ impl<D: DeviceServer> LogicalUnit<D> {
         if !self.state.reserve() {
             return Err(Busy);
         }
-        self.server.reset();
+        self.device.reset();
         Ok(self.state.reset())
     }
 
@@ -275,19 +275,19 @@ impl<D: DeviceServer> LogicalUnit<D> {
         ensures same { OnErr result (self.new.unit ≡ self.old.unit) }
         ensures lacks { IfErr result (λ fault. fault ≡ MediumFault.Busy → LacksRecord self.old) }
     {
-        if self.server.kind() == Kind::Changer {
+        if self.device.kind() == Kind::Changer {
             return Err(MediumFault::NotADrive);
         }
         if self.state.is_prevented() {
             return Err(MediumFault::Prevented);
         }
-        if !has_volume(&self.server) {
+        if !has_volume(&self.device) {
             return Err(MediumFault::Empty);
         }
         if !self.state.reserve() {
             return Err(MediumFault::Busy);
         }
-        let volume = take_from_bay(&mut self.server);
+        let volume = take_from_bay(&mut self.device);
         Ok((volume, self.state.give_out_medium()))
     }
 
@@ -302,34 +302,34 @@ impl<D: DeviceServer> LogicalUnit<D> {
         ensures same { OnErr result (self.new.unit ≡ self.old.unit) }
         ensures lacks { IfErr result (λ back. back.1 ≡ MediumFault.Busy → LacksRecord self.old) }
     {
-        if self.server.kind() == Kind::Changer {
+        if self.device.kind() == Kind::Changer {
             return Err((volume, MediumFault::NotADrive));
         }
-        if has_volume(&self.server) {
+        if has_volume(&self.device) {
             return Err((volume, MediumFault::Full));
         }
         if !self.state.reserve() {
             return Err((volume, MediumFault::Busy));
         }
-        put_into_bay(&mut self.server, volume);
+        put_into_bay(&mut self.device, volume);
         Ok(self.state.take_in_medium())
     }
 
     /// Lets an attendant look after the volumes of the device: nothing changes but how many objects of a tape count as unchanged, and
     /// no record is left.
     pub fn attend<A: Attendant<D>>(&mut self, attendant: &mut A)
-        ensures asked { A.looks_after attendant.old self.old.unit.device self.new.unit.device attendant.new }
+        ensures asked { A.looks_after attendant.old self.old.unit.state.lun self.old.unit.device self.new.unit.device attendant.new }
         ensures same { SameButSettled self.old.unit.device self.new.unit.device }
         ensures rest { self.new ≡ with_device self.old self.new.unit.device }
     {
-        attendant.attend(&mut self.server);
+        attendant.attend(self.state.lun(), &mut self.device);
     }
 
     /// Hands out the records, a legal trail that gives what is kept now, and keeps none: what is kept
     /// now is the base of the next. Takes no memory.
     pub fn drain(&mut self, alloc: Global) -> Vec<Record>
         ensures records { result.items ≡ self.old.unit.records }
-        ensures trail { IsTrail self.old.unit.base self.old.unit.records self.old.unit.kept }
+        ensures trail { IsTrail self.old.unit.base self.old.unit.records self.old.unit.state }
         ensures unit { self.new.unit ≡ drained self.old.unit }
     {
         let mut records = Vec::new(alloc);
@@ -343,7 +343,7 @@ impl<D: DeviceServer> LogicalUnit<D> {
         requires { records.old.items ≡ [] }
         ensures records { records.new.items ≡ self.old.unit.records }
         ensures capacity { vec_capacity records.new ≡ length self.old.unit.records + self.old.room }
-        ensures trail { IsTrail self.old.unit.base self.old.unit.records self.old.unit.kept }
+        ensures trail { IsTrail self.old.unit.base self.old.unit.records self.old.unit.state }
         ensures rest { self.new ≡ record { unit = drained self.old.unit; room = vec_capacity records.old } }
     {
         self.state.drain_into(records);
@@ -392,8 +392,8 @@ impl<D: DeviceServer> LogicalUnit<D> {
         if !self.state.reserve() {
             return MoveJudgement::Answered(Reply::busy(alloc));
         }
-        let server = &mut self.server;
-        let Ok(begun) = self.state.begin(alloc, server, received, route) else {
+        let device = &mut self.device;
+        let Ok(begun) = self.state.begin(alloc, device, received, route) else {
             return MoveJudgement::Answered(Reply::busy(alloc));
         };
         begun
@@ -401,11 +401,11 @@ impl<D: DeviceServer> LogicalUnit<D> {
 
     /// Ends a command that judgement left open by an answer, with its record.
     pub(crate) fn end(&mut self, nexus: Nexus, act: Act, decision: Decision, reply: Reply) -> Reply
-        requires awaits { AwaitsEnd self.old.unit.kept nexus act decision }
+        requires awaits { AwaitsEnd self.old.unit.state nexus act decision }
         requires whole { IsWhole reply.status reply.sense }
         requires room { 0 < self.old.room }
         requires number { HasNumber self.old.unit }
-        ensures { (self.new.unit, result) ≡ recorded self.old.unit nexus act (record { device = self.old.unit.device; kept = self.old.unit.kept }, decision, reply) }
+        ensures { (self.new.unit, result) ≡ recorded self.old.unit nexus act (record { device = self.old.unit.device; state = self.old.unit.state }, decision, reply) }
     {
         self.state.end(nexus, act, decision, reply)
     }
@@ -416,7 +416,7 @@ impl<D: DeviceServer> LogicalUnit<D> {
         ensures taken { taken self.old.unit.device place ≡ Ok (result, self.new.unit.device) }
         ensures rest { self.new ≡ with_device self.old self.new.unit.device }
     {
-        match self.server.take_volume(place) {
+        match self.device.take_volume(place) {
             Ok(volume) => volume,
             Err(_) => unreachable!(),
         }
@@ -428,7 +428,7 @@ impl<D: DeviceServer> LogicalUnit<D> {
         ensures put { put self.old.unit.device place volume ≡ Ok self.new.unit.device }
         ensures rest { self.new ≡ with_device self.old self.new.unit.device }
     {
-        match self.server.put_volume(place, volume) {
+        match self.device.put_volume(place, volume) {
             Ok(()) => {}
             Err(_) => unreachable!(),
         }
@@ -438,7 +438,7 @@ impl<D: DeviceServer> LogicalUnit<D> {
     pub(crate) fn note_at(&mut self, place: u16, tag: Option<VolumeTag>)
         ensures { self.new ≡ with_device self.old (noting self.old.unit.device place tag) }
     {
-        let _ = self.server.mark(place, tag);
+        let _ = self.device.mark(place, tag);
     }
 
     /// Whether the drive gives the volume that the mark at its element names; else what the changer reports.
@@ -446,13 +446,13 @@ impl<D: DeviceServer> LogicalUnit<D> {
         ensures ok { OnOk result (IsOk (given mark self.now.unit)) }
         ensures err { IfErr result (λ condition. given mark self.now.unit ≡ Err condition) }
     {
-        if self.server.kind() == Kind::Changer {
+        if self.device.kind() == Kind::Changer {
             return Err(Condition::InternalTargetFailure);
         }
         if self.prevented() {
             return Err(Condition::MediumRemovalPrevented);
         }
-        if !is_named(mark, self.server.held(0)) {
+        if !is_named(mark, self.device.held(0)) {
             return Err(Condition::InternalTargetFailure);
         }
         Ok(())
@@ -462,10 +462,10 @@ impl<D: DeviceServer> LogicalUnit<D> {
     pub(crate) fn takes(&self) -> bool
         ensures { (volume : Volume) → result ≡ is_ok (put_in self.now.unit volume) }
     {
-        if self.server.kind() == Kind::Changer {
+        if self.device.kind() == Kind::Changer {
             return false;
         }
-        !has_volume(&self.server)
+        !has_volume(&self.device)
     }
 }
 
@@ -499,31 +499,31 @@ fn is_named(mark: Option<VolumeTag>, held: Option<VolumeTag>) -> bool
 }
 
 /// Whether there is a volume in a drive's bay.
-fn has_volume<D: DeviceServer>(server: &Box<D>) -> bool
-    requires { kind_of (D.shown server.now.value) ≡ Drive }
-    ensures taken { result ≡ is_ok (taken (D.shown server.now.value) 0) }
-    ensures put { (volume : Volume) → result ≡ is_err (put (D.shown server.now.value) 0 volume) }
+fn has_volume<D: DeviceServer>(device: &Box<D>) -> bool
+    requires { kind_of (D.shown device.now.value) ≡ Drive }
+    ensures taken { result ≡ is_ok (taken (D.shown device.now.value) 0) }
+    ensures put { (volume : Volume) → result ≡ is_err (put (D.shown device.now.value) 0 volume) }
 {
-    server.held(0).is_some()
+    device.held(0).is_some()
 }
 
 /// Takes the volume out of a drive's bay.
-fn take_from_bay<D: DeviceServer>(server: &mut Box<D>) -> Volume
-    requires { IsOk (taken (D.shown server.old.value) 0) }
-    ensures { taken (D.shown server.old.value) 0 ≡ Ok (result, D.shown server.new.value) }
+fn take_from_bay<D: DeviceServer>(device: &mut Box<D>) -> Volume
+    requires { IsOk (taken (D.shown device.old.value) 0) }
+    ensures { taken (D.shown device.old.value) 0 ≡ Ok (result, D.shown device.new.value) }
 {
-    match server.take_volume(0) {
+    match device.take_volume(0) {
         Ok(volume) => volume,
         Err(_) => unreachable!(),
     }
 }
 
 /// Puts a volume into a drive's bay.
-fn put_into_bay<D: DeviceServer>(server: &mut Box<D>, volume: Volume)
-    requires { IsOk (put (D.shown server.old.value) 0 volume) }
-    ensures { put (D.shown server.old.value) 0 volume ≡ Ok (D.shown server.new.value) }
+fn put_into_bay<D: DeviceServer>(device: &mut Box<D>, volume: Volume)
+    requires { IsOk (put (D.shown device.old.value) 0 volume) }
+    ensures { put (D.shown device.old.value) 0 volume ≡ Ok (D.shown device.new.value) }
 {
-    match server.put_volume(0, volume) {
+    match device.put_volume(0, volume) {
         Ok(()) => {}
         Err(_) => unreachable!(),
     }

@@ -29,7 +29,7 @@ placed (c ∷ ds) zero u whole there =
     let is : c ≡ u = cc in
     let count = has_drives c ds o in
     let most = o.few in
-    subst (λ (x : UnitView). IsAt 0 x) is (record { kind = o.kind; place = is_zero c.kept.lun o.lun; few = omega (arith, count, most) })
+    subst (λ (x : UnitView). IsAt 0 x) is (record { kind = o.kind; place = is_zero c.state.lun o.lun; few = omega (arith, count, most) })
 placed (c ∷ ds) (suc i) u whole there =
     let o = ordered c ds whole in
     let at = drive_of c ds i u o there in

@@ -138,7 +138,7 @@ impl<B: Ledgers, D: DeviceServer, G: Gate> Library<B, D, G> {
     /// asked.
     pub fn attend<R: Wait, A: Attendant<D>>(&self, rt: &R, lun: u8, attendant: &mut A) -> bool
         ensures there { IsTrue result ↔ (lun < self.now.units) }
-        ensures asked { lun < self.now.units → WasAsked A.looks_after (kind_at lun) attendant.old attendant.new }
+        ensures asked { lun < self.now.units → WasAsked A.looks_after lun (kind_at lun) attendant.old attendant.new }
         ensures absent { result ≡ false → attendant.new ≡ attendant.old }
     {
         self.locks.attend(rt, lun, attendant)

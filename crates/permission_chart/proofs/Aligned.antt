@@ -9,7 +9,7 @@ use Rattle.permit_tables.specs.Text.{class_name, type_name}
 use Rattle.permit_tables.specs.declared.res_type.ResType.{ResType}
 use Rattle.permit_tables.specs.declared.res_type.ResType.TheVariants.{None, We, Ea, Wero, Earo, Wear, Eaar}
 use Rattle.permit_tables.specs.declared.role.Role.{Role}
-use Rattle.permit_tables.specs.declared.classes.Class.{Class}
+use Rattle.scsi_cdb.specs.declared.classes.Class.{Class}
 
 of_name : (c : Class) → length (at_left 27 (class_name c)) ≡ 27
 of_name c = eqb-true _ _ (each_class (λ x. length (at_left 27 (class_name x)) == 27) refl c)

@@ -6,7 +6,7 @@ use Rattle.permission_chart.specs.Classes.{every_class}
 use Rattle.permission_chart.proofs.EachClass.{each_class, found, is_found}
 use Rattle.permission_chart.specs.Names.{IsNameOf, IsClassNamed}
 use Rattle.permit_tables.specs.Text.{class_name}
-use Rattle.permit_tables.specs.declared.classes.Class.{Class}
+use Rattle.scsi_cdb.specs.declared.classes.Class.{Class}
 
 -- bytes as one number, the first the lowest
 abbrev number : List ℕ → ℕ

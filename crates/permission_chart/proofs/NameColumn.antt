@@ -7,7 +7,7 @@ use Rattle.std.proofs.Math.Utf8.{encode}
 use Rattle.std.specs.Fmt.{padded, take_chars, char_count, format_spec}
 use Rattle.permission_chart.specs.Chart.{at_left}
 use Rattle.permit_tables.specs.Text.{class_name}
-use Rattle.permit_tables.specs.declared.classes.Class.{Class}
+use Rattle.scsi_cdb.specs.declared.classes.Class.{Class}
 
 pub padded-class_name : (c : Class) → padded (format_spec 32 1 0 27 (2 ^ 64 - 1)) (class_name c) ≡ at_left 27 (class_name c)
 unfolding padded take_chars char_count encode

@@ -1,6 +1,6 @@
 -- What is printed of the permission table.
 use Rattle.std.specs.Prelude.{ℕ, List, [], ◌∷◌, Option, Some, None}
-use Rattle.permit_tables.specs.declared.classes.Class.{Class}
+use Rattle.scsi_cdb.specs.declared.classes.Class.{Class}
 use Rattle.permission_chart.specs.Chart.{chart}
 use Rattle.permission_chart.specs.Classes.{every_class}
 

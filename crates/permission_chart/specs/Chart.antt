@@ -9,7 +9,7 @@ use Rattle.permit_tables.specs.declared.res_type.ResType.{ResType}
 use Rattle.permit_tables.specs.declared.res_type.ResType.TheVariants.{None, We, Ea, Wero, Earo, Wear, Eaar}
 use Rattle.permit_tables.specs.declared.role.Role.{Role}
 use Rattle.permit_tables.specs.declared.role.Role.TheVariants.{Holder, Registered, Other}
-use Rattle.permit_tables.specs.declared.classes.Class.{Class}
+use Rattle.scsi_cdb.specs.declared.classes.Class.{Class}
 
 -- the types, from the left
 abbrev pub types : List ResType

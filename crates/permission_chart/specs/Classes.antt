@@ -1,8 +1,8 @@
 -- The classes of command, in the order of `Class`.
 use Rattle.std.specs.Prelude.{List, [], ◌∷◌}
 use Rattle.std.specs.List.{Contains}
-use Rattle.permit_tables.specs.declared.classes.Class.{Class}
-use Rattle.permit_tables.specs.declared.classes.Class.TheVariants.{TestUnitReady, RequestSense, Inquiry, ReportLuns, PersistentReserveIn, AllowRemoval, ReadBlockLimits, ReadPosition, ReadElementStatusCurdata, ModeSense, Read, Space, Locate, Rewind, ReadElementStatus, ModeSelect, PreventRemoval, Write, WriteFilemarks, Erase, LoadUnload, MoveMedium, InitializeElementStatus, Register, RegisterAndIgnoreExistingKey, Clear, Preempt, PreemptAndAbort, Release, Reserve, RegisterAndMove}
+use Rattle.scsi_cdb.specs.declared.classes.Class.{Class}
+use Rattle.scsi_cdb.specs.declared.classes.Class.TheVariants.{TestUnitReady, RequestSense, Inquiry, ReportLuns, PersistentReserveIn, AllowRemoval, ReadBlockLimits, ReadPosition, ReadElementStatusCurdata, ModeSense, Read, Space, Locate, Rewind, ReadElementStatus, ModeSelect, PreventRemoval, Write, WriteFilemarks, Erase, LoadUnload, MoveMedium, InitializeElementStatus, Register, RegisterAndIgnoreExistingKey, Clear, Preempt, PreemptAndAbort, Release, Reserve, RegisterAndMove}
 
 abbrev pub every_class : List Class
 every_class = TestUnitReady ∷ RequestSense ∷ Inquiry ∷ ReportLuns ∷ PersistentReserveIn ∷ AllowRemoval ∷ ReadBlockLimits ∷ ReadPosition ∷ ReadElementStatusCurdata ∷ ModeSense ∷ Read ∷ Space ∷ Locate ∷ Rewind ∷ ReadElementStatus ∷ ModeSelect ∷ PreventRemoval ∷ Write ∷ WriteFilemarks ∷ Erase ∷ LoadUnload ∷ MoveMedium ∷ InitializeElementStatus ∷ Register ∷ RegisterAndIgnoreExistingKey ∷ Clear ∷ Preempt ∷ PreemptAndAbort ∷ Release ∷ Reserve ∷ RegisterAndMove ∷ []

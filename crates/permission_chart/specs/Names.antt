@@ -2,7 +2,7 @@
 use Rattle.std.specs.Prelude.{◌≡◌, ℕ, List, map, Option, Some, MatchOption}
 use Rattle.std.specs.Char.{to_ascii_lowercase}
 use Rattle.permit_tables.specs.Text.{class_name}
-use Rattle.permit_tables.specs.declared.classes.Class.{Class}
+use Rattle.scsi_cdb.specs.declared.classes.Class.{Class}
 
 -- the same letters, in either case
 abbrev pub IsNameOf : List ℕ → Class → Type 0

@@ -2,7 +2,7 @@
 use Rattle.std.specs.Prelude.{◌≡◌, [], ◌∷◌, ◌++◌, codes, Some}
 use Rattle.permission_chart.specs.Chart.{chart, class_line}
 use Rattle.permission_chart.specs.Names.{IsNameOf, IsClassNamed}
-use Rattle.permit_tables.specs.declared.classes.Class.TheVariants.{PersistentReserveIn, Read, Reserve, Write}
+use Rattle.scsi_cdb.specs.declared.classes.Class.TheVariants.{PersistentReserveIn, Read, Reserve, Write}
 
 pub record ChartRows : Type 0 where
   pub two_classes : chart (Write ∷ Read ∷ [])

@@ -3,7 +3,7 @@ ghost use Rattle.std.specs.Io.KnownBytes.{Appends};
 ghost use Rattle.permission_chart.specs.Cells.{cells_text};
 
 use crate::chart::Chart;
-use permit_tables::Class;
+use scsi_cdb::Class;
 use std::io::{self, Write};
 
 /// Writes the permission table of persistent reservations as a chart, of all classes of command or of one.

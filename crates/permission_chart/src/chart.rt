@@ -4,7 +4,7 @@ ghost use Rattle.permission_chart.specs.Classes.{every_class};
 
 use crate::classes::CLASSES;
 use crate::row::Row;
-use permit_tables::Class;
+use scsi_cdb::Class;
 use std::alloc::{AllocError, Global};
 use std::fmt;
 

@@ -1,6 +1,7 @@
 ghost use Rattle.permission_chart.specs.Names.{IsClassNamed};
 
-use permit_tables::{Class, class_text};
+use permit_tables::class_text;
+use scsi_cdb::Class;
 
 /// Each class of command, in the order of [`Class`].
 pub(crate) const CLASSES: [Class; 31] = [

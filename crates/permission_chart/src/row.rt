@@ -1,7 +1,8 @@
 ghost use Rattle.std.specs.Prelude.{◌≡◌, ℕ, Some};
 ghost use Rattle.permission_chart.specs.Chart.{class_line, columns, in_column, letter, occurs};
 
-use permit_tables::{Cell, Class, ResType, Role, allowed, class_text};
+use permit_tables::{Cell, ResType, Role, allowed, class_text};
+use scsi_cdb::Class;
 use std::fmt;
 
 /// The types, from the left.

@@ -4,7 +4,7 @@ use Rattle.permit_tables.specs.declared.res_type.ResType.{ResType}
 use Rattle.permit_tables.specs.declared.res_type.ResType.TheVariants.{None, We, Ea, Wero, Earo, Wear, Eaar}
 use Rattle.permit_tables.specs.declared.role.Role.{Role}
 use Rattle.permit_tables.specs.declared.role.Role.TheVariants.{Holder, Registered, Other}
-use Rattle.permit_tables.specs.declared.classes.Class.{Class}
+use Rattle.scsi_cdb.specs.declared.classes.Class.{Class}
 use Rattle.permit_tables.specs.Permission.{is_allowed, row_allows, Group, group_of}
 use Rattle.permit_tables.specs.Permission.{Harmless, Reading, Changing, Enrolling, Registrants, Holders}
 use Rattle.permit_tables.specs.Words.{word_of, place_of, bit_of}

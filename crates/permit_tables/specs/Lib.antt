@@ -1,5 +1,3 @@
-pub mod Classes
-pub mod ServiceActions
 pub mod Pairs
 pub mod Types
 pub mod Permission

@@ -5,8 +5,8 @@ use Rattle.permit_tables.specs.declared.res_type.ResType.TheVariants.{None, We, 
 use Rattle.permit_tables.specs.declared.role.Role.{Role}
 use Rattle.permit_tables.specs.declared.role.Role.TheVariants.{Holder, Registered, Other}
 use Rattle.permit_tables.specs.declared.cell.Cell.{Cell}
-use Rattle.permit_tables.specs.declared.classes.Class.{Class}
-use Rattle.permit_tables.specs.declared.classes.Class.TheVariants.{TestUnitReady, RequestSense, Inquiry, ReportLuns, PersistentReserveIn, AllowRemoval, ReadBlockLimits, ReadPosition, ReadElementStatusCurdata, ModeSense, Read, Space, Locate, Rewind, ReadElementStatus, ModeSelect, PreventRemoval, Write, WriteFilemarks, Erase, LoadUnload, MoveMedium, InitializeElementStatus, Register, RegisterAndIgnoreExistingKey, Clear, Preempt, PreemptAndAbort, Release, Reserve, RegisterAndMove}
+use Rattle.scsi_cdb.specs.declared.classes.Class.{Class}
+use Rattle.scsi_cdb.specs.declared.classes.Class.TheVariants.{TestUnitReady, RequestSense, Inquiry, ReportLuns, PersistentReserveIn, AllowRemoval, ReadBlockLimits, ReadPosition, ReadElementStatusCurdata, ModeSense, Read, Space, Locate, Rewind, ReadElementStatus, ModeSelect, PreventRemoval, Write, WriteFilemarks, Erase, LoadUnload, MoveMedium, InitializeElementStatus, Register, RegisterAndIgnoreExistingKey, Clear, Preempt, PreemptAndAbort, Release, Reserve, RegisterAndMove}
 
 abbrev pub class_name : Class → List ℕ
 class_name TestUnitReady = codes "TEST-UNIT-READY"

@@ -1,7 +1,7 @@
 ghost use Rattle.std.specs.Prelude.{◌≡◌, ℕ, Some, IfOk, string_bytes};
 
 use crate::class_names::class_text;
-use crate::classes::Class;
+use scsi_cdb::Class;
 use crate::res_type::ResType;
 use crate::role::Role;
 use crate::words::bit;

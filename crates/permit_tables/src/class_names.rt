@@ -1,7 +1,7 @@
 ghost use Rattle.std.specs.Prelude.{◌≡◌};
 ghost use Rattle.permit_tables.specs.Text.{class_name};
 
-use crate::classes::Class;
+use scsi_cdb::Class;
 
 /// The name of a class of command, as the permission table and the audit lines have it.
 pub fn class_text(class: Class) -> &'static str

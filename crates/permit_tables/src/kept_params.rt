@@ -2,7 +2,7 @@ ghost use Rattle.std.specs.Prelude.{◌≡◌, ◌≤◌, length, IfOk};
 
 use crate::list_defect::ListDefect;
 use crate::out_params::OutParams;
-use crate::service_action::OutServiceAction;
+use scsi_cdb::OutServiceAction;
 use arrayvec::ArrayVec;
 use scsi_nexus::Nexus;
 use std::alloc::{AllocError, Global};

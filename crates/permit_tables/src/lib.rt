@@ -5,7 +5,6 @@
 
 mod cell;
 mod class_names;
-mod classes;
 mod kept_params;
 mod key_rule;
 mod laws;
@@ -15,12 +14,10 @@ mod out_params;
 mod pr_fault;
 mod res_type;
 mod role;
-mod service_action;
 mod words;
 
 pub use cell::{Cell, allowed};
 pub use class_names::class_text;
-pub use classes::Class;
 pub use kept_params::KeptParams;
 pub use key_rule::KeyRule;
 pub use laws::permission_rows;
@@ -30,5 +27,4 @@ pub use out_params::OutParams;
 pub use pr_fault::PrFault;
 pub use res_type::ResType;
 pub use role::Role;
-pub use service_action::OutServiceAction;
 pub use words::{permission_words, word, word_holds_each_cell};

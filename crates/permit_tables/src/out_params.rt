@@ -1,6 +1,6 @@
 use crate::layout::TARGETS;
 use crate::list_defect::ListDefect;
-use crate::service_action::OutServiceAction;
+use scsi_cdb::OutServiceAction;
 use arrayvec::ArrayVec;
 use scsi_nexus::Nexus;
 

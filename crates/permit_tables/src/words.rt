@@ -3,9 +3,9 @@ ghost use Rattle.permit_tables.specs.Permission.{is_allowed};
 ghost use Rattle.permit_tables.specs.Words.{word_of, place_of, bit_of, type_number, role_number};
 ghost use Rattle.permit_tables.specs.declared.res_type.ResType.{ResType};
 ghost use Rattle.permit_tables.specs.declared.role.Role.{Role};
-ghost use Rattle.permit_tables.specs.declared.classes.Class.{Class};
+ghost use Rattle.scsi_cdb.specs.declared.classes.Class.{Class};
 
-use crate::classes::Class;
+use scsi_cdb::Class;
 use crate::res_type::ResType;
 use crate::role::Role;
 

@@ -2,8 +2,8 @@
 -- RESERVE OUT command").
 use Rattle.std.specs.Prelude.{ℕ, Bool, false, not, ◌&&◌, ◌||◌, ◌==◌, if◌then◌else◌, List, Option, None, Some}
 use Rattle.std.specs.List.{list_any}
-use Rattle.permit_tables.specs.declared.service_action.OutServiceAction.TheVariants.{Register, Reserve, Preempt, PreemptAndAbort, RegisterAndIgnoreExistingKey, RegisterAndMove}
-use Rattle.permit_tables.specs.Classes.{class_of_action}
+use Rattle.scsi_cdb.specs.declared.service_action.OutServiceAction.TheVariants.{Register, Reserve, Preempt, PreemptAndAbort, RegisterAndIgnoreExistingKey, RegisterAndMove}
+use Rattle.scsi_cdb.specs.Classes.{class_of_action}
 use Rattle.scsi_nexus.specs.declared.nexus.Nexus.{Nexus}
 use Rattle.permit_tables.specs.Permission.{is_allowed}
 use Rattle.permit_tables.specs.Types.{code_of}

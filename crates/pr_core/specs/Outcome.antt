@@ -2,7 +2,7 @@
 -- (SPC-4, "PERSISTENT RESERVE OUT command" and the clauses on each service action).
 use Rattle.std.specs.Prelude.{ℕ, Bool, false, not, ◌&&◌, ◌||◌, ◌==◌, nat_lt, nat_le, if◌then◌else◌, List, [], length, filter, Option, None, Some, is_some, is_none}
 use Rattle.std.specs.List.{filter_map, list_any}
-use Rattle.permit_tables.specs.declared.service_action.OutServiceAction.TheVariants as out
+use Rattle.scsi_cdb.specs.declared.service_action.OutServiceAction.TheVariants as out
 use Rattle.scsi_nexus.specs.declared.nexus.Nexus.{Nexus}
 use Rattle.scsi_nexus.specs.Order.{same_nexus}
 use Rattle.permit_tables.specs.Types.{coded_type, is_registrants_only}

@@ -3,7 +3,7 @@
 use Rattle.std.specs.Prelude.{◌≢◌, ℕ, ◌+◌, ◌%◌, ◌^◌, Bool, true, false, not, ◌&&◌, ◌||◌, ◌==◌, if◌then◌else◌, List, [], ◌∷◌, ◌++◌, length, map, Option, None, Some, unwrap_or, is_none}
 use Rattle.std.specs.List.{fold}
 use Rattle.std.specs.FinMap.{put}
-use Rattle.permit_tables.specs.declared.classes.Class.{Class}
+use Rattle.scsi_cdb.specs.declared.classes.Class.{Class}
 use Rattle.scsi_nexus.specs.declared.nexus.Nexus.{Nexus}
 use Rattle.scsi_nexus.specs.Limits.{list_limit}
 use Rattle.scsi_nexus.specs.Order.{nexus_cmp, same_nexus}

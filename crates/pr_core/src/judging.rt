@@ -7,7 +7,8 @@ use crate::state::PrState;
 use crate::targets::{list_targets, names_its_sender_alone};
 use crate::verdict::Verdict;
 use arrayvec::ArrayVec;
-use permit_tables::{KeyRule, OutParams, OutServiceAction, allowed};
+use permit_tables::{KeyRule, OutParams, allowed};
+use scsi_cdb::OutServiceAction;
 use scsi_nexus::Nexus;
 
 impl PrState {

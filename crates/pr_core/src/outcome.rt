@@ -8,7 +8,8 @@ ghost use Rattle.pr_core.specs.Outcome.{refusal, register_refusal, reserve_refus
 use crate::act::ReservationAct;
 use crate::key_table::REGISTRATIONS;
 use crate::state::{PrState, type_in};
-use permit_tables::{OutParams, OutServiceAction, PrFault, ResType};
+use permit_tables::{OutParams, PrFault, ResType};
+use scsi_cdb::OutServiceAction;
 use scsi_nexus::Nexus;
 
 impl PrState {

@@ -6,7 +6,8 @@ ghost use Rattle.pr_core.specs.Table.{IsProper};
 
 use crate::act::ReservationAct;
 use crate::key_table::KeyTable;
-use permit_tables::{Cell, Class, ResType, Role};
+use permit_tables::{Cell, ResType, Role};
+use scsi_cdb::Class;
 use scsi_nexus::{Nexus, NexusList};
 use std::marker::Model;
 

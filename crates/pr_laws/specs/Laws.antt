@@ -1,7 +1,7 @@
 -- Laws of reservations in the standard's own words, over histories and over lists of commands from power on.
 use Rattle.std.specs.Prelude.{◌≡◌, ◌≢◌, ◌%◌, ◌^◌, Bool, true, false, not, ◌==◌, ◌⊎◌, count_by, if◌then◌else◌, List, length, Option, None, Some, is_some}
 use Rattle.std.specs.List.{fold}
-use Rattle.permit_tables.specs.declared.service_action.OutServiceAction.TheVariants as out
+use Rattle.scsi_cdb.specs.declared.service_action.OutServiceAction.TheVariants as out
 use Rattle.scsi_nexus.specs.declared.nexus.Nexus.{Nexus}
 use Rattle.permit_tables.specs.declared.res_type.ResType.{ResType}
 use Rattle.permit_tables.specs.declared.role.Role.TheVariants.{Registered}

@@ -2,7 +2,7 @@
 use Rattle.std.proofs.Common.{◌≡◌, ℕ, suc, ◌+◌, ◌-◌, ◌*◌, ◌/◌, ◌%◌, ◌≤◌, ◌&&◌, ◌||◌, not, Bool, true, false, cond, List, [], ◌∷◌, ◌++◌, append_assoc, length, take, drop, map, length-drop, refl, ap, subst, ◌∙◌, sym, arith, Some, None}
 use Rattle.std.proofs.lemmas.Grind.{common_steps}
 use Rattle.std.specs.List.{list_all}
-use Rattle.permit_tables.specs.declared.service_action.OutServiceAction.{OutServiceAction}
+use Rattle.scsi_cdb.specs.declared.service_action.OutServiceAction.{OutServiceAction}
 use Rattle.scsi_nexus.specs.Limits.{list_limit}
 use Rattle.scsi_nexus.specs.TransportId.{IsSas, sas_address}
 use Rattle.pr_params.specs.Lists.{ids, is_sas, may_list, is_listed_length, listed_length, listed_ids, listed_defect}

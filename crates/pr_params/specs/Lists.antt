@@ -2,8 +2,8 @@
 use Rattle.std.specs.Prelude.{ℕ, zero, suc, ◌+◌, ◌*◌, ◌/◌, ◌%◌, ◌^◌, Bool, true, false, ◌==◌, ◌&&◌, ◌||◌, not, nat_le, if◌then◌else◌, List, [], ◌∷◌, length, take, drop, map, slice_index, Option, None, Some, is_none, Result, Ok, Err}
 use Rattle.std.specs.List.{list_all}
 use Rattle.byteorder.specs.Endian.{big_number}
-use Rattle.permit_tables.specs.declared.service_action.OutServiceAction.{OutServiceAction}
-use Rattle.permit_tables.specs.declared.service_action.OutServiceAction.TheVariants.{Register, RegisterAndIgnoreExistingKey, RegisterAndMove}
+use Rattle.scsi_cdb.specs.declared.service_action.OutServiceAction.{OutServiceAction}
+use Rattle.scsi_cdb.specs.declared.service_action.OutServiceAction.TheVariants.{Register, RegisterAndIgnoreExistingKey, RegisterAndMove}
 use Rattle.scsi_nexus.specs.declared.nexus.Nexus.{Nexus}
 use Rattle.scsi_nexus.specs.Limits.{list_limit}
 use Rattle.scsi_nexus.specs.TransportId.{sas_format, sas_address}

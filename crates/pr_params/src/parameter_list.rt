@@ -10,7 +10,8 @@ use crate::list_fault::ListLengthFault;
 use crate::register_list::{has_register_length, read_register};
 use arrayvec::ArrayVec;
 use byteorder::{BigEndian, ByteOrder};
-use permit_tables::{ListDefect, OutParams, OutServiceAction};
+use permit_tables::{ListDefect, OutParams};
+use scsi_cdb::OutServiceAction;
 use scsi_nexus::{Nexus, TransportId};
 
 /// A PERSISTENT RESERVE OUT command from its service action, its byte of scope and type, its

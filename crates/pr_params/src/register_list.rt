@@ -11,7 +11,8 @@ use crate::layout::{
 };
 use arrayvec::ArrayVec;
 use byteorder::{BigEndian, ByteOrder};
-use permit_tables::{ListDefect, OutParams, OutServiceAction, TARGETS};
+use permit_tables::{ListDefect, OutParams, TARGETS};
+use scsi_cdb::OutServiceAction;
 use scsi_nexus::{TRANSPORT_ID_LENGTH, TransportId};
 
 /// Whether the bytes are as many as a list of either REGISTER says: 24, or with SPEC_I_PT 28 and

@@ -72,7 +72,7 @@ alone_at_two us ms l m c ds n cdb bytes r low high apart far a alone =
     }
 
 -- OF A NEXUS THAT MAY NOT CHANGE what is there: its command to the changer ends there
-module _ (c : UnitView) (n : Nexus) (closed : row_allows Changing (res_type c.kept.reservations) (role c.kept.reservations n) ≡ false) where
+module _ (c : UnitView) (n : Nexus) (closed : row_allows Changing (res_type c.state.reservations) (role c.state.reservations n) ≡ false) where
   alone_with : (us ms : List UnitView) (l : ℕ) (d : Option UnitView) (cdb bytes : List ℕ) (r : Reply) → slice_get us l ≡ d → named (drives_of c.device) cdb ≡ l ∷ [] → MovesWith us c l d n cdb bytes (ms, r) → AtUnit us 0 (Executes c n cdb bytes) (ms, r)
   alone_with us ms l None cdb bytes r there names a = a
   alone_with us ms l (Some d) cdb bytes r there names a = alone_at_one us ms l c d n cdb bytes r there (no_drive c.device cdb l names) a (alone_one c d a.changer a.other n cdb bytes r l [] names closed a.step)

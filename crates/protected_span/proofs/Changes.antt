@@ -50,9 +50,9 @@ Change v n w = (w ≡ v) ⊎ Accepts v n w
 
 module _ (u : JudgedUnit) (n : Nexus) where
   abbrev Changes : JudgedUnit × Decision × Reply → Type 0
-  Changes x = Change u.kept.reservations n x.0.kept.reservations
+  Changes x = Change u.state.reservations n x.0.state.reservations
 
-  sensed_changes : (l : ℕ) (o : Option Kind) → Change u.kept.reservations n (sensed u.kept n l o).0.reservations
+  sensed_changes : (l : ℕ) (o : Option Kind) → Change u.state.reservations n (sensed u.state n l o).0.reservations
   sensed_changes l (Some kind) = inl refl
   sensed_changes l None = inl refl
 
@@ -61,7 +61,7 @@ module _ (u : JudgedUnit) (n : Nexus) where
   prevents_changes false true = inl refl
   prevents_changes false false = inl refl
 
-  mode_changes : (b : Bool) → Change u.kept.reservations n (after_mode u.kept n b).reservations
+  mode_changes : (b : Bool) → Change u.state.reservations n (after_mode u.state n b).reservations
   mode_changes true = inl refl
   mode_changes false = inl refl
 
@@ -71,14 +71,14 @@ module _ (u : JudgedUnit) (n : Nexus) where
 
   performs_changes : (r : Request) (bytes : List ℕ) → Changes (performs u n r bytes)
   performs_changes r bytes =
-      elim (field_fault u.device r bytes) as (λ (o : Option Condition). Changes (elim o [ Some condition ↦ (u, at_stage Fields, check condition) | None ↦ cond (unloads r && is_prevented u.kept) (u, at_stage stage.Device, check MediumRemovalPrevented) (steps u n (performed u.device r bytes)) ])) [
+      elim (field_fault u.device r bytes) as (λ (o : Option Condition). Changes (elim o [ Some condition ↦ (u, at_stage Fields, check condition) | None ↦ cond (unloads r && is_prevented u.state) (u, at_stage stage.Device, check MediumRemovalPrevented) (steps u n (performed u.device r bytes)) ])) [
         | Some condition ↦ inl refl
-        | None ↦ steps_changes r bytes (unloads r && is_prevented u.kept)
+        | None ↦ steps_changes r bytes (unloads r && is_prevented u.state)
       ]
 
-  carried_changes : (c : Command) (bytes : List ℕ) → verdict_of u.kept.reservations n c ≡ Allowed → Changes (carried_out u n c bytes)
+  carried_changes : (c : Command) (bytes : List ℕ) → verdict_of u.state.reservations n c ≡ Allowed → Changes (carried_out u n c bytes)
   carried_changes (ReserveOut p) bytes v =
-      elim (refusal u.kept.reservations n p) as (λ (o : Option PrFault). refusal u.kept.reservations n p ≡ o → Changes (elim o [ Some fault ↦ (u, at_stage Fields, check (condition_of_refusal fault)) | None ↦ (record u { kept = accepted u.kept n p }, at_stage stage.Device, good []) ])) [
+      elim (refusal u.state.reservations n p) as (λ (o : Option PrFault). refusal u.state.reservations n p ≡ o → Changes (elim o [ Some fault ↦ (u, at_stage Fields, check (condition_of_refusal fault)) | None ↦ (record u { state = accepted u.state n p }, at_stage stage.Device, good []) ])) [
         | Some fault ↦ λ e. inl refl
         | None ↦ λ e. inr (record { params = p; allowed = v; free = e; is = refl })
       ] refl
@@ -86,18 +86,18 @@ module _ (u : JudgedUnit) (n : Nexus) where
   carried_changes (Inquiry e p l) bytes v = inl refl
   carried_changes (ReportLuns s l) bytes v = inl refl
   carried_changes (RequestSense true l) bytes v = inl refl
-  carried_changes (RequestSense false l) bytes v = sensed_changes l (pending_of u.kept.slots n)
+  carried_changes (RequestSense false l) bytes v = sensed_changes l (pending_of u.state.slots n)
   carried_changes (Prevent p) bytes v = prevents_changes (p == 0) (p == 1)
   carried_changes (Device r) bytes v = performs_changes r bytes
 
   pub judged_changes : (c : Result Command Condition) (bytes : List ℕ) → Changes (judged_as u n c bytes)
   judged_changes (Err condition) bytes = inl refl
-  judged_changes (Ok c) bytes = by_ends (λ (v : JudgedUnit). Change u.kept.reservations n v.kept.reservations) u n c bytes (inl refl) (λ kind. inl refl) (carried_changes c bytes)
+  judged_changes (Ok c) bytes = by_ends (λ (v : JudgedUnit). Change u.state.reservations n v.state.reservations) u n c bytes (inl refl) (λ kind. inl refl) (carried_changes c bytes)
 
-pub executes_changes : (u v : UnitView) (n : Nexus) (cdb bytes : List ℕ) (r : Reply) → Executes u n cdb bytes (v, r) → Change u.kept.reservations n v.kept.reservations
-executes_changes u v n cdb bytes r (inl e) = inl (ap (λ (x : UnitView × Reply). x.0.kept.reservations) e)
+pub executes_changes : (u v : UnitView) (n : Nexus) (cdb bytes : List ℕ) (r : Reply) → Executes u n cdb bytes (v, r) → Change u.state.reservations n v.state.reservations
+executes_changes u v n cdb bytes r (inl e) = inl (ap (λ (x : UnitView × Reply). x.0.state.reservations) e)
 executes_changes u v n cdb bytes r (inr e) =
-    subst (λ (x : UnitView × Reply). Change u.kept.reservations n x.0.kept.reservations) (sym e.2) (judged_changes (contacted_present u n) n (decoded_command (kind_of u.device) cdb bytes) bytes)
+    subst (λ (x : UnitView × Reply). Change u.state.reservations n x.0.state.reservations) (sym e.2) (judged_changes (contacted_present u n) n (decoded_command (kind_of u.device) cdb bytes) bytes)
 
 table_after : (v : State) (n : Nexus) (p : OutParams) → IsTable v → verdict v n p ≡ Allowed → refusal v n p ≡ None → IsTable (applied v n p)
 table_after v n p t allowed free =

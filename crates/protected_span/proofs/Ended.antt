@@ -37,11 +37,11 @@ end_drives true drives (Err condition) = drives
 abbrev pub MovesBy : {A : Type 0} → UnitView → Nexus → (cdb bytes : List ℕ) → A → Result (DeviceView × A) Condition → Type 0 → (UnitView × Reply) × A → Type 0
 MovesBy c n cdb bytes drives carried Numbers new =
     (new ≡ ((c, busy), drives))
-    ⊎ ((has_room c.kept n ≡ true) × HasNumber c × (is_carried (judged_at c n cdb bytes) carried ≡ true → Numbers) × (new ≡ concluded c n cdb bytes drives (judged_at c n cdb bytes) carried))
+    ⊎ ((has_room c.state n ≡ true) × HasNumber c × (is_carried (judged_at c n cdb bytes) carried ≡ true → Numbers) × (new ≡ concluded c n cdb bytes drives (judged_at c n cdb bytes) carried))
 
 -- that it isn't answered BUSY
 pub record Ended {A : Type 0} (c v : UnitView) (n : Nexus) (cdb bytes : List ℕ) (r : Reply) (drives after : A) (carried : Result (DeviceView × A) Condition) : Type 0 where
-  pub room : has_room c.kept n ≡ true
+  pub room : has_room c.state n ≡ true
   pub number : HasNumber c
   pub unit : (v, r) ≡ recorded c n (act_of (kind_of c.device) cdb bytes) (end_answer (is_left (judged_at c n cdb bytes).2.sense) (judged_at c n cdb bytes) carried)
   pub drives_are : after ≡ end_drives (is_left (judged_at c n cdb bytes).2.sense) drives carried
@@ -66,7 +66,7 @@ module _ {A : Type 0} (c : UnitView) (n : Nexus) (cdb bytes : List ℕ) (drives 
   end_free true (Err condition) free = λ e. cc
 
 module _ {A : Type 0} (c v : UnitView) (n : Nexus) (cdb bytes : List ℕ) (r : Reply) (drives after : A) (carried : Result (DeviceView × A) Condition) (Numbers : Type 0) where
-  pub end_of_move : (has_room c.kept n ≡ true) × HasNumber c × (is_carried (judged_at c n cdb bytes) carried ≡ true → Numbers) × (◌≡◌ {A = (UnitView × Reply) × A} ((v, r), after) (concluded c n cdb bytes drives (judged_at c n cdb bytes) carried)) → Ended c v n cdb bytes r drives after carried
+  pub end_of_move : (has_room c.state n ≡ true) × HasNumber c × (is_carried (judged_at c n cdb bytes) carried ≡ true → Numbers) × (◌≡◌ {A = (UnitView × Reply) × A} ((v, r), after) (concluded c n cdb bytes drives (judged_at c n cdb bytes) carried)) → Ended c v n cdb bytes r drives after carried
   end_of_move e =
       let is = e.3 ∙ concluded_is c n cdb bytes drives (judged_at c n cdb bytes) carried in
       record {
@@ -86,17 +86,17 @@ module _ {A : Type 0} (c v : UnitView) (n : Nexus) (cdb bytes : List ℕ) (r : R
   ended_numbers free (inr e) = e.2
 
 -- what is kept is what judgement leaves
-pub end_kept : {A : Type 0} (left : Bool) (answer : JudgedUnit × Decision × Reply) (carried : Result (DeviceView × A) Condition) → (end_answer left answer carried).0.kept ≡ answer.0.kept
+pub end_kept : {A : Type 0} (left : Bool) (answer : JudgedUnit × Decision × Reply) (carried : Result (DeviceView × A) Condition) → (end_answer left answer carried).0.state ≡ answer.0.state
 end_kept false answer carried = refl
 end_kept true answer (Ok it) = refl
 end_kept true answer (Err condition) = refl
 
-pub ended_kept : {A : Type 0} (c v : UnitView) (n : Nexus) (cdb bytes : List ℕ) (r : Reply) (drives after : A) (carried : Result (DeviceView × A) Condition) → Ended c v n cdb bytes r drives after carried → v.kept ≡ (judged_at c n cdb bytes).0.kept
-ended_kept c v n cdb bytes r drives after carried e = ap (λ (x : UnitView × Reply). x.0.kept) e.unit ∙ end_kept (is_left (judged_at c n cdb bytes).2.sense) (judged_at c n cdb bytes) carried
+pub ended_kept : {A : Type 0} (c v : UnitView) (n : Nexus) (cdb bytes : List ℕ) (r : Reply) (drives after : A) (carried : Result (DeviceView × A) Condition) → Ended c v n cdb bytes r drives after carried → v.state ≡ (judged_at c n cdb bytes).0.state
+ended_kept c v n cdb bytes r drives after carried e = ap (λ (x : UnitView × Reply). x.0.state) e.unit ∙ end_kept (is_left (judged_at c n cdb bytes).2.sense) (judged_at c n cdb bytes) carried
 
-pub ended_changes : {A : Type 0} (c v : UnitView) (n : Nexus) (cdb bytes : List ℕ) (r : Reply) (drives after : A) (carried : Result (DeviceView × A) Condition) → Ended c v n cdb bytes r drives after carried → Change c.kept.reservations n v.kept.reservations
+pub ended_changes : {A : Type 0} (c v : UnitView) (n : Nexus) (cdb bytes : List ℕ) (r : Reply) (drives after : A) (carried : Result (DeviceView × A) Condition) → Ended c v n cdb bytes r drives after carried → Change c.state.reservations n v.state.reservations
 ended_changes c v n cdb bytes r drives after carried e =
-    subst (λ (k : UnitStateView). Change c.kept.reservations n k.reservations) (sym (ended_kept c v n cdb bytes r drives after carried e)) (judged_changes (contacted_present c n) n (decoded_command (kind_of c.device) cdb bytes) bytes)
+    subst (λ (k : UnitStateView). Change c.state.reservations n k.reservations) (sym (ended_kept c v n cdb bytes r drives after carried e)) (judged_changes (contacted_present c n) n (decoded_command (kind_of c.device) cdb bytes) bytes)
 
 -- AT THE SAME CHANGER, with drives that are related
 module _ {A : Type 0} (Q : A → A → Type 0) where
@@ -136,10 +136,10 @@ module _ (inside : Nexus → Bool) (P : State → Type 0) (R : State → State �
 
   ends_beside : {A : Type 0} (left : Bool) (x y : JudgedUnit × Decision × Reply) (carried : Result (DeviceView × A) Condition) → Beside inside P R exact x y → Beside inside P R exact (end_answer left x carried) (end_answer left y carried)
   ends_beside false x y carried b = b
-  ends_beside true x y (Ok it) b = record { device = refl; kept = b.kept; reply = says-refl exact _; reservations = b.reservations }
-  ends_beside true x y (Err condition) b = record { device = b.device; kept = b.kept; reply = says-refl exact _; reservations = b.reservations }
+  ends_beside true x y (Ok it) b = record { device = refl; state = b.state; reply = says-refl exact _; reservations = b.reservations }
+  ends_beside true x y (Err condition) b = record { device = b.device; state = b.state; reply = says-refl exact _; reservations = b.reservations }
 
-  pub move_units : {A : Type 0} (f f' g g' : UnitView) (n : Nexus) (cdb bytes : List ℕ) (r q : Reply) (drives after other : A) (x y : Result (DeviceView × A) Condition) → P f'.kept.reservations
+  pub move_units : {A : Type 0} (f f' g g' : UnitView) (n : Nexus) (cdb bytes : List ℕ) (r q : Reply) (drives after other : A) (x y : Result (DeviceView × A) Condition) → P f'.state.reservations
       → Beside inside P R exact (judged_at f n cdb bytes) (judged_at g n cdb bytes) → x ≡ y
       → Ended f f' n cdb bytes r drives after x → Ended g g' n cdb bytes q drives other y → Moved inside R exact f' g' r q × (after ≡ other)
   move_units f f' g g' n cdb bytes r q drives after other x y good b same a d =

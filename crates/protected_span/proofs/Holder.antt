@@ -3,8 +3,8 @@ use Rattle.std.proofs.Common.{◌≡◌, ℕ, Bool, true, false, cond, not, ◌=
 use Rattle.std.specs.Prelude.{if◌then◌else◌, unwrap_or, is_none, length, nat_lt}
 use Rattle.std.specs.List.{list_any, list_all, filter_map, cons_option}
 use Rattle.std.proofs.lemmas.Grind.{common_steps}
-use Rattle.permit_tables.specs.declared.service_action.OutServiceAction.{OutServiceAction}
-use Rattle.permit_tables.specs.declared.service_action.OutServiceAction.TheVariants as out
+use Rattle.scsi_cdb.specs.declared.service_action.OutServiceAction.{OutServiceAction}
+use Rattle.scsi_cdb.specs.declared.service_action.OutServiceAction.TheVariants as out
 use Rattle.scsi_nexus.specs.declared.nexus.Nexus.{Nexus}
 use Rattle.scsi_nexus.specs.Order.{same_nexus}
 use Rattle.scsi_nexus.proofs.NexusLaws.{same_nexus-true, same_nexus-refl}
@@ -17,8 +17,8 @@ use Rattle.permit_tables.specs.declared.out_params.OutParams.{OutParams}
 use Rattle.permit_tables.specs.Pairs.{key_in}
 use Rattle.pr_core.specs.Acts.{Act, Register, Reserve, Release, Clear, Preempt, Move}
 use Rattle.pr_core.specs.Targets.{is_among, targets}
-use Rattle.permit_tables.specs.declared.classes.Class.{Class}
-use Rattle.permit_tables.specs.Classes.{class_of_action}
+use Rattle.scsi_cdb.specs.declared.classes.Class.{Class}
+use Rattle.scsi_cdb.specs.Classes.{class_of_action}
 use Rattle.permit_tables.specs.Types.{code_of}
 use Rattle.permit_tables.specs.Permission.{is_allowed}
 use Rattle.std.specs.Prelude.{nat_le}
@@ -131,16 +131,16 @@ module _ (h : Nexus) where
 
   -- a preemption by another that leaves h its hold takes nothing, and leaves its key
   takes_not : (v : State) (s : Nexus) (k code : ℕ) → is_h s ≡ false → Holds (after v s (Preempt k code)) → takes v k ≡ false
-  takes_not v s k code isnt kept =
+  takes_not v s k code isnt state =
       elim (takes v k) as (λ b. unwrap_or (if b then Some (Some (type_in code, s)) else None) (lasting (keys_after v s (Preempt k code)) v.reservation) ≡ Some (Ea, h) → b ≡ false) [
         | true ↦ λ e. barred (same_nexus s h) (ap (λ x. same_nexus s x) (sym (same_pair _ s e)) ∙ same_nexus-refl s) isnt
         | false ↦ λ e. refl
-      ] kept
+      ] state
 
   preempt_key : (v : State) (s : Nexus) (k code : ℕ) → Holds v → is_h s ≡ false → Holds (after v s (Preempt k code)) → (key_after v s (Preempt k code) h == 0) ≡ false
-  preempt_key v s k code held isnt kept =
+  preempt_key v s k code held isnt state =
       ap (λ j. j == 0) (sym (key-after v s (Preempt k code) h))
-      ∙ lasting_key (keys_after v s (Preempt k code)) v.reservation held (sym (unless (takes v k) (Some (type_in code, s)) (lasting (keys_after v s (Preempt k code)) v.reservation) (takes_not v s k code isnt kept)) ∙ kept)
+      ∙ lasting_key (keys_after v s (Preempt k code)) v.reservation held (sym (unless (takes v k) (Some (type_in code, s)) (lasting (keys_after v s (Preempt k code)) v.reservation) (takes_not v s k code isnt state)) ∙ state)
 
   told_off : (a x y : Bool) (k : Option Kind) → cond (((a && false) && x) && y) k None ≡ None
   told_off true x y k = refl
@@ -148,24 +148,24 @@ module _ (h : Nexus) where
 
   -- an act of another that leaves h its hold tells h nothing
   told_nothing : (v : State) (s : Nexus) (a : Act) → Holds v → is_h s ≡ false → Holds (after v s a) → told v s a h ≡ None
-  told_nothing v s (Register k targets) held isnt kept =
+  told_nothing v s (Register k targets) held isnt state =
       ap (λ t. if k == 0 && is_registrants_only t && list_any (is_sole_holder v) targets && not (is_among h targets) then Some Kind.ReservationsReleased else None) (type_is v held)
       ∙ told_off (k == 0) (list_any (is_sole_holder v) targets) (not (is_among h targets)) (Some Kind.ReservationsReleased)
-  told_nothing v s (Reserve t) held isnt kept = refl
-  told_nothing v s (Release code) held isnt kept =
+  told_nothing v s (Reserve t) held isnt state = refl
+  told_nothing v s (Release code) held isnt state =
       ap (λ b. if b && (is_registrants_only (res_type v) || is_all_held v) then Some Kind.ReservationsReleased else None) (no_holder v s held isnt)
-  told_nothing v s Clear held isnt kept = cc
-  told_nothing v s (Preempt k code) held isnt kept =
-      ap (λ b. if b then Some Kind.RegistrationsPreempted else if takes v k && not (code == held_code v) then Some Kind.ReservationsReleased else None) (preempt_key v s k code held isnt kept)
-      ∙ ap (λ b. if b && not (code == held_code v) then Some Kind.ReservationsReleased else None) (takes_not v s k code isnt kept)
-  told_nothing v s (Move k d unreg) held isnt kept = refl
+  told_nothing v s Clear held isnt state = cc
+  told_nothing v s (Preempt k code) held isnt state =
+      ap (λ b. if b then Some Kind.RegistrationsPreempted else if takes v k && not (code == held_code v) then Some Kind.ReservationsReleased else None) (preempt_key v s k code held isnt state)
+      ∙ ap (λ b. if b && not (code == held_code v) then Some Kind.ReservationsReleased else None) (takes_not v s k code isnt state)
+  told_nothing v s (Move k d unreg) held isnt state = refl
 
   -- so it raises nothing for h
   raised_nothing : (v : State) (s : Nexus) (a : Act) → Holds v → is_h s ≡ false → Holds (after v s a) → (m : Nexus) → is_h m ≡ true → list_any (λ e. same_nexus m e.0) (raised v s a) ≡ false
-  raised_nothing v s a held isnt kept m is =
+  raised_nothing v s a held isnt state m is =
       none_raised v s m a (registrants v) (λ x e.
       let here : x ≡ h = sym (same_nexus-true m x e) ∙ same_nexus-true m h is in
-      off (same_nexus x s) x (ap (told v s a) here ∙ told_nothing v s a held isnt kept))
+      off (same_nexus x s) x (ap (told v s a) here ∙ told_nothing v s a held isnt state))
     where
       off : (b : Bool) (x : Nexus) → told v s a x ≡ None → cond {A = Option (Nexus × Kind)} b None (elim (told v s a x) [ None ↦ None | Some kind ↦ Some (x, kind) ]) ≡ None
       off true x e = refl
@@ -173,10 +173,10 @@ module _ (h : Nexus) where
 
   -- and ends no prevention of h
   removes_nothing : (v : State) (s : Nexus) (k code : ℕ) → Holds v → is_h s ≡ false → Holds (after v s (Preempt k code)) → (m : Nexus) → is_h m ≡ true → is_among m (removed v s (Preempt k code)) ≡ false
-  removes_nothing v s k code held isnt kept m is =
+  removes_nothing v s k code held isnt state m is =
       none_among (is_removed v s (Preempt k code)) m (registrants v) (λ x e.
       let here : x ≡ h = sym (same_nexus-true m x e) ∙ same_nexus-true m h is in
-      ap (λ y. not (same_nexus y s) && key_after v s (Preempt k code) y == 0) here ∙ off (not (same_nexus h s)) (key_after v s (Preempt k code) h == 0) (preempt_key v s k code held isnt kept))
+      ap (λ y. not (same_nexus y s) && key_after v s (Preempt k code) y == 0) here ∙ off (not (same_nexus h s)) (key_after v s (Preempt k code) h == 0) (preempt_key v s k code held isnt state))
     where
       off : (a b : Bool) → b ≡ false → (a && b) ≡ false
       off true b e = e
@@ -184,25 +184,25 @@ module _ (h : Nexus) where
 
   ends_none : (act : OutServiceAction) (v : State) (s : Nexus) (p : OutParams) → Holds v → is_h s ≡ false → Holds (applied v s (record p { act = act }))
       → (ps : List Nexus) → list_all is_h ps ≡ true → preventers_after ps act (removed_by v s (act_of v s (record p { act = act }))) ≡ ps
-  ends_none out.Register v s p held isnt kept ps own = refl
-  ends_none out.Reserve v s p held isnt kept ps own = refl
-  ends_none out.Release v s p held isnt kept ps own = refl
-  ends_none out.Clear v s p held isnt kept ps own = refl
-  ends_none out.Preempt v s p held isnt kept ps own = refl
-  ends_none out.PreemptAndAbort v s p held isnt kept ps own =
-      kept_all is_h (λ x. not (is_among x (removed v s (Preempt p.sark p.scope_type)))) ps (λ x is. ap not (removes_nothing v s p.sark p.scope_type held isnt kept x is)) own
-  ends_none out.RegisterAndIgnoreExistingKey v s p held isnt kept ps own = refl
-  ends_none out.RegisterAndMove v s p held isnt kept ps own = refl
+  ends_none out.Register v s p held isnt state ps own = refl
+  ends_none out.Reserve v s p held isnt state ps own = refl
+  ends_none out.Release v s p held isnt state ps own = refl
+  ends_none out.Clear v s p held isnt state ps own = refl
+  ends_none out.Preempt v s p held isnt state ps own = refl
+  ends_none out.PreemptAndAbort v s p held isnt state ps own =
+      kept_all is_h (λ x. not (is_among x (removed v s (Preempt p.sark p.scope_type)))) ps (λ x is. ap not (removes_nothing v s p.sark p.scope_type held isnt state x is)) own
+  ends_none out.RegisterAndIgnoreExistingKey v s p held isnt state ps own = refl
+  ends_none out.RegisterAndMove v s p held isnt state ps own = refl
 
   -- what another's act does, where h still holds afterwards, h doesn't see
   pub calm_outside : (v : State) (s : Nexus) (p : OutParams) → Holds v → is_h s ≡ false → Holds (applied v s p) → Calm is_h v s p
-  calm_outside v s p held isnt kept = record {
+  calm_outside v s p held isnt state = record {
     raised =
         elim (act_of v s p) as (λ (o : Option Act). Holds (elim o [ None ↦ v | Some a ↦ after v s a ]) → (m : Nexus) → is_h m ≡ true → list_any (λ e. same_nexus m e.0) (raised_by v s o) ≡ false) [
           | None ↦ λ good m is. refl
           | Some a ↦ λ good m is. raised_nothing v s a held isnt good m is
-        ] kept;
-    preventers = ends_none p.act v s p held isnt kept;
+        ] state;
+    preventers = ends_none p.act v s p held isnt state;
   }
 
   abbrev pub ConcernsItself : OutServiceAction → List Nexus → Type 0
@@ -374,14 +374,14 @@ module _ (h : Nexus) where
 
     -- what h's act leaves of both, where h still holds at the one
     pub applied_same : (p : OutParams) → ConcernsItself p.act (targets h p) → Hold (applied v h p) → SameHold (applied v h p) (applied w h p)
-    applied_same p mild kept =
+    applied_same p mild state =
         subst (λ (o : Option Act). SameHold (applied v h p) (elim o [ None ↦ w | Some a ↦ after w h a ])) (act_same p.act p mild)
         (elim (act_of v h p) as (λ (o : Option Act). act_of v h p ≡ o → Hold (elim o [ None ↦ v | Some a ↦ after v h a ]) → SameHold (elim o [ None ↦ v | Some a ↦ after v h a ]) (elim o [ None ↦ w | Some a ↦ after w h a ])) [
           | None ↦ λ e good. r
           | Some a ↦ λ e good.
               let m = mild_act p.act p a mild e in
               record { holds = good.holds; other = sym (after_same a m) ∙ good.holds; same_key = after_key_same a m; keyed = good.keyed }
-        ] refl kept)
+        ] refl state)
 
     -- h's own act raises nothing for h
     own_raised : (u : State) (o : Option Act) (m : Nexus) → is_h m ≡ true → list_any (λ e. same_nexus m e.0) (raised_by u h o) ≡ false

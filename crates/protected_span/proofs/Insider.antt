@@ -2,8 +2,8 @@
 use Rattle.std.proofs.Common.{◌≡◌, ℕ, Bool, true, false, cond, not, ◌==◌, ◌&&◌, List, [], ◌∷◌, ◌++◌, filter, take, Option, Some, None, Err, refl, ap, subst}
 use Rattle.std.specs.Prelude.{option_and_then}
 use Rattle.std.specs.List.{list_all}
-use Rattle.permit_tables.specs.declared.service_action.OutServiceAction.{OutServiceAction}
-use Rattle.permit_tables.specs.declared.service_action.OutServiceAction.TheVariants as out
+use Rattle.scsi_cdb.specs.declared.service_action.OutServiceAction.{OutServiceAction}
+use Rattle.scsi_cdb.specs.declared.service_action.OutServiceAction.TheVariants as out
 use Rattle.scsi_cdb.specs.declared.request.Request.{Request}
 use Rattle.scsi_nexus.specs.declared.nexus.Nexus.{Nexus}
 use Rattle.scsi_nexus.specs.Order.{same_nexus}
@@ -91,78 +91,78 @@ module _ (inside : Nexus → Bool) where
     pub raised : (q r : Slots) (m : Nexus) → inside m ≡ true → slot_of q m ≡ slot_of r m → slot_of (all_raised q (raised_by v n (act_of v n p))) m ≡ slot_of (all_raised r (raised_by w n (act_of w n p))) m
     pub preventers : (ps : List Nexus) → list_all inside ps ≡ true → preventers_after ps p.act (removed_by v n (act_of v n p)) ≡ preventers_after ps p.act (removed_by w n (act_of w n p))
 
-  module _ (f : JudgedUnit) (w : State) (r : Slots) (n : Nexus) (is : inside n ≡ true) (own : list_all inside f.kept.preventers ≡ true)
-      (slots : (m : Nexus) → inside m ≡ true → slot_of f.kept.slots m ≡ slot_of r m)
-      (P : State → Type 0) (R : State → State → Type 0) (related : R f.kept.reservations w) (exact : Bool) where
+  module _ (f : JudgedUnit) (w : State) (r : Slots) (n : Nexus) (is : inside n ≡ true) (own : list_all inside f.state.preventers ≡ true)
+      (slots : (m : Nexus) → inside m ≡ true → slot_of f.state.slots m ≡ slot_of r m)
+      (P : State → Type 0) (R : State → State → Type 0) (related : R f.state.reservations w) (exact : Bool) where
     -- the other unit, of the same device
     abbrev pub other : JudgedUnit
-    other = record { device = f.device; kept = record f.kept { reservations = w; slots = r } }
+    other = record { device = f.device; state = record f.state { reservations = w; slots = r } }
 
     -- what the reservations have to do with a command
     abbrev pub Fit : Command → Type 0
-    Fit (ReserveOut p) = Agree f.kept.reservations w n p × (P (applied f.kept.reservations n p) → R (applied f.kept.reservations n p) (applied w n p))
-    Fit (ReserveIn a l) = Says exact (good (take l (status_data f.kept.reservations a))) (good (take l (status_data w a)))
+    Fit (ReserveOut p) = Agree f.state.reservations w n p × (P (applied f.state.reservations n p) → R (applied f.state.reservations n p) (applied w n p))
+    Fit (ReserveIn a l) = Says exact (good (take l (status_data f.state.reservations a))) (good (take l (status_data w a)))
     Fit c = Unit {0}
 
     pub record Both (x y : JudgedUnit × Decision × Reply) : Type 0 where
       pub device : x.0.device ≡ y.0.device
-      pub kept : Alike inside x.0.kept y.0.kept
+      pub state : Alike inside x.0.state y.0.state
       pub reply : Says exact x.2 y.2
-      pub reservations : P x.0.kept.reservations → R x.0.kept.reservations y.0.kept.reservations
+      pub reservations : P x.0.state.reservations → R x.0.state.reservations y.0.state.reservations
 
-    alike : Alike inside f.kept other.kept
+    alike : Alike inside f.state other.state
     alike = record { lun = refl; units = refl; slots = slots; preventers = refl; own = own }
 
     same_both : (e g : Decision) (a : Reply) → Both (f, e, a) (other, g, a)
-    same_both e g a = record { device = refl; kept = alike; reply = says-refl exact a; reservations = λ _. related }
+    same_both e g a = record { device = refl; state = alike; reply = says-refl exact a; reservations = λ _. related }
 
     told_both : (kind : Kind) (e g : Decision) → Both (tells f n kind e) (tells other n kind g)
     told_both kind e g = record {
       device = refl;
-      kept = record { lun = refl; units = refl; slots = λ m within. change-alike f.kept.slots r n m (λ ks. without_kind ks kind) (slots m within); preventers = refl; own = own };
+      state = record { lun = refl; units = refl; slots = λ m within. change-alike f.state.slots r n m (λ ks. without_kind ks kind) (slots m within); preventers = refl; own = own };
       reply = says-refl exact _;
       reservations = λ _. related;
     }
 
-    first_reset_same : first_reset_of f.kept.slots n ≡ first_reset_of r n
+    first_reset_same : first_reset_of f.state.slots n ≡ first_reset_of r n
     first_reset_same = ap (option_and_then oldest_reset) (slots n is)
 
-    first_other_same : first_other_of f.kept.slots n ≡ first_other_of r n
+    first_other_same : first_other_of f.state.slots n ≡ first_other_of r n
     first_other_same = ap (option_and_then oldest_other) (slots n is)
 
     sensed_both : (at : Cell) (to : Cell) (l : ℕ) (o : Option Kind)
-        → Both (at_cell at (record f { kept = (sensed f.kept n l o).0 }, (sensed f.kept n l o).1, (sensed f.kept n l o).2)) (at_cell to (record other { kept = (sensed other.kept n l o).0 }, (sensed other.kept n l o).1, (sensed other.kept n l o).2))
+        → Both (at_cell at (record f { state = (sensed f.state n l o).0 }, (sensed f.state n l o).1, (sensed f.state n l o).2)) (at_cell to (record other { state = (sensed other.state n l o).0 }, (sensed other.state n l o).1, (sensed other.state n l o).2))
     sensed_both at to l (Some kind) = record {
       device = refl;
-      kept = record { lun = refl; units = refl; slots = λ m within. change-alike f.kept.slots r n m (λ ks. without_kind ks kind) (slots m within); preventers = refl; own = own };
+      state = record { lun = refl; units = refl; slots = λ m within. change-alike f.state.slots r n m (λ ks. without_kind ks kind) (slots m within); preventers = refl; own = own };
       reply = says-refl exact _;
       reservations = λ _. related;
     }
     sensed_both at to l None = same_both _ _ _
 
-    pending_same : pending_of f.kept.slots n ≡ pending_of r n
+    pending_same : pending_of f.state.slots n ≡ pending_of r n
     pending_same = ap (λ (o : Option (List Kind)). elim (option_and_then oldest_reset o) [ Some kind ↦ Some kind | None ↦ option_and_then oldest_other o ]) (slots n is)
 
     prevents_both : (at to : Cell) (zero one : Bool) → Both (at_cell at (prevents_by f n zero one)) (at_cell to (prevents_by other n zero one))
     prevents_both at to true one = record {
       device = refl;
-      kept = record { lun = refl; units = refl; slots = slots; preventers = refl; own = own_filter (λ p. not (same_nexus p n)) f.kept.preventers own };
+      state = record { lun = refl; units = refl; slots = slots; preventers = refl; own = own_filter (λ p. not (same_nexus p n)) f.state.preventers own };
       reply = says-refl exact _;
       reservations = λ _. related;
     }
     prevents_both at to false true = record {
       device = refl;
-      kept = record { lun = refl; units = refl; slots = slots; preventers = refl; own = own_prevented (is_among n f.kept.preventers) f.kept.preventers n own is };
+      state = record { lun = refl; units = refl; slots = slots; preventers = refl; own = own_prevented (is_among n f.state.preventers) f.state.preventers n own is };
       reply = says-refl exact _;
       reservations = λ _. related;
     }
     prevents_both at to false false = same_both _ _ _
 
-    mode_both : (b : Bool) → Alike inside (after_mode f.kept n b) (after_mode other.kept n b)
-    mode_both true = record { lun = refl; units = refl; slots = λ m within. raised_for_others-alike f.kept.slots r n m ModeParametersChanged (slots m within); preventers = refl; own = own }
+    mode_both : (b : Bool) → Alike inside (after_mode f.state n b) (after_mode other.state n b)
+    mode_both true = record { lun = refl; units = refl; slots = λ m within. raised_for_others-alike f.state.slots r n m ModeParametersChanged (slots m within); preventers = refl; own = own }
     mode_both false = alike
 
-    mode_reservations : (b : Bool) → R (after_mode f.kept n b).reservations (after_mode other.kept n b).reservations
+    mode_reservations : (b : Bool) → R (after_mode f.state n b).reservations (after_mode other.state n b).reservations
     mode_reservations true = related
     mode_reservations false = related
 
@@ -171,26 +171,26 @@ module _ (inside : Nexus → Bool) where
     steps_both at to req bytes true = same_both _ _ _
     steps_both at to req bytes false =
         let changed = (performed f.device req bytes).1.mode_changed in
-        record { device = refl; kept = mode_both changed; reply = says-refl exact _; reservations = λ _. mode_reservations changed }
+        record { device = refl; state = mode_both changed; reply = says-refl exact _; reservations = λ _. mode_reservations changed }
 
     performs_both : (at to : Cell) (req : Request) (bytes : List ℕ) → Both (at_cell at (performs f n req bytes)) (at_cell to (performs other n req bytes))
     performs_both at to req bytes =
         elim (field_fault f.device req bytes) as (λ (o : Option Condition). Both
-        (at_cell at (elim o [ Some condition ↦ (f, at_stage Fields, check condition) | None ↦ cond (unloads req && is_prevented f.kept) (f, at_stage stage.Device, check MediumRemovalPrevented) (steps f n (performed f.device req bytes)) ]))
-        (at_cell to (elim o [ Some condition ↦ (other, at_stage Fields, check condition) | None ↦ cond (unloads req && is_prevented f.kept) (other, at_stage stage.Device, check MediumRemovalPrevented) (steps other n (performed f.device req bytes)) ]))) [
+        (at_cell at (elim o [ Some condition ↦ (f, at_stage Fields, check condition) | None ↦ cond (unloads req && is_prevented f.state) (f, at_stage stage.Device, check MediumRemovalPrevented) (steps f n (performed f.device req bytes)) ]))
+        (at_cell to (elim o [ Some condition ↦ (other, at_stage Fields, check condition) | None ↦ cond (unloads req && is_prevented f.state) (other, at_stage stage.Device, check MediumRemovalPrevented) (steps other n (performed f.device req bytes)) ]))) [
           | Some condition ↦ same_both _ _ _
-          | None ↦ steps_both at to req bytes (unloads req && is_prevented f.kept)
+          | None ↦ steps_both at to req bytes (unloads req && is_prevented f.state)
         ]
 
-    accepted_both : (at to : Cell) (p : OutParams) → Fit (ReserveOut p) → Both (at_cell at (record f { kept = accepted f.kept n p }, at_stage stage.Device, good [])) (at_cell to (record other { kept = accepted other.kept n p }, at_stage stage.Device, good []))
+    accepted_both : (at to : Cell) (p : OutParams) → Fit (ReserveOut p) → Both (at_cell at (record f { state = accepted f.state n p }, at_stage stage.Device, good [])) (at_cell to (record other { state = accepted other.state n p }, at_stage stage.Device, good []))
     accepted_both at to p fit = record {
       device = refl;
-      kept = record {
+      state = record {
         lun = refl;
         units = refl;
-        slots = λ m within. fit.0.raised f.kept.slots r m within (slots m within);
-        preventers = fit.0.preventers f.kept.preventers own;
-        own = own_after p.act f.kept.preventers (removed_by f.kept.reservations n (act_of f.kept.reservations n p)) own;
+        slots = λ m within. fit.0.raised f.state.slots r m within (slots m within);
+        preventers = fit.0.preventers f.state.preventers own;
+        own = own_after p.act f.state.preventers (removed_by f.state.reservations n (act_of f.state.reservations n p)) own;
       };
       reply = says-refl exact _;
       reservations = fit.1;
@@ -198,7 +198,7 @@ module _ (inside : Nexus → Bool) where
 
     -- an allowed act, refused or accepted
     abbrev acts : JudgedUnit → OutParams → Option PrFault → JudgedUnit × Decision × Reply
-    acts u p o = elim o [ Some fault ↦ (u, at_stage Fields, check (condition_of_refusal fault)) | None ↦ (record u { kept = accepted u.kept n p }, at_stage stage.Device, good []) ]
+    acts u p o = elim o [ Some fault ↦ (u, at_stage Fields, check (condition_of_refusal fault)) | None ↦ (record u { state = accepted u.state n p }, at_stage stage.Device, good []) ]
 
     reserves_both : (at to : Cell) (p : OutParams) → Fit (ReserveOut p) → (o : Option PrFault) → Both (at_cell at (acts f p o)) (at_cell to (acts other p o))
     reserves_both at to p fit (Some fault) = same_both _ _ _
@@ -206,14 +206,14 @@ module _ (inside : Nexus → Bool) where
 
     carried_both : (at to : Cell) (c : Command) (bytes : List ℕ) → Fit c → Both (at_cell at (carried_out f n c bytes)) (at_cell to (carried_out other n c bytes))
     carried_both at to (ReserveOut p) bytes fit =
-        subst (λ (o : Option PrFault). Both (at_cell at (acts f p (refusal f.kept.reservations n p))) (at_cell to (acts other p o))) fit.0.refusal (reserves_both at to p fit (refusal f.kept.reservations n p))
-    carried_both at to (ReserveIn a l) bytes fit = record { device = refl; kept = alike; reply = fit; reservations = λ _. related }
+        subst (λ (o : Option PrFault). Both (at_cell at (acts f p (refusal f.state.reservations n p))) (at_cell to (acts other p o))) fit.0.refusal (reserves_both at to p fit (refusal f.state.reservations n p))
+    carried_both at to (ReserveIn a l) bytes fit = record { device = refl; state = alike; reply = fit; reservations = λ _. related }
     carried_both at to (Inquiry e p l) bytes fit = same_both _ _ _
     carried_both at to (ReportLuns s l) bytes fit = same_both _ _ _
     carried_both at to (RequestSense true l) bytes fit = same_both _ _ _
     carried_both at to (RequestSense false l) bytes fit =
-        subst (λ (o : Option Kind). Both (at_cell at (record f { kept = (sensed f.kept n l (pending_of f.kept.slots n)).0 }, (sensed f.kept n l (pending_of f.kept.slots n)).1, (sensed f.kept n l (pending_of f.kept.slots n)).2)) (at_cell to (record other { kept = (sensed other.kept n l o).0 }, (sensed other.kept n l o).1, (sensed other.kept n l o).2))) pending_same
-        (sensed_both at to l (pending_of f.kept.slots n))
+        subst (λ (o : Option Kind). Both (at_cell at (record f { state = (sensed f.state n l (pending_of f.state.slots n)).0 }, (sensed f.state n l (pending_of f.state.slots n)).1, (sensed f.state n l (pending_of f.state.slots n)).2)) (at_cell to (record other { state = (sensed other.state n l o).0 }, (sensed other.state n l o).1, (sensed other.state n l o).2))) pending_same
+        (sensed_both at to l (pending_of f.state.slots n))
     carried_both at to (Prevent p) bytes fit = prevents_both at to (p == 0) (p == 1)
     carried_both at to (Device req) bytes fit = performs_both at to req bytes
 
@@ -222,8 +222,8 @@ module _ (inside : Nexus → Bool) where
 
     let_through_both : (c : Command) (bytes : List ℕ) → Fit c → Both (let_through f n c bytes) (let_through other n c bytes)
     let_through_both c bytes fit =
-        subst (λ (o : Option Kind). Both (through f c bytes (first_other_of f.kept.slots n)) (through other c bytes o)) first_other_same
-        (elim (waiting (class_of_command c) (first_other_of f.kept.slots n)) as (λ (o : Option Kind). Both (elim o [ Some kind ↦ tells f n kind (let_in (cell_of f n c) OtherAttention) | None ↦ at_cell (cell_of f n c) (carried_out f n c bytes) ]) (elim o [ Some kind ↦ tells other n kind (let_in (cell_of other n c) OtherAttention) | None ↦ at_cell (cell_of other n c) (carried_out other n c bytes) ])) [
+        subst (λ (o : Option Kind). Both (through f c bytes (first_other_of f.state.slots n)) (through other c bytes o)) first_other_same
+        (elim (waiting (class_of_command c) (first_other_of f.state.slots n)) as (λ (o : Option Kind). Both (elim o [ Some kind ↦ tells f n kind (let_in (cell_of f n c) OtherAttention) | None ↦ at_cell (cell_of f n c) (carried_out f n c bytes) ]) (elim o [ Some kind ↦ tells other n kind (let_in (cell_of other n c) OtherAttention) | None ↦ at_cell (cell_of other n c) (carried_out other n c bytes) ])) [
           | Some kind ↦ told_both kind _ _
           | None ↦ carried_both (cell_of f n c) (cell_of other n c) c bytes fit
         ])
@@ -236,20 +236,20 @@ module _ (inside : Nexus → Bool) where
     by_both c bytes (Denied cell) fit = same_both _ _ _
     by_both c bytes (Rule rule) fit = same_both _ _ _
 
-    checked_both : (c : Command) (bytes : List ℕ) → verdict_of f.kept.reservations n c ≡ verdict_of w n c → Fit c → Both (checked f n c bytes) (checked other n c bytes)
-    checked_both c bytes e fit = subst (λ (v : Verdict). Both (by f c bytes (verdict_of f.kept.reservations n c)) (by other c bytes v)) e (by_both c bytes (verdict_of f.kept.reservations n c) fit)
+    checked_both : (c : Command) (bytes : List ℕ) → verdict_of f.state.reservations n c ≡ verdict_of w n c → Fit c → Both (checked f n c bytes) (checked other n c bytes)
+    checked_both c bytes e fit = subst (λ (v : Verdict). Both (by f c bytes (verdict_of f.state.reservations n c)) (by other c bytes v)) e (by_both c bytes (verdict_of f.state.reservations n c) fit)
 
     abbrev comes : JudgedUnit → Command → List ℕ → Option Kind → JudgedUnit × Decision × Reply
     comes u c bytes o = elim (waiting (class_of_command c) o) [ Some kind ↦ tells u n kind (at_stage ResetAttention) | None ↦ checked u n c bytes ]
 
-    pub commanded_both : (c : Command) (bytes : List ℕ) → verdict_of f.kept.reservations n c ≡ verdict_of w n c → Fit c → Both (commanded f n c bytes) (commanded other n c bytes)
+    pub commanded_both : (c : Command) (bytes : List ℕ) → verdict_of f.state.reservations n c ≡ verdict_of w n c → Fit c → Both (commanded f n c bytes) (commanded other n c bytes)
     commanded_both c bytes e fit =
-        subst (λ (o : Option Kind). Both (comes f c bytes (first_reset_of f.kept.slots n)) (comes other c bytes o)) first_reset_same
-        (elim (waiting (class_of_command c) (first_reset_of f.kept.slots n)) as (λ (o : Option Kind). Both (elim o [ Some kind ↦ tells f n kind (at_stage ResetAttention) | None ↦ checked f n c bytes ]) (elim o [ Some kind ↦ tells other n kind (at_stage ResetAttention) | None ↦ checked other n c bytes ])) [
+        subst (λ (o : Option Kind). Both (comes f c bytes (first_reset_of f.state.slots n)) (comes other c bytes o)) first_reset_same
+        (elim (waiting (class_of_command c) (first_reset_of f.state.slots n)) as (λ (o : Option Kind). Both (elim o [ Some kind ↦ tells f n kind (at_stage ResetAttention) | None ↦ checked f n c bytes ]) (elim o [ Some kind ↦ tells other n kind (at_stage ResetAttention) | None ↦ checked other n c bytes ])) [
           | Some kind ↦ told_both kind _ _
           | None ↦ checked_both c bytes e fit
         ])
 
-    -- bytes that spell no command are answered alike
+    -- bytes that decode to no command are answered alike
     pub refused_both : (condition : Condition) (bytes : List ℕ) → Both (judged_as f n (Err condition) bytes) (judged_as other n (Err condition) bytes)
     refused_both condition bytes = same_both _ _ _

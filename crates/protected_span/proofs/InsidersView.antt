@@ -43,9 +43,9 @@ pub record Hold (h : Nexus) (v : State) : Type 0 where
 
 -- at the start of a span of h
 pub record Begins (h : Nexus) (u : UnitView) : Type 0 where
-  pub table : IsTable u.kept.reservations
-  pub hold : Hold h u.kept.reservations
-  pub alone : list_all (is_the_holder h) u.kept.preventers ≡ true
+  pub table : IsTable u.state.reservations
+  pub hold : Hold h u.state.reservations
+  pub alone : list_all (is_the_holder h) u.state.preventers ≡ true
 
 -- Exclusive Access of registrants, held by one inside, or of all of them
 abbrev pub IsHeldAs : (inside : Nexus → Bool) → ResType → Nexus → Type 0
@@ -64,5 +64,5 @@ pub record IsShared (inside : Nexus → Bool) (v : State) : Type 0 where
 
 -- slots ascend, and are 128 at most
 pub record HasSlots (u : UnitView) : Type 0 where
-  pub sorted : T (is_sorted nexus_cmp u.kept.slots)
-  pub few : length u.kept.slots ≤ 128
+  pub sorted : T (is_sorted nexus_cmp u.state.slots)
+  pub few : length u.state.slots ≤ 128

@@ -25,7 +25,7 @@ module _ (inside : Nexus → Bool) (exact : Nexus → (cdb bytes : List ℕ) →
   pub record IsKeptAlong : Type 0 where
     pub looks : (f g : UnitView) → Rel f g → f.device ≡ g.device
     -- the changing classes are closed to a nexus outside
-    pub closed : (f g : UnitView) (n : Nexus) → inside n ≡ false → Rel f g → row_allows Changing (res_type f.kept.reservations) (role f.kept.reservations n) ≡ false
+    pub closed : (f g : UnitView) (n : Nexus) → inside n ≡ false → Rel f g → row_allows Changing (res_type f.state.reservations) (role f.state.reservations n) ≡ false
     -- a command of a nexus outside, to the one; of a nexus inside, to both
     pub strike : (f v g : UnitView) (n : Nexus) (cdb bytes : List ℕ) (r : Reply) → inside n ≡ false → Rel f g → Kept v → May n cdb bytes f v → Executes f n cdb bytes (v, r) → Rel v g
     pub keep : (f v g w : UnitView) (n : Nexus) (cdb bytes : List ℕ) (r q : Reply) → inside n ≡ true → Rel f g → Kept v → May n cdb bytes f v → r.status ≢ Busy → q.status ≢ Busy

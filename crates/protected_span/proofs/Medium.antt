@@ -24,7 +24,7 @@ module _ (inside : Nexus → Bool) where
   -- the same device, the same reservations where they are the same, and alike to those inside
   pub record Beside (f g : UnitView) : Type 0 where
     pub device : f.device ≡ g.device
-    pub kept : Alike inside f.kept g.kept
+    pub state : Alike inside f.state g.state
 
   abbrev TakesAlike : Result (Volume × UnitView) MediumFault → Result (Volume × UnitView) MediumFault → Type 0
   TakesAlike o p = Same (With Beside) o p
@@ -32,15 +32,15 @@ module _ (inside : Nexus → Bool) where
   abbrev PutsAlike : Result UnitView MediumFault → Result UnitView MediumFault → Type 0
   PutsAlike o p = Same Beside o p
 
-  medium_alike : (f g : UnitView) → Alike inside f.kept g.kept → Alike inside (with_medium f.kept) (with_medium g.kept)
-  medium_alike f g a = record { lun = a.lun; units = a.units; slots = λ m is. raised_for_all-alike f.kept.slots g.kept.slots m MediumChanged (a.slots m is); preventers = a.preventers; own = a.own }
+  medium_alike : (f g : UnitView) → Alike inside f.state g.state → Alike inside (with_medium f.state) (with_medium g.state)
+  medium_alike f g a = record { lun = a.lun; units = a.units; slots = λ m is. raised_for_all-alike f.state.slots g.state.slots m MediumChanged (a.slots m is); preventers = a.preventers; own = a.own }
 
   taken_alike : (f g : UnitView) (o : Result (Volume × DeviceView) TakeFault) → Beside f g → TakesAlike (taken_as f o) (taken_as g o)
-  taken_alike f g (Ok it) b = (refl, record { device = refl; kept = b.kept })
+  taken_alike f g (Ok it) b = (refl, record { device = refl; state = b.state })
   taken_alike f g (Err fault) b = refl
 
   put_alike : (f g : UnitView) (o : Result DeviceView PutFault) → Beside f g → PutsAlike (put_as f o) (put_as g o)
-  put_alike f g (Ok d) b = record { device = refl; kept = medium_alike f g b.kept }
+  put_alike f g (Ok d) b = record { device = refl; state = medium_alike f g b.state }
   put_alike f g (Err fault) b = refl
 
   unless_prevented : (f g : UnitView) (b : Bool) → TakesAlike (taken_as f (taken f.device 0)) (taken_as g (taken g.device 0)) → TakesAlike (cond b (Err Prevented) (taken_as f (taken f.device 0))) (cond b (Err Prevented) (taken_as g (taken g.device 0)))
@@ -48,16 +48,16 @@ module _ (inside : Nexus → Bool) where
   unless_prevented f g false h = h
 
   by_kind : (f g : UnitView) (k : Kind) → Beside f g
-      → TakesAlike (elim k [ kind.Changer ↦ Err NotADrive | kind.Drive ↦ cond (is_prevented f.kept) (Err Prevented) (taken_as f (taken f.device 0)) ]) (elim k [ kind.Changer ↦ Err NotADrive | kind.Drive ↦ cond (is_prevented g.kept) (Err Prevented) (taken_as g (taken g.device 0)) ])
+      → TakesAlike (elim k [ kind.Changer ↦ Err NotADrive | kind.Drive ↦ cond (is_prevented f.state) (Err Prevented) (taken_as f (taken f.device 0)) ]) (elim k [ kind.Changer ↦ Err NotADrive | kind.Drive ↦ cond (is_prevented g.state) (Err Prevented) (taken_as g (taken g.device 0)) ])
   by_kind f g kind.Changer b = refl
   by_kind f g kind.Drive b =
-      subst (λ x. TakesAlike (cond (is_prevented f.kept) (Err Prevented) (taken_as f (taken f.device 0))) (cond x (Err Prevented) (taken_as g (taken g.device 0)))) (ap (λ (ps : List Nexus). not (length ps == 0)) b.kept.preventers)
-      (unless_prevented f g (is_prevented f.kept) (subst (λ (d : DeviceView). TakesAlike (taken_as f (taken f.device 0)) (taken_as g (taken d 0))) b.device (taken_alike f g (taken f.device 0) b)))
+      subst (λ x. TakesAlike (cond (is_prevented f.state) (Err Prevented) (taken_as f (taken f.device 0))) (cond x (Err Prevented) (taken_as g (taken g.device 0)))) (ap (λ (ps : List Nexus). not (length ps == 0)) b.state.preventers)
+      (unless_prevented f g (is_prevented f.state) (subst (λ (d : DeviceView). TakesAlike (taken_as f (taken f.device 0)) (taken_as g (taken d 0))) b.device (taken_alike f g (taken f.device 0) b)))
 
   -- a volume is taken out of both alike
   pub takes_alike : (f g : UnitView) → Beside f g → TakesAlike (taken_out f) (taken_out g)
   takes_alike f g b =
-      subst (λ (k : Kind). TakesAlike (taken_out f) (elim k [ kind.Changer ↦ Err NotADrive | kind.Drive ↦ cond (is_prevented g.kept) (Err Prevented) (taken_as g (taken g.device 0)) ])) (ap kind_of b.device)
+      subst (λ (k : Kind). TakesAlike (taken_out f) (elim k [ kind.Changer ↦ Err NotADrive | kind.Drive ↦ cond (is_prevented g.state) (Err Prevented) (taken_as g (taken g.device 0)) ])) (ap kind_of b.device)
       (by_kind f g (kind_of f.device) b)
 
   put_by_kind : (f g : UnitView) (v : Volume) (k : Kind) → Beside f g → PutsAlike (elim k [ kind.Changer ↦ Err NotADrive | kind.Drive ↦ put_as f (put f.device 0 v) ]) (elim k [ kind.Changer ↦ Err NotADrive | kind.Drive ↦ put_as g (put g.device 0 v) ])

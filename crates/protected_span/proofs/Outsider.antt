@@ -1,8 +1,8 @@
 -- What a command of a nexus outside leaves, as those inside see it.
 use Rattle.std.proofs.Common.{◌≡◌, ℕ, Bool, true, false, cond, not, ◌==◌, ◌&&◌, List, [], ◌∷◌, filter, Option, Some, None, Result, Ok, Err, refl, ap, ◌∙◌, subst}
 use Rattle.std.specs.List.{list_any, list_all}
-use Rattle.permit_tables.specs.declared.classes.Class.{Class}
-use Rattle.permit_tables.specs.declared.classes.Class.TheVariants.{AllowRemoval, PreventRemoval}
+use Rattle.scsi_cdb.specs.declared.classes.Class.{Class}
+use Rattle.scsi_cdb.specs.declared.classes.Class.TheVariants.{AllowRemoval, PreventRemoval}
 use Rattle.scsi_cdb.specs.declared.request.Request.{Request}
 use Rattle.scsi_cdb.specs.Classes.{class_of}
 use Rattle.scsi_nexus.specs.declared.nexus.Nexus.{Nexus}
@@ -48,10 +48,10 @@ module _ (inside : Nexus → Bool) where
   -- what those inside see stays as it was
   pub record Left (u v : JudgedUnit) : Type 0 where
     pub device : v.device ≡ u.device
-    pub lun : v.kept.lun ≡ u.kept.lun
-    pub units : v.kept.units ≡ u.kept.units
-    pub slots : (m : Nexus) → inside m ≡ true → slot_of v.kept.slots m ≡ slot_of u.kept.slots m
-    pub preventers : v.kept.preventers ≡ u.kept.preventers
+    pub lun : v.state.lun ≡ u.state.lun
+    pub units : v.state.units ≡ u.state.units
+    pub slots : (m : Nexus) → inside m ≡ true → slot_of v.state.slots m ≡ slot_of u.state.slots m
+    pub preventers : v.state.preventers ≡ u.state.preventers
 
   -- an accepted act that tells nobody inside, and ends no prevention of theirs
   pub record Calm (v : State) (n : Nexus) (p : OutParams) : Type 0 where
@@ -80,11 +80,11 @@ module _ (inside : Nexus → Bool) where
       ap (λ b. cond (not b) (p ∷ filter (λ x. not (same_nexus x n)) ps) (filter (λ x. not (same_nexus x n)) ps)) (apart p n parts.0 isnt)
       ∙ ap (λ x. p ∷ x) (allowed_apart ps n isnt parts.1)
 
-  module _ (u : JudgedUnit) (n : Nexus) (isnt : inside n ≡ false) (shut : Shut (res_type u.kept.reservations) (role u.kept.reservations n)) (own : list_all inside u.kept.preventers ≡ true)
-      (P : State → Type 0) (calm : (p : OutParams) → verdict u.kept.reservations n p ≡ Allowed → P (applied u.kept.reservations n p) → Calm u.kept.reservations n p) where
+  module _ (u : JudgedUnit) (n : Nexus) (isnt : inside n ≡ false) (shut : Shut (res_type u.state.reservations) (role u.state.reservations n)) (own : list_all inside u.state.preventers ≡ true)
+      (P : State → Type 0) (calm : (p : OutParams) → verdict u.state.reservations n p ≡ Allowed → P (applied u.state.reservations n p) → Calm u.state.reservations n p) where
     -- what is judged so leaves what those inside see, where the reservations that it leaves are such
     abbrev Leaves : JudgedUnit × Decision × Reply → Type 0
-    Leaves x = P x.0.kept.reservations → Left u x.0
+    Leaves x = P x.0.state.reservations → Left u x.0
 
     stays : (f : Decision) (r : Reply) → Leaves (u, f, r)
     stays f r g = left_same u
@@ -95,64 +95,64 @@ module _ (inside : Nexus → Bool) where
       lun = refl;
       units = refl;
       preventers = refl;
-      slots = λ m is. change-apart u.kept.slots n m (λ ks. without_kind ks kind) (apart m n is isnt);
+      slots = λ m is. change-apart u.state.slots n m (λ ks. without_kind ks kind) (apart m n is isnt);
     }
 
-    sensed_leaves : (l : ℕ) (o : Option Kind) → Left u (record u { kept = (sensed u.kept n l o).0 })
+    sensed_leaves : (l : ℕ) (o : Option Kind) → Left u (record u { state = (sensed u.state n l o).0 })
     sensed_leaves l (Some kind) = record {
       device = refl;
       lun = refl;
       units = refl;
       preventers = refl;
-      slots = λ m is. change-apart u.kept.slots n m (λ ks. without_kind ks kind) (apart m n is isnt);
+      slots = λ m is. change-apart u.state.slots n m (λ ks. without_kind ks kind) (apart m n is isnt);
     }
     sensed_leaves l None = left_same u
 
     -- the permission table lets a class of the sender through
     abbrev Lets : Class → Type 0
-    Lets class = is_allowed class (res_type u.kept.reservations) (role u.kept.reservations n) ≡ true
+    Lets class = is_allowed class (res_type u.state.reservations) (role u.state.reservations n) ≡ true
 
     allowed_class : (b : Bool) (c : Cell) → cond b Allowed (Denied c) ≡ Allowed → b ≡ true
     allowed_class true c h = refl
     allowed_class false c h = cc
 
     prevents_leaves : (prevent : ℕ) (zero one : Bool) → (prevent == 0) ≡ zero → Lets (class_of_command (Prevent prevent)) → Leaves (prevents_by u n zero one)
-    prevents_leaves prevent true one e lets g = record { device = refl; lun = refl; units = refl; slots = λ m is. refl; preventers = allowed_apart u.kept.preventers n isnt own }
+    prevents_leaves prevent true one e lets g = record { device = refl; lun = refl; units = refl; slots = λ m is. refl; preventers = allowed_apart u.state.preventers n isnt own }
     prevents_leaves prevent false true e lets g =
-        barred _ (subst (λ b. row_allows (group_of (cond b AllowRemoval PreventRemoval)) (res_type u.kept.reservations) (role u.kept.reservations n) ≡ true) e lets) shut.changing
+        barred _ (subst (λ b. row_allows (group_of (cond b AllowRemoval PreventRemoval)) (res_type u.state.reservations) (role u.state.reservations n) ≡ true) e lets) shut.changing
     prevents_leaves prevent false false e lets g = left_same u
 
-    mode_leaves : (d : DeviceView) (b : Bool) → d ≡ u.device → b ≡ false → Left u (record { device = d; kept = after_mode u.kept n b })
+    mode_leaves : (d : DeviceView) (b : Bool) → d ≡ u.device → b ≡ false → Left u (record { device = d; state = after_mode u.state n b })
     mode_leaves d true e f = cc
     mode_leaves d false e f = record { device = e; lun = refl; units = refl; slots = λ m is. refl; preventers = refl }
 
     steps_leaves : (at : Cell) (r : Request) (bytes : List ℕ) (b : Bool) → Lets (class_of r) → Leaves (at_cell at (cond b (u, at_stage stage.Device, check MediumRemovalPrevented) (steps u n (performed u.device r bytes))))
     steps_leaves at r bytes true lets g = left_same u
     steps_leaves at r bytes false lets g =
-        let q = performed_quiet (res_type u.kept.reservations) (role u.kept.reservations n) shut u.device r bytes lets in
+        let q = performed_quiet (res_type u.state.reservations) (role u.state.reservations n) shut u.device r bytes lets in
         mode_leaves (performed u.device r bytes).0 (performed u.device r bytes).1.mode_changed q.same q.steady
 
     performs_leaves : (at : Cell) (r : Request) (bytes : List ℕ) → Lets (class_of r) → Leaves (at_cell at (performs u n r bytes))
     performs_leaves at r bytes lets =
-        elim (field_fault u.device r bytes) as (λ (o : Option Condition). Leaves (at_cell at (elim o [ Some condition ↦ (u, at_stage Fields, check condition) | None ↦ cond (unloads r && is_prevented u.kept) (u, at_stage stage.Device, check MediumRemovalPrevented) (steps u n (performed u.device r bytes)) ]))) [
+        elim (field_fault u.device r bytes) as (λ (o : Option Condition). Leaves (at_cell at (elim o [ Some condition ↦ (u, at_stage Fields, check condition) | None ↦ cond (unloads r && is_prevented u.state) (u, at_stage stage.Device, check MediumRemovalPrevented) (steps u n (performed u.device r bytes)) ]))) [
           | Some condition ↦ λ g. left_same u
-          | None ↦ steps_leaves at r bytes (unloads r && is_prevented u.kept) lets
+          | None ↦ steps_leaves at r bytes (unloads r && is_prevented u.state) lets
         ]
 
-    accepted_leaves : (p : OutParams) → verdict u.kept.reservations n p ≡ Allowed → P (applied u.kept.reservations n p) → Left u (record u { kept = accepted u.kept n p })
+    accepted_leaves : (p : OutParams) → verdict u.state.reservations n p ≡ Allowed → P (applied u.state.reservations n p) → Left u (record u { state = accepted u.state n p })
     accepted_leaves p v g =
         let c = calm p v g in
         record {
           device = refl;
           lun = refl;
           units = refl;
-          slots = λ m is. all_raised-apart (raised_by u.kept.reservations n (act_of u.kept.reservations n p)) u.kept.slots m (c.raised m is);
-          preventers = c.preventers u.kept.preventers own;
+          slots = λ m is. all_raised-apart (raised_by u.state.reservations n (act_of u.state.reservations n p)) u.state.slots m (c.raised m is);
+          preventers = c.preventers u.state.preventers own;
         }
 
-    carried_leaves : (at : Cell) (c : Command) (bytes : List ℕ) → verdict_of u.kept.reservations n c ≡ Allowed → Leaves (at_cell at (carried_out u n c bytes))
+    carried_leaves : (at : Cell) (c : Command) (bytes : List ℕ) → verdict_of u.state.reservations n c ≡ Allowed → Leaves (at_cell at (carried_out u n c bytes))
     carried_leaves at (ReserveOut p) bytes v =
-        elim (refusal u.kept.reservations n p) as (λ (o : Option PrFault). Leaves (at_cell at (elim o [ Some fault ↦ (u, at_stage Fields, check (condition_of_refusal fault)) | None ↦ (record u { kept = accepted u.kept n p }, at_stage stage.Device, good []) ]))) [
+        elim (refusal u.state.reservations n p) as (λ (o : Option PrFault). Leaves (at_cell at (elim o [ Some fault ↦ (u, at_stage Fields, check (condition_of_refusal fault)) | None ↦ (record u { state = accepted u.state n p }, at_stage stage.Device, good []) ]))) [
           | Some fault ↦ λ g. left_same u
           | None ↦ accepted_leaves p v
         ]
@@ -160,7 +160,7 @@ module _ (inside : Nexus → Bool) where
     carried_leaves at (Inquiry e p l) bytes v = λ g. left_same u
     carried_leaves at (ReportLuns s l) bytes v = λ g. left_same u
     carried_leaves at (RequestSense true l) bytes v = λ g. left_same u
-    carried_leaves at (RequestSense false l) bytes v = λ g. sensed_leaves l (pending_of u.kept.slots n)
+    carried_leaves at (RequestSense false l) bytes v = λ g. sensed_leaves l (pending_of u.state.slots n)
     carried_leaves at (Prevent p) bytes v = prevents_leaves p (p == 0) (p == 1) refl (allowed_class _ _ v)
     carried_leaves at (Device r) bytes v = performs_leaves at r bytes (allowed_class _ _ v)
 
@@ -168,4 +168,4 @@ module _ (inside : Nexus → Bool) where
     pub judged_leaves : (c : Result Command Condition) (bytes : List ℕ) → Leaves (judged_as u n c bytes)
     judged_leaves (Err condition) bytes = λ g. left_same u
     judged_leaves (Ok c) bytes =
-        by_ends (λ (v : JudgedUnit). P v.kept.reservations → Left u v) u n c bytes (λ g. left_same u) (λ kind. told_leaves kind (at_stage Fields)) (carried_leaves (cell_of u n c) c bytes)
+        by_ends (λ (v : JudgedUnit). P v.state.reservations → Left u v) u n c bytes (λ g. left_same u) (λ kind. told_leaves kind (at_stage Fields)) (carried_leaves (cell_of u n c) c bytes)

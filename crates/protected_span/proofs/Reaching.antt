@@ -81,33 +81,33 @@ table_of : (v : State) (commands : List (Nexus × OutParams)) → IsTable v → 
 table_of v [] t = t
 table_of v (c ∷ commands) t = table_of (laws.answered v c.0 c.1) commands (answered_table v c.0 c.1 t)
 
-pub reached_table : (u : UnitView) → IsReached u → IsTable u.kept.reservations
+pub reached_table : (u : UnitView) → IsReached u → IsTable u.state.reservations
 reached_table u h = subst IsTable (sym h.reservations) (table_of power_on h.commands (record { proper = proper-power_on; room = omega arith }))
 
-pub reached_holder : (u : UnitView) → IsReached u → laws.is_kept_by u.kept.reservations.keys u.kept.reservations.reservation ≡ true
+pub reached_holder : (u : UnitView) → IsReached u → laws.is_kept_by u.state.reservations.keys u.state.reservations.reservation ≡ true
 reached_holder u h = ap (λ (v : State). laws.is_kept_by v.keys v.reservation) h.reservations ∙ holder_is_registered h.commands
 
 -- THE UNITS
 room_of : (u : UnitView) → IsReached u → Roomy u u
 room_of u r = roomy_self u r.sorted r.few
 
-reached_by : (u v : UnitView) → IsReached u → Reaches v.kept.reservations → (w : UnitView) → Roomy v w → IsReached v
+reached_by : (u v : UnitView) → IsReached u → Reaches v.state.reservations → (w : UnitView) → Roomy v w → IsReached v
 reached_by u v r s w room = record { commands = s.0; reservations = s.1; sorted = room.left; few = room.few }
 
-same_reaches : (u v : UnitView) → v.kept.reservations ≡ u.kept.reservations → IsReached u → Reaches v.kept.reservations
+same_reaches : (u v : UnitView) → v.state.reservations ≡ u.state.reservations → IsReached u → Reaches v.state.reservations
 same_reaches u v same r = (r.commands, same ∙ r.reservations)
 
 pub executes_reaches : (u v : UnitView) (n : Nexus) (cdb bytes : List ℕ) (r : Reply) → IsReached u → Executes u n cdb bytes (v, r) → IsReached v
 executes_reaches u v n cdb bytes r h (inl e) = subst IsReached (sym (ap (λ (x : UnitView × Reply). x.0) e)) h
 executes_reaches u v n cdb bytes r h (inr e) =
     let is : v ≡ (answered u n cdb bytes).0 = ap (λ (x : UnitView × Reply). x.0) e.2 in
-    let reaches = reaches_change u.kept.reservations n v.kept.reservations (executes_changes u v n cdb bytes r (inr e)) (h.commands, h.reservations) in
+    let reaches = reaches_change u.state.reservations n v.state.reservations (executes_changes u v n cdb bytes r (inr e)) (h.commands, h.reservations) in
     reached_by u v h reaches u (subst (λ (x : UnitView). Roomy x u) (sym is) (strike_roomy u u n cdb bytes e.0 (room_of u h)))
 
 -- A MOVE, at the changer and at the drives
 ended_reaches : {A : Type 0} (c v : UnitView) (n : Nexus) (cdb bytes : List ℕ) (r : Reply) (drives after : A) (x : Result (DeviceView × A) Condition) → IsReached c → Ended c v n cdb bytes r drives after x → IsReached v
 ended_reaches c v n cdb bytes r drives after x h e =
-    reached_by c v h (reaches_change c.kept.reservations n v.kept.reservations (ended_changes c v n cdb bytes r drives after x e) (h.commands, h.reservations)) v (ended_roomy c v c v n cdb bytes r r drives after after x x refl (room_of c h) e e)
+    reached_by c v h (reaches_change c.state.reservations n v.state.reservations (ended_changes c v n cdb bytes r drives after x e) (h.commands, h.reservations)) v (ended_roomy c v c v n cdb bytes r r drives after after x x refl (room_of c h) e e)
 
 -- a drive beside itself
 abbrev Self : UnitView → UnitView → Type 0
@@ -116,7 +116,7 @@ Self x y = (x ≡ y) × IsReached x
 out_reaches : (f : UnitView) (o : Result (Volume × UnitView) MediumFault) → taken_out f ≡ o → IsReached f → Same (With Self) o o
 out_reaches f (Err fault) e h = refl
 out_reaches f (Ok a) e h =
-    let moved = out_number f a.1 a.0 e (shape_self f.kept.slots h.sorted) in
+    let moved = out_number f a.1 a.0 e (shape_self f.state.slots h.sorted) in
     (refl, (refl, reached_by f a.1 h (same_reaches f a.1 (out_same f a.1 a.0 e).reservations h) a.1 (both_roomy f f a.1 a.1 (room_of f h) moved moved)))
 
 in_reaches : (f : UnitView) (v : Volume) (o : Result UnitView MediumFault) → put_in f v ≡ o → IsReached f → Same Self o o
@@ -172,8 +172,8 @@ two_reach c v ds es n cdb bytes r hc hd moves =
 loss_reaches : (u v : UnitView) (n : Nexus) (r : Reply) → IsReached u → IsLost u n (v, r) → IsReached v
 loss_reaches u v n r h (inl e) = subst IsReached (sym (ap (λ (x : UnitView × Reply). x.0) e.0)) h
 loss_reaches u v n r h (inr e) =
-    let is = loss_known none (has_slot u.kept.slots n) u v n e.0 e.1 in
-    reached_by u v h (same_reaches u v (ap (λ (x : UnitView). x.kept.reservations) is ∙ lost_reservations none u n (has_slot u.kept.slots n)) h) v (lose_roomy u u v v n (room_of u h) is is)
+    let is = loss_known none (has_slot u.state.slots n) u v n e.0 e.1 in
+    reached_by u v h (same_reaches u v (ap (λ (x : UnitView). x.state.reservations) is ∙ lost_reservations none u n (has_slot u.state.slots n)) h) v (lose_roomy u u v v n (room_of u h) is is)
   where
     none : Nexus → Bool
     none m = true
@@ -182,7 +182,7 @@ reset_reaches : (u v : UnitView) (r : Reply) → IsReached u → IsReset u (v, r
 reset_reaches u v r h (inl e) = subst IsReached (sym (ap (λ (x : UnitView × Reply). x.0) e)) h
 reset_reaches u v r h (inr e) =
     let is : v ≡ resets u = ap (λ (x : UnitView × ℕ). x.0) e.1.1 in
-    reached_by u v h (same_reaches u v (ap (λ (x : UnitView). x.kept.reservations) is) h) v (reset_roomy u u v v (room_of u h) is is)
+    reached_by u v h (same_reaches u v (ap (λ (x : UnitView). x.state.reservations) is) h) v (reset_roomy u u v v (room_of u h) is is)
 
 -- AT THE PLACES
 one_less : (a b : ℕ) → suc a ≡ suc b → a ≡ b

@@ -61,7 +61,7 @@ record NextAs (Does : List UnitView × Reply → Type 0) : Type 0 where
   served : reply.status ≢ Busy
 
 module _ (lun : ℕ) (inside : Nexus → Bool) (exact : Nexus → (cdb bytes : List ℕ) → Bool) (Kept : UnitView → Type 0) (May : Nexus → (cdb bytes : List ℕ) → UnitView → UnitView → Type 0) (Rel : UnitView → UnitView → Type 0)
-    (plain : IsKeptAlong inside exact Kept May Rel) (slots : (f g : UnitView) (n : Nexus) → inside n ≡ true → Rel f g → has_slot g.kept.slots n ≡ has_slot f.kept.slots n) where
+    (plain : IsKeptAlong inside exact Kept May Rel) (slots : (f g : UnitView) (n : Nexus) → inside n ≡ true → Rel f g → has_slot g.state.slots n ≡ has_slot f.state.slots n) where
   abbrev R : UnitView → UnitView → Type 0
   R f g = Roomed inside exact Kept May Rel plain slots f g
 
@@ -72,11 +72,11 @@ module _ (lun : ℕ) (inside : Nexus → Bool) (exact : Nexus → (cdb bytes : L
   L us ws = Lists lun R us ws
 
   -- what the two units at a place have in common
-  room_next : (k : ℕ) (x y : UnitView) (n : Nexus) → At lun R k x y → ((k == lun) ≡ true → inside n ≡ true) → has_room x.kept n ≡ true → has_room y.kept n ≡ true
+  room_next : (k : ℕ) (x y : UnitView) (n : Nexus) → At lun R k x y → ((k == lun) ≡ true → inside n ≡ true) → has_room x.state n ≡ true → has_room y.state n ≡ true
   room_next k x y n a is h =
-      elim (k == lun) as (λ b. (k == lun) ≡ b → has_room y.kept n ≡ true) [
+      elim (k == lun) as (λ b. (k == lun) ≡ b → has_room y.state n ≡ true) [
         | true ↦ λ e. let r = a.here e in room_too x y n (slots x y n (is e) r.rel) r.room h
-        | false ↦ λ e. subst (λ (z : UnitView). has_room z.kept n ≡ true) (a.away e) h
+        | false ↦ λ e. subst (λ (z : UnitView). has_room z.state n ≡ true) (a.away e) h
       ] refl
 
   number_next : (k : ℕ) (x y : UnitView) → At lun R k x y → HasNumber x → HasNumber y

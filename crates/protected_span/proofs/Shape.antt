@@ -80,17 +80,17 @@ all-shape k (n ∷ ns) q s =
 pub told_all-shape : (q : Slots) (k : Kind) → T (is_sorted nexus_cmp q) → Shape q (raised_for_all q k)
 told_all-shape q k s = all-shape k (with_slots q) q s
 
-module _ (u : JudgedUnit) (n : Nexus) (s : T (is_sorted nexus_cmp u.kept.slots)) where
+module _ (u : JudgedUnit) (n : Nexus) (s : T (is_sorted nexus_cmp u.state.slots)) where
   abbrev Keeps : JudgedUnit × Decision × Reply → Type 0
-  Keeps x = Shape u.kept.slots x.0.kept.slots
+  Keeps x = Shape u.state.slots x.0.state.slots
 
-  self : Shape u.kept.slots u.kept.slots
-  self = shape_self u.kept.slots s
+  self : Shape u.state.slots u.state.slots
+  self = shape_self u.state.slots s
 
-  reported : (kind : Kind) → Shape u.kept.slots (with_change u.kept.slots n (λ ks. without_kind ks kind))
-  reported kind = change-shape u.kept.slots n (λ ks. without_kind ks kind) s
+  reported : (kind : Kind) → Shape u.state.slots (with_change u.state.slots n (λ ks. without_kind ks kind))
+  reported kind = change-shape u.state.slots n (λ ks. without_kind ks kind) s
 
-  sensed_keeps : (l : ℕ) (o : Option Kind) → Shape u.kept.slots (sensed u.kept n l o).0.slots
+  sensed_keeps : (l : ℕ) (o : Option Kind) → Shape u.state.slots (sensed u.state n l o).0.slots
   sensed_keeps l (Some kind) = reported kind
   sensed_keeps l None = self
 
@@ -99,8 +99,8 @@ module _ (u : JudgedUnit) (n : Nexus) (s : T (is_sorted nexus_cmp u.kept.slots))
   prevents_keeps false true = self
   prevents_keeps false false = self
 
-  mode_keeps : (b : Bool) → Shape u.kept.slots (after_mode u.kept n b).slots
-  mode_keeps true = told-shape n ModeParametersChanged (with_slots u.kept.slots) u.kept.slots s
+  mode_keeps : (b : Bool) → Shape u.state.slots (after_mode u.state n b).slots
+  mode_keeps true = told-shape n ModeParametersChanged (with_slots u.state.slots) u.state.slots s
   mode_keeps false = self
 
   steps_keeps : (r : Request) (bytes : List ℕ) (b : Bool) → Keeps (cond b (u, at_stage stage.Device, check MediumRemovalPrevented) (steps u n (performed u.device r bytes)))
@@ -109,25 +109,25 @@ module _ (u : JudgedUnit) (n : Nexus) (s : T (is_sorted nexus_cmp u.kept.slots))
 
   performs_keeps : (r : Request) (bytes : List ℕ) → Keeps (performs u n r bytes)
   performs_keeps r bytes =
-      elim (field_fault u.device r bytes) as (λ (o : Option Condition). Keeps (elim o [ Some condition ↦ (u, at_stage Fields, check condition) | None ↦ cond (unloads r && is_prevented u.kept) (u, at_stage stage.Device, check MediumRemovalPrevented) (steps u n (performed u.device r bytes)) ])) [
+      elim (field_fault u.device r bytes) as (λ (o : Option Condition). Keeps (elim o [ Some condition ↦ (u, at_stage Fields, check condition) | None ↦ cond (unloads r && is_prevented u.state) (u, at_stage stage.Device, check MediumRemovalPrevented) (steps u n (performed u.device r bytes)) ])) [
         | Some condition ↦ self
-        | None ↦ steps_keeps r bytes (unloads r && is_prevented u.kept)
+        | None ↦ steps_keeps r bytes (unloads r && is_prevented u.state)
       ]
 
   carried_keeps : (c : Command) (bytes : List ℕ) → Keeps (carried_out u n c bytes)
   carried_keeps (ReserveOut p) bytes =
-      elim (refusal u.kept.reservations n p) as (λ (o : Option PrFault). Keeps (elim o [ Some fault ↦ (u, at_stage Fields, check (condition_of_refusal fault)) | None ↦ (record u { kept = accepted u.kept n p }, at_stage stage.Device, good []) ])) [
+      elim (refusal u.state.reservations n p) as (λ (o : Option PrFault). Keeps (elim o [ Some fault ↦ (u, at_stage Fields, check (condition_of_refusal fault)) | None ↦ (record u { state = accepted u.state n p }, at_stage stage.Device, good []) ])) [
         | Some fault ↦ self
-        | None ↦ all_raised-shape (raised_by u.kept.reservations n (act_of u.kept.reservations n p)) u.kept.slots s
+        | None ↦ all_raised-shape (raised_by u.state.reservations n (act_of u.state.reservations n p)) u.state.slots s
       ]
   carried_keeps (ReserveIn a l) bytes = self
   carried_keeps (Inquiry e p l) bytes = self
   carried_keeps (ReportLuns x l) bytes = self
   carried_keeps (RequestSense true l) bytes = self
-  carried_keeps (RequestSense false l) bytes = sensed_keeps l (pending_of u.kept.slots n)
+  carried_keeps (RequestSense false l) bytes = sensed_keeps l (pending_of u.state.slots n)
   carried_keeps (Prevent p) bytes = prevents_keeps (p == 0) (p == 1)
   carried_keeps (Device r) bytes = performs_keeps r bytes
 
   pub judged_shape : (c : Result Command Condition) (bytes : List ℕ) → Keeps (judged_as u n c bytes)
   judged_shape (Err condition) bytes = self
-  judged_shape (Ok c) bytes = by_ends (λ (v : JudgedUnit). Shape u.kept.slots v.kept.slots) u n c bytes self reported (λ _. carried_keeps c bytes)
+  judged_shape (Ok c) bytes = by_ends (λ (v : JudgedUnit). Shape u.state.slots v.state.slots) u n c bytes self reported (λ _. carried_keeps c bytes)

@@ -9,7 +9,7 @@ use Rattle.scsi_nexus.specs.Order.{same_nexus}
 use Rattle.scsi_sense.specs.declared.sense.Sense.{Sense}
 use Rattle.scsi_sense.specs.declared.status.Status.TheVariants.{Good, Busy, ReservationConflict}
 use Rattle.permit_tables.specs.declared.res_type.ResType.{ResType}
-use Rattle.permit_tables.specs.declared.service_action.OutServiceAction.TheVariants as out
+use Rattle.scsi_cdb.specs.declared.service_action.OutServiceAction.TheVariants as out
 use Rattle.permit_tables.specs.declared.out_params.OutParams.{OutParams}
 use Rattle.pr_core.specs.State.{keys_after, is_registered}
 use Rattle.pr_core.proofs.KeyLaws.{key_in-put}
@@ -89,7 +89,7 @@ shared : IsSharedBy (is_the_holder a) shared_by_a
 shared = record { held = inl refl; registered = only_a }
 
 abbrev Shared : UnitView → Type 0
-Shared v = IsSharedBy (is_the_holder a) v.kept.reservations
+Shared v = IsSharedBy (is_the_holder a) v.state.reservations
 
 abbrev Any : Nexus → (cdb bytes : List ℕ) → UnitView → UnitView → Type 0
 Any n cdb bytes u v = Unit {0}
@@ -336,7 +336,7 @@ count_at (Some u) = count_in u.device
 
 abbrev slots_at : Option UnitView → ℕ
 slots_at None = 0
-slots_at (Some u) = length u.kept.slots
+slots_at (Some u) = length u.state.slots
 
 beside : (c d e : UnitView) (k : ℕ) → 1 ≢ k → slice_get (c ∷ d ∷ []) k ≡ slice_get (c ∷ e ∷ []) k
 beside c d e zero apart = refl

@@ -16,15 +16,15 @@ use Rattle.protected_span.proofs.RoomOfStruckRuns.{roomy_self}
 use Rattle.protected_span.proofs.Spans.{Rel, RelG, Kept, KeptG, AnyG, exact, all_exact, along, along_g, holder_start, group_start}
 use Rattle.protected_span.proofs.Serve.{serves}
 
-slots_h : (h : Nexus) (k : Kind) (f g : UnitView) (n : Nexus) → is_the_holder h n ≡ true → Rel h k f g → has_slot g.kept.slots n ≡ has_slot f.kept.slots n
-slots_h h k f g n is rel = sym (ap is_some (rel.kept.slots n is))
+slots_h : (h : Nexus) (k : Kind) (f g : UnitView) (n : Nexus) → is_the_holder h n ≡ true → Rel h k f g → has_slot g.state.slots n ≡ has_slot f.state.slots n
+slots_h h k f g n is rel = sym (ap is_some (rel.state.slots n is))
 
-slots_g : (inside : Nexus → Bool) (f g : UnitView) (n : Nexus) → inside n ≡ true → RelG inside f g → has_slot g.kept.slots n ≡ has_slot f.kept.slots n
-slots_g inside f g n is rel = sym (ap is_some (rel.kept.slots n is))
+slots_g : (inside : Nexus → Bool) (f g : UnitView) (n : Nexus) → inside n ≡ true → RelG inside f g → has_slot g.state.slots n ≡ has_slot f.state.slots n
+slots_g inside f g n is rel = sym (ap is_some (rel.state.slots n is))
 
 pub spans_serve : (us vs : List UnitView) (es : List Event) (rs : List Reply) (lun : ℕ) (u : UnitView) → slice_get us lun ≡ Some u → HasSlots u
-    → ((h : Nexus) → Begins h u → RunsThrough (InSpan lun (λ v. Hold h v.kept.reservations) (IsFair h)) us es rs vs → Serves us (struck lun (is_the_holder h) es))
-    × ((inside : Nexus → Bool) → IsShared inside u.kept.reservations → list_all inside u.kept.preventers ≡ true → RunsThrough (InSpan lun (KeptG inside) (AnyG inside)) us es rs vs → Serves us (struck lun inside es))
+    → ((h : Nexus) → Begins h u → RunsThrough (InSpan lun (λ v. Hold h v.state.reservations) (IsFair h)) us es rs vs → Serves us (struck lun (is_the_holder h) es))
+    × ((inside : Nexus → Bool) → IsShared inside u.state.reservations → list_all inside u.state.preventers ≡ true → RunsThrough (InSpan lun (KeptG inside) (AnyG inside)) us es rs vs → Serves us (struck lun inside es))
 spans_serve us vs es rs lun u here slots = (
   λ h begins run.
       let k = kind_of u.device in

@@ -35,7 +35,7 @@ same_loss : (w x y : UnitView) (n : Nexus) (r q : Reply) → r.status ≢ Busy �
 same_loss w x y n r q free loose (inl e) d = absurd (not_busy r busy (ap (λ (z : UnitView × Reply). z.1) e.0) refl free)
 same_loss w x y n r q free loose (inr e) (inl d) = absurd (not_busy q busy (ap (λ (z : UnitView × Reply). z.1) d.0) refl loose)
 same_loss w x y n r q free loose (inr e) (inr d) =
-    let one = loss_one (has_slot w.kept.slots n) w x y n e.0 d.0 e.1 d.1 in
+    let one = loss_one (has_slot w.state.slots n) w x y n e.0 d.0 e.1 d.1 in
     (one.0, e.2 ∙ ap (λ k. event_reply (number_or_0 k)) one.1 ∙ sym d.2)
 
 same_reset : (w x y : UnitView) (r q : Reply) → r.status ≢ Busy → q.status ≢ Busy → IsReset w (x, r) → IsReset w (y, q) → (x ≡ y) × (r ≡ q)

@@ -24,22 +24,22 @@ use Rattle.protected_span.proofs.Spans.{KeptG, AnyG, through_is_run}
 
 -- a holder has a key
 keyed : (v : State) (o : Option (ResType × Nexus)) (h : Nexus) → o ≡ Some (type.Ea, h) → is_kept_by v.keys o ≡ true → (key v h == 0) ≡ false
-keyed v o h held kept = not-true (key v h == 0) (sym (ap (is_kept_by v.keys) held) ∙ kept)
+keyed v o h held state = not-true (key v h == 0) (sym (ap (is_kept_by v.keys) held) ∙ state)
 
-hold_of : (u : UnitView) (h : Nexus) → IsReached u → Holds h u → Hold h u.kept.reservations
-hold_of u h r held = record { holds = held; keyed = keyed u.kept.reservations u.kept.reservations.reservation h held (reached_holder u r) }
+hold_of : (u : UnitView) (h : Nexus) → IsReached u → Holds h u → Hold h u.state.reservations
+hold_of u h r held = record { holds = held; keyed = keyed u.state.reservations u.state.reservations.reservation h held (reached_holder u r) }
 
 -- and registrants only are held by one of them
 inside_of : (v : State) (inside : Nexus → Bool) (o : Option (ResType × Nexus)) → (res_type (record v { reservation = o }) ≡ type.Earo) ⊎ (res_type (record v { reservation = o }) ≡ type.Eaar) → ((n : Nexus) → is_registered v n ≡ inside n) → is_kept_by v.keys o ≡ true
     → IsHeldInside inside o
-inside_of v inside None (inl e) registered kept = absurd cc
-inside_of v inside None (inr e) registered kept = absurd cc
-inside_of v inside (Some r) (inl e) registered kept =
-    subst (λ (t : ResType). IsHeldAs inside t r.1) (sym e) (sym (registered r.1) ∙ sym (ap (λ (t : ResType). not (cond (is_all_registrants t) (length v.keys == 0) (key_in v.keys r.1 == 0))) e) ∙ kept)
-inside_of v inside (Some r) (inr e) registered kept = subst (λ (t : ResType). IsHeldAs inside t r.1) (sym e) tt
+inside_of v inside None (inl e) registered state = absurd cc
+inside_of v inside None (inr e) registered state = absurd cc
+inside_of v inside (Some r) (inl e) registered state =
+    subst (λ (t : ResType). IsHeldAs inside t r.1) (sym e) (sym (registered r.1) ∙ sym (ap (λ (t : ResType). not (cond (is_all_registrants t) (length v.keys == 0) (key_in v.keys r.1 == 0))) e) ∙ state)
+inside_of v inside (Some r) (inr e) registered state = subst (λ (t : ResType). IsHeldAs inside t r.1) (sym e) tt
 
-shared_of : (u : UnitView) (inside : Nexus → Bool) → IsReached u → IsSharedBy inside u.kept.reservations → IsShared inside u.kept.reservations
-shared_of u inside r s = record { held = inside_of u.kept.reservations inside u.kept.reservations.reservation s.held s.registered (reached_holder u r); registered = s.registered }
+shared_of : (u : UnitView) (inside : Nexus → Bool) → IsReached u → IsSharedBy inside u.state.reservations → IsShared inside u.state.reservations
+shared_of u inside r s = record { held = inside_of u.state.reservations inside u.state.reservations.reservation s.held s.registered (reached_holder u r); registered = s.registered }
 
 begins : (u : UnitView) (h : Nexus) → IsReached u → BeginsFor h u → Begins h u
 begins u h r b = record { table = reached_table u r; hold = hold_of u h r b.holds; alone = b.alone }
@@ -62,11 +62,11 @@ module _ (lun : ℕ) (Kept Held : UnitView → Type 0) (May : Nexus → (cdb byt
   through us vs [] (p ∷ ps) h run = absurd run
   through us vs (e ∷ es) [] h run = absurd run
 
-holder_through : (lun : ℕ) (h : Nexus) (us vs : List UnitView) (es : List Event) (rs : List Reply) → AreReached us → RunsThrough (HolderStep lun h) us es rs vs → RunsThrough (InSpan lun (λ v. Hold h v.kept.reservations) (IsFair h)) us es rs vs
-holder_through lun h us vs es rs reached run = through lun (Holds h) (λ v. Hold h v.kept.reservations) (IsFair h) (λ v r held. hold_of v h r held) us vs es rs reached run
+holder_through : (lun : ℕ) (h : Nexus) (us vs : List UnitView) (es : List Event) (rs : List Reply) → AreReached us → RunsThrough (HolderStep lun h) us es rs vs → RunsThrough (InSpan lun (λ v. Hold h v.state.reservations) (IsFair h)) us es rs vs
+holder_through lun h us vs es rs reached run = through lun (Holds h) (λ v. Hold h v.state.reservations) (IsFair h) (λ v r held. hold_of v h r held) us vs es rs reached run
 
 group_through : (lun : ℕ) (inside : Nexus → Bool) (us vs : List UnitView) (es : List Event) (rs : List Reply) → AreReached us → RunsThrough (GroupStep lun inside) us es rs vs → RunsThrough (InSpan lun (KeptG inside) (AnyG inside)) us es rs vs
-group_through lun inside us vs es rs reached run = through lun (λ v. IsSharedBy inside v.kept.reservations) (KeptG inside) (AnyG inside) (λ v r shared. shared_of v inside r shared) us vs es rs reached run
+group_through lun inside us vs es rs reached run = through lun (λ v. IsSharedBy inside v.state.reservations) (KeptG inside) (AnyG inside) (λ v r shared. shared_of v inside r shared) us vs es rs reached run
 
 -- THE LAWS
 pub holder_span : HolderSpan

@@ -19,5 +19,5 @@ pub record ChangesNothing (us ms : List UnitView) (at : ℕ) (u : UnitView) : Ty
 -- a command of a nexus that may not change it, at a target, where it may be a MOVE MEDIUM
 abbrev pub OutsiderChangesNothing : Type 0
 OutsiderChangesNothing =
-    (us ms : List UnitView) (at : ℕ) (u : UnitView) (n : Nexus) (cdb : ArrayVec ℕ) (bytes : Vec ℕ) (r : Reply) → slice_get us at ≡ Some u → MayNotChange u.kept.reservations n
+    (us ms : List UnitView) (at : ℕ) (u : UnitView) (n : Nexus) (cdb : ArrayVec ℕ) (bytes : Vec ℕ) (r : Reply) → slice_get us at ≡ Some u → MayNotChange u.state.reservations n
     → Steps us (Command n at cdb bytes) (ms, r) → ChangesNothing us ms at u

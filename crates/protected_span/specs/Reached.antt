@@ -18,9 +18,9 @@ use Rattle.target_core.specs.Run.{Runs, Drains}
 -- its slots ascend and are no more than there is room for
 pub record IsReached (u : UnitView) : Type 0 where
   pub commands : List (Nexus × OutParams)
-  pub reservations : u.kept.reservations ≡ commanded commands
-  pub sorted : T (is_sorted nexus_cmp u.kept.slots)
-  pub few : length u.kept.slots ≤ slot_limit
+  pub reservations : u.state.reservations ≡ commanded commands
+  pub sorted : T (is_sorted nexus_cmp u.state.slots)
+  pub few : length u.state.slots ≤ slot_limit
 
 abbrev pub AreReached : List UnitView → Type 0
 AreReached us = (lun : ℕ) (u : UnitView) → slice_get us lun ≡ Some u → IsReached u

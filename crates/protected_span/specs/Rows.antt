@@ -2,7 +2,7 @@
 use Rattle.std.specs.Prelude.{◌≡◌, ℕ, true, false, List, [], ◌∷◌, ◌++◌, map, filter, replicate, Some, None, zero, suc, ◌+◌}
 use Rattle.std.specs.Global.{Vec}
 use Rattle.arrayvec.specs.ArrayVec.{ArrayVec}
-use Rattle.permit_tables.specs.declared.service_action.OutServiceAction.TheVariants as out
+use Rattle.scsi_cdb.specs.declared.service_action.OutServiceAction.TheVariants as out
 use Rattle.scsi_nexus.specs.declared.nexus.Nexus.{Nexus}
 use Rattle.scsi_nexus.specs.Order.{same_nexus}
 use Rattle.scsi_sense.specs.declared.status.Status.{Status}
@@ -47,7 +47,7 @@ abbrev pub drive_at : VolumeTag → TapeView → DeviceView
 drive_at tag tape = Drive (record { bay = Some (record { tag = tag; protected = false; tape = tape }); loaded = true; block_length = 0 })
 
 abbrev pub unit_with : VolumeTag → State → List Nexus → UnitView
-unit_with tag v preventers = record { device = drive_at tag (blank 1000); kept = kept_with v preventers; base = record { kept = kept_with v preventers; last = 0 }; records = [] }
+unit_with tag v preventers = record { device = drive_at tag (blank 1000); state = kept_with v preventers; base = record { state = kept_with v preventers; last = 0 }; records = [] }
 
 -- WHAT IS SENT: a sender, a CDB, the data; the replies, and the unit in the end
 abbrev pub Sending : Type 0
@@ -105,7 +105,7 @@ pub record WorkedSpan (tag : VolumeTag) : Type 0 where
   -- in both runs A's block is on the tape, and B's isn't; A still holds, with its key; the generation tells that B registered
   pub device_beside : (last (unit_with tag held_by_a []) row).device ≡ drive_at tag written_by_a
   pub device_alone : (last (unit_with tag held_by_a []) (by_a row)).device ≡ drive_at tag written_by_a
-  pub beside : (last (unit_with tag held_by_a []) row).kept.reservations ≡ record { keys = (a, 1) ∷ (b, 2) ∷ []; reservation = Some (type.Ea, a); generation = 2 }
+  pub beside : (last (unit_with tag held_by_a []) row).state.reservations ≡ record { keys = (a, 1) ∷ (b, 2) ∷ []; reservation = Some (type.Ea, a); generation = 2 }
 
 -- WHICH EVENTS ARE STRUCK OUT: B's commands to the unit, and nothing else
 pub record StruckOut (cdb : ArrayVec ℕ) (bytes : Vec ℕ) : Type 0 where

@@ -2,8 +2,8 @@
 -- that unit can be struck out, and nobody inside sees a difference.
 use Rattle.std.specs.Prelude.{◌≡◌, ◌⊎◌, ℕ, Bool, true, false, not, List, [], ◌∷◌, slice_get, Some, Result, Ok}
 use Rattle.std.specs.List.{list_all}
-use Rattle.permit_tables.specs.declared.service_action.OutServiceAction.{OutServiceAction}
-use Rattle.permit_tables.specs.declared.service_action.OutServiceAction.TheVariants as out
+use Rattle.scsi_cdb.specs.declared.service_action.OutServiceAction.{OutServiceAction}
+use Rattle.scsi_cdb.specs.declared.service_action.OutServiceAction.TheVariants as out
 use Rattle.scsi_nexus.specs.declared.nexus.Nexus.{Nexus}
 use Rattle.scsi_nexus.specs.Order.{same_nexus}
 use Rattle.scsi_sense.specs.declared.condition.Condition.{Condition}
@@ -27,7 +27,7 @@ abbrev pub is_the_holder : (h : Nexus) → Nexus → Bool
 is_the_holder h n = same_nexus n h
 
 abbrev pub Holds : (h : Nexus) → UnitView → Type 0
-Holds h u = u.kept.reservations.reservation ≡ Some (type.Ea, h)
+Holds h u = u.state.reservations.reservation ≡ Some (type.Ea, h)
 
 -- the reservation acts of h that look at no other's key: it preempts nobody, moves nothing, and registers itself alone
 abbrev pub ConcernsItself : (h : Nexus) → OutServiceAction → (named : List Nexus) → Type 0
@@ -46,7 +46,7 @@ MaySend h c = Unit {0}
 -- a command to the unit: of h, one that it may send; of another, one that leaves h its key
 pub record IsFair (h : Nexus) (n : Nexus) (cdb bytes : List ℕ) (u v : UnitView) : Type 0 where
   pub own : same_nexus n h ≡ true → MaySend h (decoded_command (kind_of u.device) cdb bytes)
-  pub others : same_nexus n h ≡ false → key v.kept.reservations h ≡ key u.kept.reservations h
+  pub others : same_nexus n h ≡ false → key v.state.reservations h ≡ key u.state.reservations h
 
 -- a REGISTER list with neither SPEC_I_PT nor ALL_TG_PT names its sender alone (SPC-4, "REGISTER service action")
 abbrev pub RegistersItself : Type 0
@@ -57,7 +57,7 @@ RegistersItself =
 -- at the start h holds, and no other prevents removal
 pub record BeginsFor (h : Nexus) (u : UnitView) : Type 0 where
   pub holds : Holds h u
-  pub alone : list_all (is_the_holder h) u.kept.preventers ≡ true
+  pub alone : list_all (is_the_holder h) u.state.preventers ≡ true
 
 -- h goes on holding, and each command to the unit is fair
 abbrev pub HolderStep : (lun : ℕ) (h : Nexus) → List UnitView → Event → Reply → List UnitView → Type 0
@@ -89,12 +89,12 @@ pub record IsSharedBy (inside : Nexus → Bool) (v : State) : Type 0 where
   pub registered : (n : Nexus) → is_registered v n ≡ inside n
 
 pub record BeginsForGroup (inside : Nexus → Bool) (u : UnitView) : Type 0 where
-  pub shared : IsSharedBy inside u.kept.reservations
-  pub alone : list_all inside u.kept.preventers ≡ true
+  pub shared : IsSharedBy inside u.state.reservations
+  pub alone : list_all inside u.state.preventers ≡ true
 
 -- the registered nexuses stay those, and any command may come
 abbrev pub GroupStep : (lun : ℕ) (inside : Nexus → Bool) → List UnitView → Event → Reply → List UnitView → Type 0
-GroupStep lun inside us e r ms = InSpan lun (λ v. IsSharedBy inside v.kept.reservations) (λ n cdb bytes u v. Unit {0}) us e r ms
+GroupStep lun inside us e r ms = InSpan lun (λ v. IsSharedBy inside v.state.reservations) (λ n cdb bytes u v. Unit {0}) us e r ms
 
 -- a span of a group, as one of a holder
 pub record IsGroupSpan (lun : ℕ) (inside : Nexus → Bool) (us : List UnitView) (u : UnitView) (es : List Event) (rs : List Reply) (vs : List UnitView) : Type 0 where

@@ -174,5 +174,5 @@ pub record EndingAlike (tag : VolumeTag) : Type 0 where
   pub another_registration : EndsAs tag (changer ∷ shared_drive tag ∷ [])
   pub another_device : EndsAs tag (changer ∷ record (drive tag) { device = unloaded tag } ∷ []) → ⊥
   pub another_changer : EndsAs tag (record changer { device = Changer (empty_elements 1 9 0) } ∷ drive tag ∷ []) → ⊥
-  pub told_changer : EndsAs tag (record changer { kept = record changer.kept { slots = (b, []) ∷ [] } } ∷ drive tag ∷ []) → ⊥
+  pub told_changer : EndsAs tag (record changer { state = record changer.state { slots = (b, []) ∷ [] } } ∷ drive tag ∷ []) → ⊥
   pub one_more : EndsAs tag (changer ∷ drive tag ∷ changer ∷ []) → ⊥

@@ -1,10 +1,22 @@
 -- The class of each request: the row of the permission table that it is judged by.
 use Rattle.std.specs.Prelude.{◌==◌, Bool, false, if◌then◌else◌}
-use Rattle.permit_tables.specs.declared.classes.Class.{Class}
-use Rattle.permit_tables.specs.declared.classes.Class.TheVariants as class
-use Rattle.permit_tables.specs.Classes.{class_of_action}
+use Rattle.scsi_cdb.specs.declared.classes.Class.{Class}
+use Rattle.scsi_cdb.specs.declared.classes.Class.TheVariants as class
+use Rattle.scsi_cdb.specs.declared.service_action.OutServiceAction.{OutServiceAction}
+use Rattle.scsi_cdb.specs.declared.service_action.OutServiceAction.TheVariants as out
 use Rattle.scsi_cdb.specs.declared.request.Request.{Request}
 use Rattle.scsi_cdb.specs.declared.request.Request.TheVariants as request
+
+-- each service action of PERSISTENT RESERVE OUT is a class of its own
+abbrev pub class_of_action : OutServiceAction → Class
+class_of_action out.Register = class.Register
+class_of_action out.Reserve = class.Reserve
+class_of_action out.Release = class.Release
+class_of_action out.Clear = class.Clear
+class_of_action out.Preempt = class.Preempt
+class_of_action out.PreemptAndAbort = class.PreemptAndAbort
+class_of_action out.RegisterAndIgnoreExistingKey = class.RegisterAndIgnoreExistingKey
+class_of_action out.RegisterAndMove = class.RegisterAndMove
 
 -- each other command is one, but PREVENT ALLOW MEDIUM REMOVAL is two, by PREVENT, and READ ELEMENT STATUS
 -- two, by CURDATA

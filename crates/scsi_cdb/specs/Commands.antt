@@ -4,8 +4,8 @@ use Rattle.std.specs.Prelude.{ℕ, ◌-◌, ◌==◌, nat_lt, Bool, true, false,
 use Rattle.scsi_cdb.specs.Bits.{bit, bits, byte, two_bytes, three_bytes, four_bytes, signed_three_bytes}
 use Rattle.scsi_cdb.specs.declared.action.InServiceAction.{InServiceAction}
 use Rattle.scsi_cdb.specs.declared.action.InServiceAction.TheVariants as in_act
-use Rattle.permit_tables.specs.ServiceActions.{out_service_action}
-use Rattle.permit_tables.specs.declared.service_action.OutServiceAction.{OutServiceAction}
+use Rattle.scsi_cdb.specs.ServiceActions.{out_service_action}
+use Rattle.scsi_cdb.specs.declared.service_action.OutServiceAction.{OutServiceAction}
 use Rattle.scsi_cdb.specs.declared.fault.CdbFault.{CdbFault}
 use Rattle.scsi_cdb.specs.declared.fault.CdbFault.TheVariants.{Opcode, ShortCdb, ServiceAction, Naca}
 use Rattle.scsi_cdb.specs.declared.kind.Kind.{Kind}
@@ -118,6 +118,6 @@ abbrev pub read_as : Option Row → List ℕ → Result Request CdbFault
 read_as None cdb = Err Opcode
 read_as (Some r) cdb = if nat_lt (length cdb) r.length then Err ShortCdb else checked (naca r cdb) (r.fields cdb)
 
--- the request that a CDB spells for a kind of unit, or the first fault in order
+-- the request that a CDB decodes to for a kind of unit, or the first fault in order
 abbrev pub decoded : Kind → List ℕ → Result Request CdbFault
 decoded kind cdb = if length cdb == 0 then Err ShortCdb else read_as (row_of kind (byte cdb 0)) cdb

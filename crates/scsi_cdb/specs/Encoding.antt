@@ -3,7 +3,7 @@ use Rattle.std.specs.Prelude.{◌≡◌, ℕ, ◌+◌, ◌-◌, ◌*◌, ◌/◌
 use Rattle.scsi_cdb.specs.Commands.{row_of, decoded}
 use Rattle.scsi_cdb.specs.declared.action.InServiceAction.{InServiceAction}
 use Rattle.scsi_cdb.specs.declared.action.InServiceAction.TheVariants as in_act
-use Rattle.permit_tables.specs.ServiceActions.{out_code}
+use Rattle.scsi_cdb.specs.ServiceActions.{out_code}
 use Rattle.scsi_cdb.specs.declared.kind.Kind.{Kind}
 use Rattle.scsi_cdb.specs.declared.request.Request.{Request}
 use Rattle.scsi_cdb.specs.declared.request.Request.TheVariants.{TestUnitReady, Rewind, RequestSense, ReadBlockLimits, InitializeElementStatus, Read, Write, WriteFilemarks, Space, Inquiry, ModeSelect, Erase, ModeSense, LoadUnload, PreventAllowMediumRemoval, Locate, ReadPosition, PersistentReserveIn, PersistentReserveOut, ReportLuns, MoveMedium, ReadElementStatus}

@@ -3,7 +3,7 @@ ghost use Rattle.scsi_cdb.specs.Classes.{class_of, is_immediate};
 ghost use Rattle.scsi_cdb.specs.declared.request.Request.TheVariants.{PreventAllowMediumRemoval};
 
 use crate::request::Request;
-use permit_tables::Class;
+use crate::classes::Class;
 
 /// The class of a request: the row of the permission table that it is judged by.
 pub fn class(request: &Request) -> Class

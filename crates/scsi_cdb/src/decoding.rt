@@ -13,11 +13,11 @@ use crate::primary::{
     request_sense_at, reserve_in_at, reserve_out_at,
 };
 use crate::request::Request;
-use crate::stream::{
+use crate::tape::{
     load_unload_at, locate_at, read_at, read_position_at, space_at, write_at, write_filemarks_at,
 };
 
-/// The request that the bytes spell for a unit of the kind. Bytes past the command's length and
+/// The request that the bytes decode to for a unit of the kind. Bytes past the command's length and
 /// bits that are no field are ignored. An empty CDB is `ShortCdb`; else the first of these that
 /// holds is the fault: no such opcode, too few bytes for it, no such service action, NACA.
 pub fn decode(kind: Kind, cdb: &[u8]) -> Result<Request, CdbFault>

@@ -3,7 +3,7 @@ ghost use Rattle.scsi_cdb.specs.Commands.{decoded};
 ghost use Rattle.scsi_cdb.specs.Encoding.{ReadsBack, encoded, padded};
 ghost use Rattle.scsi_cdb.specs.Kinds.{kind_at};
 ghost use Rattle.scsi_cdb.specs.declared.action.InServiceAction.TheVariants.{ReadKeys, ReadFullStatus};
-ghost use Rattle.permit_tables.specs.declared.service_action.OutServiceAction.TheVariants.{RegisterAndMove};
+ghost use Rattle.scsi_cdb.specs.declared.service_action.OutServiceAction.TheVariants.{RegisterAndMove};
 ghost use Rattle.scsi_cdb.specs.declared.fault.CdbFault.TheVariants.{Opcode, ShortCdb, ServiceAction, Naca};
 ghost use Rattle.scsi_cdb.specs.declared.kind.Kind.TheVariants.{Drive, Changer};
 ghost use Rattle.scsi_cdb.specs.declared.request.Request.TheVariants.{TestUnitReady, Rewind, RequestSense, ReadBlockLimits, InitializeElementStatus, Read, Write, WriteFilemarks, Space, Inquiry, ModeSelect, Erase, ModeSense, LoadUnload, PreventAllowMediumRemoval, Locate, ReadPosition, PersistentReserveIn, PersistentReserveOut, ReportLuns, MoveMedium, ReadElementStatus};

@@ -3,6 +3,7 @@
 
 mod action;
 mod changer;
+mod classes;
 mod classify;
 mod decoding;
 mod encoding;
@@ -13,9 +14,11 @@ mod laws;
 mod layout;
 mod primary;
 mod request;
-mod stream;
+mod service_action;
+mod tape;
 
 pub use action::InServiceAction;
+pub use classes::Class;
 pub use classify::{class, class_of_prevent, is_immediate};
 pub use decoding::decode;
 pub use encoding::encode;
@@ -26,6 +29,6 @@ pub use laws::{
     worked_rows_of_kinds,
 };
 pub use layout::{CDB_LENGTH, INQUIRY, REQUEST_SENSE};
-pub use permit_tables::{Class, OutServiceAction};
 pub use primary::{inquiry_at, request_sense_at};
 pub use request::Request;
+pub use service_action::OutServiceAction;

@@ -1,7 +1,7 @@
 //! What the CDBs of the primary commands say (SPC-4).
 ghost use Rattle.std.specs.Prelude.{◌≡◌, ◌≤◌, length, IfSome};
 ghost use Rattle.scsi_cdb.specs.Bits.{bit, bits, byte, two_bytes, four_bytes};
-ghost use Rattle.permit_tables.specs.ServiceActions.{out_service_action};
+ghost use Rattle.scsi_cdb.specs.ServiceActions.{out_service_action};
 ghost use Rattle.scsi_cdb.specs.Commands.{in_service_action, reserve_in, reserve_out};
 ghost use Rattle.scsi_cdb.specs.Encoding.{Fits};
 ghost use Rattle.scsi_cdb.specs.declared.request.Request.TheVariants.{RequestSense, Inquiry, ModeSelect, ModeSense, PreventAllowMediumRemoval, ReportLuns};
@@ -10,7 +10,7 @@ use crate::action::InServiceAction;
 use crate::fields::{bit_at, byte_at, service_action_at, u16_at, u32_at};
 use crate::layout::*;
 use crate::request::Request;
-use permit_tables::OutServiceAction;
+use crate::service_action::OutServiceAction;
 
 /// The fields of a REQUEST SENSE (SPC-4, "REQUEST SENSE command").
 pub fn request_sense_at(cdb: &[u8]) -> Request

@@ -1,5 +1,5 @@
 use crate::action::InServiceAction;
-use permit_tables::OutServiceAction;
+use crate::service_action::OutServiceAction;
 
 /// A command with its fields, each as the CDB has it. A field of bits is in the low bits of its
 /// number.

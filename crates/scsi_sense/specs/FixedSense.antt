@@ -22,7 +22,7 @@ sense_of bytes = record {
 abbrev pub response_code : List ℕ → ℕ
 response_code bytes = slice_index bytes 0 % 128
 
--- the sense that bytes spell, or the first fault: too few of them, another response code
+-- the sense that bytes decode to, or the first fault: too few of them, another response code
 abbrev pub decoded_sense : List ℕ → Result Sense SenseFault
 decoded_sense bytes =
     if nat_lt (length bytes) 18 then Err Short

@@ -137,7 +137,7 @@ impl Sense {
         bytes
     }
 
-    /// The sense that the bytes spell, with or without VALID. What follows the 18 bytes, and each
+    /// The sense that the bytes decode to, with or without VALID. What follows the 18 bytes, and each
     /// bit that is no field, is ignored.
     pub fn from_bytes(bytes: &[u8]) -> Result<Sense, SenseFault>
         ensures { result ≡ decoded_sense bytes.now }

@@ -1,6 +1,6 @@
 -- What replies wait for that say that something is kept.
 use Rattle.std.specs.Prelude.{◌≡◌, Bool, true, false, Option, Some, None, is_some}
-use Rattle.permit_tables.specs.declared.classes.Class.{Class}
+use Rattle.scsi_cdb.specs.declared.classes.Class.{Class}
 use Rattle.scsi_sense.specs.declared.status.Status.TheVariants.{Good}
 use Rattle.logical_unit.specs.Answers.{DoneValue}
 use Rattle.logical_unit.specs.AtOnce.{asks_at_once}

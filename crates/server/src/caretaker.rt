@@ -7,7 +7,7 @@ use tickets::{Outcome, Ticket};
 /// Who looks after the tapes of the library whose sessions are served, whichever library and keeper of tapes that is.
 pub trait Caretaker {
     ghost use Rattle.std.specs.Prelude.{◌≡◌, Bool, true, false, is_some};
-    ghost use Rattle.permit_tables.specs.declared.classes.Class.{Class};
+    ghost use Rattle.scsi_cdb.specs.declared.classes.Class.{Class};
 
     /// Whether the reply to a command of a class says that something is kept.
     ghost says_kept: { Class → Bool };

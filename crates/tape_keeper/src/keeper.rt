@@ -1,7 +1,7 @@
 use crate::event::KeepEvent;
 use crate::source::TapeSource;
 use device_server::DeviceServer;
-use permit_tables::Class;
+use scsi_cdb::Class;
 use std::alloc::Global;
 use std::sync::Wait;
 use std::time::Clock;
@@ -44,7 +44,7 @@ pub enum KeepPlace {
 /// send such a reply holds it until its ticket is settled, while no unit's lock is held, so that no answer of a unit depends on the copies.
 pub trait TapeKeeper<D: DeviceServer> {
     ghost use Rattle.std.specs.Prelude.{◌≡◌, Bool, true, false, is_some};
-    ghost use Rattle.permit_tables.specs.declared.classes.Class.{Class};
+    ghost use Rattle.scsi_cdb.specs.declared.classes.Class.{Class};
 
     /// Whether the reply to a command of a class says that something is kept.
     ghost says_kept: { Class → Bool };

@@ -15,5 +15,5 @@ pub trait TapeSource<D: DeviceServer> {
 
     /// Lets an attendant look after the volumes of a unit's device while nobody else is at it. May wait for who is.
     fn attend<R: Wait, A: Attendant<D>>(&self, rt: &R, lun: u8, attendant: &mut A)
-        ensures { (kind : Kind) → has_unit self.now lun kind → WasAsked A.looks_after kind attendant.old attendant.new };
+        ensures { (kind : Kind) → has_unit self.now lun kind → WasAsked A.looks_after lun kind attendant.old attendant.new };
 }

@@ -44,7 +44,7 @@ pub record Grows (u : UnitView) (ms : List UnitView) (lun : ℕ) (added : List A
   pub unit : UnitView
   pub place : slice_get ms lun ≡ Some unit
   pub kind : kind_of unit.device ≡ kind_of u.device
-  pub history : unit.kept.reservations ≡ after_history u.kept.reservations added
+  pub history : unit.state.reservations ≡ after_history u.state.reservations added
 
 -- what a command to the unit at `at` adds to the history of the unit at `lun`
 abbrev pub added_at : ℕ → ℕ → List Accepted → List Accepted
@@ -74,7 +74,7 @@ unit_grows us ms lun at u w n cdb bytes r here there a =
             place = ap (λ (xs : List UnitView). slice_get xs lun) a.units ∙ ap (λ k. slice_get (slice_set us k a.unit) lun) same ∙ get-set_same us lun a.unit u here;
             kind = (executes_stays w a.unit n cdb bytes r a.step).device.kind ∙ ap (λ (x : UnitView). kind_of x.device) (sym is);
             history =
-                executes_keeps w a.unit n cdb bytes r a.step ∙ ap (λ (x : UnitView). after_history x.kept.reservations (accepted_by (kind_of x.device) n cdb bytes r.status)) (sym is);
+                executes_keeps w a.unit n cdb bytes r a.step ∙ ap (λ (x : UnitView). after_history x.state.reservations (accepted_by (kind_of x.device) n cdb bytes r.status)) (sym is);
           }
       | false ↦ λ e.
           let apart : at ≢ lun = λ same. let yes : (at == lun) ≡ true = eq-eqb at lun same in cc in
@@ -82,8 +82,8 @@ unit_grows us ms lun at u w n cdb bytes r here there a =
     ] refl
 
 -- a change of one unit that leaves its registrations leaves those of every unit
-changed_grows : (us ms : List UnitView) (lun at : ℕ) (u w x : UnitView) → slice_get us lun ≡ Some u → slice_get us at ≡ Some w → ms ≡ slice_set us at x → kind_of x.device ≡ kind_of w.device → x.kept.reservations ≡ w.kept.reservations → Grows u ms lun []
-changed_grows us ms lun at u w x here there is kind kept =
+changed_grows : (us ms : List UnitView) (lun at : ℕ) (u w x : UnitView) → slice_get us lun ≡ Some u → slice_get us at ≡ Some w → ms ≡ slice_set us at x → kind_of x.device ≡ kind_of w.device → x.state.reservations ≡ w.state.reservations → Grows u ms lun []
+changed_grows us ms lun at u w x here there is kind state =
     elim (at == lun) as (λ b. (at == lun) ≡ b → Grows u ms lun []) [
       | true ↦ λ e.
           let same : at ≡ lun = exact_unsigned_eq at lun e in
@@ -92,7 +92,7 @@ changed_grows us ms lun at u w x here there is kind kept =
             unit = x;
             place = ap (λ (xs : List UnitView). slice_get xs lun) is ∙ ap (λ k. slice_get (slice_set us k x) lun) same ∙ get-set_same us lun x u here;
             kind = kind ∙ ap (λ (y : UnitView). kind_of y.device) (sym one);
-            history = kept ∙ ap (λ (y : UnitView). y.kept.reservations) (sym one);
+            history = state ∙ ap (λ (y : UnitView). y.state.reservations) (sym one);
           }
       | false ↦ λ e.
           let apart : at ≢ lun = λ same. let yes : (at == lun) ≡ true = eq-eqb at lun same in cc in
@@ -110,7 +110,7 @@ beside_grows us xs lun at u d e added there same g =
             unit = e;
             place = ap (λ k. slice_get (slice_set xs k e) lun) place ∙ get-set_same xs lun e g.unit g.place;
             kind = same.device.kind ∙ ap (λ (x : UnitView). kind_of x.device) (sym one) ∙ g.kind;
-            history = same.reservations ∙ ap (λ (x : UnitView). x.kept.reservations) (sym one) ∙ g.history;
+            history = same.reservations ∙ ap (λ (x : UnitView). x.state.reservations) (sym one) ∙ g.history;
           }
       | false ↦ λ t.
           let apart : at ≢ lun = λ p. let yes : (at == lun) ≡ true = eq-eqb at lun p in cc in
@@ -172,17 +172,17 @@ commands_grow us ms lun zero u n cdb bytes r (Some c) there here step = naming_g
 commands_grow us ms lun (suc k) u n cdb bytes r (Some w) there here step = unit_grows us ms lun (suc k) u w n cdb bytes r here there step
 
 -- a loss and a reset leave a unit's registrations
-loses_keeps : (u v : UnitView) (n : Nexus) (number : Option ℕ) (known : Bool) → LosesAs known u n (v, number) → v.kept.reservations ≡ u.kept.reservations
-loses_keeps u v n number false is = ap (λ (x : UnitView × Option ℕ). x.0.kept.reservations) is
-loses_keeps u v n number true is = ap (λ (x : UnitView × Option ℕ). x.0.kept.reservations) is.1
+loses_keeps : (u v : UnitView) (n : Nexus) (number : Option ℕ) (known : Bool) → LosesAs known u n (v, number) → v.state.reservations ≡ u.state.reservations
+loses_keeps u v n number false is = ap (λ (x : UnitView × Option ℕ). x.0.state.reservations) is
+loses_keeps u v n number true is = ap (λ (x : UnitView × Option ℕ). x.0.state.reservations) is.1
 
-loss_keeps : (u v : UnitView) (n : Nexus) (r : Reply) → IsLost u n (v, r) → v.kept.reservations ≡ u.kept.reservations
-loss_keeps u v n r (inl busy) = ap (λ (x : UnitView × Reply). x.0.kept.reservations) busy.0
-loss_keeps u v n r (inr lost) = loses_keeps u v n lost.0 (has_slot u.kept.slots n) lost.1
+loss_keeps : (u v : UnitView) (n : Nexus) (r : Reply) → IsLost u n (v, r) → v.state.reservations ≡ u.state.reservations
+loss_keeps u v n r (inl busy) = ap (λ (x : UnitView × Reply). x.0.state.reservations) busy.0
+loss_keeps u v n r (inr lost) = loses_keeps u v n lost.0 (has_slot u.state.slots n) lost.1
 
-reset_keeps : (u v : UnitView) (r : Reply) → IsReset u (v, r) → v.kept.reservations ≡ u.kept.reservations
-reset_keeps u v r (inl busy) = ap (λ (x : UnitView × Reply). x.0.kept.reservations) busy
-reset_keeps u v r (inr was) = ap (λ (x : UnitView × ℕ). x.0.kept.reservations) was.1.1
+reset_keeps : (u v : UnitView) (r : Reply) → IsReset u (v, r) → v.state.reservations ≡ u.state.reservations
+reset_keeps u v r (inl busy) = ap (λ (x : UnitView × Reply). x.0.state.reservations) busy
+reset_keeps u v r (inr was) = ap (λ (x : UnitView × ℕ). x.0.state.reservations) was.1.1
 
 -- and its kind
 lost_kind : (u v : UnitView) (n : Nexus) (number : Option ℕ) (known : Bool) → LosesAs known u n (v, number) → kind_of v.device ≡ kind_of u.device
@@ -191,7 +191,7 @@ lost_kind u v n number true is = ap (λ (x : UnitView × Option ℕ). kind_of x.
 
 pub loss_kind : (u v : UnitView) (n : Nexus) (r : Reply) → IsLost u n (v, r) → kind_of v.device ≡ kind_of u.device
 loss_kind u v n r (inl busy) = ap (λ (x : UnitView × Reply). kind_of x.0.device) busy.0
-loss_kind u v n r (inr lost) = lost_kind u v n lost.0 (has_slot u.kept.slots n) lost.1
+loss_kind u v n r (inr lost) = lost_kind u v n lost.0 (has_slot u.state.slots n) lost.1
 
 pub reset_kind : (u v : UnitView) (r : Reply) → IsReset u (v, r) → kind_of v.device ≡ kind_of u.device
 reset_kind u v r (inl busy) = ap (λ (x : UnitView × Reply). kind_of x.0.device) busy
@@ -207,7 +207,7 @@ same_marks a b is = subst (λ (x : DeviceView). KeepsMarks a x) (sym is) (record
 
 pub loss_marks : (u v : UnitView) (n : Nexus) (r : Reply) → IsLost u n (v, r) → KeepsMarks u.device v.device
 loss_marks u v n r (inl busy) = same_marks u.device v.device (ap (λ (x : UnitView × Reply). x.0.device) busy.0)
-loss_marks u v n r (inr lost) = same_marks u.device v.device (lost_marks u v n lost.0 (has_slot u.kept.slots n) lost.1)
+loss_marks u v n r (inr lost) = same_marks u.device v.device (lost_marks u v n lost.0 (has_slot u.state.slots n) lost.1)
 
 pub reset_marks : (u v : UnitView) (r : Reply) → IsReset u (v, r) → KeepsMarks u.device v.device
 reset_marks u v r (inl busy) = same_marks u.device v.device (ap (λ (x : UnitView × Reply). x.0.device) busy)
@@ -227,14 +227,14 @@ step_grows us ms (event.Loss n at) r lun u step here = loss_grows us ms r lun at
 step_grows us ms (event.Reset at) r lun u step here = reset_grows us ms r lun at u (slice_get us at) refl here step
 
 pub history_of_run : (us vs : List UnitView) (es : List Event) (rs : List Reply) (lun : ℕ) (u v : UnitView) → Runs us es rs vs → slice_get us lun ≡ Some u → slice_get vs lun ≡ Some v
-    → v.kept.reservations ≡ after_history u.kept.reservations (accepted_in (kind_of u.device) lun es rs)
-history_of_run us vs [] [] lun u v run before after = ap (λ (x : UnitView). x.kept.reservations) (same_some v u (sym after ∙ ap (λ (xs : List UnitView). slice_get xs lun) run ∙ before))
+    → v.state.reservations ≡ after_history u.state.reservations (accepted_in (kind_of u.device) lun es rs)
+history_of_run us vs [] [] lun u v run before after = ap (λ (x : UnitView). x.state.reservations) (same_some v u (sym after ∙ ap (λ (xs : List UnitView). slice_get xs lun) run ∙ before))
 history_of_run us vs (e ∷ es) (r ∷ rs) lun u v run before after =
     let grown = step_grows us run.0 e r lun u run.1 before in
     let m = grown.unit in
     history_of_run run.0 vs es rs lun m v run.2 grown.place after
-    ∙ ap (λ (k : Kind). after_history m.kept.reservations (accepted_in k lun es rs)) grown.kind
+    ∙ ap (λ (k : Kind). after_history m.state.reservations (accepted_in k lun es rs)) grown.kind
     ∙ ap (λ (w : State). after_history w (accepted_in (kind_of u.device) lun es rs)) grown.history
-    ∙ sym (fold-append _ u.kept.reservations (accepted_at (kind_of u.device) lun e r) (accepted_in (kind_of u.device) lun es rs))
+    ∙ sym (fold-append _ u.state.reservations (accepted_at (kind_of u.device) lun e r) (accepted_in (kind_of u.device) lun es rs))
 history_of_run us vs [] (r ∷ rs) lun u v run before after = absurd run
 history_of_run us vs (e ∷ es) [] lun u v run before after = absurd run

@@ -37,7 +37,7 @@ use Rattle.target_core.proofs.SamePlace.{place_of, executes_place, loss_place, r
 
 -- what the order of units looks at: the kind of each, its number, and how many units it was made with
 abbrev look_of : UnitView → Kind × (ℕ × ℕ)
-look_of u = (kind_of u.device, place_of u.kept)
+look_of u = (kind_of u.device, place_of u.state)
 
 -- a unit that looks as the one whose place it takes leaves the order of the drives
 set_drives : (us : List UnitView) (i : ℕ) (w x : UnitView) (from count : ℕ) → slice_get us i ≡ Some w → look_of x ≡ look_of w → are_drives (slice_set us i x) from count ≡ are_drives us from count
@@ -45,7 +45,7 @@ set_drives [] i w x from count here same = refl
 set_drives (z ∷ us) zero w x from count here same =
     ap (λ (l : Kind × (ℕ × ℕ)). is_drive l.0 && (l.1.0 == from && (l.1.1 == count && are_drives us (from + 1) count))) (same ∙ ap look_of (sym (same_some z w here)))
 set_drives (z ∷ us) (suc i) w x from count here same =
-    ap (λ b. is_drive (kind_of z.device) && (z.kept.lun == from && (z.kept.units == count && b))) (set_drives us i w x (from + 1) count here same)
+    ap (λ b. is_drive (kind_of z.device) && (z.state.lun == from && (z.state.units == count && b))) (set_drives us i w x (from + 1) count here same)
 
 -- two units that are set, in either order
 pub set_swap : (xs : List UnitView) (i j : ℕ) (x y : UnitView) → i ≢ j → slice_set (slice_set xs i x) j y ≡ slice_set (slice_set xs j y) i x
@@ -104,8 +104,8 @@ no_fault c ds o =
     let one : nat_le 1 (length ds) ≡ true = let h = o.some in grind (arith, nat_tests) in
     let four : nat_le (length ds) 4 ≡ true = let h = o.few in grind (arith, nat_tests) in
     fault_none (nat_le 1 (length ds) && nat_le (length ds) 4) _ (agree (marks c.device) ds) (ap (λ b. b && nat_le (length ds) 4) one ∙ four)
-    (ap (λ k. is_changer k && (c.kept.lun == 0 && (c.kept.units == length ds + 1 && are_drives ds 1 (length ds + 1)))) o.kind
-    ∙ ap (λ b. b && (c.kept.units == length ds + 1 && are_drives ds 1 (length ds + 1))) o.lun ∙ ap (λ b. b && are_drives ds 1 (length ds + 1)) o.units ∙ o.places)
+    (ap (λ k. is_changer k && (c.state.lun == 0 && (c.state.units == length ds + 1 && are_drives ds 1 (length ds + 1)))) o.kind
+    ∙ ap (λ b. b && (c.state.units == length ds + 1 && are_drives ds 1 (length ds + 1))) o.lun ∙ ap (λ b. b && are_drives ds 1 (length ds + 1)) o.units ∙ o.places)
     o.marked
 
 -- other units that look the same, with marks that are true
@@ -115,7 +115,7 @@ ordered_set c v ds es o look l places marked = record {
   few = let h = o.few in subst (λ n. n ≤ 4) (sym l) h;
   kind = ap (λ (x : Kind × (ℕ × ℕ)). x.0) look ∙ o.kind;
   lun = ap (λ (x : Kind × (ℕ × ℕ)). x.1.0 == 0) look ∙ o.lun;
-  units = ap (λ n. v.kept.units == n + 1) l ∙ ap (λ (x : Kind × (ℕ × ℕ)). x.1.1 == length ds + 1) look ∙ o.units;
+  units = ap (λ n. v.state.units == n + 1) l ∙ ap (λ (x : Kind × (ℕ × ℕ)). x.1.1 == length ds + 1) look ∙ o.units;
   places = ap (λ n. are_drives es 1 (n + 1)) l ∙ places;
   marked = marked;
 }
@@ -130,26 +130,26 @@ drives_set c v ds i j d e f g o apart first second look one two marked =
     (set_drives (slice_set ds i e) j f g 1 (length ds + 1) (get-set_other ds i j e apart ∙ second) two ∙ set_drives ds i d e 1 (length ds + 1) first one ∙ o.places) marked
 
 same_look : (u v : UnitView) → IsSameUnit u v → look_of v ≡ look_of u
-same_look u v s = ap (λ k. (k, place_of v.kept)) s.device.kind ∙ ap (λ l. (kind_of u.device, (l, v.kept.units))) s.lun ∙ ap (λ n. (kind_of u.device, (u.kept.lun, n))) s.units
+same_look u v s = ap (λ k. (k, place_of v.state)) s.device.kind ∙ ap (λ l. (kind_of u.device, (l, v.state.units))) s.lun ∙ ap (λ n. (kind_of u.device, (u.state.lun, n))) s.units
 
 -- ONE UNIT CHANGES, and its marks stay
 unit_changed : (us : List UnitView) (at : ℕ) (w x : UnitView) → slice_get us at ≡ Some w → look_of x ≡ look_of w → KeepsMarks w.device x.device → fault_of us ≡ None → fault_of (slice_set us at x) ≡ None
-unit_changed [] at w x there look kept h = absurd cc
-unit_changed (c ∷ ds) zero w x there look kept h =
+unit_changed [] at w x there look state h = absurd cc
+unit_changed (c ∷ ds) zero w x there look state h =
     let o = ordered c ds h in
     let is : c ≡ w = same_some c w there in
-    no_fault x ds (ordered_set c x ds ds o (look ∙ ap look_of (sym is)) refl o.places (ap (λ ms. agree ms ds) (kept.marks ∙ ap (λ (u : UnitView). marks u.device) (sym is)) ∙ o.marked))
-unit_changed (c ∷ ds) (suc k) w x there look kept h =
+    no_fault x ds (ordered_set c x ds ds o (look ∙ ap look_of (sym is)) refl o.places (ap (λ ms. agree ms ds) (state.marks ∙ ap (λ (u : UnitView). marks u.device) (sym is)) ∙ o.marked))
+unit_changed (c ∷ ds) (suc k) w x there look state h =
     let o = ordered c ds h in
-    no_fault c (slice_set ds k x) (drive_set c c ds k w x o there refl look (agree_drive (marks c.device) ds k w x there (bay_kept w.device x.device kept) ∙ o.marked))
+    no_fault c (slice_set ds k x) (drive_set c c ds k w x o there refl look (agree_drive (marks c.device) ds k w x there (bay_kept w.device x.device state) ∙ o.marked))
 
 changed : (us ms : List UnitView) (at : ℕ) (w x : UnitView) → slice_get us at ≡ Some w → ms ≡ slice_set us at x → look_of x ≡ look_of w → KeepsMarks w.device x.device → fault_of us ≡ None → fault_of ms ≡ None
-changed us ms at w x there is look kept h = ap fault_of is ∙ unit_changed us at w x there look kept h
+changed us ms at w x there is look state h = ap fault_of is ∙ unit_changed us at w x there look state h
 
 alone_order : (us ms : List UnitView) (at : ℕ) (w : UnitView) (n : Nexus) (cdb bytes : List ℕ) (r : Reply) → slice_get us at ≡ Some w → AtUnit us at (Executes w n cdb bytes) (ms, r) → fault_of us ≡ None → fault_of ms ≡ None
 alone_order us ms at w n cdb bytes r there a h =
     let stays = executes_stays w a.unit n cdb bytes r a.step in
-    changed us ms at w a.unit there a.units (ap (λ k. (k, place_of a.unit.kept)) stays.device.kind ∙ ap (λ p. (kind_of w.device, p)) (executes_place w a.unit n cdb bytes r a.step)) (executes_marks w a.unit n cdb bytes r a.step) h
+    changed us ms at w a.unit there a.units (ap (λ k. (k, place_of a.unit.state)) stays.device.kind ∙ ap (λ p. (kind_of w.device, p)) (executes_place w a.unit n cdb bytes r a.step)) (executes_marks w a.unit n cdb bytes r a.step) h
 
 -- A MOVE sets the marks that it makes true
 noted_mark : (device : DeviceView) (k : ℕ) (tag : Option VolumeTag) (o : Result DeviceView BadPlace) → marked device (suc k + 0xFF) tag ≡ o → IsOk o → marks (elim o [ Ok after ↦ after | Err fault ↦ device ]) ≡ slice_set (marks device) k tag
@@ -336,12 +336,12 @@ commands_order (c ∷ ds) ms zero n cdb bytes r (Some w) there step h =
 pub loses_order : (us ms : List UnitView) (at : ℕ) (n : Nexus) (r : Reply) (o : Option UnitView) → slice_get us at ≡ o → LosesAt us at o n (ms, r) → fault_of us ≡ None → fault_of ms ≡ None
 loses_order us ms at n r None there step h = ap (λ (x : List UnitView × Reply). fault_of x.0) step ∙ h
 loses_order us ms at n r (Some w) there step h =
-    changed us ms at w step.unit there step.units (ap (λ k. (k, place_of step.unit.kept)) (loss_kind w step.unit n r step.step) ∙ ap (λ p. (kind_of w.device, p)) (loss_place w step.unit n r step.step)) (loss_marks w step.unit n r step.step) h
+    changed us ms at w step.unit there step.units (ap (λ k. (k, place_of step.unit.state)) (loss_kind w step.unit n r step.step) ∙ ap (λ p. (kind_of w.device, p)) (loss_place w step.unit n r step.step)) (loss_marks w step.unit n r step.step) h
 
 pub resets_order : (us ms : List UnitView) (at : ℕ) (r : Reply) (o : Option UnitView) → slice_get us at ≡ o → ResetsAt us at o (ms, r) → fault_of us ≡ None → fault_of ms ≡ None
 resets_order us ms at r None there step h = ap (λ (x : List UnitView × Reply). fault_of x.0) step ∙ h
 resets_order us ms at r (Some w) there step h =
-    changed us ms at w step.unit there step.units (ap (λ k. (k, place_of step.unit.kept)) (reset_kind w step.unit r step.step) ∙ ap (λ p. (kind_of w.device, p)) (reset_place w step.unit r step.step)) (reset_marks w step.unit r step.step) h
+    changed us ms at w step.unit there step.units (ap (λ k. (k, place_of step.unit.state)) (reset_kind w step.unit r step.step) ∙ ap (λ p. (kind_of w.device, p)) (reset_place w step.unit r step.step)) (reset_marks w step.unit r step.step) h
 
 pub drains_order : (us ms : List UnitView) (at : ℕ) (entries : Option (List Record)) (o : Option UnitView) → slice_get us at ≡ o → DrainsAt us at o (ms, entries) → fault_of us ≡ None → fault_of ms ≡ None
 drains_order us ms at entries None there step h = ap (λ (x : List UnitView × Option (List Record)). fault_of x.0) step ∙ h

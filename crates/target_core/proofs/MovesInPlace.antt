@@ -64,10 +64,10 @@ luns_of l m = l ∷ m ∷ []
 
 -- a drive that is named has the number of its place
 module _ (z : UnitWithRoom) (back : List UnitWithRoom) (h : fault_of (units_of (z ∷ back)) ≡ None) where
-  lun_at : (k : ℕ) (d : UnitWithRoom) → k < length back → (slice_index_or back k d).unit.kept.lun ≡ suc k
+  lun_at : (k : ℕ) (d : UnitWithRoom) → k < length back → (slice_index_or back k d).unit.state.lun ≡ suc k
   lun_at k d within = (drive_of z.unit (units_of back) k (slice_index_or back k d).unit (ordered z.unit (units_of back) h) (placed back k d within)).lun ∙ omega arith
 
-  pub one_asked : (cdb : List ℕ) (k : ℕ) (d : UnitWithRoom) → k < length back → NamesAt (units_of (z ∷ back)) cdb (suc k ∷ []) → named (drives_of z.unit.device) cdb ≡ (slice_index_or back k d).unit.kept.lun ∷ []
+  pub one_asked : (cdb : List ℕ) (k : ℕ) (d : UnitWithRoom) → k < length back → NamesAt (units_of (z ∷ back)) cdb (suc k ∷ []) → named (drives_of z.unit.device) cdb ≡ (slice_index_or back k d).unit.state.lun ∷ []
   one_asked cdb k d within names = names ∙ ap lun_of (sym (lun_at k d within))
 
   pub one_moved : (n : Nexus) (cdb bytes : List ℕ) (k : ℕ) (d v e : UnitWithRoom) (r : Reply) → k < length back → NamesAt (units_of (z ∷ back)) cdb (suc k ∷ [])
@@ -80,8 +80,8 @@ module _ (z : UnitWithRoom) (back : List UnitWithRoom) (h : fault_of (units_of (
       (subst (λ (o : Option UnitView). MovesWith us z.unit (suc k) o n cdb bytes (units_of (v ∷ slice_set back k e), r)) (sym (placed back k d within)) at)
 
   pub two_asked : (cdb : List ℕ) (i j : ℕ) (d e : UnitWithRoom) → i < length back → j < length back → NamesAt (units_of (z ∷ back)) cdb (suc i ∷ suc j ∷ [])
-      → named (drives_of z.unit.device) cdb ≡ (slice_index_or back i d).unit.kept.lun ∷ (slice_index_or back j e).unit.kept.lun ∷ []
-  two_asked cdb i j d e low high names = names ∙ ap (λ l. luns_of l (suc j)) (sym (lun_at i d low)) ∙ ap (luns_of (slice_index_or back i d).unit.kept.lun) (sym (lun_at j e high))
+      → named (drives_of z.unit.device) cdb ≡ (slice_index_or back i d).unit.state.lun ∷ (slice_index_or back j e).unit.state.lun ∷ []
+  two_asked cdb i j d e low high names = names ∙ ap (λ l. luns_of l (suc j)) (sym (lun_at i d low)) ∙ ap (luns_of (slice_index_or back i d).unit.state.lun) (sym (lun_at j e high))
 
   pub two_moved : (n : Nexus) (cdb bytes : List ℕ) (i j : ℕ) (d e v f g : UnitWithRoom) (r : Reply) → i < length back → j < length back → NamesAt (units_of (z ∷ back)) cdb (suc i ∷ suc j ∷ [])
       → MovesTwo z.unit (record { low = (slice_index_or back i d).unit; high = (slice_index_or back j e).unit }) n cdb bytes ((v.unit, r), record { low = f.unit; high = g.unit })
@@ -135,14 +135,14 @@ parts_set (x ∷ xs) ys (suc i) (suc j) f g low same = ap (λ (zs : List UnitWit
 -- drives in two parts, the higher of two at the head of the second
 pub asked_in_parts : (z : UnitWithRoom) (all lower upper : List UnitWithRoom) (cdb : List ℕ) (low high : ℕ) (d e : UnitWithRoom) → fault_of (units_of (z ∷ all)) ≡ None → all ≡ lower ++ upper → length lower ≡ high - 1
     → 1 ≤ low → low < high → high ≤ length all → NamesAt (units_of (z ∷ all)) cdb (low ∷ high ∷ [])
-    → named (drives_of z.unit.device) cdb ≡ (slice_index_or lower (low - 1) d).unit.kept.lun ∷ (slice_index_or upper 0 e).unit.kept.lun ∷ []
+    → named (drives_of z.unit.device) cdb ≡ (slice_index_or lower (low - 1) d).unit.state.lun ∷ (slice_index_or upper 0 e).unit.state.lun ∷ []
 asked_in_parts z all lower upper cdb low high d e h parts front place rising within names =
     let first : low - 1 < length all = omega (arith, place, rising, within) in
     let second : high - 1 < length all = omega (arith, place, rising, within) in
     let inner : low - 1 < length lower = omega (arith, place, rising, front) in
     two_asked z all h cdb (low - 1) (high - 1) d e first second (at_luns z all h cdb low high place rising names)
-    ∙ ap (λ (x : UnitWithRoom). luns_of x.unit.kept.lun (slice_index_or all (high - 1) e).unit.kept.lun) (ap (λ (xs : List UnitWithRoom). slice_index_or xs (low - 1) d) parts ∙ part_low lower upper (low - 1) d inner)
-    ∙ ap (λ (x : UnitWithRoom). luns_of (slice_index_or lower (low - 1) d).unit.kept.lun x.unit.kept.lun) (ap (λ (xs : List UnitWithRoom). slice_index_or xs (high - 1) e) parts ∙ part_high lower upper (high - 1) e front)
+    ∙ ap (λ (x : UnitWithRoom). luns_of x.unit.state.lun (slice_index_or all (high - 1) e).unit.state.lun) (ap (λ (xs : List UnitWithRoom). slice_index_or xs (low - 1) d) parts ∙ part_low lower upper (low - 1) d inner)
+    ∙ ap (λ (x : UnitWithRoom). luns_of (slice_index_or lower (low - 1) d).unit.state.lun x.unit.state.lun) (ap (λ (xs : List UnitWithRoom). slice_index_or xs (high - 1) e) parts ∙ part_high lower upper (high - 1) e front)
 
 abbrev pub drives_are : UnitWithRoom → UnitWithRoom → TwoDrives
 drives_are x y = record { low = x.unit; high = y.unit }

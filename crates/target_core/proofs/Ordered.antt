@@ -22,8 +22,8 @@ pub record IsOrdered (c : UnitView) (ds : List UnitView) : Type 0 where
   pub some : 1 ≤ length ds
   pub few : length ds ≤ 4
   pub kind : kind_of c.device ≡ kind.Changer
-  pub lun : (c.kept.lun == 0) ≡ true
-  pub units : (c.kept.units == length ds + 1) ≡ true
+  pub lun : (c.state.lun == 0) ≡ true
+  pub units : (c.state.units == length ds + 1) ≡ true
   pub places : are_drives ds 1 (length ds + 1) ≡ true
   pub marked : agree (marks c.device) ds ≡ true
 
@@ -45,9 +45,9 @@ pub ordered : (c : UnitView) (ds : List UnitView) → fault_of (c ∷ ds) ≡ No
 ordered c ds h =
     let tests = no_fault (nat_le 1 (length ds) && nat_le (length ds) 4) (is_in_order c ds (length ds + 1)) (agree (marks c.device) ds) h in
     let count = both (nat_le 1 (length ds)) (nat_le (length ds) 4) tests.0 in
-    let order = both (is_changer (kind_of c.device)) (c.kept.lun == 0 && (c.kept.units == length ds + 1 && are_drives ds 1 (length ds + 1))) tests.1 in
-    let number = both (c.kept.lun == 0) (c.kept.units == length ds + 1 && are_drives ds 1 (length ds + 1)) order.1 in
-    let units = both (c.kept.units == length ds + 1) (are_drives ds 1 (length ds + 1)) number.1 in
+    let order = both (is_changer (kind_of c.device)) (c.state.lun == 0 && (c.state.units == length ds + 1 && are_drives ds 1 (length ds + 1))) tests.1 in
+    let number = both (c.state.lun == 0) (c.state.units == length ds + 1 && are_drives ds 1 (length ds + 1)) order.1 in
+    let units = both (c.state.units == length ds + 1) (are_drives ds 1 (length ds + 1)) number.1 in
     let one = count.0 in
     let four = count.1 in
     record {
@@ -77,20 +77,20 @@ has_drives c ds o = sym (marks_length c.device o.kind) ∙ agree_length (marks c
 -- the drive at a place, with its number
 pub record IsDriveAt (d : UnitView) (place : ℕ) : Type 0 where
   pub kind : kind_of d.device ≡ kind.Drive
-  pub lun : d.kept.lun ≡ place
+  pub lun : d.state.lun ≡ place
 
 drive_at_place : (ds : List UnitView) (i from count : ℕ) (d : UnitView) → are_drives ds from count ≡ true → slice_get ds i ≡ Some d → IsDriveAt d (from + i)
 drive_at_place [] i from count d h there = absurd cc
 drive_at_place (z ∷ ds) zero from count d h there =
     let is : z ≡ d = cc in
-    let k = both (is_drive (kind_of z.device)) (z.kept.lun == from && (z.kept.units == count && are_drives ds (from + 1) count)) h in
-    let l = (both (z.kept.lun == from) (z.kept.units == count && are_drives ds (from + 1) count) k.1).0 in
-    let number : z.kept.lun ≡ from = grind (arith, nat_tests) in
-    record { kind = ap (λ (u : UnitView). kind_of u.device) (sym is) ∙ drive_is (kind_of z.device) k.0; lun = ap (λ (u : UnitView). u.kept.lun) (sym is) ∙ number ∙ omega arith }
+    let k = both (is_drive (kind_of z.device)) (z.state.lun == from && (z.state.units == count && are_drives ds (from + 1) count)) h in
+    let l = (both (z.state.lun == from) (z.state.units == count && are_drives ds (from + 1) count) k.1).0 in
+    let number : z.state.lun ≡ from = grind (arith, nat_tests) in
+    record { kind = ap (λ (u : UnitView). kind_of u.device) (sym is) ∙ drive_is (kind_of z.device) k.0; lun = ap (λ (u : UnitView). u.state.lun) (sym is) ∙ number ∙ omega arith }
 drive_at_place (z ∷ ds) (suc i) from count d h there =
-    let k = both (is_drive (kind_of z.device)) (z.kept.lun == from && (z.kept.units == count && are_drives ds (from + 1) count)) h in
-    let l = (both (z.kept.lun == from) (z.kept.units == count && are_drives ds (from + 1) count) k.1).1 in
-    let rest = (both (z.kept.units == count) (are_drives ds (from + 1) count) l).1 in
+    let k = both (is_drive (kind_of z.device)) (z.state.lun == from && (z.state.units == count && are_drives ds (from + 1) count)) h in
+    let l = (both (z.state.lun == from) (z.state.units == count && are_drives ds (from + 1) count) k.1).1 in
+    let rest = (both (z.state.units == count) (are_drives ds (from + 1) count) l).1 in
     let at = drive_at_place ds i (from + 1) count d rest there in
     record { kind = at.kind; lun = at.lun ∙ omega arith }
 

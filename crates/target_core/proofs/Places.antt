@@ -56,7 +56,7 @@ module _ (us : List UnitWithRoom) (i : ℕ) (d w : UnitWithRoom) (within : i < l
       (record { unit = w.unit; step = was; units = units_of-set us i w })
 
   pub drains_at : (entries : List Record) → entries ≡ (slice_index_or us i d).unit.records → w.unit ≡ drained (slice_index_or us i d).unit
-      → IsTrail (slice_index_or us i d).unit.base (slice_index_or us i d).unit.records (slice_index_or us i d).unit.kept
+      → IsTrail (slice_index_or us i d).unit.base (slice_index_or us i d).unit.records (slice_index_or us i d).unit.state
       → Drains (units_of us) i (units_of (slice_set us i w), Some entries)
   drains_at entries told same trail =
       subst (λ (o : Option UnitView). DrainsAt (units_of us) i o (units_of (slice_set us i w), Some entries)) (sym (placed us i d within)) (
@@ -69,8 +69,8 @@ module _ (us : List UnitWithRoom) (i : ℕ) (d w : UnitWithRoom) (within : i < l
 pub put_back : (Does : (us vs : List UnitView) → Type 0) (all lent new : List UnitWithRoom) (count : ℕ) → lent ≡ all → length lent ≡ count →
     length new ≡ length lent → Does (units_of lent) (units_of new)
     → Does (units_of all) (units_of (take count (new ++ drop (length new) all)))
-put_back Does all lent new count same whole kept h =
-    subst (λ (xs : List UnitWithRoom). Does (units_of all) (units_of xs)) (sym (take_at new (drop (length new) all) count (kept ∙ whole)))
+put_back Does all lent new count same whole state h =
+    subst (λ (xs : List UnitWithRoom). Does (units_of all) (units_of xs)) (sym (take_at new (drop (length new) all) count (state ∙ whole)))
     (subst (λ (xs : List UnitWithRoom). Does (units_of xs) (units_of new)) same h)
 
 -- where no unit is

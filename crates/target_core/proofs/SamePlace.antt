@@ -12,19 +12,19 @@ use Rattle.logical_unit.proofs.History.{executes_stays}
 abbrev pub place_of : UnitStateView → ℕ × ℕ
 place_of k = (k.lun, k.units)
 
-pub executes_place : (u v : UnitView) (n : Nexus) (cdb bytes : List ℕ) (r : Reply) → Executes u n cdb bytes (v, r) → place_of v.kept ≡ place_of u.kept
+pub executes_place : (u v : UnitView) (n : Nexus) (cdb bytes : List ℕ) (r : Reply) → Executes u n cdb bytes (v, r) → place_of v.state ≡ place_of u.state
 executes_place u v n cdb bytes r e =
     let stays = executes_stays u v n cdb bytes r e in
-    ap (λ l. (l, v.kept.units)) stays.lun ∙ ap (λ c. (u.kept.lun, c)) stays.units
+    ap (λ l. (l, v.state.units)) stays.lun ∙ ap (λ c. (u.state.lun, c)) stays.units
 
-lost_place : (u v : UnitView) (n : Nexus) (number : Option ℕ) (known : Bool) → LosesAs known u n (v, number) → place_of v.kept ≡ place_of u.kept
-lost_place u v n number false is = ap (λ (x : UnitView × Option ℕ). place_of x.0.kept) is
-lost_place u v n number true is = ap (λ (x : UnitView × Option ℕ). place_of x.0.kept) is.1
+lost_place : (u v : UnitView) (n : Nexus) (number : Option ℕ) (known : Bool) → LosesAs known u n (v, number) → place_of v.state ≡ place_of u.state
+lost_place u v n number false is = ap (λ (x : UnitView × Option ℕ). place_of x.0.state) is
+lost_place u v n number true is = ap (λ (x : UnitView × Option ℕ). place_of x.0.state) is.1
 
-pub loss_place : (u v : UnitView) (n : Nexus) (r : Reply) → IsLost u n (v, r) → place_of v.kept ≡ place_of u.kept
-loss_place u v n r (inl busy) = ap (λ (x : UnitView × Reply). place_of x.0.kept) busy.0
-loss_place u v n r (inr lost) = lost_place u v n lost.0 (has_slot u.kept.slots n) lost.1
+pub loss_place : (u v : UnitView) (n : Nexus) (r : Reply) → IsLost u n (v, r) → place_of v.state ≡ place_of u.state
+loss_place u v n r (inl busy) = ap (λ (x : UnitView × Reply). place_of x.0.state) busy.0
+loss_place u v n r (inr lost) = lost_place u v n lost.0 (has_slot u.state.slots n) lost.1
 
-pub reset_place : (u v : UnitView) (r : Reply) → IsReset u (v, r) → place_of v.kept ≡ place_of u.kept
-reset_place u v r (inl busy) = ap (λ (x : UnitView × Reply). place_of x.0.kept) busy
-reset_place u v r (inr was) = ap (λ (x : UnitView × ℕ). place_of x.0.kept) was.1.1
+pub reset_place : (u v : UnitView) (r : Reply) → IsReset u (v, r) → place_of v.state ≡ place_of u.state
+reset_place u v r (inl busy) = ap (λ (x : UnitView × Reply). place_of x.0.state) busy
+reset_place u v r (inr was) = ap (λ (x : UnitView × ℕ). place_of x.0.state) was.1.1

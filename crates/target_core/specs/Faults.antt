@@ -22,11 +22,11 @@ is_changer Drive = false
 abbrev pub are_drives : List UnitView → (from count : ℕ) → Bool
 are_drives [] from count = true
 are_drives (u ∷ us) from count =
-    is_drive (kind_of u.device) && (u.kept.lun == from && (u.kept.units == count && are_drives us (from + 1) count))
+    is_drive (kind_of u.device) && (u.state.lun == from && (u.state.units == count && are_drives us (from + 1) count))
 
 -- a changer, and then drives
 abbrev pub is_in_order : UnitView → List UnitView → ℕ → Bool
-is_in_order c ds count = is_changer (kind_of c.device) && (c.kept.lun == 0 && (c.kept.units == count && are_drives ds 1 count))
+is_in_order c ds count = is_changer (kind_of c.device) && (c.state.lun == 0 && (c.state.units == count && are_drives ds 1 count))
 
 -- whether a mark at the changer is the tag of what is in a drive's bay
 abbrev pub same_mark : (mark held : Option VolumeTag) → Bool

@@ -22,7 +22,7 @@ accepted_in kind lun es rs = []
 -- a unit after a run has the registrations, the reservation and the generation that its accepted history leaves
 abbrev pub AcceptedHistory : Type 0
 AcceptedHistory = (us vs : List UnitView) (es : List Event) (rs : List Reply) (lun : ℕ) (u v : UnitView) → Runs us es rs vs → slice_get us lun ≡ Some u → slice_get vs lun ≡ Some v
-    → v.kept.reservations ≡ after_history u.kept.reservations (accepted_in (kind_of u.device) lun es rs)
+    → v.state.reservations ≡ after_history u.state.reservations (accepted_in (kind_of u.device) lun es rs)
 
 -- a run of some events and then of others is a run of all
 abbrev pub RunsJoin : Type 0

@@ -91,7 +91,7 @@ Runs us (e ∷ es) [] vs = ⊥
 -- are none
 abbrev pub DrainsAt : List UnitView → ℕ → Option UnitView → List UnitView × Option (List Record) → Type 0
 DrainsAt us lun None new = new ≡ (us, None)
-DrainsAt us lun (Some u) new = (new ≡ (slice_set us lun (drained u), Some u.records)) × IsTrail u.base u.records u.kept
+DrainsAt us lun (Some u) new = (new ≡ (slice_set us lun (drained u), Some u.records)) × IsTrail u.base u.records u.state
 
 abbrev pub Drains : List UnitView → ℕ → List UnitView × Option (List Record) → Type 0
 Drains us lun new = DrainsAt us lun (slice_get us lun) new

@@ -158,14 +158,14 @@ Gives mark d = (given mark d ≡ Err MediumRemovalPrevented) ⊎ ((it : Volume �
 abbrev pub named_ok : Volume × UnitView → Result (Volume × UnitView) Condition
 named_ok it = Ok it
 
-gives_by : (mark : Option VolumeTag) (d : UnitView) (v : Volume) (left : DeviceView) (prevented : Bool) → kind_of d.device ≡ kind.Drive → taken d.device 0 ≡ Ok (v, left) → is_prevented d.kept ≡ prevented → names_held mark (Some v.tag) ≡ true → Gives mark d
+gives_by : (mark : Option VolumeTag) (d : UnitView) (v : Volume) (left : DeviceView) (prevented : Bool) → kind_of d.device ≡ kind.Drive → taken d.device 0 ≡ Ok (v, left) → is_prevented d.state ≡ prevented → names_held mark (Some v.tag) ≡ true → Gives mark d
 gives_by mark d v left true k takes p names =
-    inl (ap (λ (x : Kind). given_by mark (out_by d x (is_prevented d.kept))) k ∙ ap (λ b. given_by mark (out_by d kind.Drive b)) p)
+    inl (ap (λ (x : Kind). given_by mark (out_by d x (is_prevented d.state))) k ∙ ap (λ b. given_by mark (out_by d kind.Drive b)) p)
 gives_by mark d v left false k takes p names =
-    let it : Volume × UnitView = (v, with_event d None MediumOut (record { device = left; kept = d.kept })) in
+    let it : Volume × UnitView = (v, with_event d None MediumOut (record { device = left; state = d.state })) in
     inr (
       it,
-      ap (λ (x : Kind). given_by mark (out_by d x (is_prevented d.kept))) k
+      ap (λ (x : Kind). given_by mark (out_by d x (is_prevented d.state))) k
           ∙ ap (λ b. given_by mark (out_by d kind.Drive b)) p
           ∙ ap (λ (t : Result (Volume × DeviceView) TakeFault). given_by mark (taken_as d t)) takes
           ∙ ap (λ b. cond b (named_ok it) (Err InternalTargetFailure)) names,
@@ -177,7 +177,7 @@ gives m mark (Some tag) d k is bay same =
     let t = full_bay d.device tag k bay in
     let names : names_held (Some m) (Some tag) ≡ true = subst (λ (x : Option VolumeTag). same_mark x (Some tag) ≡ true) is same in
     subst (λ (x : Option VolumeTag). Gives x d) (sym is)
-    (gives_by (Some m) d t.volume t.left (is_prevented d.kept) k t.is refl (subst (λ (x : VolumeTag). names_held (Some m) (Some x) ≡ true) (sym t.same) names))
+    (gives_by (Some m) d t.volume t.left (is_prevented d.state) k t.is refl (subst (λ (x : VolumeTag). names_held (Some m) (Some x) ≡ true) (sym t.same) names))
 
 -- and takes one where its mark is empty
 abbrev pub Receives : UnitView → Type 0
@@ -187,7 +187,7 @@ receives : (held : Option VolumeTag) (d : UnitView) → kind_of d.device ≡ kin
 receives (Some tag) d k bay same = absurd cc
 receives None d k bay same = λ v.
     let t = empty_bay d.device v k bay in (
-      with_event d None MediumIn (record { device = t.left; kept = with_medium d.kept }),
+      with_event d None MediumIn (record { device = t.left; state = with_medium d.state }),
       ap (λ (x : Kind). received_as (in_by d v x)) k ∙ ap (λ (p : Result DeviceView PutFault). received_as (put_as d p)) t.is,
     )
 

@@ -44,16 +44,16 @@ use Rattle.judgement.specs.History.{accepted_by, after_history}
 use Rattle.target_core.specs.declared.event.Event.TheVariants as event
 use Rattle.target_core.specs.Run.{AtUnit, AtDrive, AtDrives, MovesWith, MovesBetween, CommandsNaming, CommandsAt}
 use Rattle.target_core.proofs.History.{get-set_same, get-set_other, adds_nothing}
-use Rattle.target_laws.specs.Headline.{by_history, refusal_entry, IsRefused, AreThere, IsWithDrives, GoesBy, EndsWith, IsCarriedOut, IsStopped, IsLetIn, IsDecidedBy, IsBusy, IsBarred, IsAnswered, IsMovedAt, IsServed, Headline}
+use Rattle.target_laws.specs.Headline.{by_history, refusal_record, IsRefused, AreThere, IsWithDrives, GoesBy, EndsWith, IsCarriedOut, IsStopped, IsLetIn, IsDecidedBy, IsBusy, IsBarred, IsAnswered, IsMovedAt, IsServed, Headline}
 use Rattle.judgement.proofs.Carried.{judged_free}
 use Rattle.target_laws.proofs.MoveWays.{Stops, one_goes, two_goes, one_stops, two_stop, end_one, ends_two, no_more}
 use Rattle.target_laws.proofs.Parts.{parts, run_grows, set-same}
 
 -- a PERSISTENT RESERVE IN that ends GOOD was carried out
-reads : (u : JudgedUnit) (n : Nexus) (a : InServiceAction) (l : ℕ) (bytes : List ℕ) → (let_through u n (ReserveIn a l) bytes).2.status ≡ Good → (let_through u n (ReserveIn a l) bytes).2.payload ≡ take l (status_data u.kept.reservations a)
+reads : (u : JudgedUnit) (n : Nexus) (a : InServiceAction) (l : ℕ) (bytes : List ℕ) → (let_through u n (ReserveIn a l) bytes).2.status ≡ Good → (let_through u n (ReserveIn a l) bytes).2.payload ≡ take l (status_data u.state.reservations a)
 reads u n a l bytes =
     let c = ReserveIn a l in
-    elim (waiting (class_of_command c) (first_other_of u.kept.slots n)) as (λ (o : Option Kind). let x : JudgedUnit × Decision × Reply = elim o [ Some kind ↦ tells u n kind (let_in (cell_of u n c) OtherAttention) | None ↦ at_cell (cell_of u n c) (carried_out u n c bytes) ] in x.2.status ≡ Good → x.2.payload ≡ take l (status_data u.kept.reservations a)) [
+    elim (waiting (class_of_command c) (first_other_of u.state.slots n)) as (λ (o : Option Kind). let x : JudgedUnit × Decision × Reply = elim o [ Some kind ↦ tells u n kind (let_in (cell_of u n c) OtherAttention) | None ↦ at_cell (cell_of u n c) (carried_out u n c bytes) ] in x.2.status ≡ Good → x.2.payload ≡ take l (status_data u.state.reservations a)) [
       | Some kind ↦ λ good. absurd cc
       | None ↦ λ good. refl
     ]
@@ -62,17 +62,17 @@ reads u n a l bytes =
 record IsFromTheCheck (u : JudgedUnit) (n : Nexus) (c : Result Command Condition) : Type 0 where
   command : Command
   decodes : c ≡ Ok command
-  ready : waiting (class_of_command command) (first_reset_of u.kept.slots n) ≡ None
+  ready : waiting (class_of_command command) (first_reset_of u.state.slots n) ≡ None
 
 from_the_check : (u : JudgedUnit) (n : Nexus) (c : Result Command Condition) (bytes : List ℕ) → (judged_as u n c bytes).2.status ≡ ReservationConflict → IsFromTheCheck u n c
 from_the_check u n (Err condition) bytes = λ e. absurd cc
 from_the_check u n (Ok c) bytes =
-    elim (waiting (class_of_command c) (first_reset_of u.kept.slots n)) as (λ (o : Option Kind). waiting (class_of_command c) (first_reset_of u.kept.slots n) ≡ o → (let x : JudgedUnit × Decision × Reply = elim o [ Some kind ↦ tells u n kind (at_stage ResetAttention) | None ↦ checked u n c bytes ] in x.2.status) ≡ ReservationConflict → IsFromTheCheck u n (Ok c)) [
+    elim (waiting (class_of_command c) (first_reset_of u.state.slots n)) as (λ (o : Option Kind). waiting (class_of_command c) (first_reset_of u.state.slots n) ≡ o → (let x : JudgedUnit × Decision × Reply = elim o [ Some kind ↦ tells u n kind (at_stage ResetAttention) | None ↦ checked u n c bytes ] in x.2.status) ≡ ReservationConflict → IsFromTheCheck u n (Ok c)) [
       | Some kind ↦ λ w e. absurd cc
       | None ↦ λ w e. record { command = c; decodes = refl; ready = w }
     ] refl
 
-module _ (h : State) (mid next : List UnitView) (lun : ℕ) (now left : UnitView) (n : Nexus) (cdb bytes : List ℕ) (r : Reply) (same : now.kept.reservations ≡ h) (is : ◌≡◌ {A = UnitView × Reply} (left, r) (answered now n cdb bytes))
+module _ (h : State) (mid next : List UnitView) (lun : ℕ) (now left : UnitView) (n : Nexus) (cdb bytes : List ℕ) (r : Reply) (same : now.state.reservations ≡ h) (is : ◌≡◌ {A = UnitView × Reply} (left, r) (answered now n cdb bytes))
     (alone : IsWithDrives mid lun now cdb → is_left (judged_at now n cdb bytes).2.sense ≡ false) where
   refused : (command : Command) → IsDecided now n cdb bytes command → verdict_of h n command ≢ Allowed → IsRefused h now left n command r
   refused command d barred =
@@ -80,10 +80,10 @@ module _ (h : State) (mid next : List UnitView) (lun : ℕ) (now left : UnitView
       record {
         reply = ap (λ (x : UnitView × Reply). x.1) e;
         device = ap (λ (x : UnitView × Reply). x.0.device) e;
-        reservations = ap (λ (x : UnitView × Reply). x.0.kept.reservations) e;
-        contact = ap (λ (x : UnitView × Reply). x.0.kept) e;
+        reservations = ap (λ (x : UnitView × Reply). x.0.state.reservations) e;
+        contact = ap (λ (x : UnitView × Reply). x.0.state) e;
         base = ap (λ (x : UnitView × Reply). x.0.base) e;
-        entry = ap (λ (x : UnitView × Reply). x.0.records) e ∙ ap (λ (w : State). now.records ++ refusal_entry w now n command ∷ []) same;
+        entry = ap (λ (x : UnitView × Reply). x.0.records) e ∙ ap (λ (w : State). now.records ++ refusal_record w now n command ∷ []) same;
       }
 
   let_in_by : (command : Command) → IsDecided now n cdb bytes command → verdict_of h n command ≡ Allowed → IsLetIn h mid next lun now left n cdb bytes command r
@@ -105,7 +105,7 @@ module _ (h : State) (mid next : List UnitView) (lun : ℕ) (now left : UnitView
       let d = is_decided now n cdb bytes command comes in
       record {
         conflicts = subst (λ (w : State). (r.status ≡ ReservationConflict) ↔ (verdict_of w n command ≢ Allowed)) same
-            (subst (λ (x : UnitView × Reply). (x.1.status ≡ ReservationConflict) ↔ (verdict_of now.kept.reservations n command ≢ Allowed)) (sym is) d.conflicts);
+            (subst (λ (x : UnitView × Reply). (x.1.status ≡ ReservationConflict) ↔ (verdict_of now.state.reservations n command ≢ Allowed)) (sym is) d.conflicts);
         refused = refused command d;
         let_in = let_in_by command d;
       }
@@ -118,7 +118,7 @@ module _ (h : State) (mid next : List UnitView) (lun : ℕ) (now left : UnitView
       let d = decided f.command comes in
       record { command = f.command; comes = comes; verdict = d.conflicts.0 conflict }
 
-  pub is_answered : has_room now.kept n ≡ true → HasNumber now → IsAnswered h mid next lun now left n cdb bytes r
+  pub is_answered : has_room now.state n ≡ true → HasNumber now → IsAnswered h mid next lun now left n cdb bytes r
   is_answered room number = record { room = room; number = number; not_busy = λ e. judged_free (contacted_present now n) n (decoded_command (kind_of now.device) cdb bytes) bytes (sym (ap (λ (x : UnitView × Reply). x.1.status) is) ∙ e); decided = decided; only_there = only_there }
 
 -- A MOVE THAT WAS LEFT to the drives. PERSISTENT RESERVE IN isn't
@@ -134,7 +134,7 @@ whole_busy : (s : Status) (o : Option Sense) → IsWhole s o → s ≢ Busy
 whole_busy s o (inl w) e = let is = w.0 in cc
 whole_busy s o (inr w) e = let is = w.0 in cc
 
-module _ (h : State) (mid next : List UnitView) (lun : ℕ) (now left : UnitView) (n : Nexus) (cdb bytes : List ℕ) (r : Reply) (same : now.kept.reservations ≡ h) (device : DeviceView) (reply : Reply) (ends : Ends now left n cdb bytes r device reply) (whole : IsWhole reply.status reply.sense)
+module _ (h : State) (mid next : List UnitView) (lun : ℕ) (now left : UnitView) (n : Nexus) (cdb bytes : List ℕ) (r : Reply) (same : now.state.reservations ≡ h) (device : DeviceView) (reply : Reply) (ends : Ends now left n cdb bytes r device reply) (whole : IsWhole reply.status reply.sense)
     (with_drives : IsWithDrives mid lun now cdb) (way : Route) (asked : route_at now cdb ≡ Some way)
     (decides : (command : Command) → EndsWith now left n bytes command r device reply → IsCarriedOut mid next now left n bytes command r way ⊎ IsStopped mid now left n bytes command r way) where
   told : r.status ≡ reply.status
@@ -148,7 +148,7 @@ module _ (h : State) (mid next : List UnitView) (lun : ℕ) (now left : UnitView
       let u = contacted_present now n in
       let judged : judged_at now n cdb bytes ≡ checked u n command bytes = ap (λ (s : Result Command Condition). judged_as u n s bytes) comes.decodes ∙ ap (by_reset u n command bytes) comes.ready in
       let here : is_left (checked u n command bytes).2.sense ≡ true = sym (ap (λ (x : JudgedUnit × Decision × Reply). is_left x.2.sense) judged) ∙ ends.left in
-      let allowed = is_allowed u n command bytes (verdict_of now.kept.reservations n command) here in
+      let allowed = is_allowed u n command bytes (verdict_of now.state.reservations n command) here in
       let through : judged_at now n cdb bytes ≡ let_through u n command bytes = judged ∙ let_by u n command bytes allowed in
       let left_on : is_left (let_through u n command bytes).2.sense ≡ true = sym (ap (λ (x : JudgedUnit × Decision × Reply). is_left x.2.sense) through) ∙ ends.left in
       let by_history : verdict_of h n command ≡ Allowed = subst (λ (w : State). verdict_of w n command ≡ Allowed) same allowed in
@@ -163,11 +163,11 @@ module _ (h : State) (mid next : List UnitView) (lun : ℕ) (now left : UnitView
             asked = asked;
             ends = decides command
                 (ends.unit
-                ∙ ap (λ (f : Decision). recorded now n (act_of (kind_of now.device) cdb bytes) (record { device = device; kept = now.kept }, f, reply)) (sym ends.found ∙ ap (λ (x : JudgedUnit × Decision × Reply). x.1) through)
-                ∙ ap (λ (s : Result Command Condition). recorded now n (act_of_decoded s) (record { device = device; kept = now.kept }, (let_through u n command bytes).1, reply)) comes.decodes);
+                ∙ ap (λ (f : Decision). recorded now n (act_of (kind_of now.device) cdb bytes) (record { device = device; state = now.state }, f, reply)) (sym ends.found ∙ ap (λ (x : JudgedUnit × Decision × Reply). x.1) through)
+                ∙ ap (λ (s : Result Command Condition). recorded now n (act_of_decoded s) (record { device = device; state = now.state }, (let_through u n command bytes).1, reply)) comes.decodes);
           });
           shows = λ a l c good.
-              absurd (reads_end u n a l bytes (waiting (class_of_command (ReserveIn a l)) (first_other_of u.kept.slots n)) (subst (λ (x : Command). is_left (let_through u n x bytes).2.sense ≡ true) c left_on));
+              absurd (reads_end u n a l bytes (waiting (class_of_command (ReserveIn a l)) (first_other_of u.state.slots n)) (subst (λ (x : Command). is_left (let_through u n x bytes).2.sense ≡ true) c left_on));
         };
       }
 
@@ -185,14 +185,14 @@ free : (now left : UnitView) (n : Nexus) (cdb bytes : List ℕ) (r : Reply) → 
 free now left n cdb bytes r is e = judged_free (contacted_present now n) n (decoded_command (kind_of now.device) cdb bytes) bytes (sym (ap (λ (x : UnitView × Reply). x.1.status) is) ∙ e)
 
 -- the answer of a unit alone
-answer : (mid next : List UnitView) (h : State) (lun : ℕ) (now left : UnitView) (n : Nexus) (cdb bytes : List ℕ) (r : Reply) → now.kept.reservations ≡ h → (left ≡ now → next ≡ mid)
+answer : (mid next : List UnitView) (h : State) (lun : ℕ) (now left : UnitView) (n : Nexus) (cdb bytes : List ℕ) (r : Reply) → now.state.reservations ≡ h → (left ≡ now → next ≡ mid)
     → (r.status ≢ Busy → IsWithDrives mid lun now cdb → is_left (judged_at now n cdb bytes).2.sense ≡ false) → Executes now n cdb bytes (left, r) → IsBusy mid next r ⊎ IsAnswered h mid next lun now left n cdb bytes r
 answer mid next h lun now left n cdb bytes r same units alone (inl e) =
     inl (record { reply = ap (λ (x : UnitView × Reply). x.1) e; units = units (ap (λ (x : UnitView × Reply). x.0) e) })
 answer mid next h lun now left n cdb bytes r same units alone (inr e) = inr (is_answered h mid next lun now left n cdb bytes r same e.2 (alone (free now left n cdb bytes r e.2)) e.0 e.1)
 
 -- the answer of the changer with drives, which are as they were where it answers alone
-answer_by : {A : Type 0} (mid next : List UnitView) (h : State) (now left : UnitView) (n : Nexus) (cdb bytes : List ℕ) (r : Reply) (drives after : A) (carried : Result (DeviceView × A) Condition) (way : Route) → now.kept.reservations ≡ h
+answer_by : {A : Type 0} (mid next : List UnitView) (h : State) (now left : UnitView) (n : Nexus) (cdb bytes : List ℕ) (r : Reply) (drives after : A) (carried : Result (DeviceView × A) Condition) (way : Route) → now.state.reservations ≡ h
     → (left ≡ now → after ≡ drives → next ≡ mid) → IsWithDrives mid 0 now cdb → route_at now cdb ≡ Some way
     → ((device : DeviceView) → carried ≡ Ok (device, after) → GoesBy mid next now.device device way)
     → ((condition : Condition) → carried ≡ Err condition → Stops mid now.device way condition way.from way.to)
@@ -207,7 +207,7 @@ answer_by mid next h now left n cdb bytes r drives after carried way same units 
     (λ command e. inl (record { device = moved.device; goes = goes moved.device moved.is; ends = e })))
 
 -- where there is no slot or no number it was BUSY
-busy_where_full : (mid next : List UnitView) (h : State) (lun : ℕ) (now left : UnitView) (n : Nexus) (cdb bytes : List ℕ) (r : Reply) → IsBusy mid next r ⊎ IsAnswered h mid next lun now left n cdb bytes r → (has_room now.kept n ≡ false) ⊎ ¬ HasNumber now → IsBusy mid next r
+busy_where_full : (mid next : List UnitView) (h : State) (lun : ℕ) (now left : UnitView) (n : Nexus) (cdb bytes : List ℕ) (r : Reply) → IsBusy mid next r ⊎ IsAnswered h mid next lun now left n cdb bytes r → (has_room now.state n ≡ false) ⊎ ¬ HasNumber now → IsBusy mid next r
 busy_where_full mid next h lun now left n cdb bytes r (inl busy) full = busy
 busy_where_full mid next h lun now left n cdb bytes r (inr answered) (inl slots) = let room = answered.room in absurd cc
 busy_where_full mid next h lun now left n cdb bytes r (inr answered) (inr number) = absurd (number answered.number)
@@ -219,11 +219,11 @@ some_unit u = Some u
 record Serves (h : State) (mid next : List UnitView) (lun : ℕ) (now : UnitView) (n : Nexus) (cdb bytes : List ℕ) (r : Reply) : Type 0 where
   left : UnitView
   stays : slice_get next lun ≡ Some left
-  leaves : left.kept.reservations ≡ after_history now.kept.reservations (accepted_by (kind_of now.device) n cdb bytes r.status)
+  leaves : left.state.reservations ≡ after_history now.state.reservations (accepted_by (kind_of now.device) n cdb bytes r.status)
   others : (k : ℕ) → k ≢ lun → (slice_get next k ≡ slice_get mid k) ⊎ IsMovedAt mid next lun now left cdb r k
   answers : IsBusy mid next r ⊎ IsAnswered h mid next lun now left n cdb bytes r
 
-alone_serves : (h : State) (mid next : List UnitView) (lun : ℕ) (now : UnitView) (n : Nexus) (cdb bytes : List ℕ) (r : Reply) → slice_get mid lun ≡ Some now → now.kept.reservations ≡ h → ¬ IsWithDrives mid lun now cdb → AtUnit mid lun (Executes now n cdb bytes) (next, r)
+alone_serves : (h : State) (mid next : List UnitView) (lun : ℕ) (now : UnitView) (n : Nexus) (cdb bytes : List ℕ) (r : Reply) → slice_get mid lun ≡ Some now → now.state.reservations ≡ h → ¬ IsWithDrives mid lun now cdb → AtUnit mid lun (Executes now n cdb bytes) (next, r)
     → Serves h mid next lun now n cdb bytes r
 alone_serves h mid next lun now n cdb bytes r there same alone a = record {
   left = a.unit;
@@ -235,8 +235,8 @@ alone_serves h mid next lun now n cdb bytes r there same alone a = record {
 
 -- a move leaves the registrations as they were, and adds nothing to the history
 move_leaves : (now left : UnitView) (n : Nexus) (cdb bytes : List ℕ) (r : Reply) (l : ℕ) (more : List ℕ) → named (drives_of now.device) cdb ≡ l ∷ more → IsSameUnit now left
-    → left.kept.reservations ≡ after_history now.kept.reservations (accepted_by (kind_of now.device) n cdb bytes r.status)
-move_leaves now left n cdb bytes r l more names same = same.reservations ∙ sym (ap (after_history now.kept.reservations) (adds_nothing now.device n cdb bytes r l more names))
+    → left.state.reservations ≡ after_history now.state.reservations (accepted_by (kind_of now.device) n cdb bytes r.status)
+move_leaves now left n cdb bytes r l more names same = same.reservations ∙ sym (ap (after_history now.state.reservations) (adds_nothing now.device n cdb bytes r l more names))
 
 -- a drive of a move, by whether the volume was carried
 module _ {A : Type 0} where
@@ -265,7 +265,7 @@ gone us l none h = let no : false ≡ true = subst (λ (o : Option UnitView). Is
 some_named : (names : List ℕ) (l : ℕ) (more : List ℕ) → names ≡ l ∷ more → names ≢ []
 some_named names l more is none = let no = sym is ∙ none in cc
 
-one_serves : (h : State) (mid next : List UnitView) (l : ℕ) (now d : UnitView) (n : Nexus) (cdb bytes : List ℕ) (r : Reply) → slice_get mid 0 ≡ Some now → now.kept.reservations ≡ h → slice_get mid l ≡ Some d → named (drives_of now.device) cdb ≡ l ∷ []
+one_serves : (h : State) (mid next : List UnitView) (l : ℕ) (now d : UnitView) (n : Nexus) (cdb bytes : List ℕ) (r : Reply) → slice_get mid 0 ≡ Some now → now.state.reservations ≡ h → slice_get mid l ≡ Some d → named (drives_of now.device) cdb ≡ l ∷ []
     → AtDrive mid l (MovesOne now d n cdb bytes) (next, r) → Serves h mid next 0 now n cdb bytes r
 one_serves h mid next l now d n cdb bytes r there same drive names a =
     let within = one_named now.device cdb l names in
@@ -293,12 +293,12 @@ one_serves h mid next l now d n cdb bytes r there same drive names a =
             inl (ap (λ (xs : List UnitView). slice_get xs k) a.units ∙ get-set_other first l k a.other other ∙ get-set_other mid 0 k a.changer (λ e. off (sym e)))
       ] refl;
       answers = answer_by mid next h now a.changer n cdb bytes r d a.other carried q.route same
-          (λ is kept. a.units ∙ ap (λ (u : UnitView). slice_set (slice_set mid 0 u) l a.other) is ∙ ap (λ (xs : List UnitView). slice_set xs l a.other) (set-same mid 0 now there) ∙ ap (slice_set mid l) kept ∙ set-same mid l d drive)
+          (λ is state. a.units ∙ ap (λ (u : UnitView). slice_set (slice_set mid 0 u) l a.other) is ∙ ap (λ (xs : List UnitView). slice_set xs l a.other) (set-same mid 0 now there) ∙ ap (slice_set mid l) state ∙ set-same mid l d drive)
           (record { changer = refl; some = some_named (named (drives_of now.device) cdb) l [] names; there = subst (AreThere mid) (sym names) (there_is mid l d drive, tt) }) q.is goes
           (λ condition is. one_stops mid now.device q.route condition l d q.names drive (by_route ∙ is)) b;
     }
 
-two_serves : (h : State) (mid next : List UnitView) (l m : ℕ) (more : List ℕ) (now : UnitView) (ds : TwoDrives) (n : Nexus) (cdb bytes : List ℕ) (r : Reply) → slice_get mid 0 ≡ Some now → now.kept.reservations ≡ h → slice_get mid l ≡ Some ds.low → slice_get mid m ≡ Some ds.high
+two_serves : (h : State) (mid next : List UnitView) (l m : ℕ) (more : List ℕ) (now : UnitView) (ds : TwoDrives) (n : Nexus) (cdb bytes : List ℕ) (r : Reply) → slice_get mid 0 ≡ Some now → now.state.reservations ≡ h → slice_get mid l ≡ Some ds.low → slice_get mid m ≡ Some ds.high
     → named (drives_of now.device) cdb ≡ l ∷ m ∷ more → AtDrives mid l m (MovesTwo now ds n cdb bytes) (next, r) → Serves h mid next 0 now n cdb bytes r
 two_serves h mid next l m more now ds n cdb bytes r there same low high names a =
     let within = two_named now.device cdb l m more names in
@@ -342,10 +342,10 @@ two_serves h mid next l m more now ds n cdb bytes r there same low high names a 
             ] refl
       ] refl;
       answers = answer_by mid next h now a.changer n cdb bytes r ds a.drives carried q.route same
-          (λ is kept.
+          (λ is state.
           a.units ∙ ap (λ (u : UnitView). slice_set (slice_set (slice_set mid 0 u) l a.drives.low) m a.drives.high) is
           ∙ ap (λ (xs : List UnitView). slice_set (slice_set xs l a.drives.low) m a.drives.high) (set-same mid 0 now there)
-          ∙ ap (λ (x : TwoDrives). slice_set (slice_set mid l x.low) m x.high) kept ∙ ap (λ (xs : List UnitView). slice_set xs m ds.high) (set-same mid l ds.low low) ∙ set-same mid m ds.high high)
+          ∙ ap (λ (x : TwoDrives). slice_set (slice_set mid l x.low) m x.high) state ∙ ap (λ (xs : List UnitView). slice_set xs m ds.high) (set-same mid l ds.low low) ∙ set-same mid m ds.high high)
           (record {
             changer = refl;
             some = some_named (named (drives_of now.device) cdb) l (m ∷ more) names;
@@ -354,13 +354,13 @@ two_serves h mid next l m more now ds n cdb bytes r there same low high names a 
           (λ condition is. two_stop mid now.device q.route condition l m more ds q.names low high (by_route ∙ is)) b;
     }
 
-with_serves : (h : State) (mid next : List UnitView) (l : ℕ) (now : UnitView) (n : Nexus) (cdb bytes : List ℕ) (r : Reply) (d : Option UnitView) → slice_get mid 0 ≡ Some now → now.kept.reservations ≡ h → slice_get mid l ≡ d → named (drives_of now.device) cdb ≡ l ∷ []
+with_serves : (h : State) (mid next : List UnitView) (l : ℕ) (now : UnitView) (n : Nexus) (cdb bytes : List ℕ) (r : Reply) (d : Option UnitView) → slice_get mid 0 ≡ Some now → now.state.reservations ≡ h → slice_get mid l ≡ d → named (drives_of now.device) cdb ≡ l ∷ []
     → MovesWith mid now l d n cdb bytes (next, r) → Serves h mid next 0 now n cdb bytes r
 with_serves h mid next l now n cdb bytes r None there same drive names step =
     alone_serves h mid next 0 now n cdb bytes r there same (λ w. gone mid l drive (subst (AreThere mid) names w.there).0) step
 with_serves h mid next l now n cdb bytes r (Some d) there same drive names step = one_serves h mid next l now d n cdb bytes r there same drive names step
 
-between_serves : (h : State) (mid next : List UnitView) (l m : ℕ) (more : List ℕ) (now : UnitView) (n : Nexus) (cdb bytes : List ℕ) (r : Reply) (d e : Option UnitView) → slice_get mid 0 ≡ Some now → now.kept.reservations ≡ h → slice_get mid l ≡ d → slice_get mid m ≡ e
+between_serves : (h : State) (mid next : List UnitView) (l m : ℕ) (more : List ℕ) (now : UnitView) (n : Nexus) (cdb bytes : List ℕ) (r : Reply) (d e : Option UnitView) → slice_get mid 0 ≡ Some now → now.state.reservations ≡ h → slice_get mid l ≡ d → slice_get mid m ≡ e
     → named (drives_of now.device) cdb ≡ l ∷ m ∷ more → MovesBetween mid now l m d e n cdb bytes (next, r) → Serves h mid next 0 now n cdb bytes r
 between_serves h mid next l m more now n cdb bytes r None e there same low high names step =
     alone_serves h mid next 0 now n cdb bytes r there same (λ w. gone mid l low (subst (AreThere mid) names w.there).0) step
@@ -368,18 +368,18 @@ between_serves h mid next l m more now n cdb bytes r (Some d) None there same lo
     alone_serves h mid next 0 now n cdb bytes r there same (λ w. gone mid m high (subst (AreThere mid) names w.there).1.0) step
 between_serves h mid next l m more now n cdb bytes r (Some d) (Some e) there same low high names step = two_serves h mid next l m more now (record { low = d; high = e }) n cdb bytes r there same low high names step
 
-naming_serves : (h : State) (mid next : List UnitView) (names : List ℕ) (now : UnitView) (n : Nexus) (cdb bytes : List ℕ) (r : Reply) → slice_get mid 0 ≡ Some now → now.kept.reservations ≡ h → named (drives_of now.device) cdb ≡ names
+naming_serves : (h : State) (mid next : List UnitView) (names : List ℕ) (now : UnitView) (n : Nexus) (cdb bytes : List ℕ) (r : Reply) → slice_get mid 0 ≡ Some now → now.state.reservations ≡ h → named (drives_of now.device) cdb ≡ names
     → CommandsNaming mid now names n cdb bytes (next, r) → Serves h mid next 0 now n cdb bytes r
 naming_serves h mid next [] now n cdb bytes r there same is step = alone_serves h mid next 0 now n cdb bytes r there same (λ w. w.some is) step
 naming_serves h mid next (l ∷ []) now n cdb bytes r there same is step = with_serves h mid next l now n cdb bytes r (slice_get mid l) there same refl is step
 naming_serves h mid next (l ∷ m ∷ more) now n cdb bytes r there same is step = between_serves h mid next l m more now n cdb bytes r (slice_get mid l) (slice_get mid m) there same refl refl is step
 
-serves : (h : State) (mid next : List UnitView) (lun : ℕ) (now : UnitView) (n : Nexus) (cdb bytes : List ℕ) (r : Reply) → slice_get mid lun ≡ Some now → now.kept.reservations ≡ h → CommandsAt mid lun (Some now) n cdb bytes (next, r) → Serves h mid next lun now n cdb bytes r
+serves : (h : State) (mid next : List UnitView) (lun : ℕ) (now : UnitView) (n : Nexus) (cdb bytes : List ℕ) (r : Reply) → slice_get mid lun ≡ Some now → now.state.reservations ≡ h → CommandsAt mid lun (Some now) n cdb bytes (next, r) → Serves h mid next lun now n cdb bytes r
 serves h mid next zero now n cdb bytes r there same step = naming_serves h mid next (named (drives_of now.device) cdb) now n cdb bytes r there same refl step
 serves h mid next (suc k) now n cdb bytes r there same step = alone_serves h mid next (suc k) now n cdb bytes r there same (λ w. let no = w.changer in cc) step
 
 -- a command that is made is served by the registrations, the reservation and the generation that stand at its unit
-pub is_served : (h : State) (mid next : List UnitView) (lun : ℕ) (now : UnitView) (n : Nexus) (cdb bytes : List ℕ) (r : Reply) → slice_get mid lun ≡ Some now → now.kept.reservations ≡ h → CommandsAt mid lun (Some now) n cdb bytes (next, r) → IsServed h mid next lun n cdb bytes r
+pub is_served : (h : State) (mid next : List UnitView) (lun : ℕ) (now : UnitView) (n : Nexus) (cdb bytes : List ℕ) (r : Reply) → slice_get mid lun ≡ Some now → now.state.reservations ≡ h → CommandsAt mid lun (Some now) n cdb bytes (next, r) → IsServed h mid next lun n cdb bytes r
 is_served h mid next lun now n cdb bytes r there same step =
     let s = serves h mid next lun now n cdb bytes r there same step in
     record {

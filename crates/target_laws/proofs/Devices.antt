@@ -63,7 +63,7 @@ pub record IsBeside (before after : DeviceView) (sense : Option Sense) : Type 0 
   pub device : after ≡ before
   pub free : is_failure sense ≡ false
 
--- bytes that spell no command aren't told so by 44h/00h
+-- bytes that decode to no command aren't told so by 44h/00h
 abbrev pub decoding_fails : Result Command Condition → Bool
 decoding_fails (Err condition) = is_failure (Some (sense_for condition))
 decoding_fails (Ok c) = false
@@ -114,7 +114,7 @@ decoding_by (Err fault) bytes = fault_free fault
 pub decoding_free : (kind : cdb_kind.Kind) (cdb bytes : List ℕ) → decoding_fails (decoded_command kind cdb bytes) ≡ false
 decoding_free kind cdb bytes = decoding_by (decoded kind cdb) bytes
 
--- a device's command is the request that the CDB spells
+-- a device's command is the request that the CDB decodes to
 list_other : (o : Result OutParams ListLengthFault) (q : Request) → ◌≡◌ {A = Result Command Condition} (elim o [ Ok params ↦ Ok (ReserveOut params) | Err fault ↦ Err ParameterListLengthError ]) (Ok (Device q)) → ⊥
 list_other (Ok params) q h = absurd cc
 list_other (Err fault) q h = absurd cc
@@ -146,7 +146,7 @@ module _ (u : JudgedUnit) (n : Nexus) (bytes : List ℕ) where
   data_does at (Some payload) l = record { device = refl; free = refl }
   data_does at None l = record { device = refl; free = refl }
 
-  sensed_does : (l : ℕ) (o : Option Kind) → IsBeside u.device u.device (sensed u.kept n l o).2.sense
+  sensed_does : (l : ℕ) (o : Option Kind) → IsBeside u.device u.device (sensed u.state n l o).2.sense
   sensed_does l (Some kind) = record { device = refl; free = refl }
   sensed_does l None = record { device = refl; free = refl }
 
@@ -162,25 +162,25 @@ module _ (u : JudgedUnit) (n : Nexus) (bytes : List ℕ) where
   performs_does : (q : Request) → DoesAs u (Ok (Device q)) bytes (performs u n q bytes)
   performs_does q =
       elim (field_fault u.device q bytes) as (λ (o : Option Condition). fault_fails o ≡ false
-      → DoesAs u (Ok (Device q)) bytes (elim o [ Some condition ↦ (u, at_stage Fields, check condition) | None ↦ cond (unloads q && is_prevented u.kept) (u, at_stage stage.Device, check MediumRemovalPrevented) (steps u n (performed u.device q bytes)) ])) [
+      → DoesAs u (Ok (Device q)) bytes (elim o [ Some condition ↦ (u, at_stage Fields, check condition) | None ↦ cond (unloads q && is_prevented u.state) (u, at_stage stage.Device, check MediumRemovalPrevented) (steps u n (performed u.device q bytes)) ])) [
         | Some condition ↦ λ fields. inl (record { device = refl; refused = λ e. absurd cc; free = fields })
-        | None ↦ λ fields. stepped_does q (unloads q && is_prevented u.kept)
+        | None ↦ λ fields. stepped_does q (unloads q && is_prevented u.state)
       ] (field_free (kind_of u.device) q bytes)
 
   carried : (at : Cell) (c : Command) → DoesAs u (Ok c) bytes (at_cell at (carried_out u n c bytes))
   carried at (ReserveOut p) =
-      elim (refusal u.kept.reservations n p) as (λ (o : Option PrFault). DoesAs u (Ok (ReserveOut p)) bytes (at_cell at (elim o [ Some fault ↦ (u, at_stage Fields, check (condition_of_refusal fault)) | None ↦ (record u { kept = accepted u.kept n p }, at_stage stage.Device, good []) ]))) [
+      elim (refusal u.state.reservations n p) as (λ (o : Option PrFault). DoesAs u (Ok (ReserveOut p)) bytes (at_cell at (elim o [ Some fault ↦ (u, at_stage Fields, check (condition_of_refusal fault)) | None ↦ (record u { state = accepted u.state n p }, at_stage stage.Device, good []) ]))) [
         | Some fault ↦ record { device = refl; free = refusal_free fault }
         | None ↦ record { device = refl; free = refl }
       ]
   carried at (ReserveIn a l) = record { device = refl; free = refl }
-  carried at (Inquiry e p l) = data_does at (inquiry_data (kind_of u.device) u.kept.lun e p) l
-  carried at (ReportLuns s l) = data_does at (selected_luns u.kept.units s) l
+  carried at (Inquiry e p l) = data_does at (inquiry_data (kind_of u.device) u.state.lun e p) l
+  carried at (ReportLuns s l) = data_does at (selected_luns u.state.units s) l
   carried at (RequestSense true l) = record { device = refl; free = refl }
-  carried at (RequestSense false l) = sensed_does l (pending_of u.kept.slots n)
+  carried at (RequestSense false l) = sensed_does l (pending_of u.state.slots n)
   carried at (Prevent p) =
       either_beside (p == 0) _ _ (record { device = refl; free = refl })
-      (either_beside (p == 1) (record u { kept = prevented u.kept n }, at_stage stage.Device, good []) (u, at_stage Fields, check InvalidFieldInCdb) (record { device = refl; free = refl }) (record { device = refl; free = refl }))
+      (either_beside (p == 1) (record u { state = prevented u.state n }, at_stage stage.Device, good []) (u, at_stage Fields, check InvalidFieldInCdb) (record { device = refl; free = refl }) (record { device = refl; free = refl }))
   carried at (Device q) = performs_does q
 
   pub judged : (c : Result Command Condition) → decoding_fails c ≡ false → DoesAs u c bytes (judged_as u n c bytes)

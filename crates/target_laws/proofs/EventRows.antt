@@ -17,13 +17,13 @@ use Rattle.target_core.specs.declared.event.Event.TheVariants as event
 use Rattle.target_core.specs.Run.{AtUnit, Commands, Steps, Runs}
 use Rattle.target_laws.specs.Rows.{a, Sends, test_unit_ready, HasRun, attention_29, changer, drive, units, last_number_used, with_slots, IsBusyToA, BusyRuns, good_with, not_supported, met_a, LossesAndResets}
 
-never : (u : UnitView) → (has_room u.kept a ≡ true → HasNumber u → ⊥) → IsBusyToA u
+never : (u : UnitView) → (has_room u.state a ≡ true → HasNumber u → ⊥) → IsBusyToA u
 never u closed (event.Command n lun cdb bytes ∷ []) (r ∷ []) vs h run =
     let us = changer ∷ u ∷ [] in
     let at : AtUnit us 1 (Executes u n cdb.items bytes.items) (run.0, r) = subst (λ (k : ℕ). Commands us k n cdb.items bytes.items (run.0, r)) h.0.1 run.1 in
     elim at.step [
       | inl e ↦ (ap (λ (x : UnitView × Reply). x.1 ∷ []) e, run.2 ∙ at.units ∙ ap (λ (x : UnitView × Reply). changer ∷ x.0 ∷ []) e)
-      | inr e ↦ absurd (closed (subst (λ (m : Nexus). has_room u.kept m ≡ true) h.0.0 e.0) e.1)
+      | inr e ↦ absurd (closed (subst (λ (m : Nexus). has_room u.state m ≡ true) h.0.0 e.0) e.1)
     ]
 never u closed [] rs vs h run = absurd h
 never u closed (event.Loss n lun ∷ es) rs vs h run = absurd h.0
@@ -43,28 +43,28 @@ busy_runs = record {
 }
 
 lost_row : (rs : List Reply) (vs : List UnitView) → Runs (changer ∷ met_a ∷ []) (event.Loss a 1 ∷ []) rs vs
-    → (rs ≡ busy ∷ []) ⊎ ((rs ≡ good_with 2 ∷ []) × (map (λ (u : UnitView). u.kept.slots) vs ≡ [] ∷ ((a, NexusLoss ∷ []) ∷ []) ∷ []))
+    → (rs ≡ busy ∷ []) ⊎ ((rs ≡ good_with 2 ∷ []) × (map (λ (u : UnitView). u.state.slots) vs ≡ [] ∷ ((a, NexusLoss ∷ []) ∷ []) ∷ []))
 lost_row (r ∷ []) vs run =
     let at : AtUnit (changer ∷ met_a ∷ []) 1 (IsLost met_a a) (run.0, r) = run.1 in
     elim at.step [
       | inl b ↦ inl (ap (λ (x : UnitView × Reply). x.1 ∷ []) b.0)
       | inr l ↦ inr (
         ap (λ (x : Reply). x ∷ []) (l.2 ∙ ap (λ (x : UnitView × Option ℕ). event_reply (number_or_0 x.1)) l.1.1),
-        ap (λ (us : List UnitView). map (λ (u : UnitView). u.kept.slots) us) (run.2 ∙ at.units ∙ ap (λ (x : UnitView × Option ℕ). changer ∷ x.0 ∷ []) l.1.1),
+        ap (λ (us : List UnitView). map (λ (u : UnitView). u.state.slots) us) (run.2 ∙ at.units ∙ ap (λ (x : UnitView × Option ℕ). changer ∷ x.0 ∷ []) l.1.1),
       )
     ]
 lost_row [] vs run = absurd run
 lost_row (r ∷ q ∷ rs) vs run = absurd run.2
 
 reset_row : (rs : List Reply) (vs : List UnitView) → Runs (changer ∷ met_a ∷ []) (event.Reset 1 ∷ []) rs vs
-    → (rs ≡ busy ∷ []) ⊎ ((rs ≡ good_with 2 ∷ []) × (map (λ (u : UnitView). u.kept.slots) vs ≡ [] ∷ ((a, BusDeviceReset ∷ []) ∷ []) ∷ []))
+    → (rs ≡ busy ∷ []) ⊎ ((rs ≡ good_with 2 ∷ []) × (map (λ (u : UnitView). u.state.slots) vs ≡ [] ∷ ((a, BusDeviceReset ∷ []) ∷ []) ∷ []))
 reset_row (r ∷ []) vs run =
     let at : AtUnit (changer ∷ met_a ∷ []) 1 (IsReset met_a) (run.0, r) = run.1 in
     elim at.step [
       | inl b ↦ inl (ap (λ (x : UnitView × Reply). x.1 ∷ []) b)
       | inr l ↦ inr (
         ap (λ (x : Reply). x ∷ []) (l.2 ∙ ap (λ (x : UnitView × ℕ). event_reply x.1) l.1.1),
-        ap (λ (us : List UnitView). map (λ (u : UnitView). u.kept.slots) us) (run.2 ∙ at.units ∙ ap (λ (x : UnitView × ℕ). changer ∷ x.0 ∷ []) l.1.1),
+        ap (λ (us : List UnitView). map (λ (u : UnitView). u.state.slots) us) (run.2 ∙ at.units ∙ ap (λ (x : UnitView × ℕ). changer ∷ x.0 ∷ []) l.1.1),
       )
     ]
 reset_row [] vs run = absurd run

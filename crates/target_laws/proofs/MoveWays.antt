@@ -137,7 +137,7 @@ unnamed it true condition h = absurd cc
 unnamed it false condition h = cc
 
 given_as : (mark : Option VolumeTag) (d : UnitView) (o : Result (Volume × DeviceView) TakeFault) (condition : Condition) → given_by mark (taken_as d o) ≡ Err condition → condition ≡ InternalTargetFailure
-given_as mark d (Ok it) condition h = unnamed (it.0, with_event d None MediumOut (record { device = it.1; kept = d.kept })) (names_held mark (Some it.0.tag)) condition h
+given_as mark d (Ok it) condition h = unnamed (it.0, with_event d None MediumOut (record { device = it.1; state = d.state })) (names_held mark (Some it.0.tag)) condition h
 given_as mark d (Err fault) condition h = cc
 
 given_kind : (mark : Option VolumeTag) (d : UnitView) (k : Kind) (prevented : Bool) (condition : Condition) → given_by mark (out_by d k prevented) ≡ Err condition → condition ≡ stopped_by k prevented
@@ -146,13 +146,13 @@ given_kind mark d kind.Drive true condition h = cc
 given_kind mark d kind.Drive false condition h = given_as mark d (taken d.device 0) condition h
 
 given_stops : (mark : Option VolumeTag) (d : UnitView) (condition : Condition) → given mark d ≡ Err condition → condition ≡ stop_at (Some d)
-given_stops mark d condition h = given_kind mark d (kind_of d.device) (is_prevented d.kept) condition h
+given_stops mark d condition h = given_kind mark d (kind_of d.device) (is_prevented d.state) condition h
 
 -- nothing of it is reported of a drive that gives
 free_stop : (mark : Option VolumeTag) (d e : UnitView) (v : Volume) → given mark d ≡ Ok (v, e) → stop_at (Some d) ≡ InternalTargetFailure
 free_stop mark d e v h =
     let out = is_out d e v (is_given mark d e v h).out in
-    ap (λ (k : Kind). stopped_by k (is_prevented d.kept)) out.kind ∙ ap (stopped_by kind.Drive) out.free
+    ap (λ (k : Kind). stopped_by k (is_prevented d.state)) out.kind ∙ ap (stopped_by kind.Drive) out.free
 
 put_stops : (q : Route) (d : UnitView) (o : Result DeviceView PutFault) (condition : Condition) → put_down q d o ≡ Err condition → condition ≡ InternalTargetFailure
 put_stops q d (Ok after) condition h = absurd cc

@@ -29,7 +29,7 @@ use Rattle.target_laws.specs.Volumes.{Way, way_of, carried_by, writes, is_writte
 
 -- ONE COMMAND OF A: to the drive, to the changer alone, and to it with the drive
 module _ (c d : UnitView) where
-  to_drive : (e : Event) (cdb bytes : List ℕ) → Sends e (1, cdb, bytes) → has_room d.kept a ≡ true → ltb (last_number d + 1) (2 ^ 64) ≡ true
+  to_drive : (e : Event) (cdb bytes : List ℕ) → Sends e (1, cdb, bytes) → has_room d.state a ≡ true → ltb (last_number d + 1) (2 ^ 64) ≡ true
       → Steps (c ∷ d ∷ []) e (c ∷ (answered d a cdb bytes).0 ∷ [], (answered d a cdb bytes).1)
   to_drive (event.Command n lun cdb bytes) asked with_it h room number =
       let x = answered d a asked with_it in
@@ -37,7 +37,7 @@ module _ (c d : UnitView) where
   to_drive (event.Loss n lun) asked with_it h room number = absurd h
   to_drive (event.Reset lun) asked with_it h room number = absurd h
 
-  to_changer : (e : Event) (cdb bytes : List ℕ) → Sends e (0, cdb, bytes) → named (drives_of c.device) cdb ≡ [] → has_room c.kept a ≡ true → ltb (last_number c + 1) (2 ^ 64) ≡ true
+  to_changer : (e : Event) (cdb bytes : List ℕ) → Sends e (0, cdb, bytes) → named (drives_of c.device) cdb ≡ [] → has_room c.state a ≡ true → ltb (last_number c + 1) (2 ^ 64) ≡ true
       → Steps (c ∷ d ∷ []) e ((answered c a cdb bytes).0 ∷ d ∷ [], (answered c a cdb bytes).1)
   to_changer (event.Command n lun cdb bytes) asked with_it h names room number =
       let us = c ∷ d ∷ [] in
@@ -47,7 +47,7 @@ module _ (c d : UnitView) where
   to_changer (event.Loss n lun) asked with_it h names room number = absurd h
   to_changer (event.Reset lun) asked with_it h names room number = absurd h
 
-  with_drive : (e : Event) (cdb bytes : List ℕ) → Sends e (0, cdb, bytes) → named (drives_of c.device) cdb ≡ 1 ∷ [] → has_room c.kept a ≡ true → ltb (last_number c + 1) (2 ^ 64) ≡ true → ltb (last_number d + 1) (2 ^ 64) ≡ true
+  with_drive : (e : Event) (cdb bytes : List ℕ) → Sends e (0, cdb, bytes) → named (drives_of c.device) cdb ≡ 1 ∷ [] → has_room c.state a ≡ true → ltb (last_number c + 1) (2 ^ 64) ≡ true → ltb (last_number d + 1) (2 ^ 64) ≡ true
       → let x = moved_one c d a cdb bytes in Steps (c ∷ d ∷ []) e (x.0.0 ∷ x.1 ∷ [], x.0.1)
   with_drive (event.Command n lun cdb bytes) asked with_it h names room number other =
       let us = c ∷ d ∷ [] in

@@ -43,9 +43,9 @@ run_grows us vs (e ∷ es) (r ∷ rs) lun u run here =
       kind = k.kind ∙ g.kind;
       history =
           k.history
-          ∙ ap (λ (kind : Kind). after_history m.kept.reservations (accepted_in kind lun es rs)) g.kind
+          ∙ ap (λ (kind : Kind). after_history m.state.reservations (accepted_in kind lun es rs)) g.kind
           ∙ ap (λ (w : State). after_history w (accepted_in (kind_of u.device) lun es rs)) g.history
-          ∙ sym (fold-append _ u.kept.reservations (accepted_at (kind_of u.device) lun e r) (accepted_in (kind_of u.device) lun es rs));
+          ∙ sym (fold-append _ u.state.reservations (accepted_at (kind_of u.device) lun e r) (accepted_in (kind_of u.device) lun es rs));
     }
 run_grows us vs [] (r ∷ rs) lun u run here = absurd run
 run_grows us vs (e ∷ es) [] lun u run here = absurd run

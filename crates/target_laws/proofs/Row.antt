@@ -30,7 +30,7 @@ last_of u (s ∷ l) = last_of (answered u s.0 s.1 s.2).0 l
 -- whether there is always room, and a number
 abbrev is_open : UnitView → List Sending → Bool
 is_open u [] = true
-is_open u (s ∷ l) = has_room u.kept s.0 && (ltb (last_number u + 1) (2 ^ 64) && is_open (answered u s.0 s.1 s.2).0 l)
+is_open u (s ∷ l) = has_room u.state s.0 && (ltb (last_number u + 1) (2 ^ 64) && is_open (answered u s.0 s.1 s.2).0 l)
 
 and_left : (x y : Bool) → (x && y) ≡ true → x ≡ true
 and_left true y e = refl
@@ -45,7 +45,7 @@ abbrev added : Kind → List Sending → List Reply → List Accepted
 added kind (s ∷ l) (r ∷ rs) = accepted_by kind s.0 s.1 s.2 r.status ++ added kind l rs
 added kind l rs = []
 
-pub step : (u : UnitView) (e : Event) (s : Sending) → Sends e s → has_room u.kept s.0 ≡ true → ltb (last_number u + 1) (2 ^ 64) ≡ true → Steps (changer ∷ u ∷ []) e (changer ∷ (answered u s.0 s.1 s.2).0 ∷ [], (answered u s.0 s.1 s.2).1)
+pub step : (u : UnitView) (e : Event) (s : Sending) → Sends e s → has_room u.state s.0 ≡ true → ltb (last_number u + 1) (2 ^ 64) ≡ true → Steps (changer ∷ u ∷ []) e (changer ∷ (answered u s.0 s.1 s.2).0 ∷ [], (answered u s.0 s.1 s.2).1)
 step u (event.Command n lun cdb bytes) s h room number =
     let x = answered u s.0 s.1 s.2 in
     rw (h.0, h.1, h.2, h.3) (record { unit = x.0; step = inr (room, ltb-true (last_number u + 1) (2 ^ 64) number, refl); units = refl })
@@ -56,7 +56,7 @@ runs : (u : UnitView) (es : List Event) (l : List Sending) → AllSend es l → 
 runs u [] [] h opens = refl
 runs u (e ∷ es) (s ∷ l) h opens =
     let x = answered u s.0 s.1 s.2 in
-    let room = has_room u.kept s.0 in
+    let room = has_room u.state s.0 in
     let number = ltb (last_number u + 1) (2 ^ 64) in
     let rest = is_open x.0 l in
     let after = and_right room (number && rest) opens in
@@ -83,8 +83,8 @@ is_open_sent tag = refl
 
 -- what stands before the k-th command
 module _ (tag : VolumeTag) (es : List Event) (h : AllSend es sent) where
-  by : (k : ℕ) → by_history (drive tag) 1 (take k es) (take k (replies_of (drive tag) sent)) ≡ after_history (drive tag).kept.reservations (added (kind_of (drive tag).device) (take k sent) (take k (replies_of (drive tag) sent)))
-  by k = ap (λ (x : List Accepted). after_history (drive tag).kept.reservations x) (adds (kind_of (drive tag).device) k es sent (take k (replies_of (drive tag) sent)) h)
+  by : (k : ℕ) → by_history (drive tag) 1 (take k es) (take k (replies_of (drive tag) sent)) ≡ after_history (drive tag).state.reservations (added (kind_of (drive tag).device) (take k sent) (take k (replies_of (drive tag) sent)))
+  by k = ap (λ (x : List Accepted). after_history (drive tag).state.reservations x) (adds (kind_of (drive tag).device) k es sent (take k (replies_of (drive tag) sent)) h)
 
 pub worked : (tag : VolumeTag) (es : List Event) → AllSend es sent → IsWorked tag es
 unfolding cdb.command_of keys_after

@@ -201,7 +201,7 @@ lost_as u v n number true is = ap (λ (x : UnitView × Option ℕ). x.0.device) 
 
 pub lost_device : (u v : UnitView) (n : Nexus) (r : Reply) → IsLost u n (v, r) → v.device ≡ u.device
 lost_device u v n r (inl busy) = ap (λ (x : UnitView × Reply). x.0.device) busy.0
-lost_device u v n r (inr lost) = lost_as u v n lost.0 (has_slot u.kept.slots n) lost.1
+lost_device u v n r (inr lost) = lost_as u v n lost.0 (has_slot u.state.slots n) lost.1
 
 pub reset_device : (u v : UnitView) (r : Reply) → IsReset u (v, r) → (v.device ≡ u.device) ⊎ (v.device ≡ reset_of u.device)
 reset_device u v r (inl busy) = inl (ap (λ (x : UnitView × Reply). x.0.device) busy)

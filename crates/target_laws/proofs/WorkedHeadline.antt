@@ -88,15 +88,15 @@ unfolding commands.command_of keys_after
 answers_4 tag = refl
 
 -- a command that is answered so is made so, and served
-module _ (u v : UnitView) (n : Nexus) (cdb bytes : List ℕ) (r : Reply) (is : ◌≡◌ {A = Pair} (v, r) (answered u n cdb bytes)) (room : has_room u.kept n ≡ true) (number : HasNumber u) where
+module _ (u v : UnitView) (n : Nexus) (cdb bytes : List ℕ) (r : Reply) (is : ◌≡◌ {A = Pair} (v, r) (answered u n cdb bytes)) (room : has_room u.state n ≡ true) (number : HasNumber u) where
   makes : CommandsAt (beside u) 1 (Some u) n cdb bytes (beside v, r)
   makes = record { unit = v; step = inr (room, number, is); units = refl }
 
-  serves : IsServed u.kept.reservations (beside u) (beside v) 1 n cdb bytes r
-  serves = is_served u.kept.reservations (beside u) (beside v) 1 u n cdb bytes r refl refl makes
+  serves : IsServed u.state.reservations (beside u) (beside v) 1 n cdb bytes r
+  serves = is_served u.state.reservations (beside u) (beside v) 1 u n cdb bytes r refl refl makes
 
-  decides : (command : Command) → ComesToTheCheck u n cdb bytes command → IsDecidedBy u.kept.reservations (beside u) (beside v) 1 u v n cdb bytes command r
-  decides command comes = decided u.kept.reservations (beside u) (beside v) 1 u v n cdb bytes r refl is (λ w. absurd (alone (beside u) u cdb w)) command comes
+  decides : (command : Command) → ComesToTheCheck u n cdb bytes command → IsDecidedBy u.state.reservations (beside u) (beside v) 1 u v n cdb bytes command r
+  decides command comes = decided u.state.reservations (beside u) (beside v) 1 u v n cdb bytes r refl is (λ w. absurd (alone (beside u) u cdb w)) command comes
 
   event_makes : (x : Bytes) → Spells x cdb bytes → Steps (beside u) (sent_by n x) (beside v, r)
   event_makes x spells = rw (spells.cdb_is, spells.bytes_are) makes
@@ -249,7 +249,7 @@ pub not_served : (tag : VolumeTag) → NotServed tag
 not_served tag = record {
   history = λ h.
       let was : h.now ≡ at_first tag = same_some h.now (at_first tag) (sym h.there) in
-      let e = ap keys_of (sym h.history ∙ ap (λ (u : UnitView). u.kept.reservations) was) in
+      let e = ap keys_of (sym h.history ∙ ap (λ (u : UnitView). u.state.reservations) was) in
       cc;
   others = λ h. elim (h.others 0 (λ e. cc)) [
     | inl same ↦ let e = ap (λ (u : UnitView). u.records) (same_some (record changer { records = entry_allowed ∷ [] }) changer same) in cc

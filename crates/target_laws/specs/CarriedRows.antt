@@ -1,7 +1,7 @@
 -- Worked rows of a move with a drive: the volume in 0400h goes into the drive at 0100h, LUN 1. Which volume it is, where it comes from and
 -- goes to, and that the changer's other elements stay; what isn't such a move; and what is reported where none can go.
 use Rattle.std.specs.Prelude.{◌≡◌, ℕ, false, List, [], ◌∷◌, Option, Some, None}
-use Rattle.permit_tables.specs.declared.classes.Class.TheVariants as class
+use Rattle.scsi_cdb.specs.declared.classes.Class.TheVariants as class
 use Rattle.permit_tables.specs.declared.res_type.ResType.TheVariants as restype
 use Rattle.permit_tables.specs.declared.role.Role.TheVariants.{Other}
 use Rattle.scsi_nexus.specs.declared.nexus.Nexus.{Nexus}
@@ -56,7 +56,7 @@ changer_with device =
 
 abbrev pub drive_with : VolumeTag → UnitView
 drive_with tag = let u = full_drive 1 tag in record u {
-  kept = record u.kept { slots = (a, MediumChanged ∷ []) ∷ (b, MediumChanged ∷ []) ∷ [] };
+  state = record u.state { slots = (a, MediumChanged ∷ []) ∷ (b, MediumChanged ∷ []) ∷ [] };
   records = entry None act.MediumIn None ∷ [];
 }
 

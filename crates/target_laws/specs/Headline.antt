@@ -43,11 +43,11 @@ use Rattle.target_core.specs.Laws.{accepted_in}
 -- the registrations, the reservation and the generation of a unit by its history: what stood at first, and then the PERSISTENT RESERVE OUT
 -- commands to it that ended GOOD, oldest first
 abbrev pub by_history : UnitView → (lun : ℕ) → List Event → List Reply → State
-by_history u lun es rs = after_history u.kept.reservations (accepted_in (kind_of u.device) lun es rs)
+by_history u lun es rs = after_history u.state.reservations (accepted_in (kind_of u.device) lun es rs)
 
 -- the record of a refused command: the cell of the permission table that it stands in by the reservations h, and the rule on keys if one was broken
-abbrev pub refusal_entry : (h : State) → UnitView → Nexus → Command → Record
-refusal_entry h now n command = record_of (last_number now + 1) (Some n) (act_of_command command) (in_conflict (cell h n (class_of_command command)) (rule_of (verdict_of h n command))) ReservationConflict None
+abbrev pub refusal_record : (h : State) → UnitView → Nexus → Command → Record
+refusal_record h now n command = record_of (last_number now + 1) (Some n) (act_of_command command) (in_conflict (cell h n (class_of_command command)) (rule_of (verdict_of h n command))) ReservationConflict None
 
 -- a refused command: RESERVATION CONFLICT changes nothing at the unit
 pub record IsRefused (h : State) (now left : UnitView) (n : Nexus) (command : Command) (r : Reply) : Type 0 where
@@ -56,12 +56,12 @@ pub record IsRefused (h : State) (now left : UnitView) (n : Nexus) (command : Co
   -- the device is as it was
   pub device : left.device ≡ now.device
   -- so are the registrations, the reservation and the generation
-  pub reservations : left.kept.reservations ≡ now.kept.reservations
+  pub reservations : left.state.reservations ≡ now.state.reservations
   -- and all else that the unit keeps, but that its sender now had contact
-  pub contact : left.kept ≡ after_contact now.kept n
+  pub contact : left.state ≡ after_contact now.state n
   -- and the records are those that were there and one more: it names the sender's cell of the permission table, and the rule on keys if one decided
   pub base : left.base ≡ now.base
-  pub entry : left.records ≡ now.records ++ refusal_entry h now n command ∷ []
+  pub entry : left.records ≡ now.records ++ refusal_record h now n command ∷ []
 
 -- the answer behind the check
 abbrev pub behind : UnitView → Nexus → Command → List ℕ → JudgedUnit × Decision × Reply
@@ -119,7 +119,7 @@ GoesBy mid next before after way = Goes mid next before after way.source way.fro
 abbrev pub stop_at : Option UnitView → Condition
 stop_at None = InternalTargetFailure
 stop_at (Some drive) = elim (kind_of drive.device) [
-  | kind.Drive ↦ if is_prevented drive.kept then MediumRemovalPrevented else InternalTargetFailure
+  | kind.Drive ↦ if is_prevented drive.state then MediumRemovalPrevented else InternalTargetFailure
   | kind.Changer ↦ InternalTargetFailure
 ]
 
@@ -148,7 +148,7 @@ pub record IsAlone (mid : List UnitView) (lun : ℕ) (now left : UnitView) (n : 
 -- how the changer ends a move that it left to the drives: with its device after it, and an answer
 abbrev pub EndsWith : (now left : UnitView) → Nexus → (bytes : List ℕ) → Command → Reply → DeviceView → Reply → Type 0
 EndsWith now left n bytes command r device answer =
-    (left, r) ≡ recorded now n (act_of_command command) (record { device = device; kept = now.kept }, (behind now n command bytes).1, answer)
+    (left, r) ≡ recorded now n (act_of_command command) (record { device = device; state = now.state }, (behind now n command bytes).1, answer)
 
 -- the volume goes: GOOD
 pub record IsCarriedOut (mid next : List UnitView) (now left : UnitView) (n : Nexus) (bytes : List ℕ) (command : Command) (r : Reply) (way : Route) : Type 0 where
@@ -196,7 +196,7 @@ pub record IsBarred (h : State) (now : UnitView) (n : Nexus) (cdb bytes : List �
 -- a command that isn't answered BUSY
 pub record IsAnswered (h : State) (mid next : List UnitView) (lun : ℕ) (now left : UnitView) (n : Nexus) (cdb bytes : List ℕ) (r : Reply) : Type 0 where
   -- its sender had a slot, or there was room for one, and there was a number for its record
-  pub room : has_room now.kept n ≡ true
+  pub room : has_room now.state n ≡ true
   pub number : HasNumber now
   -- its status isn't BUSY, so that the status tells which of the two it was
   pub not_busy : r.status ≢ Busy
@@ -222,15 +222,15 @@ pub record IsServed (h : State) (mid next : List UnitView) (lun : ℕ) (n : Nexu
   pub there : slice_get mid lun ≡ Some now
   pub stays : slice_get next lun ≡ Some left
   -- its registrations, reservation and generation are what the history left
-  pub history : now.kept.reservations ≡ h
+  pub history : now.state.reservations ≡ h
   -- and then what the history leaves with this command, if it is accepted
-  pub leaves : left.kept.reservations ≡ after_history h (accepted_by (kind_of now.device) n cdb bytes r.status)
+  pub leaves : left.state.reservations ≡ after_history h (accepted_by (kind_of now.device) n cdb bytes r.status)
   -- every other unit stays as it was, but for a drive that gives or takes the volume of a GOOD move
   pub others : (k : ℕ) → k ≢ lun → (slice_get next k ≡ slice_get mid k) ⊎ IsMovedAt mid next lun now left cdb r k
   -- it is answered BUSY, or by the history
   pub answer : IsBusy mid next r ⊎ IsAnswered h mid next lun now left n cdb bytes r
   -- and BUSY must come where its sender has no slot and none is left, and where there is no number for its record
-  pub full : (has_room now.kept n ≡ false) ⊎ ¬ HasNumber now → IsBusy mid next r
+  pub full : (has_room now.state n ≡ false) ⊎ ¬ HasNumber now → IsBusy mid next r
 
 -- THE HEADLINE. A command in a run, at its place among the events and replies, to a unit that is there at the start
 pub record IsAsked (us vs : List UnitView) (before after : List Event) (rs qs : List Reply) (n : Nexus) (lun : ℕ) (cdb : ArrayVec ℕ) (bytes : Vec ℕ) (r : Reply) (u : UnitView) : Type 0 where

@@ -4,7 +4,7 @@
 use Rattle.std.specs.Prelude.{◌≡◌, ℕ, true, false, List, [], ◌∷◌, ◌++◌, length, replicate, Some, None}
 use Rattle.std.specs.Global.{Vec}
 use Rattle.arrayvec.specs.ArrayVec.{ArrayVec}
-use Rattle.permit_tables.specs.declared.classes.Class.TheVariants as class
+use Rattle.scsi_cdb.specs.declared.classes.Class.TheVariants as class
 use Rattle.permit_tables.specs.declared.key_rule.KeyRule.TheVariants.{K1, K2}
 use Rattle.permit_tables.specs.declared.res_type.ResType.TheVariants.{Ea}
 use Rattle.permit_tables.specs.declared.role.Role.{Role}
@@ -44,11 +44,11 @@ device_with tag objects = Drive (record {
   block_length = 0;
 })
 
-abbrev pub kept : UnitStateView
-kept = record { lun = 1; units = 2; reservations = held; slots = (a, []) ∷ (b, []) ∷ []; preventers = [] }
+abbrev pub state : UnitStateView
+state = record { lun = 1; units = 2; reservations = held; slots = (a, []) ∷ (b, []) ∷ []; preventers = [] }
 
 abbrev pub unit : VolumeTag → List Object → List Record → UnitView
-unit tag objects records = record { device = device_with tag objects; kept = kept; base = record { kept = kept; last = 0 }; records = records }
+unit tag objects records = record { device = device_with tag objects; state = state; base = record { state = state; last = 0 }; records = records }
 
 -- the records of the four commands: of B's WRITE(6) by the role in its cell
 abbrev pub entry_allowed : Record
@@ -201,11 +201,11 @@ pub record NotRefused (tag : VolumeTag) : Type 0 where
   -- the device is written on
   pub device : ¬ refused_as tag (record (at_2 tag) { device = device_with tag (Block block ∷ Block block ∷ []) }) (conflict_with 2)
   -- a registration, what waits, and who prevents removal
-  pub registration : ¬ refused_as tag (record (at_2 tag) { kept = record kept { reservations = registered } }) (conflict_with 2)
-  pub attention : ¬ refused_as tag (record (at_2 tag) { kept = record kept { slots = (a, []) ∷ (b, NexusLoss ∷ []) ∷ [] } }) (conflict_with 2)
-  pub prevention : ¬ refused_as tag (record (at_2 tag) { kept = record kept { preventers = b ∷ [] } }) (conflict_with 2)
+  pub registration : ¬ refused_as tag (record (at_2 tag) { state = record state { reservations = registered } }) (conflict_with 2)
+  pub attention : ¬ refused_as tag (record (at_2 tag) { state = record state { slots = (a, []) ∷ (b, NexusLoss ∷ []) ∷ [] } }) (conflict_with 2)
+  pub prevention : ¬ refused_as tag (record (at_2 tag) { state = record state { preventers = b ∷ [] } }) (conflict_with 2)
   -- the base
-  pub base : ¬ refused_as tag (record (at_2 tag) { base = record { kept = kept; last = 1 } }) (conflict_with 2)
+  pub base : ¬ refused_as tag (record (at_2 tag) { base = record { state = state; last = 1 } }) (conflict_with 2)
   -- the records: another cell in the entry, no sender, no record, a second one, and one that is gone
   pub cell : ¬ refused_as tag (unit tag (Block block ∷ []) (entry_allowed ∷ entry_denied Holder ∷ [])) (conflict_with 2)
   pub sender : ¬ refused_as tag (unit tag (Block block ∷ []) (entry_allowed ∷ record (entry_denied Other) { nexus = None } ∷ [])) (conflict_with 2)

@@ -2,8 +2,8 @@
 -- one of A allowed, and one of B breaks a rule on keys; runs that must be answered BUSY; losses and resets; and units that make a target.
 use Rattle.std.specs.Global.{Global}
 use Rattle.std.specs.Prelude.{◌≡◌, ◌⊎◌, ℕ, zero, suc, true, false, List, [], ◌∷◌, ◌++◌, map, replicate, take, Some, None, Ok}
-use Rattle.permit_tables.specs.declared.service_action.OutServiceAction.TheVariants as out
-use Rattle.permit_tables.specs.declared.classes.Class.TheVariants as class
+use Rattle.scsi_cdb.specs.declared.service_action.OutServiceAction.TheVariants as out
+use Rattle.scsi_cdb.specs.declared.classes.Class.TheVariants as class
 use Rattle.scsi_cdb.specs.declared.kind.Kind.TheVariants as kind
 use Rattle.scsi_cdb.specs.declared.request.Request.TheVariants as request
 use Rattle.scsi_nexus.specs.declared.nexus.Nexus.{Nexus}
@@ -161,7 +161,7 @@ slots_to zero = []
 slots_to (suc k) = slots_to k ++ (record { sas = k; port = 1 }, []) ∷ []
 
 abbrev pub with_slots : ℕ → UnitView
-with_slots count = let u = made (Drive empty_drive) 1 2 0 in record u { kept = record u.kept { slots = slots_to count } }
+with_slots count = let u = made (Drive empty_drive) 1 2 0 in record u { state = record u.state { slots = slots_to count } }
 
 -- in any run of one TEST UNIT READY of A, to such a drive, it is BUSY, and nothing has changed
 abbrev pub IsBusyToA : UnitView → Type 0
@@ -181,8 +181,8 @@ pub record BusyRuns : Type 0 where
   pub no_slot : IsBusyToA (with_slots 128)
   pub has_no_slot : (heap : Global) → HasBusyRun (with_slots 128)
   -- there is room where 127 slots are used, and for a nexus that has one of 128
-  pub last_slot : has_room (with_slots 127).kept a ≡ true
-  pub has_slot : has_room (with_slots 128).kept (record { sas = 127; port = 1 }) ≡ true
+  pub last_slot : has_room (with_slots 127).state a ≡ true
+  pub has_slot : has_room (with_slots 128).state (record { sas = 127; port = 1 }) ≡ true
 
 -- GOOD, with the number of a record, and CHECK CONDITION with 25h/00h
 abbrev pub good_with : (number : ℕ) → Reply
@@ -207,7 +207,7 @@ attention_29 ascq number = record {
 
 -- a drive whose record 1 is of A's contact
 abbrev pub met_a : UnitView
-met_a = let u = made (Drive empty_drive) 1 2 1 in record u { kept = record u.kept { slots = (a, []) ∷ [] } }
+met_a = let u = made (Drive empty_drive) 1 2 1 in record u { state = record u.state { slots = (a, []) ∷ [] } }
 
 -- some run of these events ends with these replies
 pub record HasRun (us : List UnitView) (es : List Event) (rs : List Reply) : Type 0 where
@@ -219,11 +219,11 @@ pub record LossesAndResets (tag : VolumeTag) : Type 0 where
   pub unknown : Runs (units tag) (event.Loss a 1 ∷ []) (good_with 0 ∷ []) (units tag)
   -- that of one that has a slot is told to it, as 29h/07h, and has a record
   pub lost : (rs : List Reply) (vs : List UnitView) → Runs (changer ∷ met_a ∷ []) (event.Loss a 1 ∷ []) rs vs
-      → (rs ≡ busy ∷ []) ⊎ ((rs ≡ good_with 2 ∷ []) × (map (λ (u : UnitView). u.kept.slots) vs ≡ [] ∷ ((a, NexusLoss ∷ []) ∷ []) ∷ []))
+      → (rs ≡ busy ∷ []) ⊎ ((rs ≡ good_with 2 ∷ []) × (map (λ (u : UnitView). u.state.slots) vs ≡ [] ∷ ((a, NexusLoss ∷ []) ∷ []) ∷ []))
   pub has_lost : HasRun (changer ∷ met_a ∷ []) (event.Loss a 1 ∷ []) (good_with 2 ∷ [])
   -- a reset has a record, and is told to each nexus that has a slot, as 29h/03h
   pub was_reset : (rs : List Reply) (vs : List UnitView) → Runs (changer ∷ met_a ∷ []) (event.Reset 1 ∷ []) rs vs
-      → (rs ≡ busy ∷ []) ⊎ ((rs ≡ good_with 2 ∷ []) × (map (λ (u : UnitView). u.kept.slots) vs ≡ [] ∷ ((a, BusDeviceReset ∷ []) ∷ []) ∷ []))
+      → (rs ≡ busy ∷ []) ⊎ ((rs ≡ good_with 2 ∷ []) × (map (λ (u : UnitView). u.state.slots) vs ≡ [] ∷ ((a, BusDeviceReset ∷ []) ∷ []) ∷ []))
   pub has_reset : HasRun (changer ∷ met_a ∷ []) (event.Reset 1 ∷ []) (good_with 2 ∷ [])
   -- what A's next command is told then: 29h/07h of the loss, and 29h/03h of the reset
   pub told_loss : (e : Event) → Sends e (a, test_unit_ready, []) → HasRun (changer ∷ met_a ∷ []) (event.Loss a 1 ∷ e ∷ []) (good_with 2 ∷ attention_29 0x07 3 ∷ [])

@@ -42,8 +42,8 @@ barred_write tag = record {
   good = λ d. let e = d.conflicts.1 (λ allowed. cc) in cc;
   unnumbered = λ d. let e : 0 ≡ 1 = ap (λ (x : UnitView × Reply). x.1.number) (d.unchanged (λ allowed. cc)) in omega arith;
   with_data = λ d. let e : 1 ≡ 0 = ap (λ (x : UnitView × Reply). length x.1.payload) (d.unchanged (λ allowed. cc)) in omega arith;
-  registration_lost = λ d. let e : 0 ≡ 1 = ap (λ (x : UnitView × Reply). length x.0.kept.reservations.keys) (d.unchanged (λ allowed. cc)) in omega arith;
-  prevented = λ d. let e : 1 ≡ 0 = ap (λ (x : UnitView × Reply). length x.0.kept.preventers) (d.unchanged (λ allowed. cc)) in omega arith;
+  registration_lost = λ d. let e : 0 ≡ 1 = ap (λ (x : UnitView × Reply). length x.0.state.reservations.keys) (d.unchanged (λ allowed. cc)) in omega arith;
+  prevented = λ d. let e : 1 ≡ 0 = ap (λ (x : UnitView × Reply). length x.0.state.preventers) (d.unchanged (λ allowed. cc)) in omega arith;
   written = λ d. let e : 1 ≡ 0 = ap (λ (x : UnitView × Reply). position_in x.0.device) (d.unchanged (λ allowed. cc)) in omega arith;
   unloaded = λ d. let e : false ≡ true = ap (λ (x : UnitView × Reply). is_loaded_in x.0.device) (d.unchanged (λ allowed. cc)) in cc;
   unrecorded = λ d. let e : 0 ≡ 1 = ap (λ (x : UnitView × Reply). length x.0.records) (d.unchanged (λ allowed. cc)) in omega arith;

@@ -2,8 +2,8 @@
 use Rattle.std.proofs.Common.{◌≡◌, ◌≢◌, zero, suc, List, [], ◌∷◌, Option, Some, None, refl, sym, ◌∙◌, inl, inr, arith}
 use Rattle.std.specs.Prelude.{◌↔◌, ◌⊎◌}
 use Rattle.std.specs.List.{All}
-use Rattle.permit_tables.specs.declared.classes.Class.{Class}
-use Rattle.permit_tables.specs.Classes.{class_of_action}
+use Rattle.scsi_cdb.specs.declared.classes.Class.{Class}
+use Rattle.scsi_cdb.specs.Classes.{class_of_action}
 use Rattle.scsi_nexus.specs.declared.nexus.Nexus.{Nexus}
 use Rattle.scsi_sense.specs.declared.status.Status.TheVariants.{ReservationConflict}
 use Rattle.unit_attention.specs.declared.kind.Kind.{Kind}
@@ -105,4 +105,4 @@ all k (e ∷ es) j zero d within = judged k e.nexus e.act e j.0
 all k (e ∷ es) j (suc place) d within = all (kept_by k e) es j.1 place d (omega (arith, within))
 
 pub conflicts : ConflictsAtTheCheck
-conflicts base es now trail = all base.kept es trail.judged
+conflicts base es now trail = all base.state es trail.judged

@@ -1,7 +1,7 @@
 -- The rows of legal trails: each legal record is what judgement says, and each neighbour differs from it at one place.
 use Rattle.std.proofs.Common.{◌≡◌, ℕ, Bool, true, false, ◌==◌, ◌||◌, Option, Some, None, inl, inr, refl, ap, ◌∙◌, is_none, length, arith}
-use Rattle.permit_tables.specs.declared.classes.Class.{Class}
-use Rattle.permit_tables.specs.declared.classes.Class.TheVariants as class
+use Rattle.scsi_cdb.specs.declared.classes.Class.{Class}
+use Rattle.scsi_cdb.specs.declared.classes.Class.TheVariants as class
 use Rattle.permit_tables.specs.declared.cell.Cell.{Cell}
 use Rattle.permit_tables.specs.declared.res_type.ResType.{ResType}
 use Rattle.permit_tables.specs.declared.res_type.ResType.TheVariants as restype
@@ -40,7 +40,7 @@ abbrev qualifier_in : Option Sense → ℕ
 qualifier_in None = 0
 qualifier_in (Some sense) = sense.ascq
 
--- the additional sense codes of bytes that spell no command
+-- the additional sense codes of bytes that decode to no command
 abbrev is_decoding_code : ℕ → Bool
 is_decoding_code asc = (asc == 0x20) || ((asc == 0x24) || (asc == 0x1A))
 

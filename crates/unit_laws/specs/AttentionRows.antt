@@ -16,7 +16,7 @@ use Rattle.unit_laws.specs.Rows.{a, b, c, slots_with, kept_by_a, volume, drive_o
 
 -- the drive with its volume, by what it keeps
 abbrev pub drive_with : VolumeTag → UnitStateView → UnitView
-drive_with tag kept = unit_with (drive_of (Some (volume tag)) true) kept
+drive_with tag state = unit_with (drive_of (Some (volume tag)) true) state
 
 -- the sense data that a nexus is told by its next TEST UNIT READY, none where it is GOOD
 abbrev pub told : UnitView → Nexus → List ℕ
@@ -74,19 +74,19 @@ selected tag high low =
 
 -- every other slot is told, where the block length changes
 pub record RaisedByModeSelect (tag : VolumeTag) : Type 0 where
-  pub waits : (selected tag 0x02 0x00).kept.slots ≡ (a, []) ∷ (b, ModeParametersChanged ∷ []) ∷ (c, ModeParametersChanged ∷ []) ∷ []
+  pub waits : (selected tag 0x02 0x00).state.slots ≡ (a, []) ∷ (b, ModeParametersChanged ∷ []) ∷ (c, ModeParametersChanged ∷ []) ∷ []
   pub told_b : told (selected tag 0x02 0x00) b ≡ sense_with 6 0x2A 0x01
   pub told_c : told (selected tag 0x02 0x00) c ≡ sense_with 6 0x2A 0x01
   pub not_a : told (selected tag 0x02 0x00) a ≡ []
-  pub unchanged : (selected tag 0x00 0x00).kept.slots ≡ (a, []) ∷ (b, []) ∷ (c, []) ∷ []
+  pub unchanged : (selected tag 0x00 0x00).state.slots ≡ (a, []) ∷ (b, []) ∷ (c, []) ∷ []
 
 -- A (key 1) holds, and B has key 2; A's PERSISTENT RESERVE OUT by service action, scope and type, and keys
 abbrev pub both : ResType → (preventers : List Nexus) → UnitStateView
 both type preventers = record (kept_by_a (slots_with []) preventers) { reservations = record { keys = (a, 1) ∷ (b, 2) ∷ []; reservation = Some (type, a); generation = 2 } }
 
 abbrev pub reserved_out : VolumeTag → UnitStateView → (action scope_type sark : ℕ) → UnitView
-reserved_out tag kept action scope_type sark =
-    (answered (drive_with tag kept) a (0x5F ∷ action ∷ scope_type ∷ 0 ∷ 0 ∷ 0 ∷ 0 ∷ 0 ∷ 0x18 ∷ 0 ∷ []) (keys 1 sark)).0
+reserved_out tag state action scope_type sark =
+    (answered (drive_with tag state) a (0x5F ∷ action ∷ scope_type ∷ 0 ∷ 0 ∷ 0 ∷ 0 ∷ 0 ∷ 0x18 ∷ 0 ∷ []) (keys 1 sark)).0
 
 -- CLEAR, RELEASE of Write Exclusive - Registrants Only, and PREEMPT of B's key
 pub record RaisedByReservations (tag : VolumeTag) : Type 0 where
@@ -99,15 +99,15 @@ pub record RaisedByReservations (tag : VolumeTag) : Type 0 where
 
 pub record PreventionsEnd (tag : VolumeTag) : Type 0 where
   -- a loss of the nexus, and of no other; a reset
-  pub loss : (loses (drive_with tag (both Ea (a ∷ b ∷ []))) a).kept.preventers ≡ b ∷ []
-  pub loss_of_another : (loses (drive_with tag (both Ea (a ∷ []))) b).kept.preventers ≡ a ∷ []
-  pub reset : (resets (drive_with tag (both Ea (a ∷ b ∷ [])))).kept.preventers ≡ []
+  pub loss : (loses (drive_with tag (both Ea (a ∷ b ∷ []))) a).state.preventers ≡ b ∷ []
+  pub loss_of_another : (loses (drive_with tag (both Ea (a ∷ []))) b).state.preventers ≡ a ∷ []
+  pub reset : (resets (drive_with tag (both Ea (a ∷ b ∷ [])))).state.preventers ≡ []
   -- PREEMPT AND ABORT that removes it, where PREEMPT leaves it; one that is refused, of key 0, and one of another key end nothing
-  pub preempt_and_abort : (reserved_out tag (both Ea (a ∷ b ∷ [])) 5 3 2).kept.preventers ≡ a ∷ []
-  pub preempt : (reserved_out tag (both Ea (a ∷ b ∷ [])) 4 3 2).kept.preventers ≡ a ∷ b ∷ []
-  pub refused : (reserved_out tag (both Ea (a ∷ b ∷ [])) 5 3 0).kept.preventers ≡ a ∷ b ∷ []
-  pub another_key : (reserved_out tag (both Ea (a ∷ b ∷ [])) 5 3 9).kept.preventers ≡ a ∷ b ∷ []
+  pub preempt_and_abort : (reserved_out tag (both Ea (a ∷ b ∷ [])) 5 3 2).state.preventers ≡ a ∷ []
+  pub preempt : (reserved_out tag (both Ea (a ∷ b ∷ [])) 4 3 2).state.preventers ≡ a ∷ b ∷ []
+  pub refused : (reserved_out tag (both Ea (a ∷ b ∷ [])) 5 3 0).state.preventers ≡ a ∷ b ∷ []
+  pub another_key : (reserved_out tag (both Ea (a ∷ b ∷ [])) 5 3 9).state.preventers ≡ a ∷ b ∷ []
   -- ALLOW of the nexus; then a volume can be unloaded
-  pub allow : (answered (drive_with tag (both Ea (a ∷ b ∷ []))) b (0x1E ∷ replicate 5 0) []).0.kept.preventers ≡ a ∷ []
+  pub allow : (answered (drive_with tag (both Ea (a ∷ b ∷ []))) b (0x1E ∷ replicate 5 0) []).0.state.preventers ≡ a ∷ []
   pub prevented : sense_bytes (answered (drive_with tag (both Ea (b ∷ []))) a (0x1B ∷ replicate 5 0) []).1.sense ≡ sense_with 5 0x53 0x02
   pub ended : sense_bytes (answered (reserved_out tag (both Ea (b ∷ [])) 5 3 2) a (0x1B ∷ replicate 5 0) []).1.sense ≡ []

@@ -1,7 +1,7 @@
 -- Worked rows: what an entry keeps of an act, and the numbers of records by unit.
 use Rattle.std.specs.Prelude.{◌≡◌, ℕ, true, false, List, [], ◌∷◌, Some, None}
-use Rattle.permit_tables.specs.declared.service_action.OutServiceAction.TheVariants as out
-use Rattle.permit_tables.specs.declared.classes.Class.TheVariants as class
+use Rattle.scsi_cdb.specs.declared.service_action.OutServiceAction.TheVariants as out
+use Rattle.scsi_cdb.specs.declared.classes.Class.TheVariants as class
 use Rattle.permit_tables.specs.declared.out_params.OutParams.{OutParams}
 use Rattle.audit_log.specs.declared.act.Act.TheVariants as act
 use Rattle.logical_unit.specs.declared.act_kind.ActKind.TheVariants as kind

@@ -20,22 +20,22 @@ use Rattle.judgement.specs.Readings.{verdict_of}
 use Rattle.judgement.specs.Judge.{waiting, let_through}
 use Rattle.logical_unit.specs.Step.{contacted_present, recorded, answered}
 
--- the bytes spell a command, and no attention of ASC 29h waits for its sender, or the command passes over it
+-- the bytes decode to a command, and no attention of ASC 29h waits for its sender, or the command passes over it
 pub record ComesToTheCheck (u : UnitView) (n : Nexus) (cdb bytes : List ℕ) (command : Command) : Type 0 where
   pub decodes : decoded_command (kind_of u.device) cdb bytes ≡ Ok command
-  pub ready : waiting (class_of_command command) (first_reset_of (after_contact u.kept n).slots n) ≡ None
+  pub ready : waiting (class_of_command command) (first_reset_of (after_contact u.state n).slots n) ≡ None
 
 -- what the record of a conflict says: the sender's cell, and the rule on keys where one was broken
 abbrev pub conflict_decision : UnitView → Nexus → Command → Decision
 conflict_decision u n command =
-    in_conflict (cell u.kept.reservations n (class_of_command command)) (rule_of (verdict_of u.kept.reservations n command))
+    in_conflict (cell u.state.reservations n (class_of_command command)) (rule_of (verdict_of u.state.reservations n command))
 
 -- an answer of the unit to such a command
 pub record IsDecidedAs (u : UnitView) (n : Nexus) (command : Command) (bytes : List ℕ) (answer : UnitView × Reply) : Type 0 where
-  pub conflicts : (answer.1.status ≡ ReservationConflict) ↔ (verdict_of u.kept.reservations n command ≢ Allowed)
-  pub carried_out : verdict_of u.kept.reservations n command ≡ Allowed
+  pub conflicts : (answer.1.status ≡ ReservationConflict) ↔ (verdict_of u.state.reservations n command ≢ Allowed)
+  pub carried_out : verdict_of u.state.reservations n command ≡ Allowed
       → answer ≡ recorded u n (act_of_command command) (let_through (contacted_present u n) n command bytes)
-  pub unchanged : verdict_of u.kept.reservations n command ≢ Allowed
+  pub unchanged : verdict_of u.state.reservations n command ≢ Allowed
       → answer ≡ recorded u n (act_of_command command) (contacted_present u n, conflict_decision u n command, conflict)
 
 abbrev pub IsDecided : UnitView → Nexus → (cdb bytes : List ℕ) → Command → Type 0

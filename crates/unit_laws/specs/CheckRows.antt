@@ -1,8 +1,8 @@
 -- Worked rows: how B's and A's commands are decided at the reservation check, each beside answers that aren't so. The drive is that of the
 -- other rows, which A holds.
 use Rattle.std.specs.Prelude.{true, false, List, [], ◌∷◌, Option, Some, None}
-use Rattle.permit_tables.specs.declared.classes.Class.{Class}
-use Rattle.permit_tables.specs.declared.classes.Class.TheVariants as class
+use Rattle.scsi_cdb.specs.declared.classes.Class.{Class}
+use Rattle.scsi_cdb.specs.declared.classes.Class.TheVariants as class
 use Rattle.scsi_cdb.specs.declared.request.Request.TheVariants as request
 use Rattle.scsi_nexus.specs.declared.nexus.Nexus.{Nexus}
 use Rattle.scsi_sense.specs.declared.status.Status.{Status}
@@ -74,8 +74,8 @@ pub record BarredWrite (tag : VolumeTag) : Type 0 where
   pub good : AnswersB tag (drive_barred tag, ends Good) → ⊥
   pub unnumbered : AnswersB tag (drive_barred tag, record (ends ReservationConflict) { number = 0 }) → ⊥
   pub with_data : AnswersB tag (drive_barred tag, record (ends ReservationConflict) { payload = 7 ∷ [] }) → ⊥
-  pub registration_lost : AnswersB tag (record (drive_barred tag) { kept = record (drive_held tag).kept { reservations = power_on } }, ends ReservationConflict) → ⊥
-  pub prevented : AnswersB tag (record (drive_barred tag) { kept = record (drive_held tag).kept { preventers = b ∷ [] } }, ends ReservationConflict) → ⊥
+  pub registration_lost : AnswersB tag (record (drive_barred tag) { state = record (drive_held tag).state { reservations = power_on } }, ends ReservationConflict) → ⊥
+  pub prevented : AnswersB tag (record (drive_barred tag) { state = record (drive_held tag).state { preventers = b ∷ [] } }, ends ReservationConflict) → ⊥
   pub written : AnswersB tag (record (drive_barred tag) { device = written tag }, ends ReservationConflict) → ⊥
   pub unloaded : AnswersB tag (record (drive_barred tag) { device = drive_of (Some (volume tag)) false }, ends ReservationConflict) → ⊥
   pub unrecorded : AnswersB tag (drive_held tag, ends ReservationConflict) → ⊥

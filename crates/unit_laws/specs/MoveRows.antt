@@ -1,7 +1,7 @@
 -- Worked rows: MOVE MEDIUM between a changer at LUN 0, with one drive at 0100h and storage elements 0400h and 0401h, and that drive, LUN 1.
 -- A and B had contact with both; nobody is registered at the changer, but where a row says so.
 use Rattle.std.specs.Prelude.{◌≡◌, ℕ, Bool, true, false, List, [], ◌∷◌, map, replicate, Option, Some, None}
-use Rattle.permit_tables.specs.declared.classes.Class.TheVariants as class
+use Rattle.scsi_cdb.specs.declared.classes.Class.TheVariants as class
 use Rattle.scsi_cdb.specs.declared.request.Request.TheVariants as request
 use Rattle.scsi_nexus.specs.declared.nexus.Nexus.{Nexus}
 use Rattle.scsi_sense.specs.declared.status.Status.{Status}
@@ -108,7 +108,7 @@ pub record IntoADrive : Type 0 where
   pub changer : loaded.0.0.device ≡ library (Some first_tag ∷ []) None None
   pub drive : loaded.1.device ≡ drive_of (Some (volume first_tag)) true
   pub came : acts loaded.1 ≡ act.MediumIn ∷ []
-  pub waits : loaded.1.kept.slots ≡ (a, MediumChanged ∷ []) ∷ (b, MediumChanged ∷ []) ∷ []
+  pub waits : loaded.1.state.slots ≡ (a, MediumChanged ∷ []) ∷ (b, MediumChanged ∷ []) ∷ []
 
 -- B moves the volume of a drive into 0401h while A holds Exclusive Access there: a drive's reservation isn't asked, and stays
 abbrev pub unloaded : (UnitView × Reply) × UnitView
@@ -119,8 +119,8 @@ pub record OutOfAReservedDrive : Type 0 where
   pub changer : unloaded.0.0.device ≡ library (None ∷ []) None (Some (volume first_tag))
   pub drive : unloaded.1.device ≡ drive_of None false
   pub went : acts unloaded.1 ≡ act.MediumOut ∷ []
-  pub reservation : unloaded.1.kept.reservations ≡ held
-  pub waits : unloaded.1.kept.slots ≡ slots_with []
+  pub reservation : unloaded.1.state.reservations ≡ held
+  pub waits : unloaded.1.state.slots ≡ slots_with []
 
 -- a move that is refused: what is told, and that no volume has moved; the changer has its record, and the drive none
 pub record IsRefused (n : Nexus) (c d : UnitView) (source destination : ℕ × ℕ) (due : Option Answer) : Type 0 where
@@ -186,4 +186,4 @@ pub record NumbersOfRecords : Type 0 where
   pub changer : numbers_of (changer_of (library (None ∷ []) (Some (volume first_tag)) None)) loaded.0.0 ≡ (0, 1) ∷ []
   pub drive : numbers_of (empty_drive 1) loaded.1 ≡ (1, 1) ∷ []
   pub none : numbers_of (empty_drive 1) (empty_drive 1) ≡ []
-  pub after_others : numbers_of (record (empty_drive 2) { base = record { kept = kept_free 2; last = 6 } }) (record loaded.1 { base = record { kept = kept_free 2; last = 6 } }) ≡ (2, 7) ∷ []
+  pub after_others : numbers_of (record (empty_drive 2) { base = record { state = kept_free 2; last = 6 } }) (record loaded.1 { base = record { state = kept_free 2; last = 6 } }) ≡ (2, 7) ∷ []

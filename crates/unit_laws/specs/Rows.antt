@@ -1,7 +1,7 @@
 -- Worked rows at one unit: a drive with an empty tape at LUN 1, where A holds Exclusive Access and B isn't registered. Both had contact.
 use Rattle.std.specs.Prelude.{◌≡◌, ℕ, Bool, true, false, List, [], ◌∷◌, ◌++◌, map, replicate, Option, Some, None, Err}
-use Rattle.permit_tables.specs.declared.service_action.OutServiceAction.TheVariants as out
-use Rattle.permit_tables.specs.declared.classes.Class.TheVariants as class
+use Rattle.scsi_cdb.specs.declared.service_action.OutServiceAction.TheVariants as out
+use Rattle.scsi_cdb.specs.declared.classes.Class.TheVariants as class
 use Rattle.scsi_cdb.specs.declared.request.Request.TheVariants as request
 use Rattle.scsi_nexus.specs.declared.nexus.Nexus.{Nexus}
 use Rattle.scsi_sense.specs.declared.sense.Sense.{Sense}
@@ -66,7 +66,7 @@ abbrev pub drive_of : Option Volume → Bool → DeviceView
 drive_of bay loaded = Drive (record { bay = bay; loaded = loaded; block_length = 0 })
 
 abbrev pub unit_with : DeviceView → UnitStateView → UnitView
-unit_with device kept = record { device = device; kept = kept; base = record { kept = kept; last = 0 }; records = [] }
+unit_with device state = record { device = device; state = state; base = record { state = state; last = 0 }; records = [] }
 
 abbrev pub drive_held : VolumeTag → UnitView
 drive_held tag = unit_with (drive_of (Some (volume tag)) true) (kept_by_a (slots_with []) [])
@@ -145,25 +145,25 @@ pub record Sensing (tag : VolumeTag) : Type 0 where
   pub all : (answered (drive_released tag) b (0x03 ∷ 0 ∷ 0 ∷ 0 ∷ 0x12 ∷ 0 ∷ []) []).1.payload ≡ sense_with 6 0x2A 0x04
   pub none : asked (drive_released tag) b (0x03 ∷ 0 ∷ 0 ∷ 0 ∷ 0 ∷ 0 ∷ []) []
       ≡ Some (record { status = Good; sense = []; payload = []; stage = Device; cell = Some (record { class = class.RequestSense; res_type = Ea; role = Other }); rule = None })
-  pub none_clears : (answered (drive_released tag) b (0x03 ∷ 0 ∷ 0 ∷ 0 ∷ 0 ∷ 0 ∷ []) []).0.kept.slots ≡ slots_with []
-  pub descriptor_keeps : (answered (drive_released tag) b (0x03 ∷ 0x01 ∷ 0 ∷ 0 ∷ 0x12 ∷ 0 ∷ []) []).0.kept.slots ≡ slots_with (ReservationsReleased ∷ [])
+  pub none_clears : (answered (drive_released tag) b (0x03 ∷ 0 ∷ 0 ∷ 0 ∷ 0 ∷ 0 ∷ []) []).0.state.slots ≡ slots_with []
+  pub descriptor_keeps : (answered (drive_released tag) b (0x03 ∷ 0x01 ∷ 0 ∷ 0 ∷ 0x12 ∷ 0 ∷ []) []).0.state.slots ≡ slots_with (ReservationsReleased ∷ [])
 
--- bytes that spell no command give their sender a slot, where 29h/00h waits
+-- bytes that decode to no command give their sender a slot, where 29h/00h waits
 pub record FirstContact (tag : VolumeTag) : Type 0 where
-  pub slot : (answered (drive_held tag) c (0xFF ∷ []) []).0.kept.slots ≡ slots_with [] ++ (c, PowerOn ∷ []) ∷ []
+  pub slot : (answered (drive_held tag) c (0xFF ∷ []) []).0.state.slots ≡ slots_with [] ++ (c, PowerOn ∷ []) ∷ []
   pub told : asked (drive_held tag) c (0xFF ∷ []) []
       ≡ Some (record { status = CheckCondition; sense = sense_with 5 0x20 0; payload = []; stage = Decoding; cell = None; rule = None })
   pub invalid : map (λ (e : Record). e.act) (answered (drive_held tag) c (0xFF ∷ []) []).0.records ≡ act.Invalid ∷ []
 
 -- PREVENT 1 prevents, 2 and 3 are refused fields, 0 allows
 pub record Preventing (tag : VolumeTag) : Type 0 where
-  pub one : (answered (drive_held tag) a (0x1E ∷ 0 ∷ 0 ∷ 0 ∷ 1 ∷ 0 ∷ []) []).0.kept.preventers ≡ a ∷ []
-  pub two : (answered (drive_held tag) a (0x1E ∷ 0 ∷ 0 ∷ 0 ∷ 2 ∷ 0 ∷ []) []).0.kept.preventers ≡ []
+  pub one : (answered (drive_held tag) a (0x1E ∷ 0 ∷ 0 ∷ 0 ∷ 1 ∷ 0 ∷ []) []).0.state.preventers ≡ a ∷ []
+  pub two : (answered (drive_held tag) a (0x1E ∷ 0 ∷ 0 ∷ 0 ∷ 2 ∷ 0 ∷ []) []).0.state.preventers ≡ []
   pub two_refused : asked (drive_held tag) a (0x1E ∷ 0 ∷ 0 ∷ 0 ∷ 2 ∷ 0 ∷ []) []
       ≡ Some (record { status = CheckCondition; sense = sense_with 5 0x24 0; payload = []; stage = Fields; cell = Some (record { class = class.PreventRemoval; res_type = Ea; role = Holder }); rule = None })
-  pub three : (answered (drive_prevented tag) a (0x1E ∷ 0 ∷ 0 ∷ 0 ∷ 3 ∷ 0 ∷ []) []).0.kept.preventers ≡ a ∷ []
+  pub three : (answered (drive_prevented tag) a (0x1E ∷ 0 ∷ 0 ∷ 0 ∷ 3 ∷ 0 ∷ []) []).0.state.preventers ≡ a ∷ []
   pub three_refused : sense_bytes (answered (drive_prevented tag) a (0x1E ∷ 0 ∷ 0 ∷ 0 ∷ 3 ∷ 0 ∷ []) []).1.sense ≡ sense_with 5 0x24 0
-  pub zero : (answered (drive_prevented tag) a (0x1E ∷ 0 ∷ 0 ∷ 0 ∷ 0 ∷ 0 ∷ []) []).0.kept.preventers ≡ []
+  pub zero : (answered (drive_prevented tag) a (0x1E ∷ 0 ∷ 0 ∷ 0 ∷ 0 ∷ 0 ∷ []) []).0.state.preventers ≡ []
 
 -- why a volume isn't taken out, or put in
 pub record RefusedMedia (tag : VolumeTag) : Type 0 where

@@ -1,7 +1,7 @@
 -- Worked rows: records that stand in a legal trail, each beside neighbours that don't. The drive is that of the other rows, which A holds.
 use Rattle.std.specs.Prelude.{◌≡◌, ℕ, zero, suc, true, false, List, [], ◌∷◌, ◌++◌, Option, Some, None}
-use Rattle.permit_tables.specs.declared.classes.Class.{Class}
-use Rattle.permit_tables.specs.declared.classes.Class.TheVariants as class
+use Rattle.scsi_cdb.specs.declared.classes.Class.{Class}
+use Rattle.scsi_cdb.specs.declared.classes.Class.TheVariants as class
 use Rattle.scsi_nexus.specs.declared.nexus.Nexus.{Nexus}
 use Rattle.scsi_sense.specs.declared.sense.Sense.{Sense}
 use Rattle.scsi_sense.specs.declared.status.Status.TheVariants.{Good, CheckCondition, ReservationConflict}
@@ -190,7 +190,7 @@ pub record MediumRecords : Type 0 where
 -- TRAILS, from a base whose last number is 7
 
 abbrev pub base : Base
-base = record { kept = at_rest; last = 7 }
+base = record { state = at_rest; last = 7 }
 
 abbrev pub numbered_as : ℕ → Record → Record
 numbered_as number e = record e { number = number }

@@ -115,7 +115,7 @@ pub fn legal_and_illegal_records()
 ghost use Rattle.unit_laws.specs.TrailRows.{ConflictRecords, ReportsFirst, ReportsLater, ReportsAndConflicts, InvalidRecords, ModeRecords, RoomForSenders, MediumRecords, Trails};
 
 /// Records of a legal trail, each beside neighbours that none has: conflicts, reports of attentions, bytes
-/// that spell no command, changed mode parameters, the sender that finds no slot, volumes; and whole trails.
+/// that decode to no command, changed mode parameters, the sender that finds no slot, volumes; and whole trails.
 pub fn records_of_legal_trails()
     ensures conflicts { ConflictRecords }
     ensures first { ReportsFirst }

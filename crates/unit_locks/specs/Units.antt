@@ -19,5 +19,5 @@ pub record HasUnits {A B C : Type 0} (units : ℕ) (two : Option A) (three : Opt
 -- a unit of that number
 pub record IsAt (lun : ℕ) (u : UnitView) : Type 0 where
   pub kind : kind_of u.device ≡ kind_at lun
-  pub place : u.kept.lun ≡ lun
+  pub place : u.state.lun ≡ lun
   pub few : drives_of u.device < 2 ^ 8

@@ -201,7 +201,7 @@ pub(crate) fn attend_at<const LUN: u8, L: UnitLedger, D: DeviceServer, A: Attend
     attendant: &mut A,
 ) -> bool
     ensures there { result ≡ true }
-    ensures asked { WasAsked A.looks_after (kind_at LUN) attendant.old attendant.new }
+    ensures asked { WasAsked A.looks_after LUN (kind_at LUN) attendant.old attendant.new }
 {
     let mut kept = lock.mutex().lock(rt);
     kept.attend(attendant);
@@ -217,7 +217,7 @@ pub(crate) fn attend_if_there<
     R: Wait,
 >(rt: &R, lock: &Option<Locked<LUN, L, D>>, attendant: &mut A) -> bool
     ensures there { IsTrue result ↔ IsSome lock.now }
-    ensures asked { IsTrue result → WasAsked A.looks_after (kind_at LUN) attendant.old attendant.new }
+    ensures asked { IsTrue result → WasAsked A.looks_after LUN (kind_at LUN) attendant.old attendant.new }
     ensures absent { result ≡ false → attendant.new ≡ attendant.old }
 {
     match lock {

@@ -1,6 +1,6 @@
 //! Commands that ended GOOD, and how keeping what they left ended.
 
-use permit_tables::Class;
+use scsi_cdb::Class;
 use tape_keeper::GoodCommand;
 use tape_medium::VolumeTag;
 use tickets::Outcome;

@@ -5,7 +5,7 @@ use super::units::{BLOCK, BLOCK_AND_MARK, NoStore, Units, WRITE_HI, WRITE_MARK, 
 use crate::comparing::{assert_list, assert_same};
 use kept_media::MediaKeeper;
 use library_inventory::LibrarySize;
-use permit_tables::Class;
+use scsi_cdb::Class;
 use std::alloc::Global;
 use std::process::Abort;
 use std::sync::{Mutex, Wait};

@@ -97,7 +97,7 @@ impl TapeSource<Device> for Units {
     fn attend<R: Wait, A: Attendant<Device>>(&self, rt: &R, lun: u8, attendant: &mut A) {
         if let Some(drive) = self.at(lun) {
             let mut device = drive.lock(rt);
-            attendant.attend(&mut *device);
+            attendant.attend(lun, &mut *device);
         }
     }
 }

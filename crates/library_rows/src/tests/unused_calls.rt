@@ -3,7 +3,8 @@
 use super::assert_list;
 use iscsi_keys::write_item;
 use logical_unit::Reply;
-use permit_tables::{Cell, Class, ResType, Role};
+use permit_tables::{Cell, ResType, Role};
+use scsi_cdb::Class;
 use program_options::LibraryOptions;
 use scsi_sense::Status;
 use stocked_library::library;

@@ -4,5 +4,5 @@ use Rattle.judgement.proofs.standing.stands_at_check.Goals as goal
 
 pub returns-in-Allowed : goal.returns-in-Allowed
 returns-in-Allowed c =
-    from_check c.args.kept.now c.stands_after_check.new.kept c.args.nexus c.args.command.now c.stands_after_check.result
+    from_check c.args.state.now c.stands_after_check.new.state c.args.nexus c.args.command.now c.stands_after_check.result
     (sym c.verdict.ensures ∙ c.in-Allowed.is) c.stands_after_check.ensures

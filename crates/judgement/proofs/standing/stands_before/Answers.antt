@@ -4,5 +4,5 @@ use Rattle.judgement.proofs.standing.stands_before.Goals as goal
 
 pub returns-in-None : goal.returns-in-None
 returns-in-None c =
-    from_first c.args.kept.now c.stands_at_check.new.kept c.args.nexus c.args.command.now c.stands_at_check.result (search rules)
+    from_first c.args.state.now c.stands_at_check.new.state c.args.nexus c.args.command.now c.stands_at_check.result (search rules)
     c.stands_at_check.ensures

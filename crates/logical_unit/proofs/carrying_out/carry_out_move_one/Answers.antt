@@ -1,6 +1,6 @@
 use Rattle.std.proofs.Common.{◌≡◌, [], ℕ, List, sym, ap, ◌∙◌}
 use Rattle.scsi_cdb.specs.declared.kind.Kind.{Kind}
-use Rattle.permit_tables.specs.declared.classes.Class.TheVariants as class
+use Rattle.scsi_cdb.specs.declared.classes.Class.TheVariants as class
 use Rattle.audit_log.specs.declared.act.Act.{Act}
 use Rattle.audit_log.specs.declared.act.Act.TheVariants as act
 use Rattle.logical_unit.specs.declared.act_kind.ActKind.TheVariants as kind
@@ -16,7 +16,7 @@ pub volume_after-volume-requires : goal.volume_after-volume-requires
 volume_after-volume-requires g c =
     let same = one_same c.args.changer.now.unit c.args.drive.now.unit c.move_one-receipt.new.changer.unit c.move_one-receipt.new.drive.unit
     c.args.received.now.nexus c.args.received.now.cdb c.args.received.now.bytes c.move_one-receipt.result.reply
-    c.args.drive.now.unit.kept.lun [] c.requires.named c.move_one-receipt.ensures.units in
+    c.args.drive.now.unit.state.lun [] c.requires.named c.move_one-receipt.ensures.units in
     c.requires.kind ∙ sym same.0.device.kind
 
 pub returns-clause-act : goal.returns-clause-act
@@ -24,7 +24,7 @@ returns-clause-act g c =
     let asked = act_of c.args.received.now.kind c.args.received.now.cdb c.args.received.now.bytes in
     let moves : asked ≡ act.Command class.MoveMedium
     = ap (λ (k : Kind). act_of k c.args.received.now.cdb c.args.received.now.bytes) c.requires.kind
-    ∙ move_asked c.args.changer.now.unit.device c.args.received.now.cdb c.args.received.now.bytes c.args.drive.now.unit.kept.lun []
+    ∙ move_asked c.args.changer.now.unit.device c.args.received.now.cdb c.args.received.now.bytes c.args.drive.now.unit.state.lun []
     c.requires.named in
     c.done_with.ensures.act ∙ c.recorded_kind-act.ensures
     ∙ ap (λ (ns : List (ℕ × ℕ)). act_kind_if ns (kind.Command class.MoveMedium)) (c.as_slice.ensures.value ∙ sym
@@ -38,7 +38,7 @@ returns-clause-unnumbered g c = λ none.
     c.move_one-receipt.result.numbers.items
     (one_settled c.args.changer.now.unit c.args.drive.now.unit c.move_one-receipt.new.changer.unit c.move_one-receipt.new.drive.unit
     c.args.received.now.nexus c.args.received.now.cdb c.args.received.now.bytes c.move_one-receipt.result.reply
-    c.args.drive.now.unit.kept.lun [] c.requires.named c.move_one-receipt.ensures.units) c.move_one-receipt.ensures.numbers in
+    c.args.drive.now.unit.state.lun [] c.requires.named c.move_one-receipt.ensures.units) c.move_one-receipt.ensures.numbers in
     c.done_with.ensures.reply ∙ told.unnumbered (sym c.done_with.ensures.numbers ∙ none))
 
 pub returns-clause-step : goal.returns-clause-step

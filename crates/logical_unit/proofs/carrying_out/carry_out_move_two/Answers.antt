@@ -1,6 +1,6 @@
 use Rattle.std.proofs.Common.{◌≡◌, ◌∷◌, [], ℕ, List, sym, ap, ◌∙◌}
 use Rattle.scsi_cdb.specs.declared.kind.Kind.{Kind}
-use Rattle.permit_tables.specs.declared.classes.Class.TheVariants as class
+use Rattle.scsi_cdb.specs.declared.classes.Class.TheVariants as class
 use Rattle.audit_log.specs.declared.act.Act.{Act}
 use Rattle.audit_log.specs.declared.act.Act.TheVariants as act
 use Rattle.logical_unit.specs.declared.act_kind.ActKind.TheVariants as kind
@@ -17,8 +17,8 @@ volume_after-volume-requires g c =
     let same = two_same c.args.changer.now.unit c.move_two-receipt.new.changer.unit
     (record { low = c.args.low.now.unit; high = c.args.high.now.unit }) (record
     { low = c.move_two-receipt.new.low.unit; high = c.move_two-receipt.new.high.unit }) c.args.received.now.nexus
-    c.args.received.now.cdb c.args.received.now.bytes c.move_two-receipt.result.reply c.args.low.now.unit.kept.lun
-    (c.args.high.now.unit.kept.lun ∷ []) c.requires.named c.move_two-receipt.ensures.units in
+    c.args.received.now.cdb c.args.received.now.bytes c.move_two-receipt.result.reply c.args.low.now.unit.state.lun
+    (c.args.high.now.unit.state.lun ∷ []) c.requires.named c.move_two-receipt.ensures.units in
     c.requires.kind ∙ sym same.0.device.kind
 
 pub returns-clause-act : goal.returns-clause-act
@@ -26,8 +26,8 @@ returns-clause-act g c =
     let asked = act_of c.args.received.now.kind c.args.received.now.cdb c.args.received.now.bytes in
     let moves : asked ≡ act.Command class.MoveMedium
     = ap (λ (k : Kind). act_of k c.args.received.now.cdb c.args.received.now.bytes) c.requires.kind
-    ∙ move_asked c.args.changer.now.unit.device c.args.received.now.cdb c.args.received.now.bytes c.args.low.now.unit.kept.lun
-    (c.args.high.now.unit.kept.lun ∷ []) c.requires.named in
+    ∙ move_asked c.args.changer.now.unit.device c.args.received.now.cdb c.args.received.now.bytes c.args.low.now.unit.state.lun
+    (c.args.high.now.unit.state.lun ∷ []) c.requires.named in
     c.done_with.ensures.act ∙ c.recorded_kind-act.ensures
     ∙ ap (λ (ns : List (ℕ × ℕ)). act_kind_if ns (kind.Command class.MoveMedium)) (c.as_slice.ensures.value ∙ sym
     c.done_with.ensures.numbers)
@@ -46,7 +46,7 @@ returns-clause-unnumbered g c = λ none.
       high =
           c.move_two-receipt.new.high.unit;
     }) c.args.received.now.nexus c.args.received.now.cdb c.args.received.now.bytes
-    c.move_two-receipt.result.reply c.args.low.now.unit.kept.lun (c.args.high.now.unit.kept.lun ∷ []) c.requires.named
+    c.move_two-receipt.result.reply c.args.low.now.unit.state.lun (c.args.high.now.unit.state.lun ∷ []) c.requires.named
     c.move_two-receipt.ensures.units) c.move_two-receipt.ensures.numbers in
     c.done_with.ensures.reply ∙ told.unnumbered (sym c.done_with.ensures.numbers ∙ none))
 

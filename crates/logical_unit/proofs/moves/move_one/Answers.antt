@@ -9,12 +9,12 @@ use Rattle.logical_unit.proofs.moves.move_one.Goals as goal
 pub returns-in-Answered-clause-busy : goal.returns-in-Answered-clause-busy
 returns-in-Answered-clause-busy g c = λ busy.
     inl (answered_lacks c.args.changer.now c.begin.new.self c.args.received.now.nexus c.args.received.now.cdb c.args.received.now.bytes
-    c.in-Answered.reply c.args.drive.now.unit.kept.lun [] c.requires.named c.in-Answered.ensures
+    c.in-Answered.reply c.args.drive.now.unit.state.lun [] c.requires.named c.in-Answered.ensures
     (sym (ap (λ (r : Reply). r.status) c.of.ensures.reply) ∙ busy))
 
 pub returns-in-Answered-clause-numbers : goal.returns-in-Answered-clause-numbers
 returns-in-Answered-clause-numbers g c =
-    unmoved _ (noted c.args.changer.now.unit.kept.lun c.in-Answered.reply) _ c.args.drive.now.unit c.args.drive.now.unit
+    unmoved _ (noted c.args.changer.now.unit.state.lun c.in-Answered.reply) _ c.args.drive.now.unit c.args.drive.now.unit
     (c.of.ensures.numbers ∙ ap (λ lun. noted lun c.in-Answered.reply) c.lun-lun.ensures)
     (answered_noted c.args.changer.now c.begin.new.self c.args.received.now.nexus c.args.received.now.cdb c.args.received.now.bytes
     c.in-Answered.reply c.in-Answered.ensures) refl
@@ -31,7 +31,7 @@ returns-in-Ok-clause-numbers g c =
 pub returns-in-Err-clause-numbers : goal.returns-in-Err-clause-numbers
 returns-in-Err-clause-numbers g c =
     let same = ap (λ (x : UnitWithRoom). last_number x.unit) c.carry_one.ensures.changer ∙ ap last_number c.in-Left.ensures.unit in
-    unmoved _ (noted c.args.changer.now.unit.kept.lun c.finish-reply-in-Err.result) _ c.args.drive.now.unit c.carry_one.new.drive.unit
+    unmoved _ (noted c.args.changer.now.unit.state.lun c.finish-reply-in-Err.result) _ c.args.drive.now.unit c.carry_one.new.drive.unit
     (c.of-in-Err.ensures.numbers ∙ ap (λ lun. noted lun c.finish-reply-in-Err.result) c.lun-lun.ensures)
     (ends_noted c.args.changer.now.unit c.carry_one.new.changer c.finish-reply-in-Err.new.changer c.args.received.now.nexus c.in-Left.act
     c.in-Left.decision (Some c.in-Err.stop) c.finish-reply-in-Err.result same c.finish-reply-in-Err.ensures)
@@ -40,11 +40,11 @@ returns-in-Err-clause-numbers g c =
 -- nothing is carried for a sender that may change nothing here
 pub returns-in-Ok-clause-outsider : goal.returns-in-Ok-clause-outsider
 returns-in-Ok-clause-outsider g c closed = absurd (never_left c.args.changer.now.unit c.args.received.now.nexus c.args.received.now.cdb
-    c.args.received.now.bytes c.args.drive.now.unit.kept.lun [] c.requires.named closed c.in-Left.ensures.left.left)
+    c.args.received.now.bytes c.args.drive.now.unit.state.lun [] c.requires.named closed c.in-Left.ensures.left.left)
 
 pub returns-in-Ok-clause-stays : goal.returns-in-Ok-clause-stays
 returns-in-Ok-clause-stays g c closed = absurd (never_left c.args.changer.now.unit c.args.received.now.nexus c.args.received.now.cdb
-    c.args.received.now.bytes c.args.drive.now.unit.kept.lun [] c.requires.named closed c.in-Left.ensures.left.left)
+    c.args.received.now.bytes c.args.drive.now.unit.state.lun [] c.requires.named closed c.in-Left.ensures.left.left)
 
 pub returns-in-Answered-clause-units : goal.returns-in-Answered-clause-units
 returns-in-Answered-clause-units g c = search rules fits 100
@@ -52,4 +52,4 @@ returns-in-Answered-clause-units g c = search rules fits 100
 pub returns-in-Answered-clause-outsider : goal.returns-in-Answered-clause-outsider
 returns-in-Answered-clause-outsider g c closed =
     (one_unchanged _ c.args.drive.now.unit _ c.args.drive.now.unit c.args.received.now.nexus c.args.received.now.cdb
-    c.args.received.now.bytes _ c.args.drive.now.unit.kept.lun c.requires.named (returns-in-Answered-clause-units g c) closed).0
+    c.args.received.now.bytes _ c.args.drive.now.unit.state.lun c.requires.named (returns-in-Answered-clause-units g c) closed).0

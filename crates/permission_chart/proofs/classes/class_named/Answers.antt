@@ -5,7 +5,7 @@ use Rattle.std.specs.Char.{to_ascii_lowercase}
 use Rattle.permission_chart.proofs.EachClass.{every_class_has}
 use Rattle.permission_chart.specs.Classes.{every_class}
 use Rattle.permission_chart.specs.Names.{IsNameOf}
-use Rattle.permit_tables.specs.declared.classes.Class.TheVariants.{TestUnitReady}
+use Rattle.scsi_cdb.specs.declared.classes.Class.TheVariants.{TestUnitReady}
 use Rattle.permission_chart.proofs.classes.class_named.Goals as goal
 
 pub loop-class-preserved : goal.loop-class-preserved

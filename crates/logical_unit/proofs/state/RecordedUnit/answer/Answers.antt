@@ -10,27 +10,27 @@ pub invariant_of-self-2 : goal.invariant_of-self-2
 invariant_of-self-2 g c =
     let plain = subst IsPlainIf (sym c.in_ok-decoded.ensures.ok) (decoded_plain c.args.received.now.kind c.args.received.now.cdb
     c.args.received.now.bytes) in
-    let slot = subst (λ (v : RecordedUnitView). has_room v.kept c.args.received.now.nexus ≡ true) (sym c.self.view_is) c.requires.slot in
-    let room : has_room c.self.inside.kept c.nexus-nexus.result ≡ true = subst (λ n. has_room c.self.inside.kept n ≡ true)
+    let slot = subst (λ (v : RecordedUnitView). has_room v.state c.args.received.now.nexus ≡ true) (sym c.self.view_is) c.requires.slot in
+    let room : has_room c.self.inside.state c.nexus-nexus.result ≡ true = subst (λ n. has_room c.self.inside.state n ≡ true)
     (sym c.nexus-nexus.ensures) slot in
     rw c.note-number.ensures.records
-    (answered_stands c.self.inside.base c.self.inside.kept c.judge.new.kept c.self.inside.trail.records _ _ c.nexus-nexus.result
+    (answered_stands c.self.inside.base c.self.inside.state c.judge.new.state c.self.inside.trail.records _ _ c.nexus-nexus.result
     c.in_ok-decoded.decoded c.bytes.result.now _ c.in_ok-act.act c.in_ok-decision.decision c.in_ok-decision.reply c.self.invariant room
     plain c.in_ok-act.ensures.ok c.in_ok-decision.ensures.ok)
 
 pub returns-clause-ok : goal.returns-clause-ok
 returns-clause-ok g c =
-    answered_alike (g.D.DeviceServer.shown c.args.server.now.value)
+    answered_alike (g.D.DeviceServer.shown c.args.device.now.value)
     (record {
-      kept = c.self.inside.kept;
-      base = record { kept = c.self.inside.base; last = c.self.inside.trail.base };
+      state = c.self.inside.state;
+      base = record { state = c.self.inside.base; last = c.self.inside.trail.base };
       records =
           c.self.inside.trail.records;
       room = c.self.inside.trail.room;
     }) _
     c.nexus-nexus.result c.args.received.now.nexus c.args.received.now.cdb c.bytes.result.now c.args.received.now.bytes
     c.args.received.now.kind c.in_ok-decoded.decoded c.in_ok-act.act (
-      record { device = g.D.DeviceServer.shown c.judge.new.server.value; kept = c.judge.new.kept },
+      record { device = g.D.DeviceServer.shown c.judge.new.device.value; state = c.judge.new.state },
       c.in_ok-decision.decision,
       c.in_ok-decision.reply,
     ) _

@@ -22,75 +22,75 @@ use Rattle.logical_unit.proofs.state.RecordedUnit.begin.Goals as goal
 -- what judgement found, by the sender and the data as the command has them
 judged_so : (g : given.Over) (c : goal.Joined-decoded-5 g)
     → judged_as (record {
-      device = g.D.DeviceServer.shown c.args.server.now.value;
-      kept = after_contact c.self.inside.kept
+      device = g.D.DeviceServer.shown c.args.device.now.value;
+      state = after_contact c.self.inside.state
           c.args.received.now.nexus;
     }) c.args.received.now.nexus c.in_ok-decoded.decoded c.args.received.now.bytes
     ≡ (
-      record { device = g.D.DeviceServer.shown c.judge_move.new.server.value; kept = c.judge_move.new.kept },
+      record { device = g.D.DeviceServer.shown c.judge_move.new.device.value; state = c.judge_move.new.state },
       c.in-Left.decision,
       check
           InternalTargetFailure,
     )
 judged_so g c =
-    judged_alike (g.D.DeviceServer.shown c.args.server.now.value) c.self.inside.kept c.in_ok-decoded.decoded
+    judged_alike (g.D.DeviceServer.shown c.args.device.now.value) c.self.inside.state c.in_ok-decoded.decoded
     c.nexus-nexus.result c.args.received.now.nexus c.bytes.result.now c.args.received.now.bytes (
-      record { device = g.D.DeviceServer.shown c.judge_move.new.server.value; kept = c.judge_move.new.kept },
+      record { device = g.D.DeviceServer.shown c.judge_move.new.device.value; state = c.judge_move.new.state },
       c.in-Left.decision,
       check
           InternalTargetFailure,
     )
     c.nexus-nexus.ensures c.bytes.ensures
-    (subst (λ (f : MoveFinding). FindsMove (g.D.DeviceServer.shown c.args.server.now.value)
-    (g.D.DeviceServer.shown c.judge_move.new.server.value) c.self.inside.kept c.judge_move.new.kept c.nexus-nexus.result
+    (subst (λ (f : MoveFinding). FindsMove (g.D.DeviceServer.shown c.args.device.now.value)
+    (g.D.DeviceServer.shown c.judge_move.new.device.value) c.self.inside.state c.judge_move.new.state c.nexus-nexus.result
     c.in_ok-decoded.decoded c.bytes.result.now f) c.in-Left.is c.in_ok-found.ensures.ok)
 
 -- what judgement left, with nothing changed
 opened : (g : given.Over) (c : goal.Joined-decoded-5 g)
-    → Opens (g.D.DeviceServer.shown c.args.server.now.value) c.self.inside.kept c.args.received.now.nexus c.args.received.now.cdb
+    → Opens (g.D.DeviceServer.shown c.args.device.now.value) c.self.inside.state c.args.received.now.nexus c.args.received.now.cdb
     c.args.received.now.bytes c.args.route c.in_ok-act.act
-    (record { device = g.D.DeviceServer.shown c.judge_move.new.server.value; kept = c.judge_move.new.kept }) c.in-Left.decision
+    (record { device = g.D.DeviceServer.shown c.judge_move.new.device.value; state = c.judge_move.new.state }) c.in-Left.decision
     (judged_as (record {
-      device = g.D.DeviceServer.shown c.args.server.now.value;
-      kept = after_contact c.self.inside.kept
+      device = g.D.DeviceServer.shown c.args.device.now.value;
+      state = after_contact c.self.inside.state
           c.args.received.now.nexus;
-    }) c.args.received.now.nexus (decoded_command (kind_of (g.D.DeviceServer.shown c.args.server.now.value))
+    }) c.args.received.now.nexus (decoded_command (kind_of (g.D.DeviceServer.shown c.args.device.now.value))
     c.args.received.now.cdb c.args.received.now.bytes) c.args.received.now.bytes)
 opened g c =
-    let kind_is : c.args.received.now.kind ≡ kind_of (g.D.DeviceServer.shown c.args.server.now.value) = c.requires.kind in
-    opens (g.D.DeviceServer.shown c.args.server.now.value) c.self.inside.kept c.args.received.now.nexus c.args.received.now.cdb
+    let kind_is : c.args.received.now.kind ≡ kind_of (g.D.DeviceServer.shown c.args.device.now.value) = c.requires.kind in
+    opens (g.D.DeviceServer.shown c.args.device.now.value) c.self.inside.state c.args.received.now.nexus c.args.received.now.cdb
     c.args.received.now.bytes c.args.route c.in_ok-decoded.decoded c.in_ok-act.act _ c.in-Left.decision (check InternalTargetFailure)
-    c.requires.changer c.requires.route (subst (λ (v : RecordedUnitView). has_room v.kept c.args.received.now.nexus ≡ true)
+    c.requires.changer c.requires.route (subst (λ (v : RecordedUnitView). has_room v.state c.args.received.now.nexus ≡ true)
     (sym c.self.view_is) c.requires.slot)
     (c.in_ok-decoded.ensures.ok ∙ ap (λ (k : Kind). decoded_command k c.args.received.now.cdb c.args.received.now.bytes) kind_is)
     c.in_ok-act.ensures.ok (judged_so g c) refl
 
 asked_by : (g : given.Over) (c : goal.Joined-decoded-5 g) → c.in_ok-act.act ≡ act_of
-    (kind_of (g.D.DeviceServer.shown c.args.server.now.value)) c.args.received.now.cdb c.args.received.now.bytes
+    (kind_of (g.D.DeviceServer.shown c.args.device.now.value)) c.args.received.now.cdb c.args.received.now.bytes
 asked_by g c =
-    let kind_is : c.args.received.now.kind ≡ kind_of (g.D.DeviceServer.shown c.args.server.now.value) = c.requires.kind in
+    let kind_is : c.args.received.now.kind ≡ kind_of (g.D.DeviceServer.shown c.args.device.now.value) = c.requires.kind in
     c.in_ok-act.ensures.ok ∙ ap act_of_decoded (c.in_ok-decoded.ensures.ok ∙ ap (λ (k : Kind). decoded_command k c.args.received.now.cdb
     c.args.received.now.bytes) kind_is)
 
 pub invariant_of-self-in-Left : goal.invariant_of-self-in-Left
-invariant_of-self-in-Left g c = (c.self.invariant.0, ap (λ (p : JudgedUnit). p.kept) (opened g c).same ∙ c.self.invariant.1)
+invariant_of-self-in-Left g c = (c.self.invariant.0, ap (λ (p : JudgedUnit). p.state) (opened g c).same ∙ c.self.invariant.1)
 
 pub returns-in-Left-clause-begins : goal.returns-in-Left-clause-begins
 returns-in-Left-clause-begins g c =
     let o = opened g c in
-    subst (λ (v : RecordedUnitView). IsLeft (unit_of (g.D.DeviceServer.shown c.args.server.now.value) v) c.args.received.now.nexus
+    subst (λ (v : RecordedUnitView). IsLeft (unit_of (g.D.DeviceServer.shown c.args.device.now.value) v) c.args.received.now.nexus
     c.args.received.now.cdb c.args.received.now.bytes c.args.route c.in_ok-act.act c.in-Left.decision) c.self.view_is
     (record { left = o.left; present = o.present; found = o.decision; asked = asked_by g c; awaits = o.awaits; ways = o.ways })
 
 pub returns-in-Left-clause-stays : goal.returns-in-Left-clause-stays
 returns-in-Left-clause-stays g c =
     ap (λ (k : UnitStateView). record {
-      kept = k;
-      base = record { kept = c.self.inside.base; last = c.self.inside.trail.base };
+      state = k;
+      base = record { state = c.self.inside.base; last = c.self.inside.trail.base };
       records =
           c.self.inside.trail.records;
       room = c.self.inside.trail.room;
-    }) (ap (λ (p : JudgedUnit). p.kept) (opened g c).same) ∙ c.self.view_is
+    }) (ap (λ (p : JudgedUnit). p.state) (opened g c).same) ∙ c.self.view_is
 
 pub returns-in-Left-clause-device : goal.returns-in-Left-clause-device
 returns-in-Left-clause-device g c = λ left. ap (λ (p : JudgedUnit). p.device) (opened g c).same
@@ -99,13 +99,13 @@ pub invariant_of-self-2 : goal.invariant_of-self-2
 invariant_of-self-2 g c =
     let plain = subst IsPlainIf (sym c.in_ok-decoded.ensures.ok) (decoded_plain c.args.received.now.kind c.args.received.now.cdb
     c.args.received.now.bytes) in
-    let slot = subst (λ (v : RecordedUnitView). has_room v.kept c.args.received.now.nexus ≡ true) (sym c.self.view_is) c.requires.slot in
-    let room : has_room c.self.inside.kept c.nexus-nexus.result ≡ true = subst (λ n. has_room c.self.inside.kept n ≡ true)
+    let slot = subst (λ (v : RecordedUnitView). has_room v.state c.args.received.now.nexus ≡ true) (sym c.self.view_is) c.requires.slot in
+    let room : has_room c.self.inside.state c.nexus-nexus.result ≡ true = subst (λ n. has_room c.self.inside.state n ≡ true)
     (sym c.nexus-nexus.ensures) slot in
-    let found = subst (λ (f : MoveFinding). FindsMove (g.D.DeviceServer.shown c.args.server.now.value)
-    (g.D.DeviceServer.shown c.judge_move.new.server.value) c.self.inside.kept c.judge_move.new.kept c.nexus-nexus.result
+    let found = subst (λ (f : MoveFinding). FindsMove (g.D.DeviceServer.shown c.args.device.now.value)
+    (g.D.DeviceServer.shown c.judge_move.new.device.value) c.self.inside.state c.judge_move.new.state c.nexus-nexus.result
     c.in_ok-decoded.decoded c.bytes.result.now f) c.in-Ended.is c.in_ok-found.ensures.ok in
     rw c.note-number.ensures.records
-    (answered_stands c.self.inside.base c.self.inside.kept c.judge_move.new.kept c.self.inside.trail.records _ _ c.nexus-nexus.result
+    (answered_stands c.self.inside.base c.self.inside.state c.judge_move.new.state c.self.inside.trail.records _ _ c.nexus-nexus.result
     c.in_ok-decoded.decoded c.bytes.result.now _ c.in_ok-act.act c.in-Ended.decision c.in-Ended.reply c.self.invariant room plain
     c.in_ok-act.ensures.ok found.1)

@@ -7,4 +7,4 @@ use Rattle.logical_unit.proofs.state.RecordedUnit.end.Goals as goal
 pub invariant_of-self : goal.invariant_of-self
 invariant_of-self c =
     rw c.note-number.ensures.records
-    (ended_stands c.self.inside.base c.self.inside.kept c.self.inside.trail.records c.args.nexus _ _ c.args.act c.args.decision _ c.self.invariant (subst (λ (v : RecordedUnitView). AwaitsEnd v.kept c.args.nexus c.args.act c.args.decision) (sym c.self.view_is) c.requires.awaits) c.requires.whole)
+    (ended_stands c.self.inside.base c.self.inside.state c.self.inside.trail.records c.args.nexus _ _ c.args.act c.args.decision _ c.self.invariant (subst (λ (v : RecordedUnitView). AwaitsEnd v.state c.args.nexus c.args.act c.args.decision) (sym c.self.view_is) c.requires.awaits) c.requires.whole)

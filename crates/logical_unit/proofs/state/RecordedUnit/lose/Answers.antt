@@ -7,4 +7,4 @@ use Rattle.logical_unit.proofs.state.RecordedUnit.lose.Goals as goal
 pub invariant_of-self : goal.invariant_of-self
 invariant_of-self c =
     rw (c.lose.ensures, c.note_event.ensures.records)
-    (lost_stands c.self.inside.base c.self.inside.kept c.self.inside.trail.records c.args.nexus _ (subst (λ (v : RecordedUnitView). has_slot v.kept.slots c.args.nexus ≡ true) (sym c.self.view_is) c.requires.slot) c.self.invariant)
+    (lost_stands c.self.inside.base c.self.inside.state c.self.inside.trail.records c.args.nexus _ (subst (λ (v : RecordedUnitView). has_slot v.state.slots c.args.nexus ≡ true) (sym c.self.view_is) c.requires.slot) c.self.invariant)

@@ -2,7 +2,7 @@ use Rattle.std.proofs.Common.{◌++◌, refl}
 use Rattle.std.proofs.Output.{has_written_append, has_written_of_eq}
 use Rattle.permission_chart.specs.Chart.{class_line, roles_line, types_line}
 use Rattle.permission_chart.proofs.Pieces.{piece-take}
-use Rattle.permit_tables.specs.declared.classes.Class.TheVariants.{TestUnitReady}
+use Rattle.scsi_cdb.specs.declared.classes.Class.TheVariants.{TestUnitReady}
 use Rattle.permission_chart.proofs.chart.ChartDisplay.fmt.Goals as goal
 
 pub loop-class-preserved : goal.loop-class-preserved

@@ -18,9 +18,9 @@ pub enum OutServiceAction {
 }
 
 impl OutServiceAction {
-    ghost use Rattle.permit_tables.specs.Classes.{class_of_action};
-    ghost use Rattle.permit_tables.specs.ServiceActions.{out_service_action};
-    ghost use Rattle.permit_tables.specs.ServiceActions.{out_code};
+    ghost use Rattle.scsi_cdb.specs.Classes.{class_of_action};
+    ghost use Rattle.scsi_cdb.specs.ServiceActions.{out_service_action};
+    ghost use Rattle.scsi_cdb.specs.ServiceActions.{out_code};
 
     /// The service action of a code, where there is one.
     pub fn of(code: u8) -> Option<OutServiceAction>

@@ -1,7 +1,7 @@
 -- The service actions of PERSISTENT RESERVE OUT by their codes, and back (SPC-4, "PERSISTENT RESERVE OUT command").
 use Rattle.std.specs.Prelude.{ℕ, ◌==◌, if◌then◌else◌, Option, None, Some}
-use Rattle.permit_tables.specs.declared.service_action.OutServiceAction.{OutServiceAction}
-use Rattle.permit_tables.specs.declared.service_action.OutServiceAction.TheVariants as out_act
+use Rattle.scsi_cdb.specs.declared.service_action.OutServiceAction.{OutServiceAction}
+use Rattle.scsi_cdb.specs.declared.service_action.OutServiceAction.TheVariants as out_act
 
 abbrev pub out_service_action : ℕ → Option OutServiceAction
 out_service_action code =
