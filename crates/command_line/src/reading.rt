@@ -8,12 +8,12 @@ use clap::ArgMatches;
 use clap::parser::ValueSource;
 use output_lines::{Audit, Explanations};
 use permission_chart::class_named;
-use scsi_cdb::Class;
 use program_options::{
     ChapDigests, CommandLineFault, GivenLibrary, LibraryOptions, NamedHost, OptionFault,
     PortalOptions, ServeTimes, ServeUntil, WithoutLibrary, chap_digests_of, host_beside,
     is_iscsi_name, memory_size_of, most_strangers, nexus_of, portal_of, volume_size_of,
 };
+use scsi_cdb::Class;
 use scsi_nexus::TARGET_PORTS;
 use std::alloc::{AllocError, Global};
 

@@ -1,9 +1,9 @@
 use output_lines::{Audit, Explanations};
-use scsi_cdb::Class;
 use program_options::{
     ChapDigests, GivenLibrary, LibraryOptions, NamedHost, PortalOptions, ServeTimes, ServeUntil,
     WithoutLibrary,
 };
+use scsi_cdb::Class;
 use scsi_nexus::Nexus;
 
 /// What the program is asked to do.

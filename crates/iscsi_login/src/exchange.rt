@@ -194,7 +194,11 @@ impl LoginExchange {
     }
 
     /// Judges the request, and adds its answer to what is unsent.
-    fn answer_request(&mut self, target: &LoginTarget, request: &LoginRequest) -> Result<Turn, AllocError>
+    fn answer_request(
+        &mut self,
+        target: &LoginTarget,
+        request: &LoginRequest,
+    ) -> Result<Turn, AllocError>
         requires { length self.old.gathered ≤ 65536 }
         ensures state { OnOk result (self.new ≡ judged self.old target.now request.now) }
         ensures turn { IfOk result (λ turn. turn ≡ turn_in self.old target.now request.now) }

@@ -15,8 +15,8 @@ use crate::reply::Reply;
 use crate::unit_state::UnitState;
 use audit_log::Stage;
 use permit_tables::Cell;
-use scsi_cdb::Class;
 use pr_core::Verdict;
+use scsi_cdb::Class;
 use scsi_nexus::Nexus;
 use std::alloc::Global;
 use unit_attention::Kind;
@@ -60,7 +60,12 @@ fn stands_after_check(
 }
 
 /// What stands before a command for whose sender no attention of ASC 29h waits: a conflict by the reservation check, or another attention.
-fn stands_at_check(alloc: Global, state: &mut UnitState, nexus: Nexus, command: &Command) -> Standing
+fn stands_at_check(
+    alloc: Global,
+    state: &mut UnitState,
+    nexus: Nexus,
+    command: &Command,
+) -> Standing
     requires { has_room state.old nexus ≡ true }
     ensures { StandsBy checked is_let_in state.old state.new nexus command.now result }
 {

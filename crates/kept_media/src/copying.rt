@@ -5,7 +5,7 @@ use crate::looking::{BayLook, PartLook, VolumeLook, VolumePlace};
 use crate::shared_requests::SharedRequests;
 use crate::volume_image::{ImageInUse, VolumeImage, Way};
 use crate::watch::Extent;
-use library_device::Device;
+use library_start::Device;
 use std::alloc::Global;
 use std::sync::Wait;
 use tape_flush::{FlushFault, ImageStore, KeptImage, PartRange, StoreFault, TapePart};

@@ -4,8 +4,8 @@ ghost use Rattle.std.specs.Prelude.{◌≡◌};
 ghost use Rattle.device_server.specs.Settled.{SameButSettled};
 
 use device_server::{Attendant, DeviceServer};
-use library_device::Device;
 use library_inventory::{AddFault, Element, Inventory, LibrarySize, PlacedVolume};
+use library_start::Device;
 use std::alloc::Global;
 use tape_medium::{FIRST_DATA_TRANSFER, FIRST_IMPORT_EXPORT, FIRST_STORAGE};
 

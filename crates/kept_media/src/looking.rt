@@ -3,11 +3,11 @@
 ghost use Rattle.std.specs.Prelude.{◌≡◌};
 ghost use Rattle.device_server.specs.Settled.{SameButSettled};
 ghost use Rattle.device_server.specs.View.{held_in};
-ghost use Rattle.library_device.specs.Devices.{shown_as};
+ghost use Rattle.library_start.specs.Devices.{shown_as};
 ghost use Rattle.kept_media.specs.Looking.{WasTaken, settled_by};
 
 use device_server::{Attendant, DeviceServer};
-use library_device::Device;
+use library_start::Device;
 use scsi_cdb::Kind;
 use tape_flush::{FlushFault, ImageStore, KeptImage, PartRange, TapePart};
 use tape_medium::{FIRST_IMPORT_EXPORT, FIRST_STORAGE, VolumeTag};

@@ -1,1 +1,3 @@
+pub mod ClosedLibrary
+pub mod ClosingFaults
 pub mod LibraryService

@@ -4,7 +4,7 @@ ghost use Rattle.library_service.specs.LibraryService.{service_at};
 
 use crate::service::LibraryService;
 use kept_unit::Ledgers;
-use library_device::Device;
+use library_start::Device;
 use lun_router::{Library, Pass, Seat};
 use session::Directory;
 use std::alloc::{AllocError, Global};

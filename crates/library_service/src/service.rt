@@ -1,5 +1,5 @@
 use kept_unit::Ledgers;
-use library_device::Device;
+use library_start::Device;
 use logical_unit::Done;
 use lun_router::{Library, Pass, Seat};
 use scsi_nexus::Nexus;

@@ -9,8 +9,8 @@ use Rattle.kept_unit.specs.Agreeing.{rises}
 use Rattle.kept_unit.specs.Listing.{NotesValue, numbers_in, listed_at}
 use Rattle.kept_unit.specs.Ranges.{span, numbers_between, numbers_in_ranges, rise_to}
 use Rattle.kept_unit.proofs.Rises.{settled_rises}
-use Rattle.unit_locks.specs.declared.handing_over.UnitNumbers.{UnitNumbers}
-use Rattle.unit_locks.specs.HandingOver.{GoesOver}
+use Rattle.lun_router.specs.declared.handing_over.UnitNumbers.{UnitNumbers}
+use Rattle.lun_router.specs.HandingOver.{GoesOver}
 use Rattle.lun_router.specs.Seats.{HandsOver, SeatValue, Settles, SettlesEntries, end_of, notes_at, told_at}
 
 end_append : (low : ℕ) (xs ys : List ℕ) → end_of low (xs ++ ys) ≡ end_of (end_of low xs) ys

@@ -1,3 +1,4 @@
+pub mod PartsRising
 pub mod Rising
 pub mod SameNotes
 pub mod Settled

@@ -9,7 +9,7 @@ use Rattle.logical_unit.specs.UnitView.{UnitView, UnitWithRoom}
 use Rattle.scsi_cdb.specs.Kinds.{kind_at}
 use Rattle.target_core.specs.Faults.{fault_of}
 use Rattle.target_core.proofs.Ordered.{ordered, has_drives, drive_of}
-use Rattle.unit_locks.specs.Units.{IsAt}
+use Rattle.lun_router.specs.Units.{IsAt}
 
 -- a drive has no data transfer elements
 drive_has_none : (device : DeviceView) → kind_of device ≡ kind.Drive → drives_of device ≡ 0

@@ -5,7 +5,7 @@ use Rattle.std.proofs.lemmas.List.Sums.{sum_by-append, sum_by-cons}
 use Rattle.logical_unit.specs.declared.entry.Entry.{Entry}
 use Rattle.settled_numbers.specs.declared.number_range.NumberRange.{NumberRange}
 use Rattle.logical_unit.specs.Answers.{DoneValue, entry_of, count_at}
-use Rattle.unit_locks.specs.Shares.{Amounts, Rise}
+use Rattle.lun_router.specs.Shares.{Amounts, Rise}
 use Rattle.lun_router.specs.Seats.{SettledRanges, IsCounted, told_at}
 
 -- one entry more

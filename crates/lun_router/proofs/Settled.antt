@@ -11,7 +11,7 @@ use Rattle.settled_numbers.specs.declared.number_range.NumberRange.{NumberRange}
 use Rattle.logical_unit.specs.Answers.{at, count_at}
 use Rattle.kept_unit.specs.Listing.{listed_at}
 use Rattle.kept_unit.specs.Ranges.{numbers_in_ranges}
-use Rattle.unit_locks.specs.Shares.{Amounts}
+use Rattle.lun_router.specs.Shares.{Amounts}
 use Rattle.lun_router.specs.Seats.{SettledRanges, IsCounted, told_at}
 use Rattle.lun_router.specs.Settling.{SettlesAll}
 

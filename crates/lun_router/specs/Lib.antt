@@ -1,3 +1,8 @@
+pub mod Shares
+pub mod Units
+pub mod Answering
+pub mod Blanks
+pub mod HandingOver
 pub mod Seats
 pub mod Queue
 pub mod Settling
@@ -5,5 +10,3 @@ pub mod SettlingRows
 pub mod Opening
 pub mod Closing
 pub mod ServedSteps
-pub use Rattle.unit_locks.specs.Answering
-pub use Rattle.unit_locks.specs.Blanks

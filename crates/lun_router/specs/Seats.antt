@@ -8,8 +8,8 @@ use Rattle.logical_unit.specs.Answers.{DoneValue, entry_of, count_at}
 use Rattle.kept_unit.specs.Agreeing.{rises}
 use Rattle.kept_unit.specs.Listing.{NotesValue, numbers_in}
 use Rattle.kept_unit.specs.Ranges.{numbers_in_ranges}
-use Rattle.unit_locks.specs.declared.handing_over.UnitNumbers.{UnitNumbers}
-use Rattle.unit_locks.specs.Shares.{Amounts, Rise}
+use Rattle.lun_router.specs.declared.handing_over.UnitNumbers.{UnitNumbers}
+use Rattle.lun_router.specs.Shares.{Amounts, Rise}
 
 -- ranges of each unit's record numbers
 pub record SettledRanges : Type 0 where

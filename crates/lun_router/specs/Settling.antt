@@ -2,7 +2,7 @@
 use Rattle.std.specs.Prelude.{◌≡◌, ℕ, ◌+◌, ◌≤◌, List, ◌++◌, drop}
 use Rattle.std.specs.Vec.{vec_len, vec_capacity}
 use Rattle.logical_unit.specs.declared.entry.Entry.{Entry}
-use Rattle.unit_locks.specs.declared.handing_over.UnitRanges.{UnitRanges}
+use Rattle.lun_router.specs.declared.handing_over.UnitRanges.{UnitRanges}
 use Rattle.kept_unit.specs.Listing.{listed_at}
 use Rattle.kept_unit.specs.Ranges.{numbers_in_ranges}
 use Rattle.lun_router.specs.Seats.{SettledRanges, drained_count}

@@ -1,17 +1,20 @@
 ghost use Rattle.std.specs.Prelude.{◌≡◌, ◌≢◌, ◌<◌, ◌↔◌, IfOk, IfErr, IfSome, IsTrue, IsErr, map, sum_by, vec_len};
 ghost use Rattle.kept_unit.specs.Agreeing.{Agrees};
 ghost use Rattle.kept_unit.specs.SeatNotes.{notes_value};
-ghost use Rattle.unit_locks.specs.Units.{HasUnits};
+ghost use Rattle.lun_router.specs.Units.{HasUnits};
 ghost use Rattle.lun_router.specs.Closing.{IsAccounted};
 ghost use Rattle.lun_router.specs.Seats.{notes_at};
 
+use crate::all_locks::UnitLocks;
+use crate::gate::Gate;
 use crate::library::Library;
 use crate::seat::Seat;
+use crate::seat_shares::AllShares;
+use crate::taking::{Histories, TakenUnits};
 use device_server::DeviceServer;
 use kept_unit::{Kept, Ledgers, SeatNotes, UnitLedger};
 use std::alloc::{AllocError, Global};
 use thiserror::Error;
-use unit_locks::{AllShares, Gate, Histories, TakenUnits, UnitLocks};
 
 /// Why a library isn't closed.
 #[derive(Clone, Copy, Debug, PartialEq, Eq, Error)]

@@ -1,7 +1,8 @@
+use crate::all_locks::UnitLocks;
+use crate::gate::Gate;
 use device_server::DeviceServer;
 use kept_unit::Ledgers;
 use std::marker::Model;
-use unit_locks::{Gate, UnitLocks};
 
 /// The units of a library, each under a lock of its own: a changer as logical unit 0 and one to four drives. Contracts see
 /// how many seats were made, and how many units there are.

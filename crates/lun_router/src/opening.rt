@@ -1,17 +1,20 @@
 ghost use Rattle.std.specs.Prelude.{◌≡◌, ◌<◌, ◌+◌, All, IfOk, IfErr, length, vec_len};
 ghost use Rattle.logical_unit.specs.UnitView.{units_of};
-ghost use Rattle.unit_locks.specs.Blanks.{AreBlanks};
+ghost use Rattle.lun_router.specs.Blanks.{AreBlanks};
 ghost use Rattle.lun_router.specs.Opening.{IsSince};
 ghost use Rattle.lun_router.specs.Seats.{IsUntold};
 
+use crate::all_locks::UnitLocks;
+use crate::gate::Gate;
 use crate::library::Library;
+use crate::locking::Blanks;
 use crate::seat::Seat;
+use crate::seat_shares::AllShares;
 use crate::units_by_lun::split_units;
 use device_server::DeviceServer;
 use kept_unit::Ledgers;
 use std::alloc::{AllocError, Global};
 use target_core::TargetCore;
-use unit_locks::{AllShares, Blanks, Gate, UnitLocks};
 
 /// A seat with a part of each, which was told nothing.
 fn cut<B: Ledgers>(alloc: Global, shares: &mut AllShares<B>) -> Seat<B>

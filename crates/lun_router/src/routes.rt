@@ -6,9 +6,10 @@ ghost use Rattle.logical_unit.specs.Answers as event;
 ghost use Rattle.logical_unit.specs.Answers.{IsAnswer};
 ghost use Rattle.logical_unit.specs.ActKinds.{act_kind_of, act_kind_if};
 ghost use Rattle.scsi_cdb.specs.Kinds.{kind_at};
-ghost use Rattle.unit_locks.specs.Answering.{AnswersAsAbsent, LeavesNoneFor, LosesNoneFor, RefusesAsAbsent, IsSomeTrail};
+ghost use Rattle.lun_router.specs.Answering.{AnswersAsAbsent, LeavesNoneFor, LosesNoneFor, RefusesAsAbsent, IsSomeTrail};
 ghost use Rattle.lun_router.specs.Seats.{Notes, Settles};
 
+use crate::gate::Gate;
 use crate::library::Library;
 use crate::seat::Seat;
 use audit_log::Record;
@@ -20,7 +21,6 @@ use scsi_cdb::kind_at;
 use scsi_nexus::Nexus;
 use std::alloc::{AllocError, Global};
 use std::sync::Wait;
-use unit_locks::Gate;
 
 impl<B: Ledgers, D: DeviceServer, G: Gate> Library<B, D, G> {
     /// A command of a nexus to a logical unit, with an entry of its answer in the seat. A MOVE MEDIUM goes to the changer

@@ -1,11 +1,13 @@
 use crate::entry_queue::EntryQueue;
+use crate::handing_over::{UnitNumbers, UnitRanges};
+use crate::locked::CachePadding;
+use crate::seat_shares::SeatShares;
 use crate::settling::settle;
 use crate::unit_ranges::no_ranges;
 use kept_unit::{Ledgers, NumberRange};
 use logical_unit::Entry;
 use std::alloc::{AllocError, Global};
 use std::marker::Model;
-use unit_locks::{CachePadding, SeatShares, UnitNumbers, UnitRanges};
 
 /// What one worker holds of a library, session after session: a part of each ledger, and what it was told: the last record number of
 /// each unit that it handed over, ranges of such that were settled, and then entries. Each part counts the numbers of its unit that the

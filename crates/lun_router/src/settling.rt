@@ -5,10 +5,10 @@ ghost use Rattle.lun_router.specs.Seats.{is_at_most, is_drained, drained_count};
 ghost use Rattle.lun_router.specs.Settling.{ranges_of, SettlesAll};
 
 use crate::entry_queue::EntryQueue;
+use crate::handing_over::UnitRanges;
 use crate::unit_ranges::{add_all, make_room_for, ranges_in};
 use logical_unit::Entry;
 use std::alloc::AllocError;
-use unit_locks::UnitRanges;
 
 /// Whether the record of a number was handed out.
 fn is_handed_out(drained: &[u64], lun: u8, number: u64) -> bool

@@ -4,10 +4,10 @@ ghost use Rattle.kept_unit.specs.Ranges.{numbers_in_ranges};
 ghost use Rattle.lun_router.specs.Settling.{ranges_of, HasRoom};
 ghost use Rattle.lun_router.specs.Seats.{untold};
 
+use crate::handing_over::UnitRanges;
 use kept_unit::{add_ranges, listed_ranges, make_room};
 use logical_unit::Entry;
 use std::alloc::{AllocError, Global};
-use unit_locks::UnitRanges;
 
 /// No range of any unit.
 pub(crate) fn no_ranges(alloc: Global) -> UnitRanges

@@ -2,12 +2,12 @@ ghost use Rattle.std.specs.Prelude.{◌≡◌, ◌+◌, ℕ, Some, None, length,
 ghost use Rattle.std.specs.Option.{ForSome, option_map};
 ghost use Rattle.logical_unit.specs.UnitView.{last_number, units_of};
 ghost use Rattle.target_core.specs.Faults.{fault_of};
-ghost use Rattle.unit_locks.specs.Units.{IsAt, HasUnits};
+ghost use Rattle.lun_router.specs.Units.{IsAt, HasUnits};
 
+use crate::locking::UnitsByLun;
 use device_server::DeviceServer;
 use logical_unit::LogicalUnit;
 use target_core::TargetCore;
-use unit_locks::UnitsByLun;
 
 /// Takes the first unit off, if there is one.
 fn take_first<D: DeviceServer>(units: &mut Vec<LogicalUnit<D>>) -> Option<LogicalUnit<D>>

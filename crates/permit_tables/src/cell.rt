@@ -1,10 +1,10 @@
 ghost use Rattle.std.specs.Prelude.{◌≡◌, ℕ, Some, IfOk, string_bytes};
 
 use crate::class_names::class_text;
-use scsi_cdb::Class;
 use crate::res_type::ResType;
 use crate::role::Role;
 use crate::words::bit;
+use scsi_cdb::Class;
 use std::alloc::{AllocError, Global};
 use std::fmt;
 

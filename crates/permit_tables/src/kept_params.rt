@@ -2,8 +2,8 @@ ghost use Rattle.std.specs.Prelude.{◌≡◌, ◌≤◌, length, IfOk};
 
 use crate::list_defect::ListDefect;
 use crate::out_params::OutParams;
-use scsi_cdb::OutServiceAction;
 use arrayvec::ArrayVec;
+use scsi_cdb::OutServiceAction;
 use scsi_nexus::Nexus;
 use std::alloc::{AllocError, Global};
 use std::marker::Model;

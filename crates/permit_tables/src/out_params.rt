@@ -1,7 +1,7 @@
 use crate::layout::TARGETS;
 use crate::list_defect::ListDefect;
-use scsi_cdb::OutServiceAction;
 use arrayvec::ArrayVec;
+use scsi_cdb::OutServiceAction;
 use scsi_nexus::Nexus;
 
 /// A PERSISTENT RESERVE OUT command with its parameter list (SPC-4, "PERSISTENT RESERVE OUT

@@ -5,9 +5,9 @@ ghost use Rattle.permit_tables.specs.declared.res_type.ResType.{ResType};
 ghost use Rattle.permit_tables.specs.declared.role.Role.{Role};
 ghost use Rattle.scsi_cdb.specs.declared.classes.Class.{Class};
 
-use scsi_cdb::Class;
 use crate::res_type::ResType;
 use crate::role::Role;
+use scsi_cdb::Class;
 
 /// Each nexus may send it under any reservation.
 const EVERYBODY: u32 = 0x1F_FFFF;

@@ -11,13 +11,13 @@ use Rattle.permit_tables.specs.declared.out_params.OutParams.{OutParams}
 use Rattle.pr_core.specs.State.{State, power_on}
 use Rattle.pr_core.specs.Judge.{verdict}
 use Rattle.pr_core.specs.Outcome.{refusal, applied}
-use Rattle.pr_laws.specs.Laws.{commanded}
-use Rattle.pr_laws.specs.Laws as laws
+use Rattle.unit_laws.specs.Reservations.{commanded}
+use Rattle.unit_laws.specs.Reservations as laws
 use Rattle.permit_tables.specs.declared.pr_fault.PrFault.{PrFault}
 use Rattle.pr_core.specs.declared.verdict.Verdict.{Verdict}
 use Rattle.pr_core.specs.declared.verdict.Verdict.TheVariants.{Allowed, Denied, Rule}
 use Rattle.pr_core.proofs.KeyLaws.{proper-power_on}
-use Rattle.pr_laws.proofs.CommandLaws.{holder_is_registered}
+use Rattle.unit_laws.proofs.CommandLaws.{holder_is_registered}
 use Rattle.tape_medium.specs.declared.volume.Volume.{Volume}
 use Rattle.audit_log.specs.declared.record.Record.{Record}
 use Rattle.device_server.specs.View.{DeviceView, drives_of}

@@ -6,7 +6,7 @@ use Rattle.scsi_nexus.specs.declared.nexus.Nexus.{Nexus}
 use Rattle.permit_tables.specs.declared.res_type.ResType.{ResType}
 use Rattle.permit_tables.specs.declared.res_type.ResType.TheVariants as type
 use Rattle.permit_tables.specs.Types.{is_all_registrants}
-use Rattle.pr_laws.specs.Laws.{is_kept_by}
+use Rattle.unit_laws.specs.Reservations.{is_kept_by}
 use Rattle.pr_core.specs.State.{State, key, is_registered, res_type}
 use Rattle.permit_tables.specs.Pairs.{key_in}
 use Rattle.judgement.specs.declared.reply.Reply.{Reply}

@@ -5,7 +5,7 @@ use Rattle.scsi_nexus.specs.declared.nexus.Nexus.{Nexus}
 use Rattle.scsi_nexus.specs.Order.{nexus_cmp}
 use Rattle.unit_attention.specs.Queues.{slot_limit}
 use Rattle.permit_tables.specs.declared.out_params.OutParams.{OutParams}
-use Rattle.pr_laws.specs.Laws.{commanded}
+use Rattle.unit_laws.specs.Reservations.{commanded}
 use Rattle.audit_log.specs.declared.record.Record.{Record}
 use Rattle.device_server.specs.View.{DeviceView}
 use Rattle.judgement.specs.declared.reply.Reply.{Reply}

@@ -1,12 +1,12 @@
 ghost use Rattle.command_line.specs.Tasks.{IsDoable, MakesLibrary};
 
 use command_line::{Task, task_of};
+use library_start::library;
 use output_lines::{Audit, Explanations};
 use program_options::{LibraryOptions, MAX_READS};
 use replay::{ReplayFault, replay};
 use std::alloc::{AllocError, Global};
 use std::io;
-use stocked_library::library;
 
 /// A script and the heading that names it.
 #[derive(Drop)]

@@ -2,8 +2,8 @@ ghost use Rattle.std.specs.Prelude.{◌≡◌};
 ghost use Rattle.scsi_cdb.specs.Classes.{class_of, is_immediate};
 ghost use Rattle.scsi_cdb.specs.declared.request.Request.TheVariants.{PreventAllowMediumRemoval};
 
-use crate::request::Request;
 use crate::classes::Class;
+use crate::request::Request;
 
 /// The class of a request: the row of the permission table that it is judged by.
 pub fn class(request: &Request) -> Class

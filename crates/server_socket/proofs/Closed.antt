@@ -8,7 +8,7 @@ use Rattle.output_lines.specs.declared.audit_lines.Audit.{Audit}
 use Rattle.output_lines.specs.declared.record_output.RecordOutput.{RecordOutput}
 use Rattle.output_lines.specs.declared.record_output.RecordOutput.TheVariants.{AtTheEnd, AsTheyCome}
 use Rattle.output_lines.specs.RecordOutputs.{of_the_rest}
-use Rattle.library_closing.specs.ClosedLibrary.{IsClosed}
+use Rattle.library_service.specs.ClosedLibrary.{IsClosed}
 use Rattle.server_socket.specs.ServedLibrary.{ServesLibrary, WritesBefore, WritesOut}
 use Rattle.server_socket.specs.ServedSeats.{IsOfSessions, SeatsCome}
 use Rattle.server_socket.proofs.HandingOut.{hands_more, hands_none}

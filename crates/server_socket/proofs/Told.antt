@@ -2,9 +2,9 @@
 use Rattle.std.proofs.Common.{◌≡◌, ℕ, refl, sym, subst, Bool, true, false, Option, Some, None, inl, inr, Ok, Err, OnOk}
 use Rattle.std.specs.Prelude.{◌⊎◌, IfErr, IfSome, Result, if◌then◌else◌}
 use Rattle.lun_router.specs.declared.closing.CloseFault.TheVariants as close
-use Rattle.library_closing.specs.ClosingFaults.{MayEndWith}
-use Rattle.library_closing.specs.declared.closing_fault.ClosingFault.{ClosingFault}
-use Rattle.library_closing.specs.declared.closing_fault.ClosingFault.TheVariants as closing
+use Rattle.library_service.specs.ClosingFaults.{MayEndWith}
+use Rattle.library_service.specs.declared.closing_fault.ClosingFault.{ClosingFault}
+use Rattle.library_service.specs.declared.closing_fault.ClosingFault.TheVariants as closing
 use Rattle.server.specs.declared.acceptor.ServeTerm.{ServeTerm}
 use Rattle.server.specs.declared.acceptor.ServeTerm.TheVariants as term
 use Rattle.server.specs.declared.faulty_session.FaultySession.{FaultySession}

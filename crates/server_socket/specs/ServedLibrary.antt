@@ -3,7 +3,7 @@ use Rattle.std.specs.Prelude.{◌≡◌, ℕ, List, [], length, All, Option}
 use Rattle.logical_unit.specs.UnitView.{UnitView}
 use Rattle.lun_router.specs.Opening.{IsSince}
 use Rattle.lun_router.specs.Seats.{SeatValue}
-use Rattle.library_closing.specs.ClosedLibrary.{IsClosed}
+use Rattle.library_service.specs.ClosedLibrary.{IsClosed}
 use Rattle.output_lines.specs.declared.audit_lines.Audit.{Audit}
 use Rattle.output_lines.specs.RecordOutputs.{of_the_rest}
 use Rattle.output_lines.specs.declared.record_output.RecordOutput.{RecordOutput}

@@ -2,8 +2,8 @@
 use Rattle.std.specs.Prelude.{ℕ, nat_lt, Bool, true, false, IsTrue, List, ◌++◌, codes, Option, Some, None, Result, Ok, Err, ⊤}
 use Rattle.lun_router.specs.declared.closing.CloseFault.{CloseFault}
 use Rattle.lun_router.specs.declared.closing.CloseFault.TheVariants as close
-use Rattle.library_closing.specs.declared.closing_fault.ClosingFault.{ClosingFault}
-use Rattle.library_closing.specs.declared.closing_fault.ClosingFault.TheVariants as closing
+use Rattle.library_service.specs.declared.closing_fault.ClosingFault.{ClosingFault}
+use Rattle.library_service.specs.declared.closing_fault.ClosingFault.TheVariants as closing
 use Rattle.server.specs.declared.acceptor.ServeTerm.{ServeTerm}
 use Rattle.server.specs.declared.acceptor.ServeTerm.TheVariants as term
 use Rattle.server.specs.declared.faulty_session.FaultySession.{FaultySession}

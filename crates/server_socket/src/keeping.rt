@@ -4,7 +4,7 @@ ghost use Rattle.std.specs.Prelude.{◌≡◌, IfSome};
 ghost use Rattle.server_socket.specs.declared.server_fault.ServerFault.TheVariants.{Media};
 
 use crate::server_fault::ServerFault;
-use library_device::Device;
+use library_start::Device;
 use server::{Caretaker, KeepTeller, Teller};
 use std::alloc::Global;
 use std::io::Write;

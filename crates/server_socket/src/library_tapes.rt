@@ -3,7 +3,7 @@ ghost use Rattle.scsi_cdb.specs.Kinds.{kind_at};
 
 use device_server::Attendant;
 use kept_unit::Ledgers;
-use library_device::Device;
+use library_start::Device;
 use lun_router::{Library, Pass};
 use std::sync::Wait;
 use tape_keeper::TapeSource;

@@ -3,7 +3,7 @@ ghost use Rattle.lun_router.specs.Answering.{IsSomeTrail};
 
 use audit_log::Record;
 use kept_unit::Ledgers;
-use library_device::Device;
+use library_start::Device;
 use lun_router::{Library, Pass};
 use std::sync::Wait;
 

@@ -1,7 +1,7 @@
 ghost use Rattle.std.specs.Prelude.{◌≡◌};
 ghost use Rattle.server_socket.specs.ServerFaults.{close_words, closing_fault, earlier, is_before, own_fault, rank, told_of};
 
-use library_closing::ClosingFault;
+use library_service::ClosingFault;
 use lun_router::CloseFault;
 use server::{FaultySession, InOrder, ServeTerm, first_by};
 use std::alloc::{AllocError, AllocFailed};

@@ -19,9 +19,8 @@ use crate::record_source::RecordSource;
 use crate::server_fault::{ServerFault, closing_fault, earlier, own_fault, told_of};
 use crate::unwritten_teller::UnwrittenTeller;
 use kept_unit::Ledgers;
-use library_closing::close_and_write;
-use library_device::Device;
-use library_service::{give_back, services_of};
+use library_service::{close_and_write, give_back, services_of};
+use library_start::Device;
 use lun_router::{Blanks, Library, Pass, Seat};
 use output_lines::RecordOutput;
 use server::{

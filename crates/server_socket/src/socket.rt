@@ -15,7 +15,7 @@ use crate::server_fault::ServerFault;
 use crate::serving::{ServiceMeans, serve_library};
 use crate::socket_fault::SocketFault;
 use command_line::ServeOptions;
-use library_device::Device;
+use library_start::{Device, library_within};
 use output_lines::{Audit, RecordOutput};
 use program_options::{LibraryOptions, MAX_READS, ServeTimes, ServeUntil};
 use server::{
@@ -29,7 +29,6 @@ use std::random::RandomSource;
 use std::sync::Wait;
 use std::thread::{self, Threads};
 use std::time::Clock;
-use stocked_library::library_within;
 use tape_keeper::{NoKeeper, TapeKeeper};
 use tape_medium::MemoryLimit;
 use target_core::TargetCore;

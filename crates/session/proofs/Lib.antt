@@ -1,3 +1,4 @@
+pub mod Splitting
 pub mod Called
 pub mod Answered
 pub mod Read

@@ -1,3 +1,4 @@
+pub mod Splitting
 pub mod Limits
 pub mod Faults
 pub mod Answering

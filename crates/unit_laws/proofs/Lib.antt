@@ -1,3 +1,5 @@
+pub mod CommandLaws
+pub mod RowLaws
 pub mod Check
 pub mod CheckRows
 pub mod Conflicts

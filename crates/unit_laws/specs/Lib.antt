@@ -1,3 +1,5 @@
+pub mod Reservations
+pub mod ReservationRows
 pub mod Check
 pub mod CheckRows
 pub mod Rows

@@ -6,6 +6,7 @@ ghost use Rattle.vtl.specs.Faults.{ending_line, ending_status};
 use crate::client::client;
 use crate::program_fault::ProgramFault;
 use command_line::{CommandLineFault, Task, task_of};
+use library_start::library;
 use media_folder::check_folder;
 use output_lines::{Audit, Explanations};
 use permission_chart::write_cells;
@@ -21,7 +22,6 @@ use std::sync::Wait;
 use std::thread::Threads;
 use std::time::Clock;
 use std::{env, io};
-use stocked_library::library;
 
 /// Does what the command line asks for, writes on `errors` why it couldn't, and answers the exit status.
 pub fn run<

@@ -3,7 +3,7 @@
 use iscsi_pdu::{LoginStatus, SerialNumber};
 use iscsi_session::{Entrant, Joined, KeepingService, NexusEnd, SessionIdentity, SessionRegister};
 use judgement::ReceivedCommand;
-use library_device::{Device, unit_at};
+use library_start::{Device, unit_at};
 use logical_unit::{Done, EventKind};
 use scsi_cdb::Kind;
 use scsi_nexus::Nexus;

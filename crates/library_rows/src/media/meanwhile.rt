@@ -9,7 +9,7 @@ use super::memory_disk::MemoryDisk;
 use super::units::{BLOCK_AND_MARK, Units, WRITE_HI, WRITE_MARK};
 use crate::comparing::{assert_list, assert_same};
 use device_server::Attendant;
-use library_device::Device;
+use library_start::Device;
 use std::alloc::Global;
 use std::process::Abort;
 use std::sync::atomic::{AtomicBool, AtomicU32, Ordering};

@@ -5,8 +5,8 @@ ghost use Rattle.device_server.specs.Settled.{SameButSettled};
 
 use device_server::{Attendant, DeviceServer, field_fault};
 use kept_media::{InventoryStore, VolumeImage};
-use library_device::Device;
 use library_inventory::Inventory;
+use library_start::Device;
 use scsi_cdb::Request;
 use std::alloc::Global;
 use std::process::Abort;

@@ -1,7 +1,7 @@
 //! A stream that is cut into frames by itself, which no session here does.
 
 use super::assert_same;
-use frame_splitter::{Frame, Splitter};
+use session::{Frame, Splitter};
 use std::alloc::Global;
 
 /// LOGIN of A, TEST UNIT READY at the changer, LOGOUT.

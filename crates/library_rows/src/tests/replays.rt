@@ -2,12 +2,12 @@
 
 use super::assert_same;
 use crate::trickle::Trickle;
+use library_start::library;
 use output_lines::{Audit, Explanations};
 use program_options::LibraryOptions;
 use replay::{ReplayFault, replay};
 use std::alloc::Global;
 use std::process::Abort;
-use stocked_library::library;
 
 /// What it shows, how often a script of three bytes may be read, the exit status, and how often it is read, a byte each time. Its end is a
 /// read of its own.

@@ -2,12 +2,12 @@
 
 use super::assert_list;
 use iscsi_keys::write_item;
+use library_start::library;
 use logical_unit::Reply;
 use permit_tables::{Cell, ResType, Role};
-use scsi_cdb::Class;
 use program_options::LibraryOptions;
+use scsi_cdb::Class;
 use scsi_sense::Status;
-use stocked_library::library;
 use target_core::Event;
 
 const CELL: Cell = Cell {

@@ -8,7 +8,7 @@ use super::gates::{Flags, TestGate};
 use super::playing::play;
 use super::targets::two_drives;
 use kept_unit::Ledgers;
-use library_device::Device;
+use library_start::Device;
 use lun_router::{Blanks, Library};
 use std::alloc::Global;
 use std::marker::Brand;

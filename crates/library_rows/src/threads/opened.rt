@@ -2,8 +2,8 @@
 
 use super::gates::TestGate;
 use kept_unit::{Ledgers, NumberRange};
-use library_closing::{ClosingFault, close_and_write};
-use library_device::Device;
+use library_service::{ClosingFault, close_and_write};
+use library_start::Device;
 use logical_unit::{Done, EventKind};
 use lun_router::{CloseFault, Histories, Library, Seat};
 use output_lines::{Audit, UnwrittenListener};

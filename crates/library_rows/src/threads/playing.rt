@@ -8,7 +8,7 @@ use super::scenes::plan_at;
 use super::settling::{Settled, assert_settled};
 use super::unclosed::assert_unclosed;
 use crate::comparing::assert_same;
-use library_device::Device;
+use library_start::Device;
 use lun_router::{CloseFault, Histories};
 use std::alloc::Global;
 use std::process::Abort;

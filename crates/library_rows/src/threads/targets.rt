@@ -1,9 +1,8 @@
 //! The target of the tests: two empty drives, and two volumes in the first storage elements.
 
-use library_device::Device;
+use library_start::{Device, library};
 use program_options::LibraryOptions;
 use std::alloc::{AllocError, Global};
-use stocked_library::library;
 use target_core::TargetCore;
 
 const OPTIONS: LibraryOptions = LibraryOptions {

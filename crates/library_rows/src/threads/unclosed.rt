@@ -2,7 +2,7 @@
 
 use super::opened::Opened;
 use crate::comparing::{assert_list, assert_same};
-use library_closing::ClosingFault;
+use library_service::ClosingFault;
 use lun_router::CloseFault;
 use output_lines::{UnwrittenListener, UnwrittenRecords};
 use std::alloc::Global;

@@ -1,5 +1,0 @@
-use Rattle.std.proofs.Common.{rules}
-use Rattle.library_closing.proofs.closing.units_in.Goals as goal
-
-pub returns : goal.returns
-returns g c = search rules

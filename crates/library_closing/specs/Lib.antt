@@ -1,2 +1,0 @@
-pub mod ClosedLibrary
-pub mod ClosingFaults

@@ -1,5 +1,0 @@
-use Rattle.std.proofs.Common.{rules}
-use Rattle.library_device.proofs.device.DeviceDeviceServer.perform.Goals as goal
-
-pub returns-in-Tape-clause-ok : goal.returns-in-Tape-clause-ok
-returns-in-Tape-clause-ok c = search rules fits 100

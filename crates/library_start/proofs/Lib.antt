@@ -1,0 +1,3 @@
+pub mod StartLemmas
+pub mod LibraryLemmas
+pub mod StockLemmas

@@ -1,0 +1,7 @@
+pub mod Sizes
+pub mod Starting
+pub mod StartRows
+pub mod Stock
+pub mod StockedDevices
+pub mod StockRows
+pub mod Devices

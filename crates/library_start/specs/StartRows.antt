@@ -1,0 +1,42 @@
+-- Worked rows: a library of one drive and two slots, with a volume in a slot and one in the drive.
+use Rattle.std.specs.Prelude.{ℕ, true, false, List, [], ◌∷◌, Some, None}
+use Rattle.tape_medium.specs.Object.{Mark}
+use Rattle.tape_medium.specs.declared.volume.VolumeTag.{VolumeTag}
+use Rattle.tape_medium.specs.declared.volume.Volume.{Volume}
+use Rattle.device_server.specs.Drive.{DriveView, empty_drive}
+use Rattle.library_inventory.specs.declared.element.Element.TheVariants.{DataTransfer, Storage}
+use Rattle.library_inventory.specs.declared.element.LibrarySize.{LibrarySize}
+use Rattle.library_start.specs.declared.start.StartedVolume.{StartedVolume}
+use Rattle.library_start.specs.Starting.{ShelvesView}
+
+-- two filemarks
+abbrev pub two_marks : VolumeTag → (position : ℕ) → Volume
+two_marks tag position = record {
+  tag = tag;
+  protected = false;
+  tape = record { objects = Mark ∷ Mark ∷ []; position = position; capacity = 10; unchanged = 2 };
+}
+
+abbrev pub one_drive : LibrarySize
+one_drive = record { drives = 1; slots = 2; portals = 0 }
+
+abbrev pub in_slot_and_drive : (a b : VolumeTag) → List StartedVolume
+in_slot_and_drive a b =
+    record { element = Storage 1; volume = two_marks a 2 } ∷ record { element = DataTransfer 0; volume = two_marks b 2 } ∷ []
+
+-- the first of them in its slot
+abbrev pub with_one : VolumeTag → ShelvesView
+with_one a = record {
+  elements = record { data_transfer = None ∷ []; import_export = []; storage = None ∷ Some (two_marks a 2) ∷ [] };
+  drives = empty_drive ∷ [];
+}
+
+-- and the other in the drive, at the beginning of its tape
+abbrev pub loaded_drive : VolumeTag → DriveView
+loaded_drive b = record { bay = Some (two_marks b 0); loaded = true; block_length = 0 }
+
+abbrev pub with_both : (a b : VolumeTag) → ShelvesView
+with_both a b = record {
+  elements = record { data_transfer = Some b ∷ []; import_export = []; storage = None ∷ Some (two_marks a 2) ∷ [] };
+  drives = loaded_drive b ∷ [];
+}

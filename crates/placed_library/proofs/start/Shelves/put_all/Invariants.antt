@@ -1,6 +1,0 @@
-use Rattle.placed_library.specs.Starting.{AreShelved}
-use Rattle.placed_library.proofs.start.Shelves.put_all.Given as goal
-
--- those that the loop has passed are in their elements
-abbrev pub invariant-volumes : goal.invariant-volumes
-invariant-volumes l = AreShelved l.initial.self l.yielded l.self

@@ -1,3 +1,0 @@
-pub mod Sizes
-pub mod Starting
-pub mod StartRows

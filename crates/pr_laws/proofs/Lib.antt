@@ -1,2 +1,0 @@
-pub mod CommandLaws
-pub mod RowLaws

@@ -1,2 +1,0 @@
-pub mod LibraryLemmas
-pub mod StockLemmas

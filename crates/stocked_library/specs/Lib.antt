@@ -1,3 +1,0 @@
-pub mod Stock
-pub mod Devices
-pub mod Rows

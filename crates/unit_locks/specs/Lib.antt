@@ -1,5 +1,0 @@
-pub mod Shares
-pub mod Units
-pub mod Answering
-pub mod Blanks
-pub mod HandingOver
