@@ -134,7 +134,7 @@ impl HostSession {
 /// `Read`: a read failed, or one more was needed than `settings.turns`. After these three just the frames up to the one without
 /// its reply were sent, and just the lines of the replies before it were written. `Write`: a write failed, or a flush;
 /// of how much it leaves written nothing is said. `NoMemory` may come at any time.
-pub fn converse<R: Read, W: Write, O: Write>(
+pub fn run_session<R: Read, W: Write, O: Write>(
     alloc: Global,
     settings: HostSettings,
     script: &[u8],

@@ -9,5 +9,5 @@ mod host_session;
 mod laws;
 
 pub use client_session_fault::ClientSessionFault;
-pub use host_session::{HostSettings, converse};
+pub use host_session::{HostSettings, run_session};
 pub use laws::worked_rows;

@@ -71,8 +71,8 @@ pub(crate) const LIBRARY: [OptionRow; 5] = [
         name: "portals",
         value: OptionValue::Number8(
             "P",
-            LibraryOptions::MIN.portals,
-            LibraryOptions::MAX.portals,
+            LibraryOptions::MIN.import_exports,
+            LibraryOptions::MAX.import_exports,
         ),
         presence: Presence::Default("0"),
         excludes: None,

@@ -16,7 +16,7 @@ slot_limit = 1024
 
 pub record IsWithinLimits (data_transfer : List (Option VolumeTag)) (import_export storage : List (Option Volume)) : Type 0 where
   pub drives : length data_transfer ≤ drive_limit
-  pub portals : length import_export ≤ portal_limit
+  pub import_exports : length import_export ≤ portal_limit
   pub slots : length storage ≤ slot_limit
 
 -- how many elements of a type there may be; there is one medium transport element

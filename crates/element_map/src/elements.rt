@@ -43,17 +43,17 @@ impl Model for Elements {
 
 impl Elements {
     /// So many data transfer, storage and import/export elements, all empty.
-    pub fn new(alloc: Global, drives: u16, slots: u16, portals: u16) -> Result<Elements, AllocError>
+    pub fn new(alloc: Global, drives: u16, slots: u16, import_exports: u16) -> Result<Elements, AllocError>
         requires some_drive { 1 ≤ drives }
         requires drives { drives ≤ drive_limit }
         requires some_slot { 1 ≤ slots }
         requires slots { slots ≤ slot_limit }
-        requires portals { portals ≤ portal_limit }
-        ensures { IfOk result (λ e. e ≡ empty_elements drives portals slots) }
+        requires import_exports { import_exports ≤ portal_limit }
+        ensures { IfOk result (λ e. e ≡ empty_elements drives import_exports slots) }
     {
         Ok(Elements {
             data_transfer: empty_places(alloc, drives as usize)?,
-            import_export: empty_places(alloc, portals as usize)?,
+            import_export: empty_places(alloc, import_exports as usize)?,
             storage: empty_places(alloc, slots as usize)?,
         })
     }

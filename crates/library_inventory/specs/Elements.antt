@@ -7,4 +7,4 @@ use Rattle.library_inventory.specs.declared.element.LibrarySize.{LibrarySize}
 abbrev pub IsElementOf : LibrarySize → Element → Type 0
 IsElementOf size (DataTransfer number) = number < size.drives
 IsElementOf size (Storage number) = number < size.slots
-IsElementOf size (ImportExport number) = number < size.portals
+IsElementOf size (ImportExport number) = number < size.import_exports

@@ -2,7 +2,7 @@
 use Rattle.std.specs.Prelude.{ℕ, ◌==◌, Option, Some, None, Result, Ok, Err, unwrap_or, if◌then◌else◌}
 use Rattle.library_inventory.specs.declared.element.LibrarySize.{LibrarySize}
 use Rattle.library_inventory.specs.declared.fault.SizeOption.{SizeOption}
-use Rattle.library_inventory.specs.declared.fault.SizeOption.TheVariants.{Drives, Slots, Portals}
+use Rattle.library_inventory.specs.declared.fault.SizeOption.TheVariants.{Drives, Slots, ImportExports}
 use Rattle.library_inventory.specs.declared.fault.StartFault.{StartFault}
 use Rattle.library_inventory.specs.declared.fault.StartFault.TheVariants.{Disagrees}
 use Rattle.program_options.specs.declared.given_library.GivenLibrary.{GivenLibrary}
@@ -19,10 +19,10 @@ and_then (Err fault) next = Err fault
 
 -- one drive, eight storage elements and no import/export element are usual
 abbrev pub usual_size : GivenLibrary → LibrarySize
-usual_size given = record { drives = unwrap_or given.drives 1; slots = unwrap_or given.slots 8; portals = unwrap_or given.portals 0 }
+usual_size given = record { drives = unwrap_or given.drives 1; slots = unwrap_or given.slots 8; import_exports = unwrap_or given.import_exports 0 }
 
 -- that of the inventory, with which the options agree, or without one what they say
 abbrev pub size_of : GivenLibrary → (kept : Option LibrarySize) → Result LibrarySize StartFault
 size_of given None = Ok (usual_size given)
 size_of given (Some kept) =
-    and_then (agreed Drives given.drives kept.drives) (and_then (agreed Slots given.slots kept.slots) (and_then (agreed Portals given.portals kept.portals) (Ok kept)))
+    and_then (agreed Drives given.drives kept.drives) (and_then (agreed Slots given.slots kept.slots) (and_then (agreed ImportExports given.import_exports kept.import_exports) (Ok kept)))

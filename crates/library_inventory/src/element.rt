@@ -18,7 +18,7 @@ pub struct LibrarySize {
     /// Storage elements.
     pub slots: u16,
     /// Import/export elements.
-    pub portals: u8,
+    pub import_exports: u8,
 }
 
 impl LibrarySize {
@@ -29,7 +29,7 @@ impl LibrarySize {
         match element {
             Element::DataTransfer(number) => number < u16::from(self.drives),
             Element::Storage(number) => number < self.slots,
-            Element::ImportExport(number) => number < u16::from(self.portals),
+            Element::ImportExport(number) => number < u16::from(self.import_exports),
         }
     }
 }

@@ -6,7 +6,7 @@ use thiserror::Error;
 pub enum SizeOption {
     Drives,
     Slots,
-    Portals,
+    ImportExports,
 }
 
 /// Why a volume isn't added to an inventory, in the order of the tests.

@@ -36,16 +36,16 @@ pub fn size_at_start(
             )?;
             agree(SizeOption::Slots, given.slots, kept.slots)?;
             agree(
-                SizeOption::Portals,
-                given.portals.map(u16::from),
-                u16::from(kept.portals),
+                SizeOption::ImportExports,
+                given.import_exports.map(u16::from),
+                u16::from(kept.import_exports),
             )?;
             Ok(kept)
         }
         None => Ok(LibrarySize {
             drives: given.drives.unwrap_or(LibraryOptions::DEFAULT.drives),
             slots: given.slots.unwrap_or(LibraryOptions::DEFAULT.slots),
-            portals: given.portals.unwrap_or(LibraryOptions::DEFAULT.portals),
+            import_exports: given.import_exports.unwrap_or(LibraryOptions::DEFAULT.import_exports),
         }),
     }
 }

@@ -13,8 +13,8 @@ pub fn worked_rows()
     ensures last_tag { tag_of 4095 ≡ record { 0 = codes "VOL04095                        " } }
     ensures name { named (codes "A-1_b") ≡ Some (record { 0 = codes "A-1_b                           " }) }
     ensures no_name { named (codes "A/b") ≡ None }
-    ensures disagrees { size_of (record { drives = None; slots = Some 5; portals = None; volumes = None }) (Some (record { drives = 1; slots = 4; portals = 1 })) ≡ Err (Disagrees Slots 5 4) }
-    ensures new_library { size_of (record { drives = Some 2; slots = None; portals = None; volumes = None }) None ≡ Ok (record { drives = 2; slots = 8; portals = 0 }) }
+    ensures disagrees { size_of (record { drives = None; slots = Some 5; import_exports = None; volumes = None }) (Some (record { drives = 1; slots = 4; import_exports = 1 })) ≡ Err (Disagrees Slots 5 4) }
+    ensures new_library { size_of (record { drives = Some 2; slots = None; import_exports = None; volumes = None }) None ≡ Ok (record { drives = 2; slots = 8; import_exports = 0 }) }
     ensures goes_back { put_back (tag_of 1 ∷ []) [] (record { tag = tag_of 1; element = Storage 2 }) ≡ record { tag = tag_of 1; element = Storage 2 } ∷ [] }
     ensures is_taken { put_back (tag_of 1 ∷ []) (record { tag = tag_of 2; element = Storage 2 } ∷ []) (record { tag = tag_of 1; element = Storage 2 }) ≡ record { tag = tag_of 2; element = Storage 2 } ∷ [] }
     ensures is_missing { put_back (tag_of 2 ∷ []) [] (record { tag = tag_of 1; element = Storage 2 }) ≡ [] }

@@ -12,18 +12,18 @@ use Rattle.program_options.specs.Options.{AreInRange}
 use Rattle.library_start.specs.Stock.{stocked}
 
 -- a changer with so many unmarked elements, and so many empty drives
-abbrev pub fault_with : (drives : ℕ) → (places portals : List (Option Volume)) → Option CoreFault
-fault_with drives places portals =
-    fault_of (made (Changer (record { data_transfer = replicate drives None; import_export = portals; storage = places })) 0 (drives + 1) 0 ∷ drives_to drives (drives + 1))
+abbrev pub fault_with : (drives : ℕ) → (places import_exports : List (Option Volume)) → Option CoreFault
+fault_with drives places import_exports =
+    fault_of (made (Changer (record { data_transfer = replicate drives None; import_export = import_exports; storage = places })) 0 (drives + 1) 0 ∷ drives_to drives (drives + 1))
 
 -- by the number of drives
-by_drives : (drives : ℕ) (places portals : List (Option Volume)) → 1 ≤ drives → drives ≤ 4 → fault_with drives places portals ≡ None
-by_drives zero places portals low high = absurd (omega (arith, low))
-by_drives (suc zero) places portals low high = refl
-by_drives (suc (suc zero)) places portals low high = refl
-by_drives (suc (suc (suc zero))) places portals low high = refl
-by_drives (suc (suc (suc (suc zero)))) places portals low high = refl
-by_drives (suc (suc (suc (suc (suc k))))) places portals low high = absurd (omega (arith, high))
+by_drives : (drives : ℕ) (places import_exports : List (Option Volume)) → 1 ≤ drives → drives ≤ 4 → fault_with drives places import_exports ≡ None
+by_drives zero places import_exports low high = absurd (omega (arith, low))
+by_drives (suc zero) places import_exports low high = refl
+by_drives (suc (suc zero)) places import_exports low high = refl
+by_drives (suc (suc (suc zero))) places import_exports low high = refl
+by_drives (suc (suc (suc (suc zero)))) places import_exports low high = refl
+by_drives (suc (suc (suc (suc (suc k))))) places import_exports low high = absurd (omega (arith, high))
 
 pub in_order : (options : LibraryOptions) → AreInRange options → fault_of (library_of options) ≡ None
 in_order options range = by_drives options.drives (stocked options).storage (stocked options).import_export range.some_drives range.few_drives

@@ -42,9 +42,9 @@ by_tests : (e : Elements) (address : ℕ) (a b c d : Bool) → (address == 0) �
 by_tests e address a b c d ha hb hc hd = rw (ha, hb, hc, hd) refl
 
 pub at_storage : (e : Elements) (k : ℕ) → length e.data_transfer ≤ 4 → length e.import_export ≤ 16 → k < length e.storage → element_at e (0x400 + k) ≡ Storage k
-at_storage e k drives portals there =
+at_storage e k drives import_exports there =
     by_tests e (0x400 + k) false false false true (grind arith) (outside first_data_transfer (length e.data_transfer) (0x400 + k) (omega (arith, drives)))
-    (outside first_import_export (length e.import_export) (0x400 + k) (omega (arith, portals))) (inside first_storage (length e.storage) (0x400 + k) (omega arith) (omega (arith, there)))
+    (outside first_import_export (length e.import_export) (0x400 + k) (omega (arith, import_exports))) (inside first_storage (length e.storage) (0x400 + k) (omega arith) (omega (arith, there)))
     ∙ ap Storage (omega arith)
 
 length-shelved : (size k slots : ℕ) → k ≤ slots → length (shelved size k slots) ≡ slots
@@ -65,7 +65,7 @@ put_next options k range there =
     let more : options.slots - k ≡ suc (options.slots - (k + 1)) = omega (arith, there) in
     let is : e.storage ≡ volumes_to size k ++ None ∷ rest = ap (λ n. volumes_to size k ++ replicate n None) more in
     let few : length e.storage ≡ options.slots = length-shelved size k options.slots (omega (arith, there)) in
-    let at : element_at e (0x400 + k) ≡ Storage k = at_storage e k (omega (arith, length-replicate_of options.drives no_tag, range.few_drives)) (omega (arith, length-replicate_of options.portals none, range.few_portals)) (omega (arith, few, there)) in
+    let at : element_at e (0x400 + k) ≡ Storage k = at_storage e k (omega (arith, length-replicate_of options.drives no_tag, range.few_drives)) (omega (arith, length-replicate_of options.import_exports none, range.few_import_exports)) (omega (arith, few, there)) in
     let empty : slice_index_or e.storage k None ≡ None =
     ap (λ l. slice_index_or l k None) is ∙ ap (λ n. slice_index_or (volumes_to size k ++ None ∷ rest) n None) (sym (length-volumes_to size k)) ∙ index-behind (volumes_to size k) rest None None in
     let full : slice_set e.storage k (Some v) ≡ shelved size (k + 1) options.slots =

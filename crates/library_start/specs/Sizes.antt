@@ -7,4 +7,4 @@ pub record IsMade (size : LibrarySize) : Type 0 where
   pub few_drives : size.drives ≤ 4
   pub some_slots : 1 ≤ size.slots
   pub few_slots : size.slots ≤ 1024
-  pub few_portals : size.portals ≤ 16
+  pub few_import_exports : size.import_exports ≤ 16

@@ -18,7 +18,7 @@ two_marks tag position = record {
 }
 
 abbrev pub one_drive : LibrarySize
-one_drive = record { drives = 1; slots = 2; portals = 0 }
+one_drive = record { drives = 1; slots = 2; import_exports = 0 }
 
 abbrev pub in_slot_and_drive : (a b : VolumeTag) → List StartedVolume
 in_slot_and_drive a b =

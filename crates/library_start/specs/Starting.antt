@@ -18,7 +18,7 @@ pub record ShelvesView : Type 0 where
 
 abbrev pub empty_shelves : LibrarySize → ShelvesView
 empty_shelves size =
-    record { elements = empty_elements size.drives size.portals size.slots; drives = replicate size.drives empty_drive }
+    record { elements = empty_elements size.drives size.import_exports size.slots; drives = replicate size.drives empty_drive }
 
 -- one that is put into a drive is loaded, at the beginning of its tape
 abbrev pub loaded_with : DriveView → Volume → DriveView

@@ -31,7 +31,7 @@ shelved size volumes slots = volumes_to size volumes ++ replicate (slots - volum
 abbrev pub stocked_to : LibraryOptions → ℕ → Elements
 stocked_to options volumes = record {
   data_transfer = replicate options.drives None;
-  import_export = replicate options.portals None;
+  import_export = replicate options.import_exports None;
   storage = shelved options.volume_size volumes options.slots;
 }
 

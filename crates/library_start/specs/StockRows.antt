@@ -12,10 +12,10 @@ use Rattle.library_start.specs.Stock.{stocked, tag_of}
 
 -- the usual library, and one of three drives with larger volumes: each unit is told how many there are
 abbrev pub usual : LibraryOptions
-usual = record { drives = 1; slots = 8; portals = 0; volumes = 1; volume_size = 16777216 }
+usual = record { drives = 1; slots = 8; import_exports = 0; volumes = 1; volume_size = 16777216 }
 
 abbrev pub larger : LibraryOptions
-larger = record { drives = 3; slots = 2; portals = 1; volumes = 2; volume_size = 1073741824 }
+larger = record { drives = 3; slots = 2; import_exports = 1; volumes = 2; volume_size = 1073741824 }
 
 abbrev pub first_tag : VolumeTag
 first_tag = record { 0 = codes "VOL00001                        " }

@@ -5,7 +5,8 @@ ghost use Rattle.library_start.specs.StockedDevices.{library_of};
 ghost use Rattle.program_options.specs.Options.{AreInRange};
 
 use crate::stock::stocked;
-use library_start::{Device, unit_at};
+use crate::device::Device;
+use crate::unit::unit_at;
 use program_options::LibraryOptions;
 use std::alloc::{AllocError, Global};
 use tape_medium::MemoryLimit;

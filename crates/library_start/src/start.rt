@@ -11,7 +11,8 @@ use changer_server::Changer;
 use device_server::DeviceServer;
 use element_map::Elements;
 use library_inventory::{Element, LibrarySize};
-use library_start::{Device, unit_at};
+use crate::device::Device;
+use crate::unit::unit_at;
 use logical_unit::LogicalUnit;
 use std::alloc::{AllocError, AllocFailed, Global};
 use std::marker::Model;
@@ -97,7 +98,7 @@ impl Shelves {
             alloc,
             u16::from(size.drives),
             size.slots,
-            u16::from(size.portals),
+            u16::from(size.import_exports),
         )?;
         let drives = empty_drives(alloc, size.drives)?;
         Ok(Shelves { elements, drives })

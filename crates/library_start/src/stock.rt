@@ -93,7 +93,7 @@ pub fn stocked(
         alloc,
         u16::from(options.drives),
         options.slots,
-        u16::from(options.portals),
+        u16::from(options.import_exports),
     )?;
     'volumes: for place in 0..options.volumes {
         let volume = volume_of(alloc, memory.share()?, options.volume_size, place + 1);

@@ -13,7 +13,7 @@ pub record IsUsable (size : LibrarySize) : Type 0 where
   pub few_drives : size.drives ≤ 4
   pub some_slots : 1 ≤ size.slots
   pub few_slots : size.slots ≤ 1024
-  pub few_portals : size.portals ≤ 16
+  pub few_import_exports : size.import_exports ≤ 16
 
 -- by the inventory and the options, which agree
 pub record IsDecided (given : GivenLibrary) (kept : Option LibrarySize) (size : LibrarySize) : Type 0 where

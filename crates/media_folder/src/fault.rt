@@ -151,11 +151,11 @@ fn write_size<W: fmt::Write>(f: &mut fmt::Formatter<W>, size: &LibrarySize) -> f
     let LibrarySize {
         drives,
         slots,
-        portals,
+        import_exports,
     } = *size;
     write!(
         f,
-        "vtl: no library has {drives} drives, {slots} slots and {portals} portals"
+        "vtl: no library has {drives} drives, {slots} slots and {import_exports} portals"
     )
 }
 
@@ -180,7 +180,7 @@ fn option_name(option: SizeOption) -> &'static str {
     match option {
         SizeOption::Drives => "--drives",
         SizeOption::Slots => "--slots",
-        SizeOption::Portals => "--portals",
+        SizeOption::ImportExports => "--portals",
     }
 }
 
@@ -211,7 +211,7 @@ fn key_name(key: InventoryKey) -> &'static str {
         InventoryKey::Version => "version",
         InventoryKey::Drives => "drives",
         InventoryKey::Slots => "slots",
-        InventoryKey::Portals => "portals",
+        InventoryKey::ImportExports => "portals",
         InventoryKey::Volume => "volume",
         InventoryKey::Missing => "missing",
     }

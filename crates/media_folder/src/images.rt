@@ -20,7 +20,7 @@ use std::alloc::{AllocError, Global};
 use std::fs::{File, Files, OpenOptions};
 use std::io::{self, Write};
 use std::os::unix::fs::OpenOptionsExt;
-use tape_flush::{KeptImage, open_image};
+use tape_flush::{SavedImage, open_image};
 use tape_medium::{MemoryLimit, Volume, VolumeTag};
 
 /// A volume that is kept in a file, and the element in which it lies. It is protected where its file can't be written.
@@ -28,7 +28,7 @@ use tape_medium::{MemoryLimit, Volume, VolumeTag};
 pub struct KeptVolume<'a, R: Files<File = File>> {
     pub element: Element,
     pub volume: Volume,
-    pub image: KeptImage<FileStore<'a, R>>,
+    pub image: SavedImage<FileStore<'a, R>>,
 }
 
 /// What was read of the files of a folder's volumes.

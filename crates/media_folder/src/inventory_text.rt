@@ -16,7 +16,7 @@ fn key_text(key: InventoryKey) -> &'static str {
         InventoryKey::Version => "version",
         InventoryKey::Drives => "drives",
         InventoryKey::Slots => "slots",
-        InventoryKey::Portals => "portals",
+        InventoryKey::ImportExports => "portals",
         InventoryKey::Volume => "volume",
         InventoryKey::Missing => "missing",
     }
@@ -45,7 +45,7 @@ fn size_of(table: &Table) -> Result<LibrarySize, ReadFault> {
     Ok(LibrarySize {
         drives: byte_at(table, InventoryKey::Drives)?,
         slots,
-        portals: byte_at(table, InventoryKey::Portals)?,
+        import_exports: byte_at(table, InventoryKey::ImportExports)?,
     })
 }
 
@@ -183,12 +183,12 @@ pub fn write_inventory(
     let LibrarySize {
         drives,
         slots,
-        portals,
+        import_exports,
     } = inventory.size();
     writeln!(text, "version = {VERSION}")?;
     write!(
         text,
-        "drives = {drives}\nslots = {slots}\nportals = {portals}\n"
+        "drives = {drives}\nslots = {slots}\nportals = {import_exports}\n"
     )?;
     'volumes: for volume in inventory.volumes() {
         write_volume(&mut text, InventoryKey::Volume, volume)?;

@@ -18,7 +18,7 @@ fn is_usable(size: LibrarySize) -> bool
         && size.drives <= most.drives
         && 1 <= size.slots
         && size.slots <= most.slots
-        && size.portals <= most.portals
+        && size.import_exports <= most.import_exports
 }
 
 /// The size of a library: that of its inventory, if it has one, with which the options that are given agree, and else that of the

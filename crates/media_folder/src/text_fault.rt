@@ -10,7 +10,7 @@ pub enum InventoryKey {
     Version,
     Drives,
     Slots,
-    Portals,
+    ImportExports,
     Volume,
     Missing,
 }

@@ -8,7 +8,7 @@ pub record AreInRange (options : LibraryOptions) : Type 0 where
   pub few_drives : options.drives ≤ 4
   pub some_slots : 1 ≤ options.slots
   pub few_slots : options.slots ≤ 1024
-  pub few_portals : options.portals ≤ 16
+  pub few_import_exports : options.import_exports ≤ 16
   pub few_volumes : options.volumes ≤ 1024
   pub least_size : 1048576 ≤ options.volume_size
   pub most_size : options.volume_size ≤ 68719476736
@@ -21,7 +21,7 @@ IsWithin least most number = IfSome number (λ n. (least ≤ n) × (n ≤ most))
 pub record AreGivenInRange (given : GivenLibrary) : Type 0 where
   pub drives : IsWithin 1 4 given.drives
   pub slots : IsWithin 1 1024 given.slots
-  pub portals : IsWithin 0 16 given.portals
+  pub import_exports : IsWithin 0 16 given.import_exports
   pub volumes : IsWithin 0 1024 given.volumes
 
 -- one drive, eight storage elements, no import/export element and one volume are usual
@@ -29,7 +29,7 @@ abbrev pub options_of : GivenLibrary → (volume_size : ℕ) → LibraryOptions
 options_of given volume_size = record {
   drives = unwrap_or given.drives 1;
   slots = unwrap_or given.slots 8;
-  portals = unwrap_or given.portals 0;
+  import_exports = unwrap_or given.import_exports 0;
   volumes = unwrap_or given.volumes 1;
   volume_size = volume_size;
 }

@@ -74,10 +74,10 @@ pub record HostsLetIn : Type 0 where
   pub no_name : judged [] (host_in (codes "=500000000000000a")) ≡ Err BadName
 
 pub record LibrariesMade : Type 0 where
-  pub usual : options_of (record { drives = None; slots = None; portals = None; volumes = None }) 16777216
-      ≡ record { drives = 1; slots = 8; portals = 0; volumes = 1; volume_size = 16777216 }
-  pub partly_said : options_of (record { drives = Some 2; slots = None; portals = None; volumes = Some 0 }) 1048576
-      ≡ record { drives = 2; slots = 8; portals = 0; volumes = 0; volume_size = 1048576 }
+  pub usual : options_of (record { drives = None; slots = None; import_exports = None; volumes = None }) 16777216
+      ≡ record { drives = 1; slots = 8; import_exports = 0; volumes = 1; volume_size = 16777216 }
+  pub partly_said : options_of (record { drives = Some 2; slots = None; import_exports = None; volumes = Some 0 }) 1048576
+      ≡ record { drives = 2; slots = 8; import_exports = 0; volumes = 0; volume_size = 1048576 }
 
 pub record SizesRead : Type 0 where
   pub least : volume_size_in (codes "1M") ≡ Ok 1048576

@@ -11,7 +11,7 @@ pub struct GivenLibrary {
     /// Storage elements.
     pub slots: Option<u16>,
     /// Import/export elements.
-    pub portals: Option<u8>,
+    pub import_exports: Option<u8>,
     /// Volumes; of a library that is kept, how many there are to be at least.
     pub volumes: Option<u16>,
 }
@@ -29,7 +29,7 @@ impl GivenLibrary {
         LibraryOptions {
             drives: self.drives.unwrap_or(usual.drives),
             slots: self.slots.unwrap_or(usual.slots),
-            portals: self.portals.unwrap_or(usual.portals),
+            import_exports: self.import_exports.unwrap_or(usual.import_exports),
             volumes: self.volumes.unwrap_or(usual.volumes),
             volume_size,
         }

@@ -10,7 +10,7 @@ pub struct LibraryOptions {
     /// Storage elements.
     pub slots: u16,
     /// Import/export elements.
-    pub portals: u8,
+    pub import_exports: u8,
     /// Volumes, in the first storage elements.
     pub volumes: u16,
     /// How many bytes of blocks a volume takes.
@@ -22,7 +22,7 @@ impl LibraryOptions {
     pub const DEFAULT: LibraryOptions = LibraryOptions {
         drives: 1,
         slots: 8,
-        portals: 0,
+        import_exports: 0,
         volumes: 1,
         volume_size: 16_777_216,
     };
@@ -31,7 +31,7 @@ impl LibraryOptions {
     pub const MIN: LibraryOptions = LibraryOptions {
         drives: 1,
         slots: 1,
-        portals: 0,
+        import_exports: 0,
         volumes: 0,
         volume_size: 1_048_576,
     };
@@ -40,7 +40,7 @@ impl LibraryOptions {
     pub const MAX: LibraryOptions = LibraryOptions {
         drives: 4,
         slots: 1024,
-        portals: 16,
+        import_exports: 16,
         volumes: 1024,
         volume_size: 68_719_476_736,
     };

@@ -1,6 +1,6 @@
 ghost use Rattle.std.specs.Prelude.{◌≡◌};
 
-use crate::door::{Door, Visitor};
+use crate::door::{Door, NewConnection};
 use crate::event::Event;
 use crate::teller::Teller;
 use live_sessions::LiveSessions;
@@ -62,7 +62,7 @@ pub struct Acceptor<'a> {
 #[derive(Drop)]
 pub(crate) enum Connection {
     /// A connection, with its place in the order of accepting, from 1 on.
-    Accepted(Visitor, u64),
+    Accepted(NewConnection, u64),
     /// No more are served.
     NoMore,
     /// It couldn't be accepted.
@@ -116,7 +116,7 @@ impl<'a> Acceptor<'a> {
         match door.accept() {
             // It came too late.
             Ok(_) if self.limits.sessions.is_closed(rt) => Connection::NoMore,
-            Ok(visitor) => self.number(visitor),
+            Ok(connection) => self.number(connection),
             // The door was shut down.
             Err(_) if self.is_over(rt) => Connection::NoMore,
             Err(_) => {
@@ -139,7 +139,7 @@ impl<'a> Acceptor<'a> {
 
     /// Gives a connection its number, unless that is one too many. With the last one the doors are shut, since others may
     /// be waited for there.
-    fn number(&self, visitor: Visitor) -> Connection {
+    fn number(&self, connection: NewConnection) -> Connection {
         let number = self
             .accepted
             .fetch_add(1, Ordering::SeqCst)
@@ -150,9 +150,9 @@ impl<'a> Acceptor<'a> {
                 if number == count {
                     self.shut_doors();
                 }
-                Connection::Accepted(visitor, number)
+                Connection::Accepted(connection, number)
             }
-            ServeTerm::UntilClosed => Connection::Accepted(visitor, number),
+            ServeTerm::UntilClosed => Connection::Accepted(connection, number),
         }
     }
 

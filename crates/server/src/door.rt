@@ -9,7 +9,7 @@ use std::sync::Mutex;
 
 /// What comes in at a door.
 #[derive(Drop)]
-enum Entrance<'a> {
+enum Listener<'a> {
     /// Sessions of frames.
     Socket(UnixListener),
     /// Sessions of iSCSI.
@@ -31,7 +31,7 @@ pub(crate) struct PortalDoor<'a> {
 /// Where connections come in, until it is shut down.
 #[derive(Drop)]
 pub struct Door<'a> {
-    entrance: Entrance<'a>,
+    listener: Listener<'a>,
     /// A second descriptor of the listener, as a stream, which can be shut down.
     second: UnixStream,
     /// Held by who waits for the next connection.
@@ -40,7 +40,7 @@ pub struct Door<'a> {
 
 /// A connection that has come in, and at a portal where it did, and from where.
 #[derive(Drop)]
-pub(crate) struct Visitor {
+pub(crate) struct NewConnection {
     pub stream: UnixStream,
     pub came_to: Option<SocketAddr>,
     pub origin: Option<Origin>,
@@ -51,7 +51,7 @@ impl<'a> Door<'a> {
     pub fn of_socket(listener: UnixListener) -> io::Result<Door<'a>> {
         let second = UnixStream::from(OwnedFd::from(listener.try_clone()?));
         Ok(Door {
-            entrance: Entrance::Socket(listener),
+            listener: Listener::Socket(listener),
             second,
             turn: Mutex::new(()),
         })
@@ -73,7 +73,7 @@ impl<'a> Door<'a> {
             told,
         };
         Ok(Door {
-            entrance: Entrance::Portal(listener, portal),
+            listener: Listener::Portal(listener, portal),
             second,
             turn: Mutex::new(()),
         })
@@ -92,32 +92,32 @@ impl<'a> Door<'a> {
 
     /// What its sessions do with replies that wait.
     pub(crate) fn replies(&self) -> Replies {
-        match &self.entrance {
-            Entrance::Socket(_) => Replies::InPlace,
-            Entrance::Portal(_, _) => Replies::Held,
+        match &self.listener {
+            Listener::Socket(_) => Replies::InPlace,
+            Listener::Portal(_, _) => Replies::Held,
         }
     }
 
     pub(crate) fn portal(&self) -> Option<PortalDoor<'a>> {
-        match &self.entrance {
-            Entrance::Socket(_) => None,
-            Entrance::Portal(_, portal) => Some(*portal),
+        match &self.listener {
+            Listener::Socket(_) => None,
+            Listener::Portal(_, portal) => Some(*portal),
         }
     }
 
     /// Waits for the next connection. What is a socket of TCP is read, written, timed and shut down by its descriptor just as a
     /// Unix socket is, so that one type of stream does for both.
-    pub(crate) fn accept(&self) -> io::Result<Visitor> {
-        match &self.entrance {
-            Entrance::Socket(listener) => {
+    pub(crate) fn accept(&self) -> io::Result<NewConnection> {
+        match &self.listener {
+            Listener::Socket(listener) => {
                 let (stream, _) = listener.accept()?;
-                Ok(Visitor {
+                Ok(NewConnection {
                     stream,
                     came_to: None,
                     origin: None,
                 })
             }
-            Entrance::Portal(listener, portal) => {
+            Listener::Portal(listener, portal) => {
                 let (stream, peer) = listener.accept()?;
                 let origin = Origin {
                     peer,
@@ -126,7 +126,7 @@ impl<'a> Door<'a> {
                 // Without these a reply comes later, and an address that is only seen from here is told.
                 let _ = stream.set_nodelay(true);
                 let came_to = stream.local_addr().unwrap_or(portal.address);
-                Ok(Visitor {
+                Ok(NewConnection {
                     stream: UnixStream::from(OwnedFd::from(stream)),
                     came_to: Some(came_to),
                     origin: Some(origin),

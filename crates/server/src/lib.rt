@@ -9,7 +9,7 @@ mod faulty_session;
 mod handed_out;
 mod iscsi_words;
 mod keeping;
-mod kept_writer;
+mod reply_writer;
 mod logged_in;
 mod record_drain;
 mod refused_login;

@@ -10,11 +10,11 @@ use crate::acceptor::{Acceptor, WaitTimes};
 use crate::caretaker::Caretaker;
 use crate::door::{Door, PortalDoor};
 use crate::faulty_session::{Cause, FaultySession};
-use crate::kept_writer::KeptWriter;
+use crate::reply_writer::ReplyWriter;
 use crate::sessions_beside::SessionsBeside;
 use crate::timed_reader::{Patience, TimedReader};
 use crate::waiting::PollSource;
-use crate::worker::Visit;
+use crate::worker::NewSession;
 use crate::worker_service::WorkerService;
 use iscsi_login::{Authentication, Challenge};
 use iscsi_session::{Arrival, IscsiEnd, IscsiFault, KeepingService, Portal, PortalAddress};
@@ -42,11 +42,11 @@ pub(crate) fn serve_connection<
     alloc: Global,
     service: &mut WorkerService<'a, S, C, R, E>,
     acceptor: &Acceptor<'_>,
-    visit: Visit<'_, '_>,
+    new_session: NewSession<'_, '_>,
 ) -> Result<End, FaultySession>
     ensures { Leaves (DoesForWorker S.notes S.settles) S.count service.old service.new }
 {
-    let stream = &visit.visitor.stream;
+    let stream = &new_session.connection.stream;
     let times = acceptor.limits.times;
     let flags = service.flags;
     let limited = stream.set_write_timeout(times.write);
@@ -56,21 +56,21 @@ pub(crate) fn serve_connection<
             alloc,
             stream,
             flags,
-            patience_at(visit.door, times),
+            patience_at(new_session.door, times),
         ),
         limited,
     ) else {
         return Err(FaultySession {
-            number: visit.number,
+            number: new_session.number,
             nexus: None,
             cause: Cause::Fault(SessionFault::Read),
         });
     };
-    let mut writer = KeptWriter { stream, flags };
-    match serve_session(alloc, service, acceptor, visit, &mut reader, &mut writer) {
+    let mut writer = ReplyWriter { stream, flags };
+    match serve_session(alloc, service, acceptor, new_session, &mut reader, &mut writer) {
         Ok(end) => Ok(end),
         Err(cause) => Err(FaultySession {
-            number: visit.number,
+            number: new_session.number,
             nexus: service.session.nexus,
             cause: if reader.is_late() {
                 cause.silent()
@@ -112,20 +112,20 @@ fn serve_session<
     alloc: Global,
     service: &mut WorkerService<'a, S, C, R, E>,
     acceptor: &Acceptor<'_>,
-    visit: Visit<'_, '_>,
+    new_session: NewSession<'_, '_>,
     reader: &mut I,
     writer: &mut O,
 ) -> Result<End, Cause>
     ensures { Leaves (DoesForWorker S.notes S.settles) S.count service.old service.new }
 {
-    match visit.door.portal() {
+    match new_session.door.portal() {
         None => match serve_frames(alloc, service, reader, writer) {
             Ok(end) => Ok(end),
             Err(fault) => Err(Cause::Fault(fault)),
         },
         Some(portal) => {
             let came_to = PortalDoor {
-                address: visit.visitor.came_to.unwrap_or(portal.address),
+                address: new_session.connection.came_to.unwrap_or(portal.address),
                 ..portal
             };
             let sessions = acceptor.limits.sessions;
@@ -135,9 +135,9 @@ fn serve_session<
                 caretaker: service.caretaker,
                 drain: service.drain,
                 flags: service.flags,
-                key: visit.key,
-                number: visit.number,
-                origin: visit.visitor.origin,
+                key: new_session.key,
+                number: new_session.number,
+                origin: new_session.connection.origin,
                 teller: service.teller,
                 missing: Cell::new(None),
                 seen: sessions.resets().copied(),
@@ -145,7 +145,7 @@ fn serve_session<
             let place = PortalPlace {
                 came_to,
                 doors: acceptor.doors(),
-                tsih: visit.tsih,
+                tsih: new_session.tsih,
             };
             match serve_iscsi(alloc, service, &beside, place, reader, writer) {
                 Ok(end) => Ok(end),

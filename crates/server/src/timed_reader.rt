@@ -60,7 +60,8 @@ pub(crate) struct TimedReader<'a, R: Clock + PollSource + Wait> {
     unasked: Duration,
     /// How long a read waits of a host that is logged in and was heard just now.
     usual: Option<Duration>,
-    /// Whether the last read gave something, and waited for as long as that.
+    /// Whether the last read gave something and waited for as long as that, of a host that is logged in. Then nothing is silent, the next read
+    /// waits as long, and the stream knows that already.
     is_usual: bool,
     /// How long a read of the stream waits now. `None`: nothing was said.
     wait: Option<Option<Duration>>,
@@ -157,9 +158,6 @@ impl<'a, R: Clock + PollSource + Wait> TimedReader<'a, R> {
 
     /// How long the next read may wait. Fails where the host is late already.
     fn due_wait(&mut self) -> io::Result<Option<Duration>> {
-        if self.is_usual && self.flags.is_in() {
-            return Ok(self.usual);
-        }
         let wait = self.next_wait()?;
         if self.is_late || wait == Some(Duration::ZERO) {
             self.is_late = true;
@@ -173,15 +171,21 @@ impl<'a, R: Clock + PollSource + Wait> TimedReader<'a, R> {
         ensures { ReadsAtMost result buffer.new }
     {
         self.limit_wait(wait)?;
+        let count = self.read_limited(buffer, wait)?;
+        self.silence = Duration::ZERO;
+        self.unasked = Duration::ZERO;
+        self.is_usual = wait == self.usual && self.flags.is_in();
+        Ok(count)
+    }
+
+    /// Reads what comes within the time for which the stream waits.
+    fn read_limited(&mut self, buffer: &mut [u8], wait: Option<Duration>) -> io::Result<usize>
+        ensures { ReadsAtMost result buffer.new }
+    {
         let mut stream = self.stream;
         'tries: for _cut_short in 0..MOST_SIGNALS {
             match stream.read(buffer) {
-                Ok(count) => {
-                    self.silence = Duration::ZERO;
-                    self.unasked = Duration::ZERO;
-                    self.is_usual = wait == self.usual;
-                    return Ok(count);
-                }
+                Ok(count) => return Ok(count),
                 Err(error) => match error.kind() {
                     // A read that waits for a time is cut short where the program was stopped and goes on.
                     ErrorKind::Interrupted => {}
@@ -292,6 +296,8 @@ impl<'a, R: Clock + PollSource + Wait> Read for TimedReader<'a, R> {
     fn read(&mut self, buffer: &mut [u8]) -> io::Result<usize> {
         if self.flags.holds() {
             self.read_while_holding(buffer)
+        } else if self.is_usual {
+            self.read_limited(buffer, self.usual)
         } else {
             let wait = self.due_wait()?;
             self.read_within(buffer, wait)

@@ -3,7 +3,7 @@ ghost use Rattle.server.specs.Sessions.{ComesBySessions, Leaves};
 
 use crate::acceptor::{Acceptor, Connection};
 use crate::caretaker::Caretaker;
-use crate::door::{Door, Visitor};
+use crate::door::{Door, NewConnection};
 use crate::event::{EndedSession, Event};
 use crate::faulty_session::{Cause, FaultySession, first_accepted};
 use crate::logged_in::shown_name;
@@ -30,8 +30,8 @@ pub(crate) struct Worker<'a, S: SeatService, C: Caretaker, R: Wait, E: Write> {
 
 /// A connection that has become a session.
 #[derive(Clone, Copy)]
-pub(crate) struct Visit<'v, 'd> {
-    pub visitor: &'v Visitor,
+pub(crate) struct NewSession<'v, 'd> {
+    pub connection: &'v NewConnection,
     pub door: &'v Door<'d>,
     /// Its place in the order of accepting, from 1 on.
     pub number: u64,
@@ -60,9 +60,9 @@ impl<
         };
         'turns: for _turn in rt.forever() {
             match acceptor.accept(rt, door, teller) {
-                Connection::Accepted(visitor, number) => {
-                    self.serve_one(alloc, acceptor, door, &visitor, number);
-                    self.service.tidy();
+                Connection::Accepted(connection, number) => {
+                    self.serve_one(alloc, acceptor, door, &connection, number);
+                    self.service.finish();
                 }
                 Connection::NoMore => return,
                 Connection::Failed => {}
@@ -76,7 +76,7 @@ impl<
         alloc: Global,
         acceptor: &Acceptor<'_>,
         door: &Door<'_>,
-        visitor: &Visitor,
+        connection: &NewConnection,
         number: u64,
     )
         ensures { Leaves (DoesForWorker S.notes S.settles) S.count self.old.service self.new.service }
@@ -84,16 +84,16 @@ impl<
         let rt = self.service.rt;
         let teller = self.service.teller;
         let sessions = acceptor.limits.sessions;
-        match sessions.begin(rt, &visitor.stream, number, visitor.origin) {
+        match sessions.begin(rt, &connection.stream, number, connection.origin) {
             Ok(Entry::Begins { key, tsih }) => {
-                let visit = Visit {
-                    visitor,
+                let new_session = NewSession {
+                    connection,
                     door,
                     number,
                     key,
                     tsih,
                 };
-                let fault = self.serve_and_tell(alloc, acceptor, visit);
+                let fault = self.serve_and_tell(alloc, acceptor, new_session);
                 sessions.forget(rt, key);
                 self.fault = first_accepted(self.fault, fault);
             }
@@ -109,25 +109,25 @@ impl<
         &mut self,
         alloc: Global,
         acceptor: &Acceptor<'_>,
-        visit: Visit<'_, '_>,
+        new_session: NewSession<'_, '_>,
     ) -> Option<FaultySession>
         ensures { Leaves (DoesForWorker S.notes S.settles) S.count self.old.service self.new.service }
     {
         let rt = self.service.rt;
         let teller = self.service.teller;
-        let number = visit.number;
-        self.service.session = SessionSoFar::new(visit.door.replies());
+        let number = new_session.number;
+        self.service.session = SessionSoFar::new(new_session.door.replies());
         self.service.flags.begin();
         teller.tell(rt, &Event::Begins(number));
         let begun = Instant::now(rt);
-        let ended = serve_connection(alloc, &mut self.service, acceptor, visit);
+        let ended = serve_connection(alloc, &mut self.service, acceptor, new_session);
         self.service.flags.end(rt);
         let seconds = match begun {
             Ok(begun) => begun.elapsed(rt).unwrap_or(Duration::ZERO).as_secs(),
             Err(_) => 0,
         };
         if let Err(session) = ended {
-            tell_failure(rt, acceptor.limits.sessions, teller, visit, session);
+            tell_failure(rt, acceptor.limits.sessions, teller, new_session, session);
         }
         let ended_session = EndedSession {
             number,
@@ -147,12 +147,12 @@ fn tell_failure<R: Wait, E: Write>(
     rt: &R,
     sessions: &LiveSessions,
     teller: &Teller<E>,
-    visit: Visit<'_, '_>,
+    new_session: NewSession<'_, '_>,
     session: FaultySession,
 ) {
-    match (session.cause, visit.visitor.origin) {
+    match (session.cause, new_session.connection.origin) {
         (Cause::Iscsi(IscsiFault::Refused(_)), Some(origin)) => {
-            if let Some(refused) = sessions.refused(rt, visit.key) {
+            if let Some(refused) = sessions.refused(rt, new_session.key) {
                 let login = RefusedLogin {
                     session,
                     peer: origin.peer,

@@ -20,14 +20,14 @@ use tape_keeper::GoodCommand;
 use tickets::{Outcome, RecordTicket, ReplyTicket, Ticket};
 
 /// A seat that has noted so many calls since they were settled is settled again.
-const MANY: usize = 4096;
+const MANY: usize = 1024;
 
 /// How many records a session of iSCSI may leave at units that are full, but for those whose replies were sent, before it waits itself: as
 /// many as replies may be held, and some resets.
 const MOST_UNPACED: u32 = 96;
 
-/// As `WorkerService::tend`, where records are handed out.
-fn tend_with<S: SeatService, R: Wait>(
+/// As `WorkerService::note_record`, where records are handed out.
+fn note_record_with<S: SeatService, R: Wait>(
     rt: &R,
     service: &mut S,
     drain: &RecordDrain,
@@ -42,8 +42,8 @@ fn tend_with<S: SeatService, R: Wait>(
     is_full
 }
 
-/// As `WorkerService::tidy`, where records are handed out.
-fn tidy_with<S: SeatService, R: Wait>(rt: &R, service: &mut S, drain: &RecordDrain)
+/// As `WorkerService::finish`, where records are handed out.
+fn finish_with<S: SeatService, R: Wait>(rt: &R, service: &mut S, drain: &RecordDrain)
     ensures { MaySettle S.settles service.old service.new }
 {
     drain.ask(rt);
@@ -200,11 +200,11 @@ impl<'a, S: SeatService, C: Caretaker, R: Wait, E: Write> WorkerService<'a, S, C
 
     /// Asks that records be handed out where the unit has many, up to this one, and settles the seat where it has noted many calls. Whether
     /// the unit is full.
-    fn tend(&mut self, record: RecordTicket) -> bool
+    fn note_record(&mut self, record: RecordTicket) -> bool
         ensures { MaySettle S.settles self.old self.new }
     {
         match self.drain {
-            Some(drain) => tend_with(self.rt, &mut self.seat_service, drain, record),
+            Some(drain) => note_record_with(self.rt, &mut self.seat_service, drain, record),
             None => false,
         }
     }
@@ -248,11 +248,11 @@ impl<'a, S: SeatService, C: Caretaker, R: Wait, E: Write> WorkerService<'a, S, C
 
     /// Asks behind a session that all records be handed out, and settles the seat. Where it has left records at a unit that is full, it waits
     /// before the next session.
-    pub fn tidy(&mut self)
+    pub fn finish(&mut self)
         ensures { MaySettle S.settles self.old self.new }
     {
         match self.drain {
-            Some(drain) => tidy_with(self.rt, &mut self.seat_service, drain),
+            Some(drain) => finish_with(self.rt, &mut self.seat_service, drain),
             None => {}
         }
         if let Some(record) = self.session.awaited {
@@ -303,7 +303,7 @@ impl<'a, S: SeatService, C: Caretaker, R: Wait, E: Write> Service
             Status::CheckCondition | Status::ReservationConflict => {}
         }
         let record = record_of(&done);
-        self.session.is_full = self.tend(record);
+        self.session.is_full = self.note_record(record);
         if self.session.is_full {
             self.pace(record);
         }
@@ -318,7 +318,7 @@ impl<'a, S: SeatService, C: Caretaker, R: Wait, E: Write> Service
             self.resets.add(lun);
         }
         let record = record_of(&done);
-        if self.tend(record) {
+        if self.note_record(record) {
             self.flags.note_unpaced();
             self.pace(record);
         }
@@ -328,7 +328,7 @@ impl<'a, S: SeatService, C: Caretaker, R: Wait, E: Write> Service
     fn lose(&mut self, alloc: Global, nexus: Nexus, lun: u8) -> Done<'static> {
         let done = self.seat_service.lose(alloc, nexus, lun);
         let record = record_of(&done);
-        if self.tend(record) {
+        if self.note_record(record) {
             self.end_behind(record);
         }
         done

@@ -5,7 +5,7 @@ ghost use Rattle.session.specs.Splitting.{values_of_frames, stopped, answer, Fed
 
 use crate::frame::{Frame, copy_of};
 use frames::{FrameFault, ParsedFrame, parse_frame};
-use session::SessionFault;
+use crate::fault::SessionFault;
 use std::alloc::{AllocError, Global};
 use std::marker::Model;
 

@@ -48,11 +48,11 @@ elements_twice e =
     ∙ ap (λ (ps : List (Option Volume)). elements_of e.data_transfer (map unsettled_place e.import_export) ps) (places_twice e.storage)
 
 -- which element an address names is a matter of how many there are
-abbrev element_among : (drives portals slots address : ℕ) → Element
-element_among drives portals slots address =
+abbrev element_among : (drives import_exports slots address : ℕ) → Element
+element_among drives import_exports slots address =
     if address == 0 then Transport
     else if is_among first_data_transfer drives address then DataTransfer (address - first_data_transfer)
-    else if is_among first_import_export portals address then ImportExport (address - first_import_export)
+    else if is_among first_import_export import_exports address then ImportExport (address - first_import_export)
     else if is_among first_storage slots address then Storage (address - first_storage)
     else Nowhere
 
@@ -63,13 +63,13 @@ same_element e address =
     ∙ ap (λ (n : ℕ). element_among (length e.data_transfer) (length e.import_export) n address) (length-map e.storage unsettled_place)
 
 pub same_mode_data : (e : Elements) → changer_mode_data (unsettled_elements e) ≡ changer_mode_data e
-same_mode_data e = let portals = length-map e.import_export unsettled_place in let slots =
-    length-map e.storage unsettled_place in rw (portals, slots) refl
+same_mode_data e = let import_exports = length-map e.import_export unsettled_place in let slots =
+    length-map e.storage unsettled_place in rw (import_exports, slots) refl
 
 pub same_status : (e : Elements) (type_code start count : ℕ) (voltag : Bool)
     → element_status (unsettled_elements e) type_code start count voltag ≡ element_status e type_code start count voltag
 same_status e type_code start count voltag =
-    let portals = same_tags e.import_export in let slots = same_tags e.storage in rw (portals, slots) refl
+    let import_exports = same_tags e.import_export in let slots = same_tags e.storage in rw (import_exports, slots) refl
 
 -- what an element has
 

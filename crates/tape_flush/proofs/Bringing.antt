@@ -8,7 +8,7 @@ use Rattle.tape_flush.specs.declared.store.StoreFault.{StoreFault}
 use Rattle.tape_flush.specs.declared.known.Known.{Known}
 use Rattle.tape_flush.specs.Bringing.{SyncedAndNoted, IsJustThat, IsJustThatIn, IsThere, IsThereIn}
 use Rattle.tape_flush.specs.Careful.{EndsAt, IsKnown, IsInOrder}
-use Rattle.tape_flush.specs.Kept.{HoldsIn, last_end}
+use Rattle.tape_flush.specs.Saved.{HoldsIn, last_end}
 use Rattle.tape_flush.specs.Stores.{StoreCall, Sync, Note, FileValue, DoesTo, file_value}
 use Rattle.tape_flush.specs.Watched.{IsEmptyAt}
 use Rattle.tape_flush.proofs.Knowing.{take_less}

@@ -17,7 +17,7 @@ use Rattle.tape_flush.specs.Careful.{after, IsKnown}
 use Rattle.tape_flush.specs.Watched.{IsEmptyAt, Same, Stopped, IsStopped, Left, LeftUnless}
 use Rattle.tape_flush.specs.Replacing.{IsReplaced}
 use Rattle.tape_flush.specs.Images.{ImageValue, image_value, TapePartValue, ends_from, end_at, between, IsPart, HoldsAll, IsWhole, IsHeld, Leaves}
-use Rattle.tape_flush.specs.Kept.{KeptImageValue, image_of, last_end, ends_within, IsWholeImage, Holds, HoldsIn, Has, HasFirstOf, FollowsUpTo, Follows, IsTaken, Begins, BeginsUnless, ImagesFollowTapes}
+use Rattle.tape_flush.specs.Saved.{SavedImageValue, image_of, last_end, ends_within, IsWholeImage, Holds, HoldsIn, Has, HasFirstOf, FollowsUpTo, Follows, IsTaken, Begins, BeginsUnless, ImagesFollowTapes}
 use Rattle.tape_flush.proofs.Holding.{Split, split, same_count, holds_length, within_is_first, within_ends, all_within, end_in_first, first_of_none}
 use Rattle.tape_flush.proofs.Knowing.{take_less, KnownIn, ends_empty}
 use Rattle.tape_flush.proofs.Pieces.{length-ends}
@@ -133,14 +133,14 @@ unfolding ReadyIn
 ready_split None k ends objects h = absurd h
 ready_split (Some f) k ends objects h = (h.all, (h.holds, h.empty))
 
-Written : {S : Type 0} → KeptImageValue S → List Object → Type 0
+Written : {S : Type 0} → SavedImageValue S → List Object → Type 0
 Written new objects = IsWhole (image_of new) objects × (Has new objects [] × IsWholeImage new)
 
-ready_told : {S : Type 0} (new : KeptImageValue S) (objects : List Object) → ReadyIn new.file new.known new.ends objects → Written new objects
+ready_told : {S : Type 0} (new : SavedImageValue S) (objects : List Object) → ReadyIn new.file new.known new.ends objects → Written new objects
 unfolding Written
 ready_told new objects h = ready_split new.file new.known new.ends objects h
 
-wrote : {S : Type 0} (r : Result (Unit {0}) FlushFault) (kept new : KeptImageValue S) (tape : TapeView) (range : PartRange) (part : TapePartValue) (known others : List Object) (stay : ℕ)
+wrote : {S : Type 0} (r : Result (Unit {0}) FlushFault) (kept new : SavedImageValue S) (tape : TapeView) (range : PartRange) (part : TapePartValue) (known others : List Object) (stay : ℕ)
     → Has kept known others → Follows known tape → IsTaken kept tape range part → stay ≡ range.stay → (KnownIn kept.known kept.file → KnownIn new.known new.file)
     → OnOk r (IsReplaced stay part kept.ends new.ends new.known (contents_of kept.file) (contents_of new.file)) → OnOk r (Written new (take range.end tape.objects))
 wrote (Err fault) kept new tape range part known others stay has follows taken here known' r = tt
@@ -155,13 +155,13 @@ wrote (Ok done) kept new tape range part known others stay has follows taken her
     ap (λ (zs : List Object). zs ++ objects) (same_stay (length kept.ends) tape known range.stay count follows taken.stay) ∙ joined range.stay range.end tape.objects taken.rising in
     ready_told new (take range.end tape.objects) (subst (λ (zs : List Object). ReadyIn new.file new.known new.ends zs) all ready)
 
-split_told : {S : Type 0} (r : Result (Unit {0}) FlushFault) (new : KeptImageValue S) (objects : List Object) → OnOk r (Written new objects)
+split_told : {S : Type 0} (r : Result (Unit {0}) FlushFault) (new : SavedImageValue S) (objects : List Object) → OnOk r (Written new objects)
     → OnOk r (IsWhole (image_of new) objects) × OnOk r (Has new objects [] × IsWholeImage new)
 unfolding Written
 split_told (Ok done) new objects h = (h.0, h.1)
 split_told (Err fault) new objects h = (tt, tt)
 
-pub wrote_part : {S : Type 0} (r : Result (Unit {0}) FlushFault) (kept new : KeptImageValue S) (tape : TapeView) (range : PartRange) (part : TapePartValue) (known others : List Object) (stay : ℕ)
+pub wrote_part : {S : Type 0} (r : Result (Unit {0}) FlushFault) (kept new : SavedImageValue S) (tape : TapeView) (range : PartRange) (part : TapePartValue) (known others : List Object) (stay : ℕ)
     → Has kept known others → Follows known tape → IsTaken kept tape range part → stay ≡ range.stay → (KnownIn kept.known kept.file → KnownIn new.known new.file)
     → OnOk r (IsReplaced stay part kept.ends new.ends new.known (contents_of kept.file) (contents_of new.file))
     → OnOk r (IsWhole (image_of new) (take range.end tape.objects)) × OnOk r (Has new (take range.end tape.objects) [] × IsWholeImage new)
@@ -184,14 +184,14 @@ ready_now (Some f) k ends known others h empty =
 length-between : (from to : ℕ) (xs : List Object) → to ≤ length xs → length (between from to xs) ≡ to - from
 length-between from to xs within = length-take-le (to - from) (drop from xs) (omega (arith, length-drop from xs))
 
-no_more : {S : Type 0} (kept : KeptImageValue S) (tape : TapeView) (range : PartRange) (part : TapePartValue) → IsTaken kept tape range part → part.ends ≡ [] → range.end ≡ range.stay
+no_more : {S : Type 0} (kept : SavedImageValue S) (tape : TapeView) (range : PartRange) (part : TapePartValue) → IsTaken kept tape range part → part.ends ≡ [] → range.end ≡ range.stay
 no_more kept tape range part taken none =
     let xs = between range.stay range.end tape.objects in
     let size : length (ends_from (end_at kept.ends range.stay) xs) ≡ 0 = ap length (sym taken.taken.ends) ∙ ap length none in
     let count : length xs ≡ range.end - range.stay = length-between range.stay range.end tape.objects taken.within in
     omega (arith, size, count, length-ends (end_at kept.ends range.stay) xs, taken.rising)
 
-pub without_part : {S : Type 0} (kept : KeptImageValue S) (tape : TapeView) (range : PartRange) (part : TapePartValue) (known others : List Object) → Has kept known others
+pub without_part : {S : Type 0} (kept : SavedImageValue S) (tape : TapeView) (range : PartRange) (part : TapePartValue) (known others : List Object) → Has kept known others
     → Follows known tape → IsTaken kept tape range part → part.ends ≡ [] → range.stay ≡ length kept.ends → IsWholeImage kept
     → IsWhole (image_of kept) (take range.end tape.objects) × (Has kept (take range.end tape.objects) [] × IsWholeImage kept)
 unfolding Written
@@ -217,12 +217,12 @@ count_within : (size stay : ℕ) (ends ends' : List ℕ) → ends' ≡ ends_with
 count_within size stay ends ends' are =
     omega (arith, ap length are, ap length (within_is_first size (take stay ends)), length-take (length (ends_within size (take stay ends))) (take stay ends), length-take stay ends)
 
-first_of_tape : {S : Type 0} (new : KeptImageValue S) (tape : TapeView) (known others : List Object) (stay : ℕ) → length new.ends ≤ stay → take stay known ≡ take stay tape.objects
+first_of_tape : {S : Type 0} (new : SavedImageValue S) (tape : TapeView) (known others : List Object) (stay : ℕ) → length new.ends ≤ stay → take stay known ≡ take stay tape.objects
     → Has new (take (length new.ends) known) others → HasFirstOf tape.objects new
 first_of_tape new tape known others stay below same h =
     (others, subst (λ (zs : List Object). Has new zs others) (take_less (length new.ends) stay known tape.objects below same) h)
 
-pub fell : {S : Type 0} (r : Result (Unit {0}) FlushFault) (kept new : KeptImageValue S) (tape : TapeView) (range : PartRange) (part : TapePartValue) (known others : List Object) (stay : ℕ)
+pub fell : {S : Type 0} (r : Result (Unit {0}) FlushFault) (kept new : SavedImageValue S) (tape : TapeView) (range : PartRange) (part : TapePartValue) (known others : List Object) (stay : ℕ)
     → Has kept known others → Follows known tape → IsTaken kept tape range part → stay ≡ range.stay → (KnownIn kept.known kept.file → KnownIn new.known new.file)
     → IfErr r (IsStopped (end_at kept.ends stay) part.bytes kept.known kept.file new.known new.file) → OnErr r (new.ends ≡ ends_within new.known.sound (take stay kept.ends))
     → OnErr r (HasFirstOf tape.objects new)
@@ -294,7 +294,7 @@ begun_in (Some f) (Some f') k k' ends ends' part known others new stay fault h h
     let count : length ends ≡ length known = same_count 0 h.front known ends h.objects_are in
     left_of stay fault k' f f' ends ends' part known others new (omega (arith, count)) is held are s.left
 
-pub begun : {S : Type 0} (r : Result (Unit {0}) FlushFault) (kept new : KeptImageValue S) (tape : TapeView) (range : PartRange) (part : TapePartValue) (known others : List Object) (stay : ℕ)
+pub begun : {S : Type 0} (r : Result (Unit {0}) FlushFault) (kept new : SavedImageValue S) (tape : TapeView) (range : PartRange) (part : TapePartValue) (known others : List Object) (stay : ℕ)
     → Has kept known others → IsHeld (image_of kept) known others → Follows known tape → IsTaken kept tape range part → stay ≡ range.stay
     → IfErr r (IsStopped (end_at kept.ends stay) part.bytes kept.known kept.file new.known new.file) → OnErr r (new.ends ≡ ends_within new.known.sound (take stay kept.ends))
     → IfErr r (BeginsUnless range tape known others (image_of new))
@@ -310,7 +310,7 @@ begun (Err fault) kept new tape range part known others stay has held follows ta
     (omega (arith, taken.stay)) taken.taken stopped' are')
 
 -- objects that would end behind what is as it was written are none that an image has
-pub not_behind : {S : Type 0} (kept : KeptImageValue S) (known others : List Object) (stay : ℕ) → Has kept known others → stay ≤ length kept.ends → end_at kept.ends stay ≤ kept.known.sound
+pub not_behind : {S : Type 0} (kept : SavedImageValue S) (known others : List Object) (stay : ℕ) → Has kept known others → stay ≤ length kept.ends → end_at kept.ends stay ≤ kept.known.sound
 not_behind kept known others stay has within = behind_in kept.file kept.known kept.ends known others stay has within
 
 -- BROUGHT TO THE DISK, or not

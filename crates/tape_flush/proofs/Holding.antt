@@ -11,7 +11,7 @@ use Rattle.tape_image.specs.Reading.{Placed, Stop, Waiting, Reads, partial, plac
 use Rattle.tape_image.proofs.Parts.{short_is}
 use Rattle.tape_image.proofs.Images.{joined, each_reads, beginning}
 use Rattle.tape_image.proofs.Cuts.{image_whole}
-use Rattle.tape_flush.specs.Kept.{ends_within}
+use Rattle.tape_flush.specs.Saved.{ends_within}
 use Rattle.tape_flush.specs.Images.{ends_from, object_in, HoldsOne, HoldsAll, HoldsFirst}
 
 -- where the first so many objects end, from an offset on

@@ -6,7 +6,7 @@ use Rattle.tape_image.specs.Reading.{Waiting}
 use Rattle.tape_flush.specs.declared.known.Known.{Known}
 use Rattle.tape_flush.specs.Stores.{FileValue, file_value, IsNewFile}
 use Rattle.tape_flush.specs.Careful.{IsKnown, trusted_to}
-use Rattle.tape_flush.specs.Kept.{Holds}
+use Rattle.tape_flush.specs.Saved.{Holds}
 use Rattle.tape_flush.proofs.Holding.{holds_nothing}
 
 new_known : IsKnown (trusted_to 0) (file_value [] 0 [] (0 ∷ []))

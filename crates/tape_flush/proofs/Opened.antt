@@ -14,7 +14,7 @@ use Rattle.tape_image.proofs.Fits.{told}
 use Rattle.tape_image.specs.declared.index.IndexedObject.{IndexedObject}
 use Rattle.tape_flush.specs.Stores.{FileValue}
 use Rattle.tape_flush.specs.Careful.{trusted_to, IsKnown}
-use Rattle.tape_flush.specs.Kept.{ends_within, Holds}
+use Rattle.tape_flush.specs.Saved.{ends_within, Holds}
 use Rattle.tape_flush.proofs.Flushes.{Bytes}
 use Rattle.tape_flush.proofs.CopyLemmas.{holds_by, shrunk_bytes}
 use Rattle.tape_flush.specs.Images.{object_in, HoldsOne, HoldsAll}

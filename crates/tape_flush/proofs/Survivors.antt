@@ -8,7 +8,7 @@ use Rattle.tape_image.specs.Reading.{Placed, Stop, Reads}
 use Rattle.tape_flush.specs.declared.known.Known.{Known}
 use Rattle.tape_flush.specs.Stores.{FileValue, Survives}
 use Rattle.tape_flush.specs.Images.{object_in, end_at, HoldsAll, HoldsFirst}
-use Rattle.tape_flush.specs.Kept.{Holds}
+use Rattle.tape_flush.specs.Saved.{Holds}
 use Rattle.tape_flush.specs.Surviving.{OpensAs}
 use Rattle.tape_flush.proofs.Holding.{Split, split, same_count, ReadsOn, reads_on, first_cut, first_behind}
 use Rattle.tape_image.proofs.Images.{each_reads, one_reading}

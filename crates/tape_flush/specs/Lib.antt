@@ -6,6 +6,6 @@ pub mod Replacing
 pub mod Memory
 pub mod Openings
 pub mod Readings
-pub mod Kept
+pub mod Saved
 pub mod Bringing
 pub mod Surviving

@@ -1,6 +1,6 @@
 ghost use Rattle.std.specs.Prelude.{◌≡◌, ◌≤◌, length};
 ghost use Rattle.tape_flush.specs.Images.{end_at};
-ghost use Rattle.tape_flush.specs.Kept.{ends_within, last_end};
+ghost use Rattle.tape_flush.specs.Saved.{ends_within, last_end};
 
 /// Where the first `count` objects end, in bytes.
 pub(crate) fn end_at(ends: &[u64], count: usize) -> u64

@@ -3,7 +3,7 @@ ghost use Rattle.tape_medium.specs.Object.{Object};
 ghost use Rattle.tape_image.specs.Reading.{Placed, Waiting, Reads};
 ghost use Rattle.tape_flush.specs.Careful.{after, Allowed, IsKnown};
 ghost use Rattle.tape_flush.specs.Images.{ImageValue, IsWhole, IsHeld, HoldsFirst, object_in};
-ghost use Rattle.tape_flush.specs.Kept.{Holds, ImagesFollowTapes};
+ghost use Rattle.tape_flush.specs.Saved.{Holds, ImagesFollowTapes};
 ghost use Rattle.tape_flush.specs.Stores.{Does, FileValue, StoreCall, Survives};
 ghost use Rattle.tape_flush.specs.Surviving.{OpensAs};
 ghost use Rattle.tape_flush.specs.declared.known.Known.{Known};

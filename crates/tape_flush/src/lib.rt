@@ -4,7 +4,7 @@
 
 mod ends;
 mod fault;
-mod kept_image;
+mod saved_image;
 mod known;
 mod laws;
 mod memory;
@@ -20,7 +20,7 @@ mod store;
 mod watched_file;
 
 pub use fault::{FlushFault, OpenFault};
-pub use kept_image::KeptImage;
+pub use saved_image::SavedImage;
 pub use known::{FileTail, Known};
 pub use laws::{
     held_images_are_read, images_follow_tapes, synced_objects_survive, what_is_known_is_so,

@@ -3,12 +3,12 @@ ghost use Rattle.tape_image.specs.Indexes.{indexed};
 ghost use Rattle.tape_image.specs.Reading.{Placed, Stop, Reads};
 ghost use Rattle.tape_flush.specs.Careful.{IsKnown, trusted_to};
 ghost use Rattle.tape_flush.specs.Images.{object_in};
-ghost use Rattle.tape_flush.specs.Kept.{HasFirstOf, ends_within};
+ghost use Rattle.tape_flush.specs.Saved.{HasFirstOf, ends_within};
 ghost use Rattle.tape_flush.specs.Openings.{end_of_entry, lost_of};
 ghost use Rattle.tape_flush.specs.Stores.{FileValue};
 
 use crate::fault::OpenFault;
-use crate::kept_image::KeptImage;
+use crate::saved_image::SavedImage;
 use crate::store::ImageStore;
 use std::alloc::Global;
 use std::marker::Model;
@@ -97,7 +97,7 @@ pub fn image_ends(alloc: Global, index: &ImageIndex) -> Result<ImageEnds, OpenFa
 
 /// Opens an image whose objects end there, and of which so many bytes are on the disk, as its record says: those objects count that lie
 /// within these. Nothing is changed: what lies behind is cut off before something is written.
-pub fn open_image<S: ImageStore + Drop>(store: S, image: ImageEnds, trusted: u64) -> KeptImage<S>
+pub fn open_image<S: ImageStore + Drop>(store: S, image: ImageEnds, trusted: u64) -> SavedImage<S>
     ensures store { result.store ≡ store }
     ensures known { result.known ≡ trusted_to trusted }
     ensures ends { result.ends ≡ ends_within trusted image.ends }
@@ -105,5 +105,5 @@ pub fn open_image<S: ImageStore + Drop>(store: S, image: ImageEnds, trusted: u64
         → image.ends ≡ map end_of_entry (map indexed objects) → HasFirstOf (map object_in objects) result }
 {
     let ImageEnds { ends, .. } = image;
-    KeptImage::opened(store, trusted, ends)
+    SavedImage::opened(store, trusted, ends)
 }

@@ -2,7 +2,7 @@ ghost use Rattle.std.specs.Prelude.{◌≡◌, ◌≤◌, ◌+◌, ◌++◌, Lis
 ghost use Rattle.tape_flush.specs.Stores.{contents_of};
 ghost use Rattle.tape_flush.specs.Careful.{GoesOn, IsInOrder};
 ghost use Rattle.tape_flush.specs.Images.{end_at};
-ghost use Rattle.tape_flush.specs.Kept.{ends_within};
+ghost use Rattle.tape_flush.specs.Saved.{ends_within};
 ghost use Rattle.tape_flush.specs.Watched.{Adds, AddsInPart, IsEmptyAt, IsStopped};
 ghost use Rattle.tape_flush.specs.Replacing.{CutsBack, IsReplaced};
 ghost use Rattle.tape_flush.specs.declared.known.FileTail.TheVariants.{Empty};

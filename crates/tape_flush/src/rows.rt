@@ -3,7 +3,7 @@ ghost use Rattle.tape_medium.specs.Object.{Block, Mark};
 ghost use Rattle.tape_flush.specs.Bringing.{IsJustThat, IsThere};
 ghost use Rattle.tape_flush.specs.Careful.{known_of, after, trusted_to, Allowed};
 ghost use Rattle.tape_flush.specs.Images.{end_at, ends_from};
-ghost use Rattle.tape_flush.specs.Kept.{ends_within};
+ghost use Rattle.tape_flush.specs.Saved.{ends_within};
 ghost use Rattle.tape_flush.specs.Stores.{file_value, Does, Survives, Truncate, Append, Sync, Note};
 ghost use Rattle.tape_flush.specs.declared.known.FileTail.TheVariants.{Unknown, Cut, Empty};
 

@@ -3,7 +3,7 @@ use tape_medium::VolumeTag;
 
 /// What is kept of a library.
 #[derive(Clone, Copy)]
-pub enum KeptThing {
+pub enum SavedThing {
     /// The tape of a volume, in its image.
     Volume(VolumeTag),
     /// Where the volumes lie.
@@ -36,15 +36,15 @@ pub enum KeepChange {
 /// What is told of keeping tapes.
 #[derive(Clone, Copy)]
 pub struct KeepEvent {
-    pub thing: KeptThing,
+    pub thing: SavedThing,
     pub change: KeepChange,
 }
 
-impl fmt::Display for KeptThing {
+impl fmt::Display for SavedThing {
     fn fmt<W: fmt::Write>(&self, f: &mut fmt::Formatter<W>) -> fmt::Result {
         match self {
-            KeptThing::Volume(tag) => write!(f, "volume {}", name_in(tag)),
-            KeptThing::Inventory => f.write_str("the inventory"),
+            SavedThing::Volume(tag) => write!(f, "volume {}", name_in(tag)),
+            SavedThing::Inventory => f.write_str("the inventory"),
         }
     }
 }

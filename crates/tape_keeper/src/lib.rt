@@ -5,6 +5,6 @@ mod event;
 mod keeper;
 mod source;
 
-pub use event::{KeepChange, KeepEvent, KeepFault, KeptThing};
+pub use event::{KeepChange, KeepEvent, KeepFault, SavedThing};
 pub use keeper::{GoodCommand, KeepListener, KeepPlace, NoKeeper, TapeKeeper};
 pub use source::TapeSource;

@@ -3,7 +3,7 @@ use Rattle.std.specs.Prelude.{ℕ, List, [], ◌∷◌, ◌++◌, Option, Some, 
 use Rattle.std.specs.Option.{option_map}
 use Rattle.program_options.specs.CommandLineFaults.{command_line_status, command_line_text}
 use Rattle.client_session.specs.Faults as session
-use Rattle.server_socket.specs.Faults.{socket_status, socket_text}
+use Rattle.library_server.specs.Faults.{socket_status, socket_text}
 use Rattle.media_folder.specs.Faults.{check_status}
 use Rattle.script_input.specs.ReplayFaults as replay
 use Rattle.script_input.specs.InputFaults as input

@@ -2,7 +2,7 @@
 ghost use Rattle.command_line.specs.Tasks.{IsClientOptions};
 
 use crate::client_fault::ClientFault;
-use client_session::{HostSettings, converse};
+use client_session::{HostSettings, run_session};
 use command_line::ClientOptions;
 use output_lines::Explanations;
 use program_options::MAX_READS;
@@ -34,7 +34,7 @@ pub fn client<R: AllocGlobal + Input + Net + Print>(
         explanations,
         turns: MAX_READS,
     };
-    converse(
+    run_session(
         rt.alloc(),
         settings,
         &script,

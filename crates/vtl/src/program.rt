@@ -12,7 +12,7 @@ use output_lines::{Audit, Explanations};
 use permission_chart::write_cells;
 use program_options::{LibraryOptions, MAX_READS};
 use replay::{ReplayFault, replay};
-use server_socket::serve;
+use library_server::serve;
 use std::fs::Files;
 use std::io::Write;
 use std::net::{Net, TcpListener, TcpStream};

@@ -2,7 +2,7 @@ use crate::client_fault::ClientFault;
 use command_line::CommandLineFault;
 use media_folder::CheckFault;
 use replay::ReplayFault;
-use server_socket::SocketFault;
+use library_server::SocketFault;
 use std::alloc::AllocError;
 use std::fmt;
 use thiserror::Error;

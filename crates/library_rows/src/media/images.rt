@@ -2,7 +2,7 @@ use crate::comparing::{assert_list, assert_same};
 use crate::media::failing_store::FailingStore;
 use std::alloc::Global;
 use std::process::Abort;
-use tape_flush::{ImageStore, KeptImage, TapePart, image_ends, open_image};
+use tape_flush::{ImageStore, SavedImage, TapePart, image_ends, open_image};
 use tape_image::index_image;
 use tape_medium::Tape;
 
@@ -13,7 +13,7 @@ const IMAGE: &[u8] = &[2, 0, 0, 0, b'h', b'i', 2, 0, 0, 0, 0, 0, 0, 0];
 const FIRST: &[u8] = &[2, 0, 0, 0, b'h', b'i', 2, 0, 0, 0];
 
 /// The image in a file that has these bytes, of which all are on the disk, and of which the next call that brings it there fails.
-fn image_of(rt: &impl Abort, alloc: Global, bytes: &[u8]) -> KeptImage<FailingStore> {
+fn image_of(rt: &impl Abort, alloc: Global, bytes: &[u8]) -> SavedImage<FailingStore> {
     let store = FailingStore {
         bytes: Vec::from_slice(alloc, bytes).expect(rt, "memory"),
         synced: bytes.len(),
@@ -27,7 +27,7 @@ fn image_of(rt: &impl Abort, alloc: Global, bytes: &[u8]) -> KeptImage<FailingSt
 }
 
 /// Writes what a tape has that its image hasn't.
-fn is_copied<S: ImageStore>(alloc: Global, image: &mut KeptImage<S>, tape: &mut Tape) -> bool {
+fn is_copied<S: ImageStore>(alloc: Global, image: &mut SavedImage<S>, tape: &mut Tape) -> bool {
     let Ok(mut part) = TapePart::new(alloc) else {
         return false;
     };

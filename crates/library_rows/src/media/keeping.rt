@@ -3,7 +3,7 @@
 
 use super::units::{BLOCK, BLOCK_AND_MARK, NoStore, Units, WRITE_HI, WRITE_MARK, image_in};
 use crate::comparing::{assert_list, assert_same};
-use kept_media::MediaKeeper;
+use saved_media::MediaKeeper;
 use library_inventory::LibrarySize;
 use scsi_cdb::Class;
 use std::alloc::Global;
@@ -23,7 +23,7 @@ const OTHER: VolumeTag = VolumeTag([b'B'; 32]);
 const SIZE: LibrarySize = LibrarySize {
     drives: 1,
     slots: 1,
-    portals: 0,
+    import_exports: 0,
 };
 
 /// A WRITE of "hi" that was GOOD.

@@ -3,7 +3,7 @@
 use super::commands::{A, B, Ended, ended_by};
 use super::memory_disk::{MemoryDisk, SharedFile, SharedInventory};
 use super::units::{Units, image_in};
-use kept_media::MediaKeeper;
+use saved_media::MediaKeeper;
 use library_inventory::LibrarySize;
 use std::alloc::Global;
 use std::process::Abort;
@@ -17,7 +17,7 @@ use tickets::Ticket;
 const SIZE: LibrarySize = LibrarySize {
     drives: 1,
     slots: 1,
-    portals: 0,
+    import_exports: 0,
 };
 
 /// A letter for each change that was told, and how often it was told that something is settled.

@@ -1,6 +1,6 @@
 //! A disk in memory: the files of two volumes, each of which may be full, or fail for good, and an inventory.
 
-use kept_media::InventoryStore;
+use saved_media::InventoryStore;
 use library_inventory::Inventory;
 use std::alloc::Global;
 use std::sync::atomic::{AtomicBool, AtomicU32, Ordering};

@@ -4,7 +4,7 @@ ghost use Rattle.device_server.specs.Attending.{WasAsked};
 ghost use Rattle.device_server.specs.Settled.{SameButSettled};
 
 use device_server::{Attendant, DeviceServer, field_fault};
-use kept_media::{InventoryStore, VolumeImage};
+use saved_media::{InventoryStore, VolumeImage};
 use library_inventory::Inventory;
 use library_start::Device;
 use scsi_cdb::Request;

@@ -3,7 +3,7 @@
 use super::assert_same;
 use super::streams::Sink;
 use crate::trickle::Trickle;
-use client_session::{ClientSessionFault, HostSettings, converse};
+use client_session::{ClientSessionFault, HostSettings, run_session};
 use output_lines::Explanations;
 use scsi_nexus::Nexus;
 use std::alloc::Global;
@@ -44,7 +44,7 @@ fn conversed(
         explanations: Explanations::Off,
         turns,
     };
-    converse(alloc, settings, script, &mut reader, &mut writer, out).err()
+    run_session(alloc, settings, script, &mut reader, &mut writer, out).err()
 }
 
 #[test]

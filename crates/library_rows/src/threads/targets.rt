@@ -8,7 +8,7 @@ use target_core::TargetCore;
 const OPTIONS: LibraryOptions = LibraryOptions {
     drives: 2,
     slots: 4,
-    portals: 0,
+    import_exports: 0,
     volumes: 2,
     volume_size: LibraryOptions::MIN.volume_size,
 };

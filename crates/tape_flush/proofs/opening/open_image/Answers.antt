@@ -4,7 +4,7 @@ use Rattle.tape_flush.specs.Openings.{ImageEndsValue, end_of_entry}
 use Rattle.tape_flush.specs.Images.{object_in}
 use Rattle.tape_flush.specs.Stores.{FileValue}
 use Rattle.tape_flush.specs.Careful.{trusted_to}
-use Rattle.tape_flush.specs.Kept.{KeptImageValue, HasFirstOf, HoldsIn, ends_within}
+use Rattle.tape_flush.specs.Saved.{SavedImageValue, HasFirstOf, HoldsIn, ends_within}
 use Rattle.tape_flush.proofs.Opened.{opened_holds}
 use Rattle.tape_flush.proofs.opening.open_image.Goals as goal
 
@@ -15,4 +15,4 @@ returns-clause-whole g c file objects stop known is reads same =
     let there : HoldsIn (g.S.ImageStore.file c.args.store) (trusted_to c.args.trusted) ends (take (length ends) (map object_in objects)) (drop (length ends) (map object_in objects) ++ []) =
     subst (λ (f : Option FileValue). HoldsIn f (trusted_to c.args.trusted) ends (take (length ends) (map object_in objects)) (drop (length ends) (map object_in objects) ++ [])) (sym known)
     (opened_holds file c.args.trusted ends (map indexed objects) objects stop is reads refl are) in
-    subst (λ (v : KeptImageValue g.row.S.Denot). HasFirstOf (map object_in objects) v) (sym c.opened.ensures) (drop (length ends) (map object_in objects) ++ [], there)
+    subst (λ (v : SavedImageValue g.row.S.Denot). HasFirstOf (map object_in objects) v) (sym c.opened.ensures) (drop (length ends) (map object_in objects) ++ [], there)

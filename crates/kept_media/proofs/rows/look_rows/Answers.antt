@@ -1,6 +1,0 @@
-use Rattle.std.proofs.Common.{refl}
-use Rattle.kept_media.specs.LookRows.{marked_volume}
-use Rattle.kept_media.proofs.rows.look_rows.Goals as goal
-
-pub returns-clause-passed_over : goal.returns-clause-passed_over
-returns-clause-passed_over c kept part absent = absent (marked_volume 2 c.args.b) refl refl

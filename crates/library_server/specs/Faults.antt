@@ -1,0 +1,37 @@
+-- The exit status of each fault of serving, and what is told of it (profile).
+use Rattle.std.specs.Prelude.{ℕ, List, ◌++◌, codes, string_bytes, Option, Some, None}
+use Rattle.std.specs.Fmt.{decimal}
+use Rattle.iscsi_chap.specs.declared.secrets_fault.LineFault.{LineFault}
+use Rattle.iscsi_chap.specs.declared.secrets_fault.LineFault.TheVariants.{FieldCount, Name, SecretLength, SameSecret, UserTwice}
+use Rattle.media_folder.specs.Faults.{folder_status}
+use Rattle.program_options.specs.ListenFaults.{listen_status, listen_text}
+use Rattle.library_server.specs.ServerFaults as host
+use Rattle.library_server.specs.declared.socket_fault.SocketFault.{SocketFault}
+use Rattle.library_server.specs.declared.socket_fault.SocketFault.TheVariants as serve
+
+abbrev pub socket_status : SocketFault → ℕ
+socket_status (serve.Listen fault) = listen_status fault
+socket_status (serve.CannotRead path) = 4
+socket_status (serve.OpenSecrets path) = 2
+socket_status (serve.BadSecrets path number what) = 2
+socket_status (serve.Folder fault) = folder_status fault
+socket_status (serve.Server fault) = host.exit_status fault
+
+-- no secret is told
+abbrev pub line_words : LineFault → List ℕ
+line_words FieldCount = codes "say NAME USER SECRET, or NAME USER SECRET TARGET-USER TARGET-SECRET"
+line_words Name = codes "NAME is no iSCSI name: say one as iqn.2026-11.example:a"
+line_words SecretLength = codes "a secret has 12 to 128 bytes"
+line_words SameSecret = codes "the target has the secret of the host: say another"
+line_words UserTwice = codes "the host has a line with this user already"
+
+-- the second line names the path; no clause says what is told of a folder
+abbrev pub socket_text : SocketFault → Option (List ℕ)
+socket_text (serve.Listen fault) = Some (listen_text fault)
+socket_text (serve.CannotRead path) = Some (codes "vtl: device fault\nvtl: cannot read " ++ string_bytes path)
+socket_text (serve.OpenSecrets path) =
+    Some (codes "vtl: others than its owner may read or change " ++ (string_bytes path ++ (codes ": say chmod 600 " ++ string_bytes path)))
+socket_text (serve.BadSecrets path number what) =
+    Some (codes "vtl: " ++ (string_bytes path ++ (codes ", line " ++ (decimal number ++ (codes ": " ++ line_words what)))))
+socket_text (serve.Folder fault) = None
+socket_text (serve.Server fault) = Some (host.fault_text fault)

@@ -1,0 +1,28 @@
+//! A library that is served at a socket whose file is made for it, at portals of iSCSI, or at both: for a number of sessions, or until
+//! standard input ends. What opens a library and has it closed stands here, with what keeps its tapes and writes the lines of its records meanwhile.
+#![tactic(auto)]
+
+mod batch;
+mod handing_out;
+mod iscsi_target;
+mod keeping;
+mod saved_library;
+mod laws;
+mod library_tapes;
+mod notice;
+mod places;
+mod record_source;
+mod secrets_file;
+mod server_fault;
+mod serving;
+mod socket;
+mod socket_fault;
+mod socket_file;
+mod unwritten_teller;
+
+pub use laws::{fault_rows, worked_rows};
+pub use library_service::LibraryService;
+pub use server_fault::{ServerFault, earlier};
+pub use serving::{ServiceMeans, serve_library};
+pub use socket::serve;
+pub use socket_fault::SocketFault;

@@ -1,0 +1,132 @@
+//! A library that is kept in a folder.
+
+ghost use Rattle.std.specs.Prelude.{◌<◌, ◌≤◌};
+ghost use Rattle.tape_medium.specs.Limits.{capacity_limit};
+
+use crate::socket_fault::SocketFault;
+use command_line::MediaOptions;
+use saved_media::{InventoryStore, MediaKeeper, VolumeImage};
+use library_inventory::{Inventory, LibrarySize, PlacedVolume};
+use library_start::{Device, LibraryFault, StartedVolume, library_of_volumes};
+use media_folder::{
+    FileStore, KeptVolume, LibraryFolder, OpenedFolder, open_folder, write_inventory_file,
+};
+use std::alloc::{AllocError, Global};
+use std::io::Write;
+use tape_flush::StoreFault;
+use tape_medium::MemoryLimit;
+use target_core::TargetCore;
+
+/// The inventory's file in a folder, which nobody else has as long as this lives, with the volumes that are missing, as at the start.
+#[derive(Drop)]
+pub(crate) struct FolderInventory<'a> {
+    files: &'a HostRuntime,
+    folder: LibraryFolder,
+    missing: Vec<PlacedVolume>,
+}
+
+impl<'a> InventoryStore for FolderInventory<'a> {
+    fn write(&mut self, inventory: &Inventory) -> Result<(), StoreFault> {
+        match write_inventory_file(self.files, &self.folder, inventory, &self.missing) {
+            Ok(()) => Ok(()),
+            Err(_) => Err(StoreFault::Failed),
+        }
+    }
+}
+
+/// A library whose volumes were read from a folder, and who keeps them there.
+#[derive(Drop)]
+pub(crate) struct SavedLibrary<'a> {
+    pub core: TargetCore<Device>,
+    pub keeper: MediaKeeper<FileStore<'a, HostRuntime>, FolderInventory<'a>>,
+}
+
+/// Reads a library from its folder, whose volumes take no more memory together than the limit says, and writes where they lie from now
+/// on. What is lost, left or missing there is told on `errors`.
+pub(crate) fn saved_library<'a, E: Write>(
+    alloc: Global,
+    files: &'a HostRuntime,
+    media: MediaOptions,
+    volume_size: u64,
+    memory: &MemoryLimit,
+    errors: &mut E,
+) -> Result<SavedLibrary<'a>, SocketFault>
+    requires some { 0 < volume_size }
+    requires within { volume_size ≤ capacity_limit }
+{
+    let MediaOptions {
+        folder,
+        without,
+        given,
+    } = media;
+    let OpenedFolder {
+        folder,
+        size,
+        volumes,
+        missing,
+    } = open_folder(files, folder, without, given, volume_size, memory, errors)?;
+    let inventory = inventory_of(alloc, size, &volumes)?;
+    write_inventory_file(files, &folder, &inventory, &missing)?;
+    let (started, images) = parted(alloc, volumes)?;
+    let core = library_of_volumes(alloc, size, started).map_err(fault_of)?;
+    let store = FolderInventory {
+        files,
+        folder,
+        missing,
+    };
+    Ok(SavedLibrary {
+        core,
+        keeper: MediaKeeper::new(alloc, size, images, store)?,
+    })
+}
+
+/// Where volumes lie.
+fn inventory_of<'a>(
+    alloc: Global,
+    size: LibrarySize,
+    volumes: &[KeptVolume<'a, HostRuntime>],
+) -> Result<Inventory, SocketFault> {
+    let mut inventory = Inventory::new(alloc, size);
+    for kept in volumes {
+        let placed = PlacedVolume {
+            tag: kept.volume.tag,
+            element: kept.element,
+        };
+        if inventory.add(placed).is_err() {
+            return Err(SocketFault::from(AllocError));
+        }
+    }
+    Ok(inventory)
+}
+
+/// The volumes, and their images.
+fn parted<'a>(
+    alloc: Global,
+    volumes: Vec<KeptVolume<'a, HostRuntime>>,
+) -> Result<
+    (
+        Vec<StartedVolume>,
+        Vec<VolumeImage<FileStore<'a, HostRuntime>>>,
+    ),
+    AllocError,
+> {
+    let mut started = Vec::new(alloc);
+    let mut images = Vec::new(alloc);
+    for kept in volumes {
+        let KeptVolume {
+            element,
+            volume,
+            image,
+        } = kept;
+        images.push(VolumeImage::new(&volume, image))?;
+        started.push(StartedVolume { element, volume })?;
+    }
+    Ok((started, images))
+}
+
+/// Why no library was made of volumes: what was read lies in elements that are there, each in one.
+fn fault_of(fault: LibraryFault) -> SocketFault {
+    match fault {
+        LibraryFault::NoMemory | LibraryFault::BadElement => SocketFault::from(AllocError),
+    }
+}

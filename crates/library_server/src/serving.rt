@@ -1,0 +1,287 @@
+ghost use Rattle.std.specs.Prelude.{◌≡◌, ◌+◌, ◌*◌, ◌<◌, ◌≤◌, ◌⊎◌, [], None, length, IfErr, IfSome, OnOk};
+ghost use Rattle.std.specs.List.{AllZip};
+ghost use Rattle.logical_unit.specs.UnitView.{units_of};
+ghost use Rattle.lun_router.specs.Blanks.{AreBlanks};
+ghost use Rattle.lun_router.specs.Opening.{IsSince};
+ghost use Rattle.server.specs.Sessions.{ComesBySessions};
+ghost use Rattle.output_lines.specs.LeftLines.{GoesOn};
+ghost use Rattle.library_server.specs.Batches.{HandsOut, left_in};
+ghost use Rattle.library_server.specs.ServerFaults.{MayTell};
+ghost use Rattle.library_server.specs.ServedLibrary.{ServesLibrary, WritesOut};
+ghost use Rattle.library_server.specs.ServedSeats.{SeatsCome};
+ghost use Rattle.library_server.specs.declared.server_fault.ServerFault.TheVariants as fault;
+
+use crate::batch::Batch;
+use crate::handing_out::hand_out_as_asked;
+use crate::keeping::{SavedTapes, keep_at_the_end};
+use crate::library_tapes::LibraryTapes;
+use crate::record_source::RecordSource;
+use crate::server_fault::{ServerFault, closing_fault, earlier, own_fault, told_of};
+use crate::unwritten_teller::UnwrittenTeller;
+use kept_unit::Ledgers;
+use library_service::{close_and_write, give_back, services_of};
+use library_start::Device;
+use lun_router::{Blanks, Library, Pass, Seat};
+use output_lines::RecordOutput;
+use server::{
+    Acceptor, Caretaker, Door, Event, FaultySession, PollSource, RecordDrain, ServeLimits, Teller,
+    serve_all, serve_and_end,
+};
+use session::{Directory, SeatService};
+use std::alloc::{AllocError, Global};
+use std::io::Write;
+use std::marker::Brand;
+use std::mem;
+use std::random::RandomSource;
+use std::sync::ledger::Blank;
+use std::sync::{Mutex, Wait};
+use std::thread::{self, Threads};
+use std::time::Clock;
+use tape_keeper::TapeKeeper;
+use target_core::TargetCore;
+
+/// What a library is served with: where its records go, what keeps its tapes, and what is told.
+#[derive(Drop)]
+pub struct ServiceMeans<'a, R: Wait, K: TapeKeeper<Device>, E: Write> {
+    pub rt: &'a R,
+    pub alloc: Global,
+    pub records: RecordOutput,
+    pub keeper: &'a K,
+    pub teller: &'a Teller<E>,
+}
+
+/// Serves a target to connections of doors, each by a worker and as the nexus that its LOGIN names or its initiator is let in as, and
+/// tells what happens. A keeper keeps its tapes meanwhile, and all of them once the last has ended. Then the library is closed, and what
+/// is wanted of the records is written, LUN 0 first, also where a session had a fault. Lines that can't be written are kept and tried
+/// again; those that never can be are told.
+///
+/// Of the faults that happened the first in the order of `ServerFault` is told; no clause says which of them happened. No seat is missing
+/// at the end.
+pub fn serve_library<
+    R: Clock + PollSource + RandomSource + Threads + Wait + Sync,
+    K: TapeKeeper<Device> + Sync,
+    E: Write + Send,
+    W: Write + Send,
+>(
+    means: &ServiceMeans<'_, R, K, E>,
+    core: TargetCore<Device>,
+    doors: &[Door<'_>],
+    limits: ServeLimits<'_>,
+    writer: &mut W,
+) -> Result<(), ServerFault>
+    requires some { 0 < limits.workers }
+    requires doors { (0 < length doors.now) × (length doors.now ≤ 5) }
+    ensures served { OnOk result (ServesLibrary (units_of core) ((limits.entry.workers + limits.entry.spare) * length doors.now) means.now.records
+        (W.contents writer.old) (W.contents writer.new)) }
+    ensures fault { IfErr result (λ fault. MayTell limits.entry.term fault) }
+{
+    let seats = seats_at(limits.workers, limits.spare, doors.len());
+    let parts = seats as u64 + 1;
+    let blanks = Blanks {
+        zero: Blank::new(parts),
+        one: Blank::new(parts),
+        two: Blank::new(parts),
+        three: Blank::new(parts),
+        four: Blank::new(parts),
+    };
+    let acceptor = Acceptor::new(doors, limits);
+    serve_with_ledgers::<Brand, R, K, E, W>(means, core, seats, blanks, &acceptor, writer)
+}
+
+/// How many seats there are at so many doors, each with so many workers and so many more.
+#[tactic(auto, using(crate::proofs::Seats::some_seats, crate::proofs::Seats::few_seats))]
+fn seats_at(workers: u8, spare: u8, doors: usize) -> usize
+    requires workers { 0 < workers }
+    requires doors { (0 < doors) × (doors ≤ 5) }
+    ensures count { result ≡ (workers + spare) * doors }
+    ensures some { (0 < result) × (result ≤ 2550) }
+{
+    (usize::from(workers) + usize::from(spare)) * doors
+}
+
+/// The same, generic over the ledgers.
+fn serve_with_ledgers<
+    B: Ledgers + Send + Sync,
+    R: Clock + PollSource + RandomSource + Threads + Wait + Sync,
+    K: TapeKeeper<Device> + Sync,
+    E: Write + Send,
+    W: Write + Send,
+>(
+    means: &ServiceMeans<'_, R, K, E>,
+    core: TargetCore<Device>,
+    workers: usize,
+    blanks: Blanks,
+    acceptor: &Acceptor<'_>,
+    writer: &mut W,
+) -> Result<(), ServerFault>
+    requires some { 0 < workers }
+    requires blanks { AreBlanks B.names B.all_parts blanks }
+    requires parts { B.all_parts ≡ workers + 1 }
+    requires since { IsSince (units_of core) B.since_of }
+    ensures served { OnOk result (ServesLibrary (units_of core) workers means.now.records (W.contents writer.old) (W.contents writer.new)) }
+    ensures fault { IfErr result (λ fault. MayTell acceptor.now.limits.term fault) }
+{
+    let (rt, alloc, teller) = (means.rt, means.alloc, means.teller);
+    let opened = Library::<B, Device, Pass>::new(alloc, core, workers, blanks, Pass);
+    let (library, mut seats) = match opened {
+        Ok(opened) => opened,
+        Err((refused, _)) => return Err(refused.into()),
+    };
+    let mut batch = Batch::new(alloc);
+    let served = serve_seats(means, &library, &mut seats, acceptor, &mut batch, writer)?;
+    let tapes = LibraryTapes { library: &library };
+    let kept = keep_at_the_end(rt, alloc, means.keeper, &tapes, teller);
+    let left = write_rest(means, batch, writer);
+    let audit = means.records.of_the_rest();
+    let listener = UnwrittenTeller { rt, teller };
+    let closed = close_and_write(rt, alloc, library, seats, audit, writer, &listener);
+    told_of(earlier(
+        earlier(own_fault(acceptor.limits.term, served), kept),
+        earlier(left, closing_fault(closed)),
+    ))
+}
+
+/// Serves sessions with a worker at each seat. Then the seats are back.
+fn serve_seats<
+    B: Ledgers + Send + Sync,
+    R: Clock + PollSource + RandomSource + Threads + Wait + Sync,
+    K: TapeKeeper<Device> + Sync,
+    E: Write + Send,
+    W: Write + Send,
+>(
+    means: &ServiceMeans<'_, R, K, E>,
+    library: &Library<B, Device, Pass>,
+    seats: &mut Vec<Seat<B>>,
+    acceptor: &Acceptor<'_>,
+    batch: &mut Batch,
+    writer: &mut W,
+) -> Result<Option<FaultySession>, AllocError>
+    ensures lines { WritesOut means.now.records (W.contents writer.old) (W.contents writer.new) (left_in batch.old) (left_in batch.new) }
+    ensures served { OnOk result (SeatsCome library.now.units seats.old.items seats.new.items) }
+{
+    let alloc = means.alloc;
+    let mut back = Vec::new(alloc);
+    back.reserve(seats.len())?;
+    let taken = mem::replace(seats, Vec::new(alloc));
+    let directory = Mutex::new(Directory::new(alloc));
+    let mut services = services_of(means.rt, alloc, library, &directory, taken)?;
+    let tapes = LibraryTapes { library };
+    let caretaker = SavedTapes {
+        keeper: means.keeper,
+        tapes: &tapes,
+    };
+    let served = serve_services(
+        means,
+        &mut services,
+        &caretaker,
+        library,
+        acceptor,
+        batch,
+        writer,
+    )?;
+    give_back(services, back, seats);
+    Ok(served)
+}
+
+/// Serves sessions with a worker at each service, and writes meanwhile what is wanted of the records that units hand out.
+fn serve_services<
+    S: SeatService + Send,
+    C: Caretaker + Sync,
+    D: RecordSource + Sync,
+    R: Clock + PollSource + RandomSource + Threads + Wait + Sync,
+    K: TapeKeeper<Device> + Sync,
+    E: Write + Send,
+    W: Write + Send,
+>(
+    means: &ServiceMeans<'_, R, K, E>,
+    services: &mut Vec<S>,
+    caretaker: &C,
+    units: &D,
+    acceptor: &Acceptor<'_>,
+    batch: &mut Batch,
+    writer: &mut W,
+) -> Result<Option<FaultySession>, AllocError>
+    ensures lines { WritesOut means.now.records (W.contents writer.old) (W.contents writer.new) (left_in batch.old) (left_in batch.new) }
+    ensures served { OnOk result (AllZip (ComesBySessions S.notes S.settles S.count) services.old.items services.new.items) }
+{
+    let (rt, alloc, teller) = (means.rt, means.alloc, means.teller);
+    match means.records {
+        RecordOutput::AtTheEnd(_) => serve_all(
+            rt, alloc, services, caretaker, acceptor, None, teller,
+        ),
+        RecordOutput::AsTheyCome => serve_and_write(
+            means, services, caretaker, units, acceptor, batch, writer,
+        ),
+    }
+}
+
+/// Serves sessions with a worker at each service, while a thread of its own hands their records out as they come.
+fn serve_and_write<
+    S: SeatService + Send,
+    C: Caretaker + Sync,
+    D: RecordSource + Sync,
+    R: Clock + PollSource + RandomSource + Threads + Wait + Sync,
+    K: TapeKeeper<Device> + Sync,
+    E: Write + Send,
+    W: Write + Send,
+>(
+    means: &ServiceMeans<'_, R, K, E>,
+    services: &mut Vec<S>,
+    caretaker: &C,
+    units: &D,
+    acceptor: &Acceptor<'_>,
+    batch: &mut Batch,
+    writer: &mut W,
+) -> Result<Option<FaultySession>, AllocError>
+    ensures lines { HandsOut (W.contents writer.old) (W.contents writer.new) (left_in batch.old) (left_in batch.new) }
+    ensures served { OnOk result (AllZip (ComesBySessions S.notes S.settles S.count) services.old.items services.new.items) }
+{
+    let (rt, alloc, teller) = (means.rt, means.alloc, means.teller);
+    let alloc_of_workers = alloc;
+    let drain = RecordDrain::new();
+    let ((), served) = thread::join_mut(
+        rt,
+        &mut || hand_out_as_asked(&drain, rt, alloc, units, batch, writer, teller),
+        &mut || serve_and_end(
+            rt,
+            alloc_of_workers,
+            services,
+            caretaker,
+            acceptor,
+            &drain,
+            teller,
+        ),
+    );
+    served
+}
+
+/// Writes the lines that are left of the records that were taken last, where some were, or tells which have none.
+fn write_rest<R: Wait, K: TapeKeeper<Device>, E: Write, W: Write>(
+    means: &ServiceMeans<'_, R, K, E>,
+    batch: Batch,
+    writer: &mut W,
+) -> Option<ServerFault>
+    ensures left { result ≡ None → WritesOut means.now.records (W.contents writer.old) (W.contents writer.new) (left_in batch) [] }
+    ensures fault { IfSome result (λ f. (f ≡ fault.Write) ⊎ (f ≡ fault.NoMemory)) }
+{
+    match means.records {
+        RecordOutput::AtTheEnd(_) => None,
+        RecordOutput::AsTheyCome => write_batch(means, batch, writer),
+    }
+}
+
+/// Writes the lines that are left of a batch, or tells which of its records have none.
+fn write_batch<R: Wait, K: TapeKeeper<Device>, E: Write, W: Write>(
+    means: &ServiceMeans<'_, R, K, E>,
+    mut batch: Batch,
+    writer: &mut W,
+) -> Option<ServerFault>
+    ensures left { result ≡ None → GoesOn (W.contents writer.old) (W.contents writer.new) (left_in batch) [] }
+    ensures fault { IfSome result (λ f. (f ≡ fault.Write) ⊎ (f ≡ fault.NoMemory)) }
+{
+    let written = batch.write_left(means.alloc, writer);
+    if let Some(records) = batch.unwritten() {
+        means.teller.tell(means.rt, &Event::Unwritten(records));
+    }
+    written.err()
+}

@@ -1,0 +1,301 @@
+//! The library behind a Unix socket and portals of iSCSI.
+
+ghost use Rattle.std.specs.Prelude.{◌≡◌, ◌+◌, ◌<◌, ◌≤◌, vec_len};
+ghost use Rattle.tape_medium.specs.Limits.{capacity_limit};
+ghost use Rattle.command_line.specs.Tasks.{IsServeOptions, MakesServed};
+ghost use Rattle.program_options.specs.ServeUntil.{workers_of};
+ghost use Rattle.library_server.specs.Places.{count_of};
+ghost use Rattle.library_server.specs.Serving.{telling_of, term_of};
+
+use crate::iscsi_target::{PortalTarget, target_of};
+use crate::saved_library::{SavedLibrary, saved_library};
+use crate::notice::{Notice, tell};
+use crate::places::{Places, open_places};
+use crate::server_fault::ServerFault;
+use crate::serving::{ServiceMeans, serve_library};
+use crate::socket_fault::SocketFault;
+use command_line::ServeOptions;
+use library_start::{Device, library_within};
+use output_lines::{Audit, RecordOutput};
+use program_options::{LibraryOptions, MAX_READS, ServeTimes, ServeUntil};
+use server::{
+    LiveSessions, LoginTerms, PollSource, ServeLimits, ServeTerm, Teller, Telling, WaitTimes,
+};
+use std::alloc::{AllocError, Global};
+use std::fs::Files;
+use std::io::{self, Read, Write};
+use std::net::{Net, TcpListener, TcpStream};
+use std::random::RandomSource;
+use std::sync::Wait;
+use std::thread::{self, Threads};
+use std::time::Clock;
+use tape_keeper::{NoKeeper, TapeKeeper};
+use tape_medium::MemoryLimit;
+use target_core::TargetCore;
+
+/// Serves a library at a socket whose file it makes, at portals of iSCSI, or at both, writes the lines that are wanted of the
+/// records to standard output, and tells on `errors` what happens. The file is removed at the end, if it is still its own. Where
+/// somebody listens at one of the places already, or another file is there, nothing is served and that stays; a socket's file where nobody
+/// listens is taken away. A library that is kept is read from its folder by `files`, and written there, which threads share: a bound can't be.
+#[tactic(auto, using(crate::proofs::PlaceLemmas::some_places, crate::proofs::PlaceLemmas::few_places))]
+pub fn serve<
+    R: AllocGlobal
+        + Clock
+        + Files
+        + Input
+        + Net<Listener = TcpListener, Stream = TcpStream>
+        + Print
+        + RandomSource
+        + Sync
+        + Threads
+        + Wait,
+    E: Write + Send,
+>(
+    rt: &R,
+    files: &HostRuntime,
+    options: LibraryOptions,
+    serving: ServeOptions,
+    audit: Audit,
+    errors: &mut E,
+) -> Result<(), SocketFault>
+    requires library { MakesServed options serving.media }
+    requires some { IsServeOptions serving }
+{
+    let ServeOptions {
+        socket,
+        iscsi,
+        media,
+        memory,
+        until,
+        drain,
+        times,
+        log,
+    } = serving;
+    let made = target_of(rt, iscsi)?;
+    let service = ServiceOptions {
+        until,
+        times,
+        terms: terms_of(&made, until),
+        records: RecordOutput::new(drain, audit),
+        telling: telling_of(log),
+    };
+    let memory = memory_limit(rt.alloc(), memory)?;
+    match media {
+        Some(media) => {
+            let size = options.volume_size;
+            let kept = saved_library(rt.alloc(), files, media, size, &memory, errors)?;
+            let SavedLibrary { core, keeper } = kept;
+            serve_at(rt, core, &keeper, socket, &made, service, errors)
+        }
+        None => {
+            let core = library_within(rt.alloc(), &options, &memory)?;
+            serve_at(rt, core, &NoKeeper, socket, &made, service, errors)
+        }
+    }
+}
+
+/// The limit on the memory of all volumes, where there is one.
+fn memory_limit(alloc: Global, memory: Option<u64>) -> Result<MemoryLimit, AllocError> {
+    match memory {
+        Some(most) => MemoryLimit::new(alloc, most),
+        None => Ok(MemoryLimit::none()),
+    }
+}
+
+/// How a library is served wherever that is.
+#[derive(Clone, Copy)]
+struct ServiceOptions {
+    until: ServeUntil,
+    times: ServeTimes,
+    /// On which initiators of iSCSI are let in, where they may come.
+    terms: Option<LoginTerms>,
+    records: RecordOutput,
+    telling: Telling,
+}
+
+/// On which terms initiators are let in at the portals of a target, if it has some.
+fn terms_of(made: &PortalTarget, until: ServeUntil) -> Option<LoginTerms> {
+    if made.portals.is_empty() {
+        return None;
+    }
+    Some(LoginTerms {
+        most_sessions: until.workers(),
+        paths: made.paths,
+        most_strangers: made.most_strangers,
+    })
+}
+
+/// Serves a library at a socket, at portals or at both, and tells before where they are.
+fn serve_at<
+    R: AllocGlobal
+        + Clock
+        + Files
+        + Input
+        + Net<Listener = TcpListener, Stream = TcpStream>
+        + Print
+        + RandomSource
+        + Sync
+        + Threads
+        + Wait,
+    E: Write + Send,
+    K: TapeKeeper<Device> + Sync,
+>(
+    rt: &R,
+    core: TargetCore<Device>,
+    keeper: &K,
+    socket: Option<String>,
+    made: &PortalTarget,
+    service: ServiceOptions,
+    errors: &mut E,
+) -> Result<(), SocketFault>
+    requires some { 1 ≤ workers_of service.until }
+    requires some_places { 0 < vec_len made.now.portals + count_of socket }
+    requires few_places { vec_len made.now.portals + count_of socket ≤ 5 }
+{
+    let places = open_places(rt, &made.portals, &made.target, socket, errors)?;
+    let units = core.all().len();
+    let served = match tell_places(rt.alloc(), &places, units, service.until, errors) {
+        Ok(()) => {
+            let teller = Teller::new(service.telling, errors);
+            serve_until(rt, core, keeper, &places, service, &teller).map_err(SocketFault::from)
+        }
+        Err(error) => Err(SocketFault::from(error)),
+    };
+    // What the sessions came to is told in any case.
+    places.leave(rt);
+    served
+}
+
+/// What is told of sessions.
+fn telling_of(log: bool) -> Telling
+    ensures { result ≡ telling_of log }
+{
+    if log {
+        Telling::Everything
+    } else {
+        Telling::Faults
+    }
+}
+
+/// Tells where so many units are served.
+fn tell_places<E: Write>(
+    alloc: Global,
+    places: &Places<'_>,
+    units: usize,
+    until: ServeUntil,
+    errors: &mut E,
+) -> Result<(), AllocError> {
+    let text = places.text(alloc)?;
+    let serving = Notice::Serving {
+        places: text.as_str(),
+        count: places.doors.len(),
+        units,
+        workers: until.workers(),
+    };
+    tell(errors, &serving);
+    Ok(())
+}
+
+/// Serves a target for a term, in a second thread: this one waits for the end of standard input, where that ends the term.
+fn serve_until<
+    R: AllocGlobal
+        + Clock
+        + Files
+        + Input
+        + PollSource
+        + Print
+        + RandomSource
+        + Sync
+        + Threads
+        + Wait,
+    E: Write + Send,
+    K: TapeKeeper<Device> + Sync,
+>(
+    rt: &R,
+    core: TargetCore<Device>,
+    keeper: &K,
+    places: &Places<'_>,
+    service: ServiceOptions,
+    teller: &Teller<E>,
+) -> Result<(), ServerFault>
+    requires some { 1 ≤ workers_of service.until }
+    requires doors { (0 < vec_len places.now.doors) × (vec_len places.now.doors ≤ 5) }
+{
+    let ServiceOptions {
+        until,
+        times,
+        terms,
+        records,
+        telling: _,
+    } = service;
+    let sessions = LiveSessions::new(rt.alloc(), terms);
+    let (served, ()) = thread::join(
+        rt,
+        || -> Result<(), ServerFault>
+            requires some { 1 ≤ workers_of until }
+            requires doors { (0 < vec_len places.now.doors) × (vec_len places.now.doors ≤ 5) }
+        {
+            let mut writer = io::writer(rt);
+            let limits = limits_of(until, times, &sessions);
+            let means = ServiceMeans {
+                rt,
+                alloc: rt.alloc(),
+                records,
+                keeper,
+                teller,
+            };
+            serve_library(&means, core, &places.doors, limits, &mut writer)
+        },
+        || match until {
+            ServeUntil::Sessions(_) => {}
+            ServeUntil::InputEnds(_) => {
+                await_end_of_input(rt);
+                sessions.close(rt, times.grace);
+                places.shut_down();
+                sessions.end_after(rt, times.grace);
+            }
+        },
+    );
+    served
+}
+
+/// Who is served for a term, and how long hosts are waited for.
+fn limits_of(until: ServeUntil, times: ServeTimes, sessions: &LiveSessions) -> ServeLimits<'_>
+    ensures workers { result.workers ≡ workers_of until }
+    ensures term { result.term ≡ term_of until }
+{
+    ServeLimits {
+        workers: until.workers(),
+        spare: sessions.spare_workers(),
+        term: term_of(until),
+        times: WaitTimes {
+            login: times.login,
+            idle: times.idle,
+            write: times.write,
+            ping: times.ping,
+        },
+        sessions,
+    }
+}
+
+/// How many sessions a term has.
+fn term_of(until: ServeUntil) -> ServeTerm
+    ensures { result ≡ term_of until }
+{
+    match until {
+        ServeUntil::Sessions(count) => ServeTerm::Sessions(u64::from(count)),
+        ServeUntil::InputEnds(_) => ServeTerm::UntilClosed,
+    }
+}
+
+/// Waits until standard input ends or can't be read.
+fn await_end_of_input<R: Input>(rt: &R) {
+    let mut reader = rt.reader();
+    let mut buffer = [0u8; 512];
+    for _turn in 0..MAX_READS {
+        match reader.read(&mut buffer) {
+            Ok(0) | Err(_) => return,
+            Ok(_) => {}
+        }
+    }
+}

@@ -1,0 +1,363 @@
+//! Who keeps the tapes of a library.
+
+use crate::copying::{Copying, Purpose, fault_of_store};
+use crate::item::KeptItem;
+use crate::listing::Listing;
+use crate::requests::{KEPT, LOST, Task};
+use crate::shared_requests::SharedRequests;
+use crate::store::InventoryStore;
+use crate::volume_image::VolumeImage;
+use crate::watch::{Extent, Watch};
+use crate::wish::{Wish, wish_of};
+use library_inventory::{AddFault, LibrarySize};
+use library_start::Device;
+use std::alloc::{AllocError, Global};
+use std::sync::{Mutex, Wait};
+use std::time::{Clock, Instant};
+use tape_flush::ImageStore;
+use tape_keeper::{
+    GoodCommand, KeepChange, KeepEvent, KeepFault, KeepListener, KeepPlace, SavedThing, TapeKeeper,
+    TapeSource,
+};
+use tape_medium::VolumeTag;
+use tickets::{Outcome, Ticket};
+
+/// Keeps the tapes of a library, each in its image, and the inventory of where they lie.
+#[derive(Drop)]
+pub struct MediaKeeper<S: ImageStore + Drop, N: InventoryStore + Drop> {
+    size: LibrarySize,
+    images: Vec<VolumeImage<S>>,
+    inventory: Mutex<N>,
+    inventory_watch: Watch,
+    requests: SharedRequests,
+}
+
+impl<S: ImageStore + Drop, N: InventoryStore + Drop> MediaKeeper<S, N> {
+    /// Of a library with the volumes of these images. Asking it to keep something needs no memory later.
+    pub fn new(
+        alloc: Global,
+        size: LibrarySize,
+        images: Vec<VolumeImage<S>>,
+        store: N,
+    ) -> Result<MediaKeeper<S, N>, AllocError> {
+        let requests = SharedRequests::new(alloc, images.len())?;
+        Ok(MediaKeeper {
+            size,
+            images,
+            inventory: Mutex::new(store),
+            inventory_watch: Watch::new(),
+            requests,
+        })
+    }
+
+    /// Who copies volumes for a purpose.
+    fn copying<'a, R: Wait, T: TapeSource<Device>, H: KeepListener>(
+        &'a self,
+        rt: &'a R,
+        alloc: Global,
+        source: &'a T,
+        listener: &'a H,
+        purpose: Purpose,
+    ) -> Copying<'a, S, R, T, H> {
+        Copying {
+            rt,
+            alloc,
+            images: &self.images,
+            requests: &self.requests,
+            source,
+            listener,
+            purpose,
+        }
+    }
+
+    /// The place of a volume's image among all. Where there is none, that is told.
+    fn image_of<H: KeepListener>(&self, listener: &H, tag: VolumeTag) -> Option<u32> {
+        let image = self.images.iter().position(|image| image.tag == tag);
+        if image.is_none() {
+            listener.tell(&KeepEvent {
+                thing: SavedThing::Volume(tag),
+                change: KeepChange::Fails(KeepFault::NoImage),
+            });
+        }
+        u32::try_from(image?).ok()
+    }
+
+    /// Asks that the volume be kept that a command was carried out on, if there is one and it can have changed.
+    fn begin_volume<R: Wait, H: KeepListener>(
+        &self,
+        rt: &R,
+        listener: &H,
+        command: GoodCommand,
+    ) -> Ticket {
+        let Some(tag) = command.volume else {
+            return KEPT;
+        };
+        let Some(image) = self.image_of(listener, tag) else {
+            return LOST;
+        };
+        if self.is_protected(image) {
+            return KEPT;
+        }
+        let place = place_at(command.lun);
+        self.requests.ask(rt, KeptItem::Tape(image), place)
+    }
+
+    /// Whether a volume is as its image is, which can't be written.
+    fn is_protected(&self, image: u32) -> bool {
+        self.images
+            .get(image as usize)
+            .is_some_and(|image| image.is_protected)
+    }
+
+    /// Asks that the volume be kept that a MOVE MEDIUM moved, and no other, and where the volumes lie.
+    fn begin_move<R: Wait, H: KeepListener>(
+        &self,
+        rt: &R,
+        listener: &H,
+        command: GoodCommand,
+    ) -> Ticket {
+        let Some(tag) = command.volume else {
+            return self
+                .requests
+                .ask(rt, KeptItem::Inventory, KeepPlace::Changer);
+        };
+        match self.image_of(listener, tag) {
+            Some(image) => self
+                .requests
+                .ask(rt, KeptItem::Moved(image), KeepPlace::Changer),
+            None => {
+                // Where the volumes lie is written all the same, and nobody waits for it.
+                let _ = self
+                    .requests
+                    .ask(rt, KeptItem::Inventory, KeepPlace::Changer);
+                LOST
+            }
+        }
+    }
+
+    /// Keeps what is to be kept next at a place, and settles it. Whether there was something.
+    fn keep_next<R: Wait, T: TapeSource<Device>, H: KeepListener>(
+        &self,
+        rt: &R,
+        alloc: Global,
+        source: &T,
+        listener: &H,
+        place: KeepPlace,
+    ) -> bool {
+        let Some(task) = self.requests.next(rt, place) else {
+            return false;
+        };
+        let outcome = if self.is_kept(rt, alloc, source, listener, task) {
+            Outcome::Kept
+        } else {
+            Outcome::Lost
+        };
+        self.requests.settle(rt, task, outcome);
+        listener.settled();
+        true
+    }
+
+    /// Keeps what a task is for, a volume wherever it is by now. Whether it is kept.
+    fn is_kept<R: Wait, T: TapeSource<Device>, H: KeepListener>(
+        &self,
+        rt: &R,
+        alloc: Global,
+        source: &T,
+        listener: &H,
+        task: Task,
+    ) -> bool {
+        let copying = self.copying(rt, alloc, source, listener, Purpose::Answer);
+        match task.item {
+            KeptItem::Tape(image) => {
+                let Some(image) = self.images.get(image as usize) else {
+                    return false;
+                };
+                match task.place {
+                    KeepPlace::Drive(lun) => copying.copy_from_drive(lun, image.tag),
+                    KeepPlace::Changer | KeepPlace::Upkeep => {
+                        copying.copy_from_anywhere(image.tag)
+                    }
+                }
+            }
+            KeptItem::Moved(image) => {
+                let is_copied = match self.images.get(image as usize) {
+                    Some(image) => copying.copy_from_anywhere(image.tag),
+                    None => false,
+                };
+                self.keep_inventory(rt, alloc, source, listener) && is_copied
+            }
+            KeptItem::Inventory => self.keep_inventory(rt, alloc, source, listener),
+            // Nobody queues it: what is behind is copied by itself.
+            KeptItem::Backlog(_) => true,
+        }
+    }
+
+    /// Writes where the volumes lie. One thread at a time does, from what it reads of the changer then, so that the last that is
+    /// written is the last that was so.
+    fn keep_inventory<R: Wait, T: TapeSource<Device>, H: KeepListener>(
+        &self,
+        rt: &R,
+        alloc: Global,
+        source: &T,
+        listener: &H,
+    ) -> bool {
+        let mut store = self.inventory.lock(rt);
+        let mut listing = Listing::new(alloc, self.size);
+        source.attend(rt, 0, &mut listing);
+        let written = match listing.fault {
+            Some(AddFault::NoMemory) => Err(KeepFault::NoMemory),
+            Some(_) => Err(KeepFault::Failed),
+            None => store.write(&listing.inventory).map_err(fault_of_store),
+        };
+        if let Some(change) = self.inventory_watch.note(written.map(|()| Extent::All)) {
+            listener.tell(&KeepEvent {
+                thing: SavedThing::Inventory,
+                change,
+            });
+        }
+        written.is_ok()
+    }
+
+    /// Tells which volumes aren't whole on the disk, and whether all are.
+    fn tell_lost<H: KeepListener>(&self, listener: &H) -> bool {
+        let mut is_whole = true;
+        for image in &self.images {
+            if image.watch.is_failing() {
+                is_whole = false;
+                listener.tell(&KeepEvent {
+                    thing: SavedThing::Volume(image.tag),
+                    change: KeepChange::Lost,
+                });
+            }
+        }
+        is_whole
+    }
+
+    /// Copies what is behind at the drives that a thread at a place looks after.
+    fn copy_behind<R: Wait, T: TapeSource<Device>, H: KeepListener>(
+        &self,
+        rt: &R,
+        alloc: Global,
+        source: &T,
+        listener: &H,
+        place: KeepPlace,
+    ) {
+        let copying = self.copying(rt, alloc, source, listener, Purpose::Behind);
+        for lun in 1..5u8 {
+            let behind = self.requests.behind(rt, lun);
+            if behind > 0 && self.requests.looks_after(rt, place, lun) {
+                copying.copy_drive(lun, behind);
+            }
+        }
+    }
+
+    /// Tries again to keep what couldn't be kept, and brings to the disk what has waited; but not too soon after the last time.
+    fn keep_up<R: Clock + Wait, T: TapeSource<Device>, H: KeepListener>(
+        &self,
+        rt: &R,
+        alloc: Global,
+        source: &T,
+        listener: &H,
+    ) {
+        if !self.requests.is_retry_due(rt) {
+            return;
+        }
+        let copying = self.copying(rt, alloc, source, listener, Purpose::Behind);
+        let now = Instant::now(rt).ok();
+        for image in &self.images {
+            if image.watch.is_failing() || image.has_waited(rt, now) {
+                // What still can't be kept is tried again the next time.
+                let _ = copying.copy_from_anywhere(image.tag);
+            }
+        }
+        if self.inventory_watch.is_failing() {
+            let _ = self.keep_inventory(rt, alloc, source, listener);
+        }
+    }
+}
+
+/// Where the volume in the drive with a LUN is kept. The changer's thread looks for what is in no drive.
+fn place_at(lun: u8) -> KeepPlace {
+    match lun {
+        1 | 2 | 3 | 4 => KeepPlace::Drive(lun),
+        _ => KeepPlace::Changer,
+    }
+}
+
+impl<S: ImageStore + Drop, N: InventoryStore + Drop> TapeKeeper<Device> for MediaKeeper<S, N> {
+    ghost use Rattle.std.specs.Prelude.{false};
+    ghost use Rattle.saved_media.specs.Wishes.{wish_of, is_waited_for};
+
+    ghost says_kept = { λ class. is_waited_for (wish_of class false) };
+
+    fn begin<R: Wait, H: KeepListener>(
+        &self,
+        rt: &R,
+        listener: &H,
+        command: GoodCommand,
+    ) -> Option<Ticket> {
+        match wish_of(command.class, command.is_immediate) {
+            Wish::Nothing => None,
+            Wish::Behind => self.requests.add(rt, command.lun, command.length as u64),
+            Wish::Volume => Some(self.begin_volume(rt, listener, command)),
+            Wish::VolumeBehind => {
+                let _ = self.begin_volume(rt, listener, command);
+                None
+            }
+            Wish::Move => Some(self.begin_move(rt, listener, command)),
+        }
+    }
+
+    fn outcome_of<R: Wait>(&self, rt: &R, ticket: Ticket) -> Option<Outcome> {
+        self.requests.outcome_of(rt, ticket)
+    }
+
+    fn await_outcome<R: Wait>(&self, rt: &R, ticket: Ticket) -> Outcome {
+        self.requests.await_outcome(rt, ticket)
+    }
+
+    fn await_turn<R: Clock + Wait>(&self, rt: &R, place: KeepPlace) -> bool {
+        self.requests.await_turn(rt, place)
+    }
+
+    fn work<R: Clock + Wait, T: TapeSource<Device>, H: KeepListener>(
+        &self,
+        rt: &R,
+        alloc: Global,
+        source: &T,
+        listener: &H,
+        place: KeepPlace,
+    ) {
+        for _task in rt.forever() {
+            if !self.keep_next(rt, alloc, source, listener, place) {
+                break;
+            }
+        }
+        self.copy_behind(rt, alloc, source, listener, place);
+        match place {
+            KeepPlace::Upkeep => self.keep_up(rt, alloc, source, listener),
+            KeepPlace::Changer | KeepPlace::Drive(_) => {}
+        }
+    }
+
+    fn end<R: Wait>(&self, rt: &R) {
+        self.requests.end(rt);
+    }
+
+    fn keep_all<R: Wait, T: TapeSource<Device>, H: KeepListener>(
+        &self,
+        rt: &R,
+        alloc: Global,
+        source: &T,
+        listener: &H,
+    ) -> bool {
+        let copying = self.copying(rt, alloc, source, listener, Purpose::End);
+        for image in &self.images {
+            // What isn't kept is told below.
+            let _ = copying.copy_from_anywhere(image.tag);
+        }
+        let is_noted = self.keep_inventory(rt, alloc, source, listener);
+        let is_whole = self.tell_lost(listener);
+        is_noted && is_whole
+    }
+}

@@ -1,0 +1,60 @@
+//! Where the volumes of a library lie, as its changer notes it.
+
+ghost use Rattle.std.specs.Prelude.{◌≡◌};
+ghost use Rattle.device_server.specs.Settled.{SameButSettled};
+
+use device_server::{Attendant, DeviceServer};
+use library_inventory::{AddFault, Element, Inventory, LibrarySize, PlacedVolume};
+use library_start::Device;
+use std::alloc::Global;
+use tape_medium::{FIRST_DATA_TRANSFER, FIRST_IMPORT_EXPORT, FIRST_STORAGE};
+
+/// Notes where the volumes of a changer lie, those in drives by their marks. Nothing of the changer changes.
+#[derive(Drop)]
+pub(crate) struct Listing {
+    pub alloc: Global,
+    pub inventory: Inventory,
+    /// The fault of a volume that couldn't be noted.
+    pub fault: Option<AddFault>,
+}
+
+impl Listing {
+    /// Nothing was noted yet.
+    pub fn new(alloc: Global, size: LibrarySize) -> Listing {
+        Listing {
+            alloc,
+            inventory: Inventory::new(alloc, size),
+            fault: None,
+        }
+    }
+
+    /// Notes the volume in an element, if there is one.
+    fn note(&mut self, device: &Device, address: u16, element: Element) {
+        let Some(tag) = device.held(address) else {
+            return;
+        };
+        if let Err(fault) = self.inventory.add(PlacedVolume { tag, element }) {
+            self.fault = Some(fault);
+        }
+    }
+}
+
+impl Attendant<Device> for Listing {
+    ghost looks_after = { λ _ _ before after _. after ≡ before };
+
+    fn attend(&mut self, _: u8, device: &mut Device) {
+        let size = self.inventory.size();
+        for number in 0..u16::from(size.drives) {
+            let address = FIRST_DATA_TRANSFER.saturating_add(number);
+            self.note(device, address, Element::DataTransfer(number));
+        }
+        for number in 0..u16::from(size.import_exports) {
+            let address = FIRST_IMPORT_EXPORT.saturating_add(number);
+            self.note(device, address, Element::ImportExport(number));
+        }
+        for number in 0..size.slots {
+            let address = FIRST_STORAGE.saturating_add(number);
+            self.note(device, address, Element::Storage(number));
+        }
+    }
+}

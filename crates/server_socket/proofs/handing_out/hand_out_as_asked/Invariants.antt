@@ -1,6 +1,0 @@
-use Rattle.server_socket.specs.Batches.{HandsOut, left_in}
-use Rattle.server_socket.proofs.handing_out.hand_out_as_asked.Given as goal
-
-abbrev pub invariant-turns : goal.invariant-turns
-invariant-turns g l =
-    HandsOut (g.W.Write.contents l.fn.writer) (g.W.Write.contents l.writer) (left_in l.fn.batch) (left_in l.batch)

@@ -1,5 +1,0 @@
-use Rattle.server_socket.proofs.Asking.{by_chap}
-use Rattle.server_socket.proofs.iscsi_target.authentication_of.Goals as goal
-
-pub returns-in_ok-secrets_at-in-Some : goal.returns-in_ok-secrets_at-in-Some
-returns-in_ok-secrets_at-in-Some g c = by_chap c.args.chap _ c.args.digests _ c.in-Some.is c.digests_of.ensures

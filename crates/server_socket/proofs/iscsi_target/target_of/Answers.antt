@@ -1,5 +1,0 @@
-use Rattle.server_socket.proofs.Asking.{asked}
-use Rattle.server_socket.proofs.iscsi_target.target_of.Goals as goal
-
-pub returns-clause-authentication : goal.returns-clause-authentication
-returns-clause-authentication g c = asked c.args.iscsi c.in-Some.options _ _ c.in-Some.is c.in_ok-target_named-2.ensures c.in_ok-authentication.ensures

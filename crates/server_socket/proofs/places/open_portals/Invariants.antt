@@ -1,6 +1,0 @@
-use Rattle.std.proofs.Common.{◌≡◌, vec_len}
-use Rattle.server_socket.proofs.places.open_portals.Given as goal
-
--- a door for each portal so far
-abbrev pub invariant-loop-portal : goal.invariant-loop-portal
-invariant-loop-portal g l = vec_len l.doors ≡ l.portal-index

@@ -1,6 +1,0 @@
-use Rattle.std.proofs.Common.{arith}
-use Rattle.std.proofs.lemmas.Grind.{common_steps}
-use Rattle.server_socket.proofs.server_fault.ServerFaultDisplay.fmt.Goals as goal
-
-pub returns-in_ok-write_str-in-Close-clause-writes : goal.returns-in_ok-write_str-in-Close-clause-writes
-returns-in_ok-write_str-in-Close-clause-writes g c = grind (arith, common_steps)

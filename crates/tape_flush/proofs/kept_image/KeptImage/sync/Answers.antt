@@ -1,5 +1,0 @@
-use Rattle.tape_flush.specs.Careful.{stays}
-use Rattle.tape_flush.proofs.kept_image.KeptImage.sync.Goals as goal
-
-pub returns-then-is_on_disk-clause-goes : goal.returns-then-is_on_disk-clause-goes
-returns-then-is_on_disk-clause-goes g c = stays _ _
