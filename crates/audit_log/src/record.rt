@@ -4,7 +4,8 @@ use permit_tables::{Cell, KeyRule};
 use scsi_nexus::Nexus;
 use scsi_sense::{Sense, Status};
 
-/// What was asked of a unit, and how it was judged and answered (profile).
+/// What was asked of a unit, and how it was judged and answered (profile). Records don't compare: the room of a list in a box has an address
+/// and a capacity, which its value doesn't have.
 #[derive(Drop)]
 pub struct Record {
     /// The record's number at its unit: one more than that of the record before.

@@ -130,7 +130,12 @@ fn given_library_of(command: &ArgMatches) -> GivenLibrary
     GivenLibrary {
         drives: said_number8(command, "drives", least.drives, most.drives),
         slots: said_number16(command, "slots", least.slots, most.slots),
-        import_exports: said_number8(command, "portals", least.import_exports, most.import_exports),
+        import_exports: said_number8(
+            command,
+            "portals",
+            least.import_exports,
+            most.import_exports,
+        ),
         volumes: said_number16(command, "volumes", least.volumes, most.volumes),
     }
 }

@@ -34,7 +34,8 @@ pub trait DeviceServer: Drop {
         ensures { result ≡ leaves_to_drives (shown self.now) request.now };
 
     /// Carries out a command of which no field is refused, with the data sent with it. Want of memory changes nothing. An allocation length
-    /// has cut the data. A MOVE MEDIUM takes no memory.
+    /// has cut the data. A MOVE MEDIUM takes no memory. A command that its kind doesn't have ends in 20h/00h, at a drive after NOT READY, and
+    /// changes nothing; a unit never sends one.
     fn perform(
         &mut self,
         alloc: Global,

@@ -43,7 +43,12 @@ impl Model for Elements {
 
 impl Elements {
     /// So many data transfer, storage and import/export elements, all empty.
-    pub fn new(alloc: Global, drives: u16, slots: u16, import_exports: u16) -> Result<Elements, AllocError>
+    pub fn new(
+        alloc: Global,
+        drives: u16,
+        slots: u16,
+        import_exports: u16,
+    ) -> Result<Elements, AllocError>
         requires some_drive { 1 ≤ drives }
         requires drives { drives ≤ drive_limit }
         requires some_slot { 1 ≤ slots }

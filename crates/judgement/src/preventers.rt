@@ -7,7 +7,8 @@ use unit_attention::SLOTS;
 pub(crate) const PREVENTERS: usize = SLOTS;
 
 /// The nexuses that prevent the removal of media, in the order in which they began to (SPC-4,
-/// "PREVENT ALLOW MEDIUM REMOVAL command"). It takes no memory.
+/// "PREVENT ALLOW MEDIUM REMOVAL command"). It takes no memory. A nexus that prevents removal has a slot and is here once, so there is
+/// always room.
 #[derive(Drop)]
 pub(crate) struct Preventers {
     nexuses: ArrayVec<Nexus, PREVENTERS>,

@@ -32,7 +32,7 @@ use std::sync::ledger::{Book, Share};
 
 /// The unit of a logical unit number, of which 0 is the changer's, with the book of its ledger, the numbers that seats have handed
 /// over, and the last record number that it had used when it was kept. The book's total is the count of the numbers that it has
-/// used since.
+/// used since. The book is lent to nobody: who had it could compare nothing, since totals and shares exist in proofs alone.
 #[derive(Drop)]
 pub struct Kept<const LUN: u8, L: UnitLedger, D: DeviceServer> {
     pub(crate) unit: LogicalUnit<D>,

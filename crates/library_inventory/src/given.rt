@@ -45,7 +45,9 @@ pub fn size_at_start(
         None => Ok(LibrarySize {
             drives: given.drives.unwrap_or(LibraryOptions::DEFAULT.drives),
             slots: given.slots.unwrap_or(LibraryOptions::DEFAULT.slots),
-            import_exports: given.import_exports.unwrap_or(LibraryOptions::DEFAULT.import_exports),
+            import_exports: given
+                .import_exports
+                .unwrap_or(LibraryOptions::DEFAULT.import_exports),
         }),
     }
 }

@@ -5,12 +5,12 @@ ghost use Rattle.tape_medium.specs.Limits.{capacity_limit};
 
 use crate::socket_fault::SocketFault;
 use command_line::MediaOptions;
-use saved_media::{InventoryStore, MediaKeeper, VolumeImage};
 use library_inventory::{Inventory, LibrarySize, PlacedVolume};
 use library_start::{Device, LibraryFault, StartedVolume, library_of_volumes};
 use media_folder::{
     FileStore, KeptVolume, LibraryFolder, OpenedFolder, open_folder, write_inventory_file,
 };
+use saved_media::{InventoryStore, MediaKeeper, VolumeImage};
 use std::alloc::{AllocError, Global};
 use std::io::Write;
 use tape_flush::StoreFault;

@@ -8,9 +8,9 @@ ghost use Rattle.library_server.specs.Places.{count_of};
 ghost use Rattle.library_server.specs.Serving.{telling_of, term_of};
 
 use crate::iscsi_target::{PortalTarget, target_of};
-use crate::saved_library::{SavedLibrary, saved_library};
 use crate::notice::{Notice, tell};
 use crate::places::{Places, open_places};
+use crate::saved_library::{SavedLibrary, saved_library};
 use crate::server_fault::ServerFault;
 use crate::serving::{ServiceMeans, serve_library};
 use crate::socket_fault::SocketFault;

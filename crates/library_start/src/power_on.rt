@@ -4,8 +4,8 @@ ghost use Rattle.logical_unit.specs.UnitView.{units_of};
 ghost use Rattle.library_start.specs.StockedDevices.{library_of};
 ghost use Rattle.program_options.specs.Options.{AreInRange};
 
-use crate::stock::stocked;
 use crate::device::Device;
+use crate::stock::stocked;
 use crate::unit::unit_at;
 use program_options::LibraryOptions;
 use std::alloc::{AllocError, Global};

@@ -7,12 +7,12 @@ ghost use Rattle.logical_unit.specs.UnitView.{units_of};
 ghost use Rattle.library_start.specs.Sizes.{IsMade};
 ghost use Rattle.library_start.specs.Starting.{IsLoaded, AreShelved, units_at, IsLibraryOf};
 
+use crate::device::Device;
+use crate::unit::unit_at;
 use changer_server::Changer;
 use device_server::DeviceServer;
 use element_map::Elements;
 use library_inventory::{Element, LibrarySize};
-use crate::device::Device;
-use crate::unit::unit_at;
 use logical_unit::LogicalUnit;
 use std::alloc::{AllocError, AllocFailed, Global};
 use std::marker::Model;

@@ -12,7 +12,7 @@ use unit_attention::Kind;
 #[derive(Clone, Copy)]
 pub enum ReservationAct<'a> {
     /// REGISTER or REGISTER AND IGNORE EXISTING KEY with the new key and the nexuses that it names;
-    /// 0 unregisters them.
+    /// 0 unregisters them. The list is lent, so an act's size doesn't go by the most nexuses that a REGISTER can name.
     Register(u64, &'a [Nexus]),
     /// RESERVE with the type.
     Reserve(ResType),

@@ -13,7 +13,7 @@ use std::alloc::{AllocError, Global};
 
 /// The data of READ FULL STATUS over ascending registrations, cut at the allocation length: a
 /// descriptor for each, with R_HOLDER for each under an all registrants type and else for the holder
-/// alone (SPC-4, "READ FULL STATUS service action").
+/// alone (SPC-4, "READ FULL STATUS service action"). It is cut here, so that for a host that asks for a few bytes few are made.
 pub fn write_full_status(
     alloc: Global,
     generation: u32,

@@ -8,7 +8,7 @@ use crate::watch::Extent;
 use library_start::Device;
 use std::alloc::Global;
 use std::sync::Wait;
-use tape_flush::{FlushFault, ImageStore, SavedImage, PartRange, StoreFault, TapePart};
+use tape_flush::{FlushFault, ImageStore, PartRange, SavedImage, StoreFault, TapePart};
 use tape_keeper::{KeepChange, KeepEvent, KeepFault, KeepListener, SavedThing, TapeSource};
 use tape_medium::{FIRST_STORAGE, VolumeTag};
 

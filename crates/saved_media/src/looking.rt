@@ -9,7 +9,7 @@ ghost use Rattle.saved_media.specs.Looking.{WasTaken, settled_by};
 use device_server::{Attendant, DeviceServer};
 use library_start::Device;
 use scsi_cdb::Kind;
-use tape_flush::{FlushFault, ImageStore, SavedImage, PartRange, TapePart};
+use tape_flush::{FlushFault, ImageStore, PartRange, SavedImage, TapePart};
 use tape_medium::{FIRST_IMPORT_EXPORT, FIRST_STORAGE, VolumeTag};
 
 /// The most import/export elements, and the most storage elements, that a changer has.

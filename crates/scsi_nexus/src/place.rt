@@ -7,7 +7,7 @@ use crate::nexus::Nexus;
 use std::cmp::Ordering;
 
 /// Where a nexus stands among entries that ascend by nexus, or where it would stand. The cost grows
-/// with the logarithm of their number.
+/// with the logarithm of their number. (The standard library's search goes on after it has found the nexus.)
 pub fn place_of<V>(entries: &[(Nexus, V)], nexus: Nexus) -> Result<usize, usize>
     requires { T (is_sorted nexus_cmp entries.now) }
     ensures { IsPlaceOf nexus entries.now result }

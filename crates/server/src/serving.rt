@@ -67,7 +67,14 @@ pub(crate) fn serve_connection<
         });
     };
     let mut writer = ReplyWriter { stream, flags };
-    match serve_session(alloc, service, acceptor, new_session, &mut reader, &mut writer) {
+    match serve_session(
+        alloc,
+        service,
+        acceptor,
+        new_session,
+        &mut reader,
+        &mut writer,
+    ) {
         Ok(end) => Ok(end),
         Err(cause) => Err(FaultySession {
             number: new_session.number,

@@ -9,7 +9,7 @@ use std::os::unix::net::UnixStream;
 use std::sync::Wait;
 use std::time::{Clock, Duration, Instant};
 
-/// How often one read may be cut short by a signal.
+/// How often one read may be cut short by a signal. It is tried again, and its time begins again.
 const MOST_SIGNALS: u32 = 1000;
 
 /// After how many milliseconds at most a session looks around that holds replies and isn't woken.

@@ -3,9 +3,9 @@ ghost use Rattle.frames.specs.Stream.{Reads, Waiting};
 ghost use Rattle.session.specs.declared.fault.SessionFault.TheVariants.{NoMemory};
 ghost use Rattle.session.specs.Splitting.{values_of_frames, stopped, answer, Fed, Given};
 
+use crate::fault::SessionFault;
 use crate::frame::{Frame, copy_of};
 use frames::{FrameFault, ParsedFrame, parse_frame};
-use crate::fault::SessionFault;
 use std::alloc::{AllocError, Global};
 use std::marker::Model;
 

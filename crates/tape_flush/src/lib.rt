@@ -4,7 +4,6 @@
 
 mod ends;
 mod fault;
-mod saved_image;
 mod known;
 mod laws;
 mod memory;
@@ -16,11 +15,11 @@ mod read_fault;
 mod reading;
 mod replacing;
 mod rows;
+mod saved_image;
 mod store;
 mod watched_file;
 
 pub use fault::{FlushFault, OpenFault};
-pub use saved_image::SavedImage;
 pub use known::{FileTail, Known};
 pub use laws::{
     held_images_are_read, images_follow_tapes, synced_objects_survive, what_is_known_is_so,
@@ -33,4 +32,5 @@ pub use part_range::PartRange;
 pub use read_fault::ReadTapeFault;
 pub use reading::{ReadTape, read_tape};
 pub use rows::{known_rows, store_rows, survival_rows, synced_rows, worked_rows};
+pub use saved_image::SavedImage;
 pub use store::{ImageStore, StoreFault};

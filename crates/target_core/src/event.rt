@@ -8,7 +8,7 @@ pub const MAX_CDB: usize = CDB_LENGTH;
 /// What happens at the target.
 #[derive(Drop)]
 pub enum Event {
-    /// A command of a nexus to a logical unit, with the data sent with it.
+    /// A command of a nexus to a logical unit, with the data sent with it. Its CDB is in the event itself, so it takes no memory.
     Command {
         nexus: Nexus,
         lun: u8,

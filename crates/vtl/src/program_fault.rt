@@ -1,8 +1,8 @@
 use crate::client_fault::ClientFault;
 use command_line::CommandLineFault;
+use library_server::SocketFault;
 use media_folder::CheckFault;
 use replay::ReplayFault;
-use library_server::SocketFault;
 use std::alloc::AllocError;
 use std::fmt;
 use thiserror::Error;

@@ -3,8 +3,8 @@
 
 use super::units::{BLOCK, BLOCK_AND_MARK, NoStore, Units, WRITE_HI, WRITE_MARK, image_in};
 use crate::comparing::{assert_list, assert_same};
-use saved_media::MediaKeeper;
 use library_inventory::LibrarySize;
+use saved_media::MediaKeeper;
 use scsi_cdb::Class;
 use std::alloc::Global;
 use std::process::Abort;

@@ -3,8 +3,8 @@
 use super::commands::{A, B, Ended, ended_by};
 use super::memory_disk::{MemoryDisk, SharedFile, SharedInventory};
 use super::units::{Units, image_in};
-use saved_media::MediaKeeper;
 use library_inventory::LibrarySize;
+use saved_media::MediaKeeper;
 use std::alloc::Global;
 use std::process::Abort;
 use std::sync::atomic::{AtomicU32, Ordering};

@@ -1,7 +1,7 @@
 //! A disk in memory: the files of two volumes, each of which may be full, or fail for good, and an inventory.
 
-use saved_media::InventoryStore;
 use library_inventory::Inventory;
+use saved_media::InventoryStore;
 use std::alloc::Global;
 use std::sync::atomic::{AtomicBool, AtomicU32, Ordering};
 use std::sync::{Mutex, Wait};

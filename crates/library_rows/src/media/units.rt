@@ -4,9 +4,9 @@ ghost use Rattle.device_server.specs.Attending.{WasAsked};
 ghost use Rattle.device_server.specs.Settled.{SameButSettled};
 
 use device_server::{Attendant, DeviceServer, field_fault};
-use saved_media::{InventoryStore, VolumeImage};
 use library_inventory::Inventory;
 use library_start::Device;
+use saved_media::{InventoryStore, VolumeImage};
 use scsi_cdb::Request;
 use std::alloc::Global;
 use std::process::Abort;
