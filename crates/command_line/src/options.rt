@@ -406,7 +406,8 @@ pub(crate) fn with_options<'a>(
 
 /// An option, as `clap` has it.
 fn argument_of<'a>(alloc: Global, row: &OptionRow) -> Result<Arg<'a>, AllocError> {
-    let argument = with_value(named_argument(alloc, row), row.value);
+    let argument = with_second_name(named_argument(alloc, row), row.name)?;
+    let argument = with_value(argument, row.value);
     let argument = with_presence(argument, row.presence);
     with_needs(with_exclusion(argument, row.excludes)?, row.needs)
 }
@@ -417,6 +418,14 @@ fn named_argument<'a>(alloc: Global, row: &OptionRow) -> Arg<'a> {
     match row.value {
         OptionValue::Operand(_) => argument,
         _ => argument.long(row.name),
+    }
+}
+
+/// An option that also goes by another name: import/export elements are called mail slots by most libraries.
+fn with_second_name<'a>(argument: Arg<'a>, name: &str) -> Result<Arg<'a>, AllocError> {
+    match name {
+        "portals" => argument.visible_alias("mail-slots"),
+        _ => Ok(argument),
     }
 }
 

@@ -5,7 +5,7 @@ ghost use Rattle.library_server.specs.declared.server_fault.ServerFault.TheVaria
 
 use crate::server_fault::ServerFault;
 use library_start::Device;
-use server::{Caretaker, KeepTeller, Teller};
+use server::{KeepTeller, TapeService, Teller};
 use std::alloc::Global;
 use std::io::Write;
 use std::sync::Wait;
@@ -20,7 +20,7 @@ pub(crate) struct SavedTapes<'a, K: TapeKeeper<Device>, T: TapeSource<Device>> {
     pub tapes: &'a T,
 }
 
-impl<'a, K: TapeKeeper<Device>, T: TapeSource<Device>> Caretaker for SavedTapes<'a, K, T> {
+impl<'a, K: TapeKeeper<Device>, T: TapeSource<Device>> TapeService for SavedTapes<'a, K, T> {
     ghost says_kept = { K.says_kept };
 
     fn begin<R: Wait, H: KeepListener>(

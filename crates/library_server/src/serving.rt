@@ -24,8 +24,8 @@ use library_start::Device;
 use lun_router::{Blanks, Library, Pass, Seat};
 use output_lines::RecordOutput;
 use server::{
-    Acceptor, Caretaker, Door, Event, FaultySession, PollSource, RecordDrain, ServeLimits, Teller,
-    serve_all, serve_and_end,
+    Acceptor, Door, Event, FaultySession, PollSource, RecordDrain, ServeLimits, TapeService,
+    Teller, serve_all, serve_and_end,
 };
 use session::{Directory, SeatService};
 use std::alloc::{AllocError, Global};
@@ -166,14 +166,14 @@ fn serve_seats<
     let directory = Mutex::new(Directory::new(alloc));
     let mut services = services_of(means.rt, alloc, library, &directory, taken)?;
     let tapes = LibraryTapes { library };
-    let caretaker = SavedTapes {
+    let tape_service = SavedTapes {
         keeper: means.keeper,
         tapes: &tapes,
     };
     let served = serve_services(
         means,
         &mut services,
-        &caretaker,
+        &tape_service,
         library,
         acceptor,
         batch,
@@ -186,7 +186,7 @@ fn serve_seats<
 /// Serves sessions with a worker at each service, and writes meanwhile what is wanted of the records that units hand out.
 fn serve_services<
     S: SeatService + Send,
-    C: Caretaker + Sync,
+    C: TapeService + Sync,
     D: RecordSource + Sync,
     R: Clock + PollSource + RandomSource + Threads + Wait + Sync,
     K: TapeKeeper<Device> + Sync,
@@ -195,7 +195,7 @@ fn serve_services<
 >(
     means: &ServiceMeans<'_, R, K, E>,
     services: &mut Vec<S>,
-    caretaker: &C,
+    tape_service: &C,
     units: &D,
     acceptor: &Acceptor<'_>,
     batch: &mut Batch,
@@ -207,10 +207,22 @@ fn serve_services<
     let (rt, alloc, teller) = (means.rt, means.alloc, means.teller);
     match means.records {
         RecordOutput::AtTheEnd(_) => serve_all(
-            rt, alloc, services, caretaker, acceptor, None, teller,
+            rt,
+            alloc,
+            services,
+            tape_service,
+            acceptor,
+            None,
+            teller,
         ),
         RecordOutput::AsTheyCome => serve_and_write(
-            means, services, caretaker, units, acceptor, batch, writer,
+            means,
+            services,
+            tape_service,
+            units,
+            acceptor,
+            batch,
+            writer,
         ),
     }
 }
@@ -218,7 +230,7 @@ fn serve_services<
 /// Serves sessions with a worker at each service, while a thread of its own hands their records out as they come.
 fn serve_and_write<
     S: SeatService + Send,
-    C: Caretaker + Sync,
+    C: TapeService + Sync,
     D: RecordSource + Sync,
     R: Clock + PollSource + RandomSource + Threads + Wait + Sync,
     K: TapeKeeper<Device> + Sync,
@@ -227,7 +239,7 @@ fn serve_and_write<
 >(
     means: &ServiceMeans<'_, R, K, E>,
     services: &mut Vec<S>,
-    caretaker: &C,
+    tape_service: &C,
     units: &D,
     acceptor: &Acceptor<'_>,
     batch: &mut Batch,
@@ -246,7 +258,7 @@ fn serve_and_write<
             rt,
             alloc_of_workers,
             services,
-            caretaker,
+            tape_service,
             acceptor,
             &drain,
             teller,

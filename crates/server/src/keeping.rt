@@ -2,8 +2,8 @@
 
 ghost use Rattle.std.specs.Prelude.{◌≡◌, ◌+◌, IfOk, vec_len};
 
-use crate::caretaker::Caretaker;
 use crate::session_flags::SessionFlags;
+use crate::tape_service::TapeService;
 use crate::teller::Teller;
 use std::alloc::{AllocError, Global};
 use std::io::Write;
@@ -58,9 +58,9 @@ pub(crate) fn places_of(alloc: Global, drives: u8) -> Result<Vec<KeepPlace>, All
 }
 
 /// Has a thread work at each place, until the library ends.
-pub(crate) fn work_at_all<C: Caretaker + Sync, R: Clock + Threads + Wait + Sync, E: Write + Send>(
+pub(crate) fn work_at_all<C: TapeService + Sync, R: Clock + Threads + Wait + Sync, E: Write + Send>(
     alloc: Global,
-    caretaker: &C,
+    tape_service: &C,
     listener: &KeepTeller<'_, R, E>,
     places: &mut [KeepPlace],
 ) {
@@ -70,6 +70,6 @@ pub(crate) fn work_at_all<C: Caretaker + Sync, R: Clock + Threads + Wait + Sync,
         rt,
         places,
         count.max(1),
-        &|_place: usize, place: &mut KeepPlace| caretaker.work(rt, alloc, listener, *place),
+        &|_place: usize, place: &mut KeepPlace| tape_service.work(rt, alloc, listener, *place),
     );
 }

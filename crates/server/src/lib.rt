@@ -2,7 +2,6 @@
 #![tactic(auto)]
 
 mod acceptor;
-mod caretaker;
 mod door;
 mod event;
 mod faulty_session;
@@ -19,6 +18,7 @@ mod session_flags;
 mod sessions_beside;
 mod staff;
 mod staffing;
+mod tape_service;
 mod teller;
 mod timed_reader;
 mod waiting;
@@ -26,7 +26,6 @@ mod worker;
 mod worker_service;
 
 pub use acceptor::{Acceptor, ServeLimits, ServeTerm, WaitTimes};
-pub use caretaker::Caretaker;
 pub use door::Door;
 pub use event::{EndedSession, Event};
 pub use faulty_session::{Cause, FaultySession, InOrder, first_by};
@@ -35,5 +34,6 @@ pub use live_sessions::{LiveSessions, LoginTerms, Paths};
 pub use record_drain::RecordDrain;
 pub use rows::session_rows;
 pub use staffing::{serve_all, serve_and_end};
+pub use tape_service::TapeService;
 pub use teller::{Teller, Telling};
 pub use waiting::PollSource;

@@ -7,11 +7,11 @@ ghost use Rattle.server.specs.SeatService.{DoesForWorker};
 ghost use Rattle.server.specs.Sessions.{Leaves};
 
 use crate::acceptor::{Acceptor, WaitTimes};
-use crate::caretaker::Caretaker;
 use crate::door::{Door, PortalDoor};
 use crate::faulty_session::{Cause, FaultySession};
 use crate::reply_writer::ReplyWriter;
 use crate::sessions_beside::SessionsBeside;
+use crate::tape_service::TapeService;
 use crate::timed_reader::{Patience, TimedReader};
 use crate::waiting::PollSource;
 use crate::worker::NewSession;
@@ -35,7 +35,7 @@ const LOOK: u64 = 1;
 pub(crate) fn serve_connection<
     'a,
     S: SeatService,
-    C: Caretaker,
+    C: TapeService,
     R: Clock + PollSource + RandomSource + Wait,
     E: Write,
 >(
@@ -110,7 +110,7 @@ fn patience_at(door: &Door<'_>, times: WaitTimes) -> Patience {
 fn serve_session<
     'a,
     S: SeatService,
-    C: Caretaker,
+    C: TapeService,
     R: Clock + PollSource + RandomSource + Wait,
     E: Write,
     I: Read,
@@ -139,7 +139,7 @@ fn serve_session<
             let beside = SessionsBeside {
                 rt: service.rt,
                 sessions,
-                caretaker: service.caretaker,
+                tape_service: service.tape_service,
                 drain: service.drain,
                 flags: service.flags,
                 key: new_session.key,
@@ -163,7 +163,7 @@ fn serve_session<
 }
 
 /// Serves one session of frames.
-fn serve_frames<'a, S: SeatService, C: Caretaker, R: Wait, E: Write, I: Read, O: Write>(
+fn serve_frames<'a, S: SeatService, C: TapeService, R: Wait, E: Write, I: Read, O: Write>(
     alloc: Global,
     service: &mut WorkerService<'a, S, C, R, E>,
     reader: &mut I,
@@ -193,7 +193,7 @@ struct PortalPlace<'d> {
 /// Serves one session of iSCSI, at a portal whose address is the one that it has come to.
 fn serve_iscsi<
     S: KeepingService,
-    C: Caretaker,
+    C: TapeService,
     R: Clock + RandomSource + Wait,
     E: Write,
     I: Read,

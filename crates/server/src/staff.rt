@@ -3,10 +3,10 @@
 ghost use Rattle.std.specs.Prelude.{◌≡◌, ◌++◌, ◌+◌, ◌≤◌, None, length, map, IfOk, vec_capacity, vec_len};
 ghost use Rattle.server.specs.Faults.{first_among};
 
-use crate::caretaker::Caretaker;
 use crate::faulty_session::{FaultySession, first_accepted};
 use crate::record_drain::RecordDrain;
 use crate::session_flags::SessionFlags;
+use crate::tape_service::TapeService;
 use crate::teller::Teller;
 use crate::worker::Worker;
 use crate::worker_service::{Replies, SessionSoFar, WorkerService};
@@ -29,9 +29,9 @@ pub(crate) fn flags_of(alloc: Global, count: usize) -> Result<Vec<SessionFlags>,
 
 /// What all workers of a library work with.
 #[derive(Drop)]
-pub(crate) struct WorkerMeans<'a, C: Caretaker, R: Wait, E: Write> {
+pub(crate) struct WorkerMeans<'a, C: TapeService, R: Wait, E: Write> {
     pub rt: &'a R,
-    pub caretaker: &'a C,
+    pub tape_service: &'a C,
     pub resets: &'a ResetCounts,
     pub drain: Option<&'a RecordDrain>,
     pub teller: &'a Teller<E>,
@@ -40,7 +40,7 @@ pub(crate) struct WorkerMeans<'a, C: Caretaker, R: Wait, E: Write> {
 }
 
 /// A worker who has served nobody.
-fn worker_for<'a, S: SeatService, C: Caretaker, R: Wait, E: Write>(
+fn worker_for<'a, S: SeatService, C: TapeService, R: Wait, E: Write>(
     means: &WorkerMeans<'a, C, R, E>,
     seat_service: S,
     flags: &'a SessionFlags,
@@ -49,7 +49,7 @@ fn worker_for<'a, S: SeatService, C: Caretaker, R: Wait, E: Write>(
 {
     let service = WorkerService {
         seat_service,
-        caretaker: means.caretaker,
+        tape_service: means.tape_service,
         rt: means.rt,
         drain: means.drain,
         teller: means.teller,
@@ -65,7 +65,7 @@ fn worker_for<'a, S: SeatService, C: Caretaker, R: Wait, E: Write>(
 }
 
 /// Workers who serve by these, in their order, each with the flags at its place.
-pub(crate) fn workers_of<'a, S: SeatService, C: Caretaker, R: Wait, E: Write>(
+pub(crate) fn workers_of<'a, S: SeatService, C: TapeService, R: Wait, E: Write>(
     means: &WorkerMeans<'a, C, R, E>,
     alloc: Global,
     services: Vec<S>,
@@ -84,7 +84,7 @@ pub(crate) fn workers_of<'a, S: SeatService, C: Caretaker, R: Wait, E: Write>(
 
 /// Puts the services of workers behind those that are there, in their order, and answers the fault of the session that was accepted first
 /// of those that had one.
-pub(crate) fn give_back<'a, S: SeatService, C: Caretaker, R: Wait, E: Write>(
+pub(crate) fn give_back<'a, S: SeatService, C: TapeService, R: Wait, E: Write>(
     workers: Vec<Worker<'a, S, C, R, E>>,
     services: &mut Vec<S>,
 ) -> Option<FaultySession>

@@ -5,11 +5,11 @@ ghost use Rattle.std.specs.List.{AllZip};
 ghost use Rattle.server.specs.Sessions.{ComesBySessions};
 
 use crate::acceptor::Acceptor;
-use crate::caretaker::Caretaker;
 use crate::faulty_session::FaultySession;
 use crate::keeping::{KeepTeller, places_of, work_at_all};
 use crate::record_drain::RecordDrain;
 use crate::staff::{WorkerMeans, flags_of, give_back, workers_of};
+use crate::tape_service::TapeService;
 use crate::teller::Teller;
 use crate::waiting::PollSource;
 use crate::worker::Worker;
@@ -27,14 +27,14 @@ use tape_keeper::KeepPlace;
 pub fn serve_and_end<
     'x,
     S: SeatService + Send,
-    C: Caretaker + Sync,
+    C: TapeService + Sync,
     R: Clock + PollSource + RandomSource + Threads + Wait + Sync,
     E: Write + Send,
 >(
     rt: &'x R,
     alloc: Global,
     services: &mut Vec<S>,
-    caretaker: &'x C,
+    tape_service: &'x C,
     acceptor: &Acceptor<'_>,
     drain: &'x RecordDrain,
     teller: &'x Teller<E>,
@@ -45,7 +45,7 @@ pub fn serve_and_end<
         rt,
         alloc,
         services,
-        caretaker,
+        tape_service,
         acceptor,
         Some(drain),
         teller,
@@ -59,14 +59,14 @@ pub fn serve_and_end<
 pub fn serve_all<
     'x,
     S: SeatService + Send,
-    C: Caretaker + Sync,
+    C: TapeService + Sync,
     R: Clock + PollSource + RandomSource + Threads + Wait + Sync,
     E: Write + Send,
 >(
     rt: &'x R,
     alloc: Global,
     services: &mut Vec<S>,
-    caretaker: &'x C,
+    tape_service: &'x C,
     acceptor: &Acceptor<'_>,
     drain: Option<&'x RecordDrain>,
     teller: &'x Teller<E>,
@@ -74,10 +74,10 @@ pub fn serve_all<
     ensures { OnOk result (AllZip (ComesBySessions S.notes S.settles S.count) services.old.items services.new.items) }
 {
     let flags = flags_of(alloc, services.len())?;
-    let mut places = places_of(alloc, caretaker.drives())?;
+    let mut places = places_of(alloc, tape_service.drives())?;
     let means = WorkerMeans {
         rt,
-        caretaker,
+        tape_service,
         resets: acceptor.limits.sessions.resets(),
         drain,
         teller,
@@ -90,7 +90,7 @@ pub fn serve_all<
 fn serve_while_kept<
     'x,
     S: SeatService + Send,
-    C: Caretaker + Sync,
+    C: TapeService + Sync,
     R: Clock + PollSource + RandomSource + Threads + Wait + Sync,
     E: Write + Send,
 >(
@@ -108,11 +108,11 @@ fn serve_while_kept<
         teller: means.teller,
         sessions: means.sessions,
     };
-    let caretaker = means.caretaker;
+    let tape_service = means.tape_service;
     let alloc_of_workers = alloc;
     let ((), served) = thread::join_mut(
         means.rt,
-        &mut || work_at_all(alloc, caretaker, &listener, places),
+        &mut || work_at_all(alloc, tape_service, &listener, places),
         &mut || -> Result<Option<FaultySession>, AllocError>
             requires { length means.now.sessions.now ≡ vec_len services.now }
         { serve_and_stop(means, alloc_of_workers, services, acceptor) },
@@ -124,7 +124,7 @@ fn serve_while_kept<
 fn serve_and_stop<
     'x,
     S: SeatService + Send,
-    C: Caretaker + Sync,
+    C: TapeService + Sync,
     R: Clock + PollSource + RandomSource + Threads + Wait + Sync,
     E: Write + Send,
 >(
@@ -137,7 +137,7 @@ fn serve_and_stop<
     ensures { OnOk result (AllZip (ComesBySessions S.notes S.settles S.count) services.old.items services.new.items) }
 {
     let served = serve_sessions(means, alloc, services, acceptor);
-    means.caretaker.end(means.rt);
+    means.tape_service.end(means.rt);
     served
 }
 
@@ -146,7 +146,7 @@ fn serve_and_stop<
 fn serve_sessions<
     'x,
     S: SeatService + Send,
-    C: Caretaker + Sync,
+    C: TapeService + Sync,
     R: Clock + PollSource + RandomSource + Threads + Wait + Sync,
     E: Write + Send,
 >(
@@ -172,7 +172,7 @@ fn serve_sessions<
 fn work_all<
     'a,
     S: SeatService + Send,
-    C: Caretaker + Sync,
+    C: TapeService + Sync,
     R: Clock + PollSource + RandomSource + Threads + Wait + Sync,
     E: Write + Send,
 >(rt: &R, alloc: Global, workers: &mut [Worker<'a, S, C, R, E>], acceptor: &Acceptor<'_>)

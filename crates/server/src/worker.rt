@@ -2,13 +2,13 @@ ghost use Rattle.server.specs.SeatService.{DoesForWorker};
 ghost use Rattle.server.specs.Sessions.{ComesBySessions, Leaves};
 
 use crate::acceptor::{Acceptor, Connection};
-use crate::caretaker::Caretaker;
 use crate::door::{Door, NewConnection};
 use crate::event::{EndedSession, Event};
 use crate::faulty_session::{Cause, FaultySession, first_accepted};
 use crate::logged_in::shown_name;
 use crate::refused_login::RefusedLogin;
 use crate::serving::serve_connection;
+use crate::tape_service::TapeService;
 use crate::teller::Teller;
 use crate::waiting::PollSource;
 use crate::worker_service::{SessionSoFar, WorkerService};
@@ -23,7 +23,7 @@ use std::time::{Clock, Duration, Instant};
 
 /// A worker's service, and the fault of the session that was accepted first of those that it served.
 #[derive(Drop)]
-pub(crate) struct Worker<'a, S: SeatService, C: Caretaker, R: Wait, E: Write> {
+pub(crate) struct Worker<'a, S: SeatService, C: TapeService, R: Wait, E: Write> {
     pub service: WorkerService<'a, S, C, R, E>,
     pub fault: Option<FaultySession>,
 }
@@ -44,7 +44,7 @@ pub(crate) struct NewSession<'v, 'd> {
 impl<
     'a,
     S: SeatService,
-    C: Caretaker,
+    C: TapeService,
     R: Clock + PollSource + RandomSource + Wait,
     E: Write,
 > Worker<'a, S, C, R, E> {

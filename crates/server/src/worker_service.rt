@@ -1,10 +1,10 @@
 ghost use Rattle.server.specs.SeatService.{MaySettle};
 
-use crate::caretaker::Caretaker;
 use crate::event::Event;
 use crate::keeping::KeepTeller;
 use crate::record_drain::RecordDrain;
 use crate::session_flags::SessionFlags;
+use crate::tape_service::TapeService;
 use crate::teller::Teller;
 use iscsi_session::KeepingService;
 use live_sessions::ResetCounts;
@@ -112,9 +112,9 @@ impl SessionSoFar {
 /// What a worker serves its sessions by, one after another: a library's service, beside which it asks that records be handed out
 /// where a unit has many of them, settles its seat, has tapes kept, tells of commands that were BUSY, and counts resets.
 #[derive(Drop)]
-pub(crate) struct WorkerService<'a, S: SeatService, C: Caretaker, R: Wait, E: Write> {
+pub(crate) struct WorkerService<'a, S: SeatService, C: TapeService, R: Wait, E: Write> {
     pub seat_service: S,
-    pub caretaker: &'a C,
+    pub tape_service: &'a C,
     pub rt: &'a R,
     /// Where records are handed out, if they are.
     pub drain: Option<&'a RecordDrain>,
@@ -127,13 +127,14 @@ pub(crate) struct WorkerService<'a, S: SeatService, C: Caretaker, R: Wait, E: Wr
     pub session: SessionSoFar,
 }
 
-impl<'a, S: SeatService, C: Caretaker, R: Wait, E: Write> Model for WorkerService<'a, S, C, R, E> {
+impl<'a, S: SeatService, C: TapeService, R: Wait, E: Write> Model
+    for WorkerService<'a, S, C, R, E> {
     ghost Value = { S };
 
     ghost view = { λ p. p.seat_service };
 }
 
-impl<'a, S: SeatService, C: Caretaker, R: Wait, E: Write> WorkerService<'a, S, C, R, E> {
+impl<'a, S: SeatService, C: TapeService, R: Wait, E: Write> WorkerService<'a, S, C, R, E> {
     ghost use Rattle.std.specs.Prelude.{◌≡◌};
     ghost use Rattle.server.specs.Keeping.{KeepsWhereSaid};
 
@@ -175,7 +176,7 @@ impl<'a, S: SeatService, C: Caretaker, R: Wait, E: Write> WorkerService<'a, S, C
             teller: self.teller,
             sessions: self.sessions,
         };
-        self.caretaker.begin(self.rt, &listener, command)
+        self.tape_service.begin(self.rt, &listener, command)
     }
 
     /// Keeps what a command left that was GOOD, where its session waits for that. Where it is lost the session's replies are sent no more.
@@ -192,7 +193,7 @@ impl<'a, S: SeatService, C: Caretaker, R: Wait, E: Write> WorkerService<'a, S, C
 
     /// Waits until what a ticket is for is kept. Where it is lost the session's replies are sent no more.
     fn await_kept(&self, ticket: Ticket) {
-        match self.caretaker.await_outcome(self.rt, ticket) {
+        match self.tape_service.await_outcome(self.rt, ticket) {
             Outcome::Kept => {}
             Outcome::Lost => self.flags.lose(),
         }
@@ -278,7 +279,7 @@ impl<'a, S: SeatService, C: Caretaker, R: Wait, E: Write> WorkerService<'a, S, C
     }
 }
 
-impl<'a, S: SeatService, C: Caretaker, R: Wait, E: Write> Service
+impl<'a, S: SeatService, C: TapeService, R: Wait, E: Write> Service
     for WorkerService<'a, S, C, R, E> {
     ghost use Rattle.server.specs.SeatService.{DoesForWorker};
 
@@ -352,7 +353,7 @@ impl<'a, S: SeatService, C: Caretaker, R: Wait, E: Write> Service
     }
 }
 
-impl<'a, S: SeatService, C: Caretaker, R: Wait, E: Write> KeepingService
+impl<'a, S: SeatService, C: TapeService, R: Wait, E: Write> KeepingService
     for WorkerService<'a, S, C, R, E> {
     ghost use Rattle.server.specs.Keeping.{WaitsWhereKept};
 

@@ -4,8 +4,9 @@ use std::time::Clock;
 use tape_keeper::{GoodCommand, KeepListener, KeepPlace};
 use tickets::{Outcome, Ticket};
 
-/// Who looks after the tapes of the library whose sessions are served, whichever library and keeper of tapes that is.
-pub trait Caretaker {
+/// What the service of sessions asks of the keeper of a library's tapes, whichever library and keeper that is: so it names neither the library's
+/// devices nor its ledgers.
+pub trait TapeService {
     ghost use Rattle.std.specs.Prelude.{◌≡◌, Bool, true, false, is_some};
     ghost use Rattle.scsi_cdb.specs.declared.classes.Class.{Class};
 
