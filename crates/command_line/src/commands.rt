@@ -19,25 +19,25 @@ struct CommandRow {
 }
 
 const REPLAY_EXAMPLE: &str =
-    "Examples, of a library with two drives, with its records behind the replies, and of replies in words:
+    "Examples: a library with two drives, with its records after the replies; and replies in words:
   vtl replay --drives 2 --audit < examples/four_commands.script
   vtl replay --explain < examples/four_commands.script";
 
 const SERVE_EXAMPLE: &str =
-    "Examples, of a library for two hosts, and of one that is served until its standard input ends:
+    "Examples: a library for two connections, and one that is served until its standard input ends:
   vtl serve --socket /run/vtl/socket --sessions 2
   vtl serve --socket /run/vtl/socket --workers 16 --drain --log
-An example of a library for one host by iSCSI:
+Example: a library for one host over iSCSI:
   vtl serve --iscsi 127.0.0.1:3260 --host iqn.2026-11.example:a=500000000000000a --drain --log";
 
 const CLIENT_EXAMPLE: &str =
-    "Example, of a host that asks logical unit 0 whether it is ready, and reads the reply in words:
+    "Example: a host that asks logical unit 0 whether it is ready, with the reply in words:
   echo '0 000000000000' | vtl client --socket /run/vtl/socket --sas 500000000000000a --port 1 --explain";
 
-const CELLS_EXAMPLE: &str = "Example, of who may write under which type of reservation:
+const CELLS_EXAMPLE: &str = "Example: which host may write under which type of reservation:
   vtl cells 'WRITE(6)'";
 
-const MEDIA_EXAMPLE: &str = "Example, of what the images in a folder hold and where one has a fault:
+const MEDIA_EXAMPLE: &str = "Example: what the images in a folder hold, and where one has a fault:
   vtl media check /var/lib/vtl";
 
 const EXAMPLES: &str = "Examples:
@@ -49,19 +49,19 @@ const EXAMPLES: &str = "Examples:
 const COMMANDS: [CommandRow; 4] = [
     CommandRow {
         name: "replay",
-        about: "Runs the script of standard input and prints a line for each reply",
+        about: "Runs the script on standard input, and prints a line for each reply",
         examples: REPLAY_EXAMPLE,
         tables: &[&LIBRARY, &EXPLAIN, &AUDIT],
     },
     CommandRow {
         name: "serve",
-        about: "Serves the library behind a Unix socket or by iSCSI, and prints a line for each record",
+        about: "Serves the library at a Unix socket, over iSCSI or both, and prints a line for each record",
         examples: SERVE_EXAMPLE,
         tables: &[&LIBRARY, &MEDIA, &PLACE, &ISCSI, &RECORDS, &TIMES, &LOG],
     },
     CommandRow {
         name: "client",
-        about: "Sends the script of standard input to a served library as one host, and prints a line for each reply",
+        about: "Sends the script on standard input to a served library as one host, and prints a line for each reply",
         examples: CLIENT_EXAMPLE,
         tables: &[&CLIENT, &EXPLAIN],
     },
@@ -73,10 +73,10 @@ const COMMANDS: [CommandRow; 4] = [
     },
 ];
 
-/// What can be done with a library that is kept in a folder while it isn't served, or beside its server.
+/// What can be done with a library in a folder while it isn't served, or next to its server.
 const MEDIA_COMMANDS: [CommandRow; 1] = [CommandRow {
     name: "check",
-    about: "Prints for each volume of a library that is kept in a folder what its image holds, or what is wrong with it",
+    about: "Prints what the image of each volume in a library's folder holds, or what is wrong with it",
     examples: MEDIA_EXAMPLE,
     tables: &[&CHECK],
 }];
@@ -90,9 +90,9 @@ pub(crate) fn program<'a>(alloc: Global) -> Result<Command<'a>, AllocError> {
     program.subcommand(media_command(alloc)?)
 }
 
-/// The command whose commands look after folders in which libraries are kept.
+/// The command whose commands are about the folders of libraries.
 fn media_command<'a>(alloc: Global) -> Result<Command<'a>, AllocError> {
-    let about = "Looks after the folder in which a library is kept";
+    let about = "Checks the folder in which a library is saved";
     let mut command = command_named(alloc, "media", about, MEDIA_EXAMPLE).subcommand_required(true);
     for row in &MEDIA_COMMANDS {
         command = with_command(alloc, command, row)?;

@@ -5,7 +5,7 @@ use program_options::{LibraryOptions, ServeTimes};
 use scsi_nexus::TARGET_PORTS;
 use std::alloc::{AllocError, Global};
 
-/// What is given behind an option.
+/// What is given after an option.
 #[derive(Clone, Copy)]
 enum OptionValue {
     /// A text without the option's name, by what the help calls it.
@@ -57,7 +57,7 @@ pub(crate) const LIBRARY: [OptionRow; 5] = [
         presence: Presence::Default("1"),
         excludes: None,
         needs: None,
-        help: "How many drives there are, as logical units from 1 on",
+        help: "How many tape drives there are: logical units 1, 2 and so on",
     },
     OptionRow {
         name: "slots",
@@ -89,7 +89,7 @@ pub(crate) const LIBRARY: [OptionRow; 5] = [
         presence: Presence::Default("1"),
         excludes: None,
         needs: None,
-        help: "How many volumes lie in the first storage elements",
+        help: "How many volumes there are, in the first storage elements",
     },
     OptionRow {
         name: "volume-size",
@@ -97,11 +97,11 @@ pub(crate) const LIBRARY: [OptionRow; 5] = [
         presence: Presence::Default("16M"),
         excludes: None,
         needs: None,
-        help: "How many bytes of blocks a volume takes, from 1M to 64G: a number of bytes, or of KiB, MiB or GiB with K, M or G behind it",
+        help: "How many bytes of blocks a volume takes, from 1M to 64G: a number of bytes, or of KiB, MiB or GiB with K, M or G after it",
     },
 ];
 
-/// Where a library is kept, and in how much memory.
+/// Where a library is saved, and how much memory it takes.
 pub(crate) const MEDIA: [OptionRow; 3] = [
     OptionRow {
         name: "media",
@@ -109,8 +109,7 @@ pub(crate) const MEDIA: [OptionRow; 3] = [
         presence: Presence::Optional,
         excludes: None,
         needs: None,
-        help: "The folder in which the library is kept, with what its volumes hold and where they lie; \
-            without it nothing outlives the server",
+        help: "The folder in which the library is saved: its tapes, and where its volumes are; without it they end with the server",
     },
     OptionRow {
         name: "new-library",
@@ -118,7 +117,7 @@ pub(crate) const MEDIA: [OptionRow; 3] = [
         presence: Presence::Optional,
         excludes: None,
         needs: Some("media"),
-        help: "Makes a library in the folder if it has none, and the folder if it isn't there; without it such a folder is refused",
+        help: "Makes a library in the folder if it has none, and the folder if there is none; without this option such a folder is refused",
     },
     OptionRow {
         name: "memory",
@@ -126,8 +125,7 @@ pub(crate) const MEDIA: [OptionRow; 3] = [
         presence: Presence::Optional,
         excludes: None,
         needs: None,
-        help: "How many bytes of memory all volumes may take together, from 1M to 65536G, as 4G; \
-            a write for which none is left is answered as busy",
+        help: "How many bytes of memory all volumes together may take, from 1M to 65536G; a write that finds none left ends in BUSY",
     },
 ];
 
@@ -138,7 +136,7 @@ pub(crate) const EXPLAIN: [OptionRow; 1] = [OptionRow {
     presence: Presence::Optional,
     excludes: None,
     needs: None,
-    help: "Prints behind each reply a line that begins with # and says it in words",
+    help: "Prints a line in words after each reply; it begins with #",
 }];
 
 /// The records, of which one may be asked for.
@@ -149,7 +147,7 @@ pub(crate) const AUDIT: [OptionRow; 2] = [
         presence: Presence::Optional,
         excludes: None,
         needs: None,
-        help: "Prints a line for each record of each unit behind the replies, LUN 0 first",
+        help: "Prints a line for each record after the replies, LUN 0 first",
     },
     OptionRow {
         name: "spans",
@@ -157,7 +155,7 @@ pub(crate) const AUDIT: [OptionRow; 2] = [
         presence: Presence::Optional,
         excludes: Some("audit"),
         needs: None,
-        help: "The same, each with the reservation that stood before its record",
+        help: "The same, each line with the reservation that was held before its record",
     },
 ];
 
@@ -169,7 +167,7 @@ pub(crate) const CLIENT: [OptionRow; 3] = [
         presence: Presence::Required,
         excludes: None,
         needs: None,
-        help: "Where the socket's file of the served library is",
+        help: "The path of the served library's socket",
     },
     OptionRow {
         name: "sas",
@@ -185,7 +183,7 @@ pub(crate) const CLIENT: [OptionRow; 3] = [
         presence: Presence::Required,
         excludes: None,
         needs: None,
-        help: "The target port by which the host comes",
+        help: "The target port through which the host connects",
     },
 ];
 
@@ -199,14 +197,14 @@ pub(crate) const CELLS: [OptionRow; 1] = [OptionRow {
     help: "The one class of commands to print, by its name in the table",
 }];
 
-/// The folder that is looked over.
+/// The folder that is checked.
 pub(crate) const CHECK: [OptionRow; 1] = [OptionRow {
     name: "dir",
     value: OptionValue::Operand("DIR"),
     presence: Presence::Required,
     excludes: None,
     needs: None,
-    help: "The folder in which the library is kept",
+    help: "The folder of the library",
 }];
 
 /// Where a library is served, for how long, and to how many.
@@ -217,7 +215,7 @@ pub(crate) const PLACE: [OptionRow; 3] = [
         presence: Presence::Optional,
         excludes: None,
         needs: None,
-        help: "Where the socket's file is made",
+        help: "The path of the socket that the server makes",
     },
     OptionRow {
         name: "sessions",
@@ -225,7 +223,7 @@ pub(crate) const PLACE: [OptionRow; 3] = [
         presence: Presence::Optional,
         excludes: Some("iscsi"),
         needs: None,
-        help: "How many connections are accepted, each as a session; without it the library is served until standard input ends",
+        help: "Ends after this many connections; without it the library is served until standard input ends",
     },
     OptionRow {
         name: "workers",
@@ -233,11 +231,11 @@ pub(crate) const PLACE: [OptionRow; 3] = [
         presence: Presence::Optional,
         excludes: Some("sessions"),
         needs: None,
-        help: "How many sessions there may be at a time at each place until standard input ends, 64 where nothing is said",
+        help: "How many sessions may be in at a time, at the socket and at each portal; 64 by default",
     },
 ];
 
-/// Where initiators of iSCSI come in, who they may be, and what they must show of themselves.
+/// Where iSCSI initiators connect, which of them may log in, and what they must prove.
 pub(crate) const ISCSI: [OptionRow; 8] = [
     OptionRow {
         name: "iscsi",
@@ -245,8 +243,8 @@ pub(crate) const ISCSI: [OptionRow; 8] = [
         presence: Presence::Optional,
         excludes: None,
         needs: None,
-        help: "Where initiators of iSCSI come in, up to 4 times: the k-th is portal group k and target port k; behind it may stand =HOST:PORT, \
-            the address that initiators are told for it, as where a port is forwarded",
+        help: "Where iSCSI initiators connect, up to 4 times: the k-th is portal group k and target port k; =HOST:PORT after it is the address \
+            that initiators are told instead, if a port is forwarded, for example",
     },
     OptionRow {
         name: "target-name",
@@ -254,7 +252,7 @@ pub(crate) const ISCSI: [OptionRow; 8] = [
         presence: Presence::Optional,
         excludes: None,
         needs: Some("iscsi"),
-        help: "The target's iSCSI name, iqn.2026-11.localhost:vtl where nothing is said",
+        help: "The target's iSCSI name; iqn.2026-11.localhost:vtl by default",
     },
     OptionRow {
         name: "host",
@@ -262,7 +260,7 @@ pub(crate) const ISCSI: [OptionRow; 8] = [
         presence: Presence::Optional,
         excludes: None,
         needs: Some("iscsi"),
-        help: "Lets the initiator of this iSCSI name in, as the nexus of this SAS address, up to 64 times",
+        help: "Lets the initiator with this iSCSI name in, as the nexus of this SAS address; up to 64 times",
     },
     OptionRow {
         name: "any-host",
@@ -270,7 +268,7 @@ pub(crate) const ISCSI: [OptionRow; 8] = [
         presence: Presence::Optional,
         excludes: None,
         needs: Some("iscsi"),
-        help: "Lets every other initiator in too, as a SAS address that is made of its name",
+        help: "Lets every other initiator in too, as a SAS address that is made from its name",
     },
     OptionRow {
         name: "multipath",
@@ -278,7 +276,7 @@ pub(crate) const ISCSI: [OptionRow; 8] = [
         presence: Presence::Optional,
         excludes: None,
         needs: Some("iscsi"),
-        help: "Lets sessions of one iSCSI name come from different addresses, as those of a host with several network cards",
+        help: "Lets one iSCSI name in from different addresses, such as those of a host with several network cards",
     },
     OptionRow {
         name: "chap",
@@ -286,7 +284,7 @@ pub(crate) const ISCSI: [OptionRow; 8] = [
         presence: Presence::Optional,
         excludes: None,
         needs: Some("iscsi"),
-        help: "A file with a line NAME USER SECRET for each host, which has to show by CHAP that it has its secret",
+        help: "A file with a line NAME USER SECRET for each host; hosts then prove by CHAP that they have their secret",
     },
     OptionRow {
         name: "chap-digests",
@@ -294,7 +292,7 @@ pub(crate) const ISCSI: [OptionRow; 8] = [
         presence: Presence::Optional,
         excludes: None,
         needs: Some("chap"),
-        help: "By which digests a host may show it, sha256 or sha256,md5, which it is where nothing is said",
+        help: "Which digests hosts may use for that: sha256, or sha256,md5, which is the default",
     },
     OptionRow {
         name: "no-authentication",
@@ -302,7 +300,7 @@ pub(crate) const ISCSI: [OptionRow; 8] = [
         presence: Presence::Optional,
         excludes: Some("chap"),
         needs: Some("iscsi"),
-        help: "Lets initiators in by their names alone, whoever reaches a portal",
+        help: "Lets every machine that reaches a portal in by its name alone",
     },
 ];
 
@@ -314,7 +312,7 @@ pub(crate) const RECORDS: [OptionRow; 3] = [
         presence: Presence::Optional,
         excludes: None,
         needs: None,
-        help: "Prints with each line the reservation that stood before its record",
+        help: "Adds to each line the reservation that was held before its record",
     },
     OptionRow {
         name: "drain",
@@ -322,9 +320,8 @@ pub(crate) const RECORDS: [OptionRow; 3] = [
         presence: Presence::Optional,
         excludes: Some("spans"),
         needs: None,
-        help: "Prints the records after each session, and within one whenever a unit has 4,096 of them, and keeps them no longer; \
-            without it the server keeps all, some 255 bytes a command, so a long-lived server wants it; where a portal is served, and none of \
-            --keep-records, --spans and --sessions is said, it is so by itself",
+        help: "Prints records while it serves: after each session, and whenever a unit has 4,096 of them; without it all are kept to the \
+            end, some 255 bytes a command. With --iscsi this is the default, unless --keep-records, --spans or --sessions is given",
     },
     OptionRow {
         name: "keep-records",
@@ -332,7 +329,7 @@ pub(crate) const RECORDS: [OptionRow; 3] = [
         presence: Presence::Optional,
         excludes: Some("drain"),
         needs: None,
-        help: "Keeps the records to the end where a portal is served too",
+        help: "Keeps the records to the end with --iscsi too",
     },
 ];
 
@@ -344,7 +341,7 @@ pub(crate) const TIMES: [OptionRow; 5] = [
         presence: Presence::Default("10"),
         excludes: None,
         needs: None,
-        help: "How many seconds sessions go on once no more connections are accepted",
+        help: "How many seconds sessions go on after the server is told to end",
     },
     OptionRow {
         name: "login-timeout",
@@ -352,7 +349,7 @@ pub(crate) const TIMES: [OptionRow; 5] = [
         presence: Presence::Default("10"),
         excludes: None,
         needs: None,
-        help: "After how many seconds a connection is closed whose LOGIN hasn't come whole, 0 for never",
+        help: "Closes a connection that hasn't logged in after this many seconds; 0 for never",
     },
     OptionRow {
         name: "idle-timeout",
@@ -360,7 +357,7 @@ pub(crate) const TIMES: [OptionRow; 5] = [
         presence: Presence::Default("0"),
         excludes: None,
         needs: None,
-        help: "After how many seconds a session is ended from which nothing came, 0 for never",
+        help: "Ends a session from which nothing has come for this many seconds; 0 for never",
     },
     OptionRow {
         name: "write-timeout",
@@ -368,7 +365,7 @@ pub(crate) const TIMES: [OptionRow; 5] = [
         presence: Presence::Default("30"),
         excludes: None,
         needs: None,
-        help: "After how many seconds a reply that can't be written ends its session as a failed write, 0 for never",
+        help: "Ends a session that hasn't taken a reply after this many seconds; 0 for never",
     },
     OptionRow {
         name: "idle-ping",
@@ -376,19 +373,18 @@ pub(crate) const TIMES: [OptionRow; 5] = [
         presence: Presence::Default("30"),
         excludes: None,
         needs: None,
-        help: "After how many seconds an initiator of iSCSI from which nothing came is asked whether it is still there, 0 for never",
+        help: "Asks an iSCSI initiator from which nothing has come for this many seconds whether it is still there; 0 for never",
     },
 ];
 
-/// What is told of sessions.
+/// What is logged of sessions.
 pub(crate) const LOG: [OptionRow; 1] = [OptionRow {
     name: "log",
     value: OptionValue::Switch,
     presence: Presence::Optional,
     excludes: None,
     needs: None,
-    help: "Prints a line on standard error for each session that begins and ends, and for what a host was refused \
-            for want of memory or of a slot",
+    help: "Prints a line on standard error for each session that begins or ends, and for each command that ended in BUSY",
 }];
 
 /// A command with the options of a table, in its order.

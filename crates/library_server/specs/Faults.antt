@@ -19,10 +19,10 @@ socket_status (serve.Server fault) = host.exit_status fault
 
 -- no secret is told
 abbrev pub line_words : LineFault → List ℕ
-line_words FieldCount = codes "say NAME USER SECRET, or NAME USER SECRET TARGET-USER TARGET-SECRET"
-line_words Name = codes "NAME is no iSCSI name: say one as iqn.2026-11.example:a"
+line_words FieldCount = codes "give NAME USER SECRET, or NAME USER SECRET TARGET-USER TARGET-SECRET"
+line_words Name = codes "NAME is not an iSCSI name: give one such as iqn.2026-11.example:a"
 line_words SecretLength = codes "a secret has 12 to 128 bytes"
-line_words SameSecret = codes "the target has the secret of the host: say another"
+line_words SameSecret = codes "the target has the host's secret: give it another"
 line_words UserTwice = codes "the host has a line with this user already"
 
 -- the second line names the path; no clause says what is told of a folder
@@ -30,7 +30,7 @@ abbrev pub socket_text : SocketFault → Option (List ℕ)
 socket_text (serve.Listen fault) = Some (listen_text fault)
 socket_text (serve.CannotRead path) = Some (codes "vtl: device fault\nvtl: cannot read " ++ string_bytes path)
 socket_text (serve.OpenSecrets path) =
-    Some (codes "vtl: others than its owner may read or change " ++ (string_bytes path ++ (codes ": say chmod 600 " ++ string_bytes path)))
+    Some (codes "vtl: " ++ (string_bytes path ++ (codes " must be readable by its owner only (chmod 600 " ++ (string_bytes path ++ codes ")"))))
 socket_text (serve.BadSecrets path number what) =
     Some (codes "vtl: " ++ (string_bytes path ++ (codes ", line " ++ (decimal number ++ (codes ": " ++ line_words what)))))
 socket_text (serve.Folder fault) = None

@@ -11,7 +11,7 @@ abbrev pub at_each : ℕ → List ℕ
 at_each count = if count == 1 then codes "" else codes " at each"
 
 abbrev pub notice_text : Notice → List ℕ
-notice_text (TookAway path) = codes "vtl: took " ++ (path.now ++ codes " away: nobody listened there")
+notice_text (TookAway path) = codes "vtl: removed " ++ (path.now ++ codes ": nobody listened there")
 notice_text (Serving places count units workers) =
     codes "vtl: serving at " ++ (places.now ++ (codes ": " ++ (decimal units
     ++ (codes " units, " ++ (decimal workers ++ (codes " worker" ++ (plural workers ++ at_each count)))))))

@@ -38,7 +38,7 @@ impl<'a> fmt::Display for Notice<'a> {
 
     fn fmt<W: fmt::Write>(&self, f: &mut fmt::Formatter<W>) -> fmt::Result {
         match self {
-            Notice::TookAway(path) => write!(f, "vtl: took {path} away: nobody listened there"),
+            Notice::TookAway(path) => write!(f, "vtl: removed {path}: nobody listened there"),
             Notice::Serving {
                 places,
                 count,

@@ -64,7 +64,7 @@ impl fmt::Display for SocketFault {
             }
             SocketFault::OpenSecrets(path) => write!(
                 f,
-                "vtl: others than its owner may read or change {path}: say chmod 600 {path}"
+                "vtl: {path} must be readable by its owner only (chmod 600 {path})"
             ),
             SocketFault::BadSecrets(path, number, what) => {
                 let words = line_words(*what);
@@ -82,10 +82,10 @@ fn line_words(fault: LineFault) -> &'static str
 {
     match fault {
         LineFault::FieldCount =>
-            "say NAME USER SECRET, or NAME USER SECRET TARGET-USER TARGET-SECRET",
-        LineFault::Name => "NAME is no iSCSI name: say one as iqn.2026-11.example:a",
+            "give NAME USER SECRET, or NAME USER SECRET TARGET-USER TARGET-SECRET",
+        LineFault::Name => "NAME is not an iSCSI name: give one such as iqn.2026-11.example:a",
         LineFault::SecretLength => "a secret has 12 to 128 bytes",
-        LineFault::SameSecret => "the target has the secret of the host: say another",
+        LineFault::SameSecret => "the target has the host's secret: give it another",
         LineFault::UserTwice => "the host has a line with this user already",
     }
 }

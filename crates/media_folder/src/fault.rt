@@ -125,7 +125,7 @@ impl fmt::Display for FolderFault {
             FolderFault::Moved(path) => {
                 write!(
                     f,
-                    "vtl: device fault\nvtl: {path} leads no longer to the folder that was opened"
+                    "vtl: device fault\nvtl: {path} no longer leads to the folder that was opened"
                 )
             }
             FolderFault::NoLibrary(path) => write!(
@@ -155,7 +155,7 @@ fn write_size<W: fmt::Write>(f: &mut fmt::Formatter<W>, size: &LibrarySize) -> f
     } = *size;
     write!(
         f,
-        "vtl: no library has {drives} drives, {slots} slots and {import_exports} portals"
+        "vtl: no library has {drives} drives, {slots} slots and {import_exports} import/export elements"
     )
 }
 

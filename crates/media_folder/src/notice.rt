@@ -73,11 +73,14 @@ impl<'a> fmt::Display for Notice<'a> {
             Notice::NoTag { folder, name } => {
                 write!(
                     f,
-                    "vtl: {folder}/{name}: its name is no volume's: it is left"
+                    "vtl: {folder}/{name}: it is not named as a volume: it is left alone"
                 )
             }
             Notice::NoText { folder } => {
-                write!(f, "vtl: {folder}: a file whose name is no text is left")
+                write!(
+                    f,
+                    "vtl: {folder}: a file whose name is not text is left alone"
+                )
             }
             Notice::LeftOut { path, refusal } => {
                 write!(f, "vtl: {path}: {refusal}: the volume is left out")
@@ -85,7 +88,7 @@ impl<'a> fmt::Display for Notice<'a> {
             Notice::OpenToOthers { folder } => {
                 write!(
                     f,
-                    "vtl: {folder}: others than its owner may read or change it or files in it: say chmod -R go= {folder}"
+                    "vtl: {folder}: only its owner should be able to read or change it and its files (chmod -R go= {folder})"
                 )
             }
             Notice::CutTail { path, lost } => {
@@ -95,7 +98,7 @@ impl<'a> fmt::Display for Notice<'a> {
                 )
             }
             Notice::RecordIgnored { path, fault } => {
-                write!(f, "vtl: {path}: {fault}: all of the volume's file is read")
+                write!(f, "vtl: {path}: {fault}: the whole image is read")
             }
             Notice::TailMoved { path, count, tail } => {
                 write!(
@@ -106,14 +109,14 @@ impl<'a> fmt::Display for Notice<'a> {
             Notice::Protected { path } => {
                 write!(
                     f,
-                    "vtl: {path}: it can't be written: the volume is protected"
+                    "vtl: {path}: it can't be written, so the volume is write-protected"
                 )
             }
             Notice::Missing { path, element } => {
                 let (kind, number) = words_of(*element);
                 write!(
                     f,
-                    "vtl: {path}: it is missing: the volume lay in {kind} {number}"
+                    "vtl: {path}: it is missing: the volume was in {kind} {number}"
                 )
             }
         }
@@ -123,7 +126,7 @@ impl<'a> fmt::Display for Notice<'a> {
 impl fmt::Display for RecordFault {
     fn fmt<W: fmt::Write>(&self, f: &mut fmt::Formatter<W>) -> fmt::Result {
         match self {
-            RecordFault::NoRecord => f.write_str("it is no record of what is on the disk"),
+            RecordFault::NoRecord => f.write_str("it is not a record of what is on the disk"),
             RecordFault::AnotherFile => f.write_str("it is the record of another file"),
             RecordFault::Longer { recorded, length } => write!(
                 f,

@@ -9,22 +9,22 @@ use thiserror::Error;
 pub(crate) enum ImageRefusal {
     #[error("want of memory")]
     NoMemory,
-    #[error("it is no regular file")]
+    #[error("it is not a regular file")]
     NotRegular,
     /// Another volume, whose tag comes before, has the same file.
-    #[error("it is another volume's file too")]
+    #[error("it is also another volume's file")]
     Doubled,
     #[error("it can't be read")]
     CannotRead,
     /// By a fault at the offset `whole`, in bytes, behind so many objects.
-    #[error("{fault}, at offset {whole}, behind {objects} objects")]
+    #[error("{fault}, at offset {whole}, after {objects} objects")]
     Faulty {
         fault: ImageFault,
         objects: u64,
         whole: u64,
     },
     /// The object behind so many is more than a tape takes.
-    #[error("more than a volume holds, behind {objects} objects")]
+    #[error("more than a volume holds, after {objects} objects")]
     TooLarge {
         objects: u32,
     },

@@ -35,7 +35,7 @@ pub enum VolumeFault {
 pub enum ReadFault {
     #[error("want of memory")]
     NoMemory,
-    #[error("the text is no TOML")]
+    #[error("the text is not TOML")]
     NoToml,
     #[error("unknown version")]
     UnknownVersion(i64),

@@ -12,4 +12,4 @@ listen_status (IsTaken address) = 4
 abbrev pub listen_text : ListenFault → List ℕ
 listen_text (IsThere path) = codes "vtl: device fault\nvtl: cannot listen on " ++ string_bytes path ++ codes ": it is there already"
 listen_text (CannotListen path) = codes "vtl: device fault\nvtl: cannot listen on " ++ string_bytes path
-listen_text (IsTaken address) = codes "vtl: device fault\nvtl: cannot listen on " ++ string_bytes address ++ codes ": somebody listens there already"
+listen_text (IsTaken address) = codes "vtl: device fault\nvtl: cannot listen on " ++ string_bytes address ++ codes ": another program listens there already"

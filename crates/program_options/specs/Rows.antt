@@ -50,7 +50,7 @@ pub record LinesOfRefusals : Type 0 where
   pub not_text : command_line_text NotText ≡ Some (codes "vtl: arguments that are not text")
   pub more_volumes : command_line_text (Options MoreVolumes) ≡ Some (codes "vtl: more volumes than slots")
   pub bad_nexus : command_line_text (Options BadNexus) ≡ Some (codes "vtl: bad nexus")
-  pub nowhere : command_line_text (Options NoPlace) ≡ Some (codes "vtl: nowhere to serve: say --socket <PATH> or --iscsi <ADDRESS:PORT>")
+  pub nowhere : command_line_text (Options NoPlace) ≡ Some (codes "vtl: nowhere to serve: give --socket <PATH> or --iscsi <ADDRESS:PORT>")
   pub no_memory : command_line_text NoMemory ≡ Some (codes "vtl: want of memory")
 
 pub record SessionsServed : Type 0 where

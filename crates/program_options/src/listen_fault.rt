@@ -60,7 +60,7 @@ impl fmt::Display for ListenFault {
             }
             ListenFault::IsTaken(address) => write!(
                 f,
-                "vtl: device fault\nvtl: cannot listen on {address}: somebody listens there already"
+                "vtl: device fault\nvtl: cannot listen on {address}: another program listens there already"
             ),
         }
     }

@@ -53,50 +53,49 @@ impl OptionFault {
         match self {
             OptionFault::MoreVolumes => "vtl: more volumes than slots",
             OptionFault::BadVolumeSize => {
-                "vtl: no size of a volume: say a number of bytes from 1M to 64G, as 16M"
+                "vtl: not a volume size: give a number of bytes from 1M to 64G, such as 16M"
             }
             OptionFault::BadMemorySize => {
-                "vtl: no size of memory: say a number of bytes from 1M to 65536G, as 4G"
+                "vtl: not a memory size: give a number of bytes from 1M to 65536G, such as 4G"
             }
             OptionFault::BadNexus => "vtl: bad nexus",
             OptionFault::NoPlace => {
-                "vtl: nowhere to serve: say --socket <PATH> or --iscsi <ADDRESS:PORT>"
+                "vtl: nowhere to serve: give --socket <PATH> or --iscsi <ADDRESS:PORT>"
             }
-            OptionFault::ManyPortals => "vtl: more than 4 times --iscsi: there are 4 target ports",
+            OptionFault::ManyPortals =>
+                "vtl: --iscsi is given more than 4 times: there are 4 target ports",
             OptionFault::BadAddress => {
-                "vtl: no IP address with a port: say one as 127.0.0.1:3260 or [::1]:3260"
+                "vtl: not an IP address with a port: give one such as 127.0.0.1:3260 or [::1]:3260"
             }
             OptionFault::OpenAddress => {
-                "vtl: other machines reach this address: say --chap <FILE>, or --no-authentication if all of them may come in"
+                "vtl: other machines can reach this address: give --chap <FILE>, or --no-authentication if all of them may log in"
             }
             OptionFault::BadToldAddress => {
-                "vtl: no address to tell initiators behind =: say a host and a port, as tapes.example:3260 or [2001:db8::1]:3260"
+                "vtl: not an address for initiators after =: give a host and a port, such as tapes.example:3260 or [2001:db8::1]:3260"
             }
             OptionFault::NobodyLetIn => {
-                "vtl: --iscsi lets nobody in: say --host <NAME=SAS> for each host, or --any-host"
+                "vtl: --iscsi lets nobody in: give --host <NAME=SAS> for each host, or --any-host"
             }
             OptionFault::BadHost => {
-                "vtl: no host: say a name and a SAS address, as iqn.2026-11.example:a=500000000000000a"
+                "vtl: not a host: give a name and a SAS address, such as iqn.2026-11.example:a=500000000000000a"
             }
             OptionFault::BadSas => {
-                "vtl: no SAS address behind the name of a host: say its 16 hexadecimal digits"
+                "vtl: not a SAS address after the name of a host: give its 16 hexadecimal digits"
             }
             OptionFault::BadName => {
-                "vtl: no iSCSI name: say one in small letters, as iqn.2026-11.example:a"
+                "vtl: not an iSCSI name: give one in lower case, such as iqn.2026-11.example:a"
             }
             OptionFault::ManyHosts => {
-                "vtl: more than 64 times --host: say --any-host in place of some"
+                "vtl: --host is given more than 64 times: give --any-host instead of some"
             }
             OptionFault::NameTwice => {
-                "vtl: a name is let in twice: say it once, with one SAS address"
+                "vtl: a name is given twice: give it once, with one SAS address"
             }
-            OptionFault::SasTwice => {
-                "vtl: two names have one SAS address: say one of its own for each"
-            }
+            OptionFault::SasTwice => { "vtl: two names have one SAS address: give each its own" }
             OptionFault::NoSlotForOthers => {
                 "vtl: --any-host can let nobody else in: each --host takes a slot at each --iscsi, and there are 128"
             }
-            OptionFault::BadDigests => "vtl: no digests of CHAP: say sha256 or sha256,md5",
+            OptionFault::BadDigests => "vtl: not a list of CHAP digests: give sha256 or sha256,md5",
         }
     }
 }

@@ -51,7 +51,7 @@ event_text (event.TakesPlace number nexus ended) =
     codes "vtl: session " ++ (decimal number ++ (codes " of " ++ (nexus_text nexus ++ (codes ": takes the place of session " ++ decimal ended))))
 event_text (event.Awaits number nexus command) =
     codes "vtl: session " ++ (decimal number ++ (codes " of " ++ (nexus_text nexus ++ (codes ": command number "
-    ++ (decimal command ++ codes " has not come, and those behind it are passed over")))))
+    ++ (decimal command ++ codes " did not come, and those after it are ignored")))))
 event_text event.NotAccepted = codes "vtl: a connection could not be accepted"
 event_text (event.Busy nexus lun) =
     codes "vtl: BUSY for " ++ (nexus_text nexus ++ (codes " at logical unit " ++ (decimal lun ++ codes ": want of memory or of a record number")))

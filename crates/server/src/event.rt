@@ -125,7 +125,7 @@ impl fmt::Display for Event {
                 command,
             } => write!(
                 f,
-                "vtl: session {number} of {nexus}: command number {command} has not come, and those behind it are passed over"
+                "vtl: session {number} of {nexus}: command number {command} did not come, and those after it are ignored"
             ),
             Event::NotAccepted => { f.write_str("vtl: a connection could not be accepted") }
             Event::Busy(nexus, lun) => write!(

@@ -30,7 +30,7 @@ fn refusal_words(status: LoginStatus) -> &'static str
         LoginStatus::NotFound => "login refused: no such target",
         LoginStatus::UnsupportedVersion => "login refused: no such version",
         LoginStatus::TooManyConnections | LoginStatus::CannotIncludeInSession => {
-            "login refused: a second connection of a session"
+            "login refused: a session with a second connection"
         }
         LoginStatus::MissingParameter => "login refused: a key is missing",
         LoginStatus::SessionTypeNotSupported => "login refused: no such type of session",

@@ -10,7 +10,7 @@ pub enum ImageFault {
     #[error("block too long")]
     TooLong,
     /// The length behind a block isn't the one before it.
-    #[error("lengths before and behind a block differ")]
+    #[error("the lengths before and after a block differ")]
     UnequalLengths,
 }
 
