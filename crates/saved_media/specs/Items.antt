@@ -1,11 +1,15 @@
 -- The numbers of what a keeper is asked to keep, in a library of so many images (profile).
-use Rattle.std.specs.Prelude.{ℕ, ◌+◌, ◌*◌, ◌-◌, ◌/◌, ◌%◌, ◌==◌, ◌&&◌, nat_lt, nat_le, Option, Some, None, if◌then◌else◌}
+use Rattle.std.specs.Prelude.{ℕ, min, ◌+◌, ◌*◌, ◌-◌, ◌/◌, ◌%◌, ◌==◌, ◌&&◌, nat_lt, nat_le, Option, Some, None, if◌then◌else◌}
 use Rattle.saved_media.specs.declared.item.KeptItem.{KeptItem}
 use Rattle.saved_media.specs.declared.item.KeptItem.TheVariants.{Tape, Moved, Inventory, Backlog}
 
 -- so many images have items at most
 abbrev pub most_images : ℕ
 most_images = 1000000
+
+-- so many images of a library have items: the first ones
+abbrev pub numbered : (images : ℕ) → ℕ
+numbered images = min images most_images
 
 -- two of each image, one of the inventory, and one of each drive, by its LUN
 abbrev pub number_of : (images : ℕ) → KeptItem → Option ℕ

@@ -1,7 +1,7 @@
 //! What a keeper is asked to keep, and the numbers that tickets have for it.
 
 ghost use Rattle.std.specs.Prelude.{◌≡◌, ◌≤◌, ◌+◌, ◌*◌};
-ghost use Rattle.saved_media.specs.Items.{item_at, most_images, number_of};
+ghost use Rattle.saved_media.specs.Items.{item_at, most_images, number_of, numbered};
 
 /// So many images have items at most: more than the elements of a library.
 const MOST_IMAGES: u32 = 1_000_000;
@@ -28,7 +28,9 @@ pub(crate) struct ItemNumbers {
 
 impl ItemNumbers {
     /// Of a library with so many images; those behind `MOST_IMAGES` have no items.
-    pub fn new(images: usize) -> ItemNumbers {
+    pub fn new(images: usize) -> ItemNumbers
+        ensures { result.images ≡ numbered images }
+    {
         let images = match u32::try_from(images) {
             Ok(images) => images.min(MOST_IMAGES),
             Err(_) => MOST_IMAGES,

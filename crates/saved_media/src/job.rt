@@ -1,4 +1,4 @@
-ghost use Rattle.std.specs.Prelude.{◌≡◌, true, false};
+ghost use Rattle.std.specs.Prelude.{◌≡◌, ◌<◌, true, false};
 ghost use Rattle.tickets.specs.Progresses.{asked, begun, next_number, outcome_at, settled};
 
 use tickets::{Outcome, Progress};
@@ -28,9 +28,10 @@ impl Job {
         self.is_queued
     }
 
-    /// Takes a request for it, and answers its number.
+    /// Takes a request for it, and answers its number, which is more than that of nothing.
     pub fn ask(&mut self) -> u64
         ensures number { result ≡ next_number self.old.progress }
+        ensures some { 0 < result }
         ensures progress { self.new.progress ≡ asked self.old.progress }
         ensures queued { self.new.is_queued ≡ self.old.is_queued }
     {

@@ -1,5 +1,8 @@
 //! Who keeps the tapes of a library.
 
+ghost use Rattle.std.specs.Prelude.{◌≡◌, IfOk};
+ghost use Rattle.saved_media.specs.Saving.{IsOfMove, IsOfVolume, is_protected_at, place_of};
+
 use crate::copying::{Copying, Purpose, fault_of_store};
 use crate::item::KeptItem;
 use crate::listing::Listing;
@@ -12,6 +15,7 @@ use crate::wish::{Wish, wish_of};
 use library_inventory::{AddFault, LibrarySize};
 use library_start::Device;
 use std::alloc::{AllocError, Global};
+use std::marker::Model;
 use std::sync::{Mutex, Wait};
 use std::time::{Clock, Instant};
 use tape_flush::ImageStore;
@@ -22,7 +26,7 @@ use tape_keeper::{
 use tape_medium::VolumeTag;
 use tickets::{Outcome, Ticket};
 
-/// Keeps the tapes of a library, each in its image, and the inventory of where they lie.
+/// Keeps the tapes of a library, each in its image, and the inventory of where they lie. Contracts see the images.
 #[derive(Drop)]
 pub struct MediaKeeper<S: ImageStore + Drop, N: InventoryStore + Drop> {
     size: LibrarySize,
@@ -32,6 +36,18 @@ pub struct MediaKeeper<S: ImageStore + Drop, N: InventoryStore + Drop> {
     requests: SharedRequests,
 }
 
+impl<S: ImageStore + Drop, N: InventoryStore + Drop> Model for MediaKeeper<S, N> {
+    ghost use Rattle.std.specs.Prelude.{◌≡◌, List, length};
+    ghost use Rattle.saved_media.specs.Items.{numbered};
+    ghost use Rattle.saved_media.specs.Seen.{SeenImage};
+
+    ghost Value = { List SeenImage };
+
+    ghost view = { λ k. k.images.items };
+
+    ghost invariant = { λ k. k.requests.numbers.images ≡ numbered (length k.images.items) };
+}
+
 impl<S: ImageStore + Drop, N: InventoryStore + Drop> MediaKeeper<S, N> {
     /// Of a library with the volumes of these images. Asking it to keep something needs no memory later.
     pub fn new(
@@ -39,7 +55,9 @@ impl<S: ImageStore + Drop, N: InventoryStore + Drop> MediaKeeper<S, N> {
         size: LibrarySize,
         images: Vec<VolumeImage<S>>,
         store: N,
-    ) -> Result<MediaKeeper<S, N>, AllocError> {
+    ) -> Result<MediaKeeper<S, N>, AllocError>
+        ensures { IfOk result (λ keeper. keeper ≡ images.items) }
+    {
         let requests = SharedRequests::new(alloc, images.len())?;
         Ok(MediaKeeper {
             size,
@@ -71,15 +89,17 @@ impl<S: ImageStore + Drop, N: InventoryStore + Drop> MediaKeeper<S, N> {
     }
 
     /// The place of a volume's image among all. Where there is none, that is told.
-    fn image_of<H: KeepListener>(&self, listener: &H, tag: VolumeTag) -> Option<u32> {
-        let image = self.images.iter().position(|image| image.tag == tag);
-        if image.is_none() {
+    fn image_of<H: KeepListener>(&self, listener: &H, tag: VolumeTag) -> Option<usize>
+        ensures { result ≡ place_of self.now tag }
+    {
+        let place = place_of(&self.images, tag);
+        if place.is_none() {
             listener.tell(&KeepEvent {
                 thing: SavedThing::Volume(tag),
                 change: KeepChange::Fails(KeepFault::NoImage),
             });
         }
-        u32::try_from(image?).ok()
+        place
     }
 
     /// Asks that the volume be kept that a command was carried out on, if there is one and it can have changed.
@@ -88,7 +108,9 @@ impl<S: ImageStore + Drop, N: InventoryStore + Drop> MediaKeeper<S, N> {
         rt: &R,
         listener: &H,
         command: GoodCommand,
-    ) -> Ticket {
+    ) -> Ticket
+        ensures { IsOfVolume self.now command.volume result }
+    {
         let Some(tag) = command.volume else {
             return KEPT;
         };
@@ -98,15 +120,23 @@ impl<S: ImageStore + Drop, N: InventoryStore + Drop> MediaKeeper<S, N> {
         if self.is_protected(image) {
             return KEPT;
         }
-        let place = place_at(command.lun);
-        self.requests.ask(rt, KeptItem::Tape(image), place)
+        match u32::try_from(image) {
+            Ok(image) => {
+                self.requests
+                    .ask(rt, KeptItem::Tape(image), place_at(command.lun))
+            }
+            Err(_) => LOST,
+        }
     }
 
     /// Whether a volume is as its image is, which can't be written.
-    fn is_protected(&self, image: u32) -> bool {
-        self.images
-            .get(image as usize)
-            .is_some_and(|image| image.is_protected)
+    fn is_protected(&self, image: usize) -> bool
+        ensures { result ≡ is_protected_at self.now image }
+    {
+        match self.images.get(image) {
+            Some(image) => image.is_protected,
+            None => false,
+        }
     }
 
     /// Asks that the volume be kept that a MOVE MEDIUM moved, and no other, and where the volumes lie.
@@ -115,13 +145,18 @@ impl<S: ImageStore + Drop, N: InventoryStore + Drop> MediaKeeper<S, N> {
         rt: &R,
         listener: &H,
         command: GoodCommand,
-    ) -> Ticket {
+    ) -> Ticket
+        ensures { IsOfMove self.now command.volume result }
+    {
         let Some(tag) = command.volume else {
             return self
                 .requests
                 .ask(rt, KeptItem::Inventory, KeepPlace::Changer);
         };
-        match self.image_of(listener, tag) {
+        match self
+            .image_of(listener, tag)
+            .and_then(|image| u32::try_from(image).ok())
+        {
             Some(image) => self
                 .requests
                 .ask(rt, KeptItem::Moved(image), KeepPlace::Changer),
@@ -276,6 +311,13 @@ impl<S: ImageStore + Drop, N: InventoryStore + Drop> MediaKeeper<S, N> {
     }
 }
 
+/// The place of the first image with a tag.
+fn place_of<S: ImageStore + Drop>(images: &[VolumeImage<S>], tag: VolumeTag) -> Option<usize>
+    ensures { result ≡ place_of images.now tag }
+{
+    images.iter().position(|image| image.tag == tag)
+}
+
 /// Where the volume in the drive with a LUN is kept. The changer's thread looks for what is in no drive.
 fn place_at(lun: u8) -> KeepPlace {
     match lun {
@@ -285,7 +327,9 @@ fn place_at(lun: u8) -> KeepPlace {
 }
 
 impl<S: ImageStore + Drop, N: InventoryStore + Drop> TapeKeeper<Device> for MediaKeeper<S, N> {
-    ghost use Rattle.std.specs.Prelude.{false};
+    ghost use Rattle.std.specs.Prelude.{◌≡◌, Some, false, is_some, true};
+    ghost use Rattle.saved_media.specs.Saving.{WaitsFor, kept_ticket, lost_ticket};
+    ghost use Rattle.tickets.specs.declared.ticket.Outcome.TheVariants as outcome;
     ghost use Rattle.saved_media.specs.Wishes.{wish_of, is_waited_for};
 
     ghost says_kept = { λ class. is_waited_for (wish_of class false) };
@@ -295,7 +339,10 @@ impl<S: ImageStore + Drop, N: InventoryStore + Drop> TapeKeeper<Device> for Medi
         rt: &R,
         listener: &H,
         command: GoodCommand,
-    ) -> Option<Ticket> {
+    ) -> Option<Ticket>
+        ensures waits_for { WaitsFor self.now command (wish_of command.class command.is_immediate) result }
+        ensures waits { command.is_immediate ≡ false → is_waited_for (wish_of command.class false) ≡ true → is_some result ≡ true }
+    {
         match wish_of(command.class, command.is_immediate) {
             Wish::Nothing => None,
             Wish::Behind => self.requests.add(rt, command.lun, command.length as u64),
@@ -308,11 +355,17 @@ impl<S: ImageStore + Drop, N: InventoryStore + Drop> TapeKeeper<Device> for Medi
         }
     }
 
-    fn outcome_of<R: Wait>(&self, rt: &R, ticket: Ticket) -> Option<Outcome> {
+    fn outcome_of<R: Wait>(&self, rt: &R, ticket: Ticket) -> Option<Outcome>
+        ensures kept { ticket ≡ kept_ticket → result ≡ Some outcome.Kept }
+        ensures lost { ticket ≡ lost_ticket → result ≡ Some outcome.Lost }
+    {
         self.requests.outcome_of(rt, ticket)
     }
 
-    fn await_outcome<R: Wait>(&self, rt: &R, ticket: Ticket) -> Outcome {
+    fn await_outcome<R: Wait>(&self, rt: &R, ticket: Ticket) -> Outcome
+        ensures kept { ticket ≡ kept_ticket → result ≡ outcome.Kept }
+        ensures lost { ticket ≡ lost_ticket → result ≡ outcome.Lost }
+    {
         self.requests.await_outcome(rt, ticket)
     }
 

@@ -1,5 +1,12 @@
 //! What a keeper is asked for, and how far that is done.
 
+ghost use Rattle.std.specs.Prelude.{◌≡◌, ◌<◌, ◌-◌, ◌^◌, IfOk, IfSome, Some, slice_get, vec_len};
+ghost use Rattle.saved_media.specs.Items.{item_at};
+ghost use Rattle.saved_media.specs.Saving.{IsAskedFor, kept_ticket, lost_ticket};
+ghost use Rattle.saved_media.specs.declared.item.KeptItem.TheVariants as kept_item;
+ghost use Rattle.tickets.specs.declared.ticket.Outcome.TheVariants as outcome;
+ghost use Rattle.tickets.specs.Progresses.{next_number};
+
 use crate::backlog::Backlogs;
 use crate::item::{ItemNumbers, KeptItem};
 use crate::job::Job;
@@ -40,9 +47,10 @@ pub(crate) struct Task {
 /// What a keeper is asked for, for one thread at a time.
 #[derive(Drop)]
 pub(crate) struct Requests {
-    numbers: ItemNumbers,
-    /// That of each item, by its number.
+    /// That of each item, by its number. So `KEPT` is of one, and `LOST` of none.
     jobs: Vec<Job>,
+    ghost some: { 0 < vec_len jobs },
+    ghost few: { vec_len jobs < 2 ^ 32 - 1 },
     queues: Queues,
     backlogs: Backlogs,
     /// When what couldn't be copied was tried again the last time.
@@ -52,7 +60,9 @@ pub(crate) struct Requests {
 }
 
 /// The jobs of so many items, for which nobody has asked.
-fn jobs_of(alloc: Global, count: usize) -> Result<Vec<Job>, AllocError> {
+fn jobs_of(alloc: Global, count: usize) -> Result<Vec<Job>, AllocError>
+    ensures { IfOk result (λ jobs. vec_len jobs ≡ count) }
+{
     let mut jobs = Vec::with_capacity(alloc, count)?;
     for _number in 0..count {
         jobs.push(Job::new())?;
@@ -61,12 +71,10 @@ fn jobs_of(alloc: Global, count: usize) -> Result<Vec<Job>, AllocError> {
 }
 
 impl Requests {
-    /// Nothing was asked for of a library with so many images. Later no memory is needed any more.
-    pub fn new(alloc: Global, images: usize) -> Result<Requests, AllocError> {
-        let numbers = ItemNumbers::new(images);
+    /// Nothing was asked for of a library whose items have these numbers. Later no memory is needed any more.
+    pub fn new(alloc: Global, numbers: ItemNumbers) -> Result<Requests, AllocError> {
         let count = numbers.count() as usize;
         Ok(Requests {
-            numbers,
             jobs: jobs_of(alloc, count)?,
             queues: Queues::new(alloc, count)?,
             backlogs: Backlogs::default(),
@@ -80,20 +88,33 @@ impl Requests {
     }
 
     /// The library ends: nobody waits to write on.
-    pub fn end(&mut self) {
+    pub fn end(&mut self, numbers: ItemNumbers) {
         self.is_over = true;
         for lun in DRIVES {
-            let _ = self.settle_backlog(lun);
+            let _ = self.settle_backlog(numbers, lun);
         }
     }
 
     /// Takes a request for an item, and queues it at a place if it isn't queued yet.
-    pub fn ask(&mut self, item: KeptItem, place: KeepPlace) -> Ticket {
-        let Some(thing) = self.numbers.number_of(item) else {
-            return LOST;
-        };
+    pub fn ask(&mut self, numbers: ItemNumbers, item: KeptItem, place: KeepPlace) -> Ticket
+        ensures { IsAskedFor numbers.images item result }
+    {
+        match numbers.number_of(item) {
+            Some(thing) => Ticket {
+                thing,
+                number: self.ask_for(thing, place),
+            },
+            None => LOST,
+        }
+    }
+
+    /// Takes a request for the item with a number, and answers the number of the request. It is lost where the item has no job, as each has.
+    fn ask_for(&mut self, thing: u32, place: KeepPlace) -> u64
+        ensures some { 0 < result }
+        ensures next { IfSome (slice_get self.old.jobs.items thing) (λ job. result ≡ next_number job.progress) }
+    {
         let Some(job) = self.jobs.get_mut(thing as usize) else {
-            return LOST;
+            return LOST.number;
         };
         let number = job.ask();
         if !job.is_queued() {
@@ -103,17 +124,19 @@ impl Requests {
                 job.settle(number, Outcome::Lost);
             }
         }
-        Ticket { thing, number }
+        number
     }
 
     /// Takes what is to be done next by a thread at a place, as far as it was asked for by now. Nothing is once the library ends, where all is
     /// kept for the last time.
-    pub fn next(&mut self, place: KeepPlace) -> Option<Task> {
+    pub fn next(&mut self, numbers: ItemNumbers, place: KeepPlace) -> Option<Task>
+        ensures { IfSome result (λ task. item_at numbers.images task.until.thing ≡ Some task.item) }
+    {
         if self.is_over {
             return None;
         }
         let Queued { place, number } = self.queues.next(place)?;
-        let item = self.numbers.item_at(number)?;
+        let item = numbers.item_at(number)?;
         let job = self.jobs.get_mut(number as usize)?;
         let until = Ticket {
             thing: number,
@@ -130,7 +153,10 @@ impl Requests {
     }
 
     /// How keeping what a ticket is for ended, if it has. Nothing more is kept for a reply once the library ends.
-    pub fn outcome_of(&self, ticket: Ticket) -> Option<Outcome> {
+    pub fn outcome_of(&self, ticket: Ticket) -> Option<Outcome>
+        ensures kept { ticket ≡ kept_ticket → result ≡ Some outcome.Kept }
+        ensures lost { ticket ≡ lost_ticket → result ≡ Some outcome.Lost }
+    {
         let Some(job) = self.jobs.get(ticket.thing as usize) else {
             return Some(Outcome::Lost);
         };
@@ -155,19 +181,19 @@ impl Requests {
     }
 
     /// So many bytes of what was behind at a drive were copied. Whether that settles what waited for it.
-    pub fn take(&mut self, lun: u8, bytes: u64) -> bool {
+    pub fn take(&mut self, numbers: ItemNumbers, lun: u8, bytes: u64) -> bool {
         let mut backlog = self.backlogs.at(lun);
         backlog.take(bytes);
         self.backlogs.set(lun, backlog);
-        self.settle_backlog(lun)
+        self.settle_backlog(numbers, lun)
     }
 
     /// What is behind at a drive couldn't be copied. Whether that settles what waited for it.
-    pub fn stick(&mut self, lun: u8) -> bool {
+    pub fn stick(&mut self, numbers: ItemNumbers, lun: u8) -> bool {
         let mut backlog = self.backlogs.at(lun);
         backlog.stick();
         self.backlogs.set(lun, backlog);
-        self.settle_backlog(lun)
+        self.settle_backlog(numbers, lun)
     }
 
     /// Whether a host that wrote to a drive's volume has to wait until less of it waits to be copied.
@@ -176,22 +202,24 @@ impl Requests {
     }
 
     /// What the reply to a WRITE at a drive has to wait for, if too much of its volume waits to be copied.
-    pub fn wait_for_backlog(&mut self, lun: u8) -> Option<Ticket> {
+    pub fn wait_for_backlog(&mut self, numbers: ItemNumbers, lun: u8) -> Option<Ticket>
+        ensures { IfSome result (IsAskedFor numbers.images (kept_item.Backlog lun)) }
+    {
         if !self.is_full(lun) {
             return None;
         }
-        let thing = self.numbers.number_of(KeptItem::Backlog(lun))?;
+        let thing = numbers.number_of(KeptItem::Backlog(lun))?;
         let job = self.jobs.get_mut(thing as usize)?;
         let number = job.ask();
         Some(Ticket { thing, number })
     }
 
     /// Settles what waits for the backlog of a drive, if that isn't too much. Whether something waited.
-    fn settle_backlog(&mut self, lun: u8) -> bool {
+    fn settle_backlog(&mut self, numbers: ItemNumbers, lun: u8) -> bool {
         if self.is_full(lun) {
             return false;
         }
-        let Some(thing) = self.numbers.number_of(KeptItem::Backlog(lun)) else {
+        let Some(thing) = numbers.number_of(KeptItem::Backlog(lun)) else {
             return false;
         };
         match self.jobs.get_mut(thing as usize) {

@@ -1,8 +1,14 @@
 //! The requests of a keeper, which its threads share: what is to be kept is asked for here, and its threads take that and say how it ended. The
 //! lock is held for a moment only: nothing is copied and nobody is told meanwhile, and no other lock is taken.
 
+ghost use Rattle.std.specs.Prelude.{◌≡◌, IfOk, IfSome, Some};
+ghost use Rattle.saved_media.specs.Items.{item_at, numbered};
+ghost use Rattle.saved_media.specs.Saving.{IsAskedFor, kept_ticket, lost_ticket};
+ghost use Rattle.saved_media.specs.declared.item.KeptItem.TheVariants as kept_item;
+ghost use Rattle.tickets.specs.declared.ticket.Outcome.TheVariants as outcome;
+
 use crate::conditions::Conditions;
-use crate::item::KeptItem;
+use crate::item::{ItemNumbers, KeptItem};
 use crate::requests::{Requests, TURN, Task};
 use std::alloc::{AllocError, Global};
 use std::sync::{Condvar, Mutex, Wait};
@@ -13,6 +19,8 @@ use tickets::{Outcome, Ticket};
 /// The requests, and conditions by which threads wait.
 #[derive(Drop)]
 pub(crate) struct SharedRequests {
+    /// Those of what may be asked for.
+    numbers: ItemNumbers,
     requests: Mutex<Requests>,
     /// Something is to be done, or the library ends.
     asked: Conditions,
@@ -22,25 +30,33 @@ pub(crate) struct SharedRequests {
 
 impl SharedRequests {
     /// Nothing was asked for of a library with so many images.
-    pub fn new(alloc: Global, images: usize) -> Result<SharedRequests, AllocError> {
+    pub fn new(alloc: Global, images: usize) -> Result<SharedRequests, AllocError>
+        ensures { IfOk result (λ requests. requests.numbers.images ≡ numbered images) }
+    {
+        let numbers = ItemNumbers::new(images);
         Ok(SharedRequests {
-            requests: Mutex::new(Requests::new(alloc, images)?),
+            numbers,
+            requests: Mutex::new(Requests::new(alloc, numbers)?),
             asked: Conditions::new(),
             settled: Condvar::new(),
         })
     }
 
     /// Asks that an item be kept, at a place.
-    pub fn ask<R: Wait>(&self, rt: &R, item: KeptItem, place: KeepPlace) -> Ticket {
+    pub fn ask<R: Wait>(&self, rt: &R, item: KeptItem, place: KeepPlace) -> Ticket
+        ensures { IsAskedFor self.now.numbers.images item result }
+    {
         let mut requests = self.requests.lock(rt);
-        let ticket = requests.ask(item, place);
+        let ticket = requests.ask(self.numbers, item, place);
         self.asked.notify(place, requests.is_served(place));
         ticket
     }
 
     /// Takes what is to be done next by a thread at a place.
-    pub fn next<R: Wait>(&self, rt: &R, place: KeepPlace) -> Option<Task> {
-        self.requests.lock(rt).next(place)
+    pub fn next<R: Wait>(&self, rt: &R, place: KeepPlace) -> Option<Task>
+        ensures { IfSome result (λ task. item_at self.now.numbers.images task.until.thing ≡ Some task.item) }
+    {
+        self.requests.lock(rt).next(self.numbers, place)
     }
 
     /// Notes how a task ended.
@@ -50,12 +66,18 @@ impl SharedRequests {
     }
 
     /// How keeping what a ticket is for ended, if it has.
-    pub fn outcome_of<R: Wait>(&self, rt: &R, ticket: Ticket) -> Option<Outcome> {
+    pub fn outcome_of<R: Wait>(&self, rt: &R, ticket: Ticket) -> Option<Outcome>
+        ensures kept { ticket ≡ kept_ticket → result ≡ Some outcome.Kept }
+        ensures lost { ticket ≡ lost_ticket → result ≡ Some outcome.Lost }
+    {
         self.requests.lock(rt).outcome_of(ticket)
     }
 
     /// Waits until keeping what a ticket is for has ended, and says how.
-    pub fn await_outcome<R: Wait>(&self, rt: &R, ticket: Ticket) -> Outcome {
+    pub fn await_outcome<R: Wait>(&self, rt: &R, ticket: Ticket) -> Outcome
+        ensures kept { ticket ≡ kept_ticket → result ≡ outcome.Kept }
+        ensures lost { ticket ≡ lost_ticket → result ≡ outcome.Lost }
+    {
         let requests = self.requests.lock(rt);
         let requests = self.settled.wait_while(
             rt,
@@ -66,13 +88,15 @@ impl SharedRequests {
     }
 
     /// Notes that so many bytes more were written to the volume in a drive. Where that makes too many, what the reply has to wait for.
-    pub fn add<R: Wait>(&self, rt: &R, lun: u8, bytes: u64) -> Option<Ticket> {
+    pub fn add<R: Wait>(&self, rt: &R, lun: u8, bytes: u64) -> Option<Ticket>
+        ensures { IfSome result (IsAskedFor self.now.numbers.images (kept_item.Backlog lun)) }
+    {
         let mut requests = self.requests.lock(rt);
         if requests.add(lun, bytes) {
             let place = KeepPlace::Drive(lun);
             self.asked.notify(place, requests.is_served(place));
         }
-        requests.wait_for_backlog(lun)
+        requests.wait_for_backlog(self.numbers, lun)
     }
 
     /// How many bytes are behind at a drive.
@@ -82,13 +106,13 @@ impl SharedRequests {
 
     /// So many fewer are. Whether that settles something.
     pub fn take<R: Wait>(&self, rt: &R, lun: u8, bytes: u64) -> bool {
-        let is_settled = self.requests.lock(rt).take(lun, bytes);
+        let is_settled = self.requests.lock(rt).take(self.numbers, lun, bytes);
         self.wake_settled(is_settled)
     }
 
     /// They couldn't be copied. Whether that settles something.
     pub fn stick<R: Wait>(&self, rt: &R, lun: u8) -> bool {
-        let is_settled = self.requests.lock(rt).stick(lun);
+        let is_settled = self.requests.lock(rt).stick(self.numbers, lun);
         self.wake_settled(is_settled)
     }
 
@@ -132,7 +156,7 @@ impl SharedRequests {
 
     /// The library ends: nobody waits any more.
     pub fn end<R: Wait>(&self, rt: &R) {
-        self.requests.lock(rt).end();
+        self.requests.lock(rt).end(self.numbers);
         self.asked.notify_all();
         self.settled.notify_all();
     }

@@ -1,4 +1,7 @@
+ghost use Rattle.std.specs.Prelude.{◌≡◌};
+
 use crate::watch::{Extent, Watch};
+use std::marker::Model;
 use std::sync::{Mutex, Wait};
 use std::time::{Duration, Instant};
 use tape_flush::{ImageStore, SavedImage};
@@ -84,7 +87,7 @@ struct Unsynced {
     has_waited: bool,
 }
 
-/// The image of the volume with a tag.
+/// The image of the volume with a tag. Contracts see the tag, and whether the volume is protected.
 #[derive(Drop)]
 pub struct VolumeImage<S: ImageStore + Drop> {
     pub(crate) tag: VolumeTag,
@@ -95,9 +98,19 @@ pub struct VolumeImage<S: ImageStore + Drop> {
     unsynced: Mutex<Unsynced>,
 }
 
+impl<S: ImageStore + Drop> Model for VolumeImage<S> {
+    ghost use Rattle.saved_media.specs.Seen.{SeenImage};
+
+    ghost Value = { SeenImage };
+
+    ghost view = { λ i. record { tag = i.tag; is_protected = i.is_protected } };
+}
+
 impl<S: ImageStore + Drop> VolumeImage<S> {
     /// The image of a volume, from which that was read.
-    pub fn new(volume: &Volume, kept: SavedImage<S>) -> VolumeImage<S> {
+    pub fn new(volume: &Volume, kept: SavedImage<S>) -> VolumeImage<S>
+        ensures { result ≡ record { tag = volume.now.tag; is_protected = volume.now.protected } }
+    {
         VolumeImage {
             tag: volume.tag,
             is_protected: volume.protected,
