@@ -1,3 +1,5 @@
 pub mod Names
 pub mod Sizes
 pub mod Faults
+pub mod Stores
+pub mod Volumes

@@ -1,4 +1,6 @@
 //! A volume's file, once it is written on: what may have come back behind what was on the disk is moved away, and its record begins.
+ghost use Rattle.std.specs.Prelude.{◌≡◌};
+
 use crate::boot::BootId;
 use crate::fault::FolderFault;
 use crate::inventory_file::sync_folder;
@@ -28,7 +30,9 @@ pub(crate) fn begin_writing<'a, R: AllocGlobal + Files<File = File>, E: Write>(
     trust: Trust,
     boot: BootId,
     errors: &mut E,
-) -> Result<u64, FolderFault> {
+) -> Result<u64, FolderFault>
+    ensures { store.new ≡ store.old }
+{
     match store.access() {
         FileAccess::ReadOnly => return Ok(trust.synced),
         FileAccess::ReadWrite => {}
@@ -170,7 +174,9 @@ fn begin_record<'a, R: AllocGlobal + Files<File = File>>(
     store: &mut FileStore<'a, R>,
     trust: Trust,
     around: Surroundings,
-) -> io::Result<()> {
+) -> io::Result<()>
+    ensures { store.new ≡ store.old }
+{
     let Surroundings { alloc, boot, .. } = around;
     let inode = store.identity().number();
     let path = record_path(alloc, store.path())?;

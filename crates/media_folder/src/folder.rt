@@ -1,7 +1,8 @@
 //! The folder, from its lock to its volumes.
-ghost use Rattle.std.specs.Prelude.{◌<◌, ◌≤◌, IfOk};
+ghost use Rattle.std.specs.Prelude.{◌<◌, ◌≤◌, string_bytes, IfOk};
 ghost use Rattle.tape_medium.specs.Limits.{capacity_limit};
 ghost use Rattle.media_folder.specs.Sizes.{IsUsable};
+ghost use Rattle.media_folder.specs.Volumes.{AreRead, AreVolumesOf};
 
 use crate::fault::FolderFault;
 use crate::images::{
@@ -52,7 +53,8 @@ pub fn open_folder<'a, R: AllocGlobal + Files<File = File>, E: Write>(
 ) -> Result<OpenedFolder<'a, R>, FolderFault>
     requires some { 0 < volume_size }
     requires within { volume_size ≤ capacity_limit }
-    ensures { IfOk result (λ opened. IsUsable opened.size) }
+    ensures size { IfOk result (λ opened. IsUsable opened.size) }
+    ensures volumes { IfOk result (λ opened. AreVolumesOf (string_bytes path) opened.volumes.items) }
 {
     let folder = lock_folder(rt, path, without)?;
     let inventory = kept_inventory(rt, folder.path(), without)?;
@@ -98,7 +100,8 @@ fn read_library<'a, R: AllocGlobal + Files<File = File>, E: Write>(
 ) -> Result<ReadLibrary<'a, R>, FolderFault>
     requires some { 0 < volume_size }
     requires within { volume_size ≤ capacity_limit }
-    ensures { IfOk result (λ read. IsUsable read.size) }
+    ensures size { IfOk result (λ read. IsUsable read.size) }
+    ensures volumes { IfOk result (λ read. AreRead folder.now read.found.volumes.items) }
 {
     let kept = match inventory {
         Some(inventory) => Some(inventory.size()),

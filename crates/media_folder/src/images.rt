@@ -1,6 +1,8 @@
 //! The files of a folder's volumes: all of them are read first, and only then files are made and written.
-ghost use Rattle.std.specs.Prelude.{◌<◌, ◌≤◌};
+ghost use Rattle.std.specs.Prelude.{◌≡◌, ◌<◌, ◌≤◌, [], IfOk, OnOk};
 ghost use Rattle.tape_medium.specs.Limits.{capacity_limit};
+ghost use Rattle.media_folder.specs.Stores.{is_read_only};
+ghost use Rattle.media_folder.specs.Volumes.{AreRead, AreVolumesOf};
 
 use crate::beginning::begin_writing;
 use crate::boot::BootId;
@@ -45,7 +47,9 @@ pub(crate) struct FoundVolumes<'a, R: Files<File = File>> {
 }
 
 impl<'a, R: Files<File = File>> FoundVolumes<'a, R> {
-    fn new(alloc: Global, boot: BootId) -> FoundVolumes<'a, R> {
+    fn new(alloc: Global, boot: BootId) -> FoundVolumes<'a, R>
+        ensures { result.volumes.items ≡ [] }
+    {
         FoundVolumes {
             volumes: Vec::new(alloc),
             left_out: Vec::new(alloc),
@@ -80,6 +84,7 @@ pub(crate) fn read_volumes<'a, R: AllocGlobal + Files<File = File>, E: Write>(
 ) -> Result<FoundVolumes<'a, R>, FolderFault>
     requires some { 0 < volume_size }
     requires within { volume_size ≤ capacity_limit }
+    ensures { IfOk result (λ found. AreRead folder.now found.volumes.items) }
 {
     let tags = list_volumes(rt, folder, errors)?;
     let mut found = FoundVolumes::new(rt.alloc(), BootId::now(rt));
@@ -99,8 +104,9 @@ pub(crate) fn find_volumes<'a, R: AllocGlobal + Files<File = File>, E: Write>(
 ) -> Result<(), FolderFault>
     requires some { 0 < volume_size }
     requires within { volume_size ≤ capacity_limit }
+    ensures { AreRead folder.now found.old.volumes.items → OnOk result (AreRead folder.now found.new.volumes.items) }
 {
-    for tag in tags {
+    'tags: for tag in tags {
         find_volume(rt, folder, *tag, volume_size, memory, found, errors)?;
     }
     Ok(())
@@ -118,18 +124,11 @@ fn find_volume<'a, R: AllocGlobal + Files<File = File>, E: Write>(
 ) -> Result<(), FolderFault>
     requires some { 0 < volume_size }
     requires within { volume_size ≤ capacity_limit }
+    ensures { AreRead folder.now found.old.volumes.items → OnOk result (AreRead folder.now found.new.volumes.items) }
 {
     let path = volume_path(rt.alloc(), folder, &tag)?;
     let path = path.as_str();
-    let read = match found.seen.look(rt, path) {
-        Ok(mode) => {
-            found.is_open = found.is_open || is_open_to_others(mode);
-            let file = VolumeFile { path, tag, mode };
-            read_volume(rt, file, found.boot, volume_size, memory.share()?, errors)
-        }
-        Err(refusal) => Err(refusal),
-    };
-    match read {
+    match read_unseen(rt, path, tag, volume_size, memory, found, errors) {
         Ok(read) => found.volumes.push(read).map_err(AllocError::from)?,
         Err(ImageRefusal::NoMemory) => return Err(FolderFault::NoMemory),
         Err(refusal) => {
@@ -138,6 +137,29 @@ fn find_volume<'a, R: AllocGlobal + Files<File = File>, E: Write>(
         }
     }
     Ok(())
+}
+
+/// Reads the file at a path as the volume with a tag, if it wasn't seen under another name.
+fn read_unseen<'a, R: AllocGlobal + Files<File = File>, E: Write>(
+    rt: &'a R,
+    path: &str,
+    tag: VolumeTag,
+    volume_size: u64,
+    memory: &MemoryLimit,
+    found: &mut FoundVolumes<'a, R>,
+    errors: &mut E,
+) -> Result<ReadVolume<'a, R>, ImageRefusal>
+    requires some { 0 < volume_size }
+    requires within { volume_size ≤ capacity_limit }
+    ensures found { found.new.volumes ≡ found.old.volumes }
+    ensures tag { IfOk result (λ read. read.volume.tag ≡ tag) }
+    ensures path { IfOk result (λ read. read.store.path ≡ path.now) }
+    ensures protected { IfOk result (λ read. read.volume.protected ≡ is_read_only read.store.access) }
+{
+    let mode = found.seen.look(rt, path)?;
+    found.is_open = found.is_open || is_open_to_others(mode);
+    let file = VolumeFile { path, tag, mode };
+    read_volume(rt, file, found.boot, volume_size, memory.share()?, errors)
 }
 
 /// Makes the files of volumes that are blank.
@@ -176,10 +198,12 @@ pub(crate) fn keep_volumes<'a, R: AllocGlobal + Files<File = File>, E: Write>(
     found: FoundVolumes<'a, R>,
     placed: &[PlacedVolume],
     errors: &mut E,
-) -> Result<Vec<KeptVolume<'a, R>>, FolderFault> {
+) -> Result<Vec<KeptVolume<'a, R>>, FolderFault>
+    ensures { AreRead folder.now found.entry.volumes.items → IfOk result (λ kept. AreVolumesOf folder.now kept.items) }
+{
     let FoundVolumes { volumes, boot, .. } = found;
     let mut kept = Vec::with_capacity(rt.alloc(), volumes.len())?;
-    for read in volumes {
+    'volumes: for read in volumes {
         // Each volume that was read lies somewhere.
         if let Some(element) = element_of(placed, read.volume.tag) {
             let volume = keep_volume(rt, folder, read, element, boot, errors)?;
@@ -197,7 +221,11 @@ fn keep_volume<'a, R: AllocGlobal + Files<File = File>, E: Write>(
     element: Element,
     boot: BootId,
     errors: &mut E,
-) -> Result<KeptVolume<'a, R>, FolderFault> {
+) -> Result<KeptVolume<'a, R>, FolderFault>
+    ensures element { IfOk result (λ kept. kept.element ≡ element) }
+    ensures volume { IfOk result (λ kept. kept.volume ≡ read.entry.volume) }
+    ensures store { IfOk result (λ kept. kept.image.store ≡ read.entry.store) }
+{
     let ReadVolume {
         volume,
         mut store,

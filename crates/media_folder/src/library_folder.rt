@@ -1,10 +1,13 @@
 //! The folder itself, and its lock.
+ghost use Rattle.std.specs.Prelude.{◌≡◌, string_bytes, IfOk};
+
 use crate::fault::FolderFault;
 use crate::identity::FileIdentity;
 use crate::rights::{NEW_FOLDER, is_open_to_others};
 use program_options::WithoutLibrary;
 use std::fs::{self, DirBuilder, File, Files, Metadata, TryLockError};
 use std::io::{self, ErrorKind};
+use std::marker::Model;
 use std::os::unix::fs::{DirBuilderExt, MetadataExt};
 
 /// The folder of a library, which no other program has as long as this lives: the lock is on the folder itself, and the system gives it
@@ -16,9 +19,20 @@ pub struct LibraryFolder {
     identity: FileIdentity,
 }
 
+/// It is seen as its path.
+impl Model for LibraryFolder {
+    ghost use Rattle.std.specs.Prelude.{ℕ, List, string_bytes};
+
+    ghost Value = { List ℕ };
+
+    ghost view = { λ folder. string_bytes folder.path };
+}
+
 impl LibraryFolder {
     /// The path that was given.
-    pub fn path(&self) -> &str {
+    pub fn path(&self) -> &str
+        ensures { result.now ≡ self.now }
+    {
         self.path.as_str()
     }
 
@@ -54,7 +68,9 @@ pub(crate) fn lock_folder<R: Files<File = File>>(
     rt: &R,
     path: String,
     without: WithoutLibrary,
-) -> Result<LibraryFolder, FolderFault> {
+) -> Result<LibraryFolder, FolderFault>
+    ensures { IfOk result (λ folder. folder ≡ string_bytes path) }
+{
     if without == WithoutLibrary::Make && make_folder(rt, path.as_str()).is_err() {
         return Err(FolderFault::CannotMake(path));
     }
@@ -83,11 +99,9 @@ fn opened<R: Files<File = File>>(rt: &R, path: &str) -> io::Result<(File, Metada
 }
 
 /// Takes the lock of a folder.
-fn locked(
-    path: String,
-    folder: File,
-    identity: FileIdentity,
-) -> Result<LibraryFolder, FolderFault> {
+fn locked(path: String, folder: File, identity: FileIdentity) -> Result<LibraryFolder, FolderFault>
+    ensures { IfOk result (λ locked. locked ≡ string_bytes path) }
+{
     match folder.try_lock() {
         Ok(()) => Ok(LibraryFolder {
             path,

@@ -1,6 +1,6 @@
 //! The names of files in the folder.
 ghost use Rattle.std.specs.Prelude.{◌≡◌, ◌++◌, codes, string_bytes, IfOk};
-ghost use Rattle.media_folder.specs.Names.{IsKindOf};
+ghost use Rattle.media_folder.specs.Names.{IsKindOf, IsVolumePath};
 
 use crate::fault::FolderFault;
 use library_inventory::{name_of_tag, tag_of_name};
@@ -41,7 +41,9 @@ pub(crate) fn volume_path(
     alloc: Global,
     folder: &str,
     tag: &VolumeTag,
-) -> Result<String, FolderFault> {
+) -> Result<String, FolderFault>
+    ensures { IfOk result (λ path. IsVolumePath folder.now tag.now (string_bytes path)) }
+{
     let Some(name) = name_of_tag(tag) else {
         return Err(FolderFault::NoName);
     };

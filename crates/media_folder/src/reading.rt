@@ -1,6 +1,8 @@
 //! The file of one volume, as it is read at a start.
-ghost use Rattle.std.specs.Prelude.{◌<◌, ◌≤◌};
+ghost use Rattle.std.specs.Prelude.{◌≡◌, ◌<◌, ◌≤◌, IfOk};
 ghost use Rattle.tape_medium.specs.Limits.{capacity_limit};
+ghost use Rattle.media_folder.specs.declared.store.FileAccess.TheVariants.{ReadOnly};
+ghost use Rattle.media_folder.specs.Stores.{is_read_only};
 
 use crate::boot::BootId;
 use crate::notice::{Notice, tell};
@@ -48,6 +50,9 @@ pub(crate) fn read_volume<'a, R: AllocGlobal + Files<File = File>, E: Write>(
 ) -> Result<ReadVolume<'a, R>, ImageRefusal>
     requires some { 0 < volume_size }
     requires within { volume_size ≤ capacity_limit }
+    ensures tag { IfOk result (λ read. read.volume.tag ≡ file.entry.tag) }
+    ensures path { IfOk result (λ read. read.store.path ≡ file.entry.path.now) }
+    ensures protected { IfOk result (λ read. read.volume.protected ≡ is_read_only read.store.access) }
 {
     let store = open_file(rt, file.path, file.mode)?;
     let trust = trust_in(rt, &store, boot, errors)?;
@@ -88,7 +93,9 @@ fn open_file<'a, R: AllocGlobal + Files<File = File>>(
     rt: &'a R,
     path: &str,
     mode: u32,
-) -> io::Result<FileStore<'a, R>> {
+) -> io::Result<FileStore<'a, R>>
+    ensures { IfOk result (λ store. store.path ≡ path.now) }
+{
     if is_write_protected(mode) {
         return open_to_read(rt, path);
     }
@@ -102,7 +109,9 @@ fn open_file<'a, R: AllocGlobal + Files<File = File>>(
 fn open_to_read<'a, R: AllocGlobal + Files<File = File>>(
     rt: &'a R,
     path: &str,
-) -> io::Result<FileStore<'a, R>> {
+) -> io::Result<FileStore<'a, R>>
+    ensures { IfOk result (λ store. store ≡ record { path = path.now; access = ReadOnly }) }
+{
     store_of(rt, path, fs::open(rt, path)?, FileAccess::ReadOnly)
 }
 
@@ -111,7 +120,9 @@ fn store_of<'a, R: AllocGlobal + Files<File = File>>(
     path: &str,
     file: File,
     access: FileAccess,
-) -> io::Result<FileStore<'a, R>> {
+) -> io::Result<FileStore<'a, R>>
+    ensures { IfOk result (λ store. store ≡ record { path = path.now; access = access }) }
+{
     FileStore::new(rt, String::from_str(rt.alloc(), path)?, file, access)
 }
 

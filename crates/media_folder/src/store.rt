@@ -1,3 +1,5 @@
+ghost use Rattle.std.specs.Prelude.{◌≡◌, string_bytes, IfOk};
+
 use crate::boot::BootId;
 use crate::identity::FileIdentity;
 use crate::record::{RecordFile, RecordOf, record_path};
@@ -5,6 +7,7 @@ use crate::rights::NEW_FILE;
 use std::alloc::{AllocError, Global};
 use std::fs::{self, File, Files, OpenFile, OpenOptions};
 use std::io::{self, ErrorKind, Seek, SeekFrom, Write};
+use std::marker::Model;
 use std::os::unix::fs::OpenOptionsExt;
 use tape_flush::{ImageStore, StoreFault};
 
@@ -54,6 +57,15 @@ pub struct FileStore<'a, R: Files<File = File>> {
     record: Option<RecordFile>,
 }
 
+impl<'a, R: Files<File = File>> Model for FileStore<'a, R> {
+    ghost use Rattle.std.specs.Prelude.{string_bytes};
+    ghost use Rattle.media_folder.specs.Stores.{FileStoreValue};
+
+    ghost Value = { FileStoreValue };
+
+    ghost view = { λ store. record { path = string_bytes store.path; access = store.access } };
+}
+
 impl<'a, R: Files<File = File>> FileStore<'a, R> {
     /// Of the file at a path, which is open.
     pub(crate) fn new(
@@ -61,7 +73,9 @@ impl<'a, R: Files<File = File>> FileStore<'a, R> {
         path: String,
         file: File,
         access: FileAccess,
-    ) -> io::Result<FileStore<'a, R>> {
+    ) -> io::Result<FileStore<'a, R>>
+        ensures { IfOk result (λ store. store ≡ record { path = string_bytes path; access = access }) }
+    {
         let identity = FileIdentity::of(&file.metadata()?);
         Ok(FileStore {
             files,
@@ -76,7 +90,9 @@ impl<'a, R: Files<File = File>> FileStore<'a, R> {
     }
 
     /// From now on it is written, and its record.
-    pub(crate) fn begin_record(&mut self, record: RecordFile, around: Surroundings) {
+    pub(crate) fn begin_record(&mut self, record: RecordFile, around: Surroundings)
+        ensures { self.new ≡ self.old }
+    {
         self.around = Some(around);
         self.record = Some(record);
     }
@@ -85,11 +101,15 @@ impl<'a, R: Files<File = File>> FileStore<'a, R> {
         self.identity
     }
 
-    pub(crate) fn path(&self) -> &str {
+    pub(crate) fn path(&self) -> &str
+        ensures { result.now ≡ self.now.path }
+    {
         self.path.as_str()
     }
 
-    pub fn access(&self) -> FileAccess {
+    pub fn access(&self) -> FileAccess
+        ensures { result ≡ self.now.access }
+    {
         self.access
     }
 
