@@ -7,106 +7,95 @@ Prints the resident memory after the first 100,000 commands and after each furth
 """
 import argparse
 import os
-import socket
-import struct
 import subprocess
+import sys
 import tempfile
 import threading
 import time
 
-TOP = os.path.dirname(os.path.dirname(os.path.abspath(__file__)))
-VTL = subprocess.run([os.path.join(TOP, "vtl"), "build"], stdout=subprocess.PIPE, text=True, check=True).stdout.strip()
+sys.path.append(os.path.join(os.path.dirname(os.path.dirname(os.path.abspath(__file__))), "tests", "lib"))
+
+import host
+from frames import command, framed
+from play import Tried
+from program import built, memory_of
+from scsi import TEST_UNIT_READY
+from server import Server
+from sockets import exactly
+
 BATCH = 500
 # The drives are empty: each answer has sense data.
 REPLY = 33
 FIRST = 100_000
 
 
-def framed(body):
-    return struct.pack(">I", len(body)) + body
-
-
-def exactly(connection, count):
-    while count:
-        piece = connection.recv(min(count, 65536))
-        if not piece:
-            raise ConnectionError("the server closed")
-        count -= len(piece)
-
-
 class Host(threading.Thread):
     """Logs in, and asks a unit in batches."""
 
-    def __init__(self, path, number, lun, batches, first, gate):
+    def __init__(self, server, number, lun, batches, first, gate):
         super().__init__()
-        self.path, self.number, self.lun, self.batches, self.first, self.gate = path, number, lun, batches, first, gate
+        self.server, self.number, self.lun, self.batches, self.first, self.gate = server, number, lun, batches, first, gate
         self.asked = 0
 
     def run(self):
-        with socket.socket(socket.AF_UNIX, socket.SOCK_STREAM) as connection:
-            connection.connect(self.path)
-            connection.sendall(framed(b"\x01" + struct.pack(">QH", 0x5000000000000000 + self.number, 1)))
-            exactly(connection, 6)
-            ask = framed(bytes([2, self.lun, 6]) + bytes(6))
+        with host.Host(self.server, 0x5000000000000000 + self.number) as session:
+            ask = framed(command(self.lun, TEST_UNIT_READY))
             for _ in range(self.batches):
-                connection.sendall(ask * BATCH)
-                exactly(connection, REPLY * BATCH)
+                session.connection.sendall(ask * BATCH)
+                exactly(session.connection, REPLY * BATCH)
                 self.asked += BATCH
                 if self.asked == self.first:
                     self.gate.wait()
-            connection.sendall(framed(b"\x04"))
-            exactly(connection, 5)
+            session.log_out()
 
 
-def resident(process):
-    with open(f"/proc/{process}/status", encoding="utf-8") as file:
-        return next(int(line.split()[1]) for line in file if line.startswith("VmRSS"))
-
-
-def measure(name, commands, count, lun_of):
-    with tempfile.TemporaryDirectory() as folder:
-        path = os.path.join(folder, "vtl")
-        options = ["serve", "--socket", path, "--drives", "4", "--workers", str(count), "--drain"]
-        server = subprocess.Popen([VTL, *options], stdin=subprocess.PIPE, stdout=subprocess.DEVNULL, stderr=subprocess.PIPE, text=True)
-        server.stderr.readline()
-        at_start = resident(server.pid)
+def measure(program, name, commands, count, lun_of):
+    options = ["--drives", "4", "--workers", str(count), "--drain"]
+    with tempfile.TemporaryDirectory() as folder, Server(
+            Tried(program, folder), *options, is_patient=False, output=subprocess.DEVNULL) as server:
+        process = server.process.pid
+        at_start = memory_of(process)
         gate = threading.Barrier(count + 1)
-        hosts = [Host(path, n, lun_of(n), commands // count // BATCH, FIRST // count // BATCH * BATCH, gate) for n in range(count)]
-        for host in hosts:
-            host.start()
-        while not all(host.asked for host in hosts):
-            time.sleep(0.01)
+        hosts = [Host(server, n, lun_of(n), commands // count // BATCH, FIRST // count // BATCH * BATCH, gate) for n in range(count)]
+        for each in hosts:
+            each.start()
         while gate.n_waiting < count:
             time.sleep(0.01)
-        first = resident(server.pid)
+        first = memory_of(process)
         start = time.monotonic()
         gate.wait()
-        told = FIRST
-        seen = []
-        while any(host.is_alive() for host in hosts):
-            asked = sum(host.asked for host in hosts)
-            if asked >= told + commands // 10:
-                told = asked
-                seen.append(resident(server.pid))
-            time.sleep(0.02)
+        seen = memory_of_each_tenth(process, hosts, commands)
         seconds = time.monotonic() - start
-        last = resident(server.pid)
-        server.stdin.close()
-        server.wait(timeout=60)
-        for line in server.stderr:
-            print(f"  {line}", end="")
+        last = memory_of(process)
+        server.end()
+        status = server.status()
+        for line in server.reported_lines():
+            print(f"  {line}")
         rate = (commands - FIRST) / seconds
         print(f"{name}: {commands} commands, {at_start} KiB at the start, {first} after {FIRST}, {last} at the end ({last - first:+}), "
-              f"between {min(seen)} and {max(seen)}; {rate:.0f} a second; status {server.returncode}", flush=True)
+              f"between {min(seen)} and {max(seen)}; {rate:.0f} a second; status {status}", flush=True)
+
+
+def memory_of_each_tenth(process, hosts, commands):
+    """The memory after each tenth of the commands, until the hosts have ended."""
+    reported, seen = FIRST, []
+    while any(each.is_alive() for each in hosts):
+        asked = sum(each.asked for each in hosts)
+        if asked >= reported + commands // 10:
+            reported = asked
+            seen.append(memory_of(process))
+        time.sleep(0.02)
+    return seen
 
 
 def main():
     parser = argparse.ArgumentParser()
     parser.add_argument("--commands", type=int, default=10_000_000)
     commands = parser.parse_args().commands
-    measure("four hosts at four drives", commands, 4, lambda number: 1 + number)
-    measure("eight hosts at four drives", commands, 8, lambda number: 1 + number % 4)
-    measure("eight hosts at one drive", commands, 8, lambda number: 1)
+    program = built()
+    measure(program, "four hosts at four drives", commands, 4, lambda number: 1 + number)
+    measure(program, "eight hosts at four drives", commands, 8, lambda number: 1 + number % 4)
+    measure(program, "eight hosts at one drive", commands, 8, lambda number: 1)
 
 
 main()

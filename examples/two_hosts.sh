@@ -1,6 +1,6 @@
 #!/bin/sh
-# Two hosts at one library behind a socket: A moves a volume into the drive, reserves it and writes a block; B's WRITE meets the
-# conflict, and its replies are said in words. Behind their replies come the records of the library.
+# Two hosts at one library that is served at a socket: A moves a volume into the drive, reserves it and writes a block; B's WRITE meets the
+# conflict, and its replies are said in words. After their replies come the records of the library.
 top=$(cd "$(dirname "$0")/.." && pwd) || exit 1
 work=$(mktemp -d) || exit 1
 "$top/vtl" serve --socket "$work/vtl" --sessions 2 >"$work/records" 2>"$work/told" &

@@ -1,5 +1,5 @@
-"""The quick test, which proves nothing: what `rt ci` refuses before it proves anything, the cases of `script_cases` in unproved runs, and the rows
-where the proved program of just these sources is there."""
+"""The quick test, which proves nothing: what `rt ci` refuses before it proves anything, the cases of `script_cases` in unproved runs, and
+the rows of `tests/` where the proved program of just these sources is there."""
 import collections
 import glob
 import os
@@ -15,7 +15,8 @@ TOP = playing.TOP
 MOST_PRINTED = 600_000
 # Seconds that a run may take. It takes a few.
 LIMIT = 120
-# An interpreter runs the cases too, for so many steps at most. It is slow, so it gets one: the answers are of the program compiled with checks.
+# An interpreter runs the cases too, for so many steps at most. It is slow, so it gets one: the answers are of the program compiled with
+# checks.
 STEPS = 1
 HEAD = b"== "
 # How many lines of what `rt` tells are shown where a run gives no answer.
@@ -149,11 +150,11 @@ def play_cases():
 
 
 def play_rows():
-    """The rows of scripts, where the proved program of just these sources is there."""
+    """The rows of `tests/`, where the proved program of just these sources is there."""
     command = [os.path.join(TOP, "vtl"), "built"]
     program = subprocess.run(command, stdout=subprocess.PIPE, text=True, check=False).stdout.strip()
     if not program:
-        print("check: the rows of scripts are left out, since no program of these sources is built (./vtl build)", flush=True)
+        print("check: the rows of tests are left out, since no program of these sources is built (./vtl build)", flush=True)
         return 0, 0
     return playing.play_rows(program)
 
