@@ -9,6 +9,7 @@
 Status 0 where all came so. It takes seconds, and a built program.
 """
 import argparse
+import itertools
 import os
 import pathlib
 import sys
@@ -49,12 +50,17 @@ def fill(server):
         return tape, kept
 
 
+# Each is another host, since the session of the one before may not have ended yet.
+OTHERS = itertools.count(3)
+
+
 def is_kept(server, lun):
     """Whether a filemark more is answered."""
-    try:
-        return Host(server, sas_of(3)).insist(lun, scsi.FILEMARK).status == 0
-    except ConnectionError:
-        return False
+    with Host(server, sas_of(next(OTHERS))) as host:
+        try:
+            return host.insist(lun, scsi.FILEMARK).status == 0
+        except ConnectionError:
+            return False
 
 
 def play(tried, with_room):

@@ -213,7 +213,7 @@ def any_pdus(chance):
         words = [chance.choice([0, NONE, 512, any_number]), chance.choice([number, number, any_number]), any_number]
         tail = chance.choice([scsi.TEST_UNIT_READY, scsi.INQUIRY, scsi.write(512), scsi.read(512), chance.randbytes(16)])
         tag = chance.choice([1, 2, 3, NONE, any_number])
-        lun = chance.choice([unit(THEIRS), unit(scsi.CHANGER), unit(NOWHERE), chance.randbytes(8).hex()])
+        lun = chance.choice([unit(THEIRS), unit(scsi.CHANGER), NOWHERE, chance.randbytes(8).hex()])
         opcode |= chance.choice([0, 0, IMMEDIATE])
         each = bytearray(pdu(opcode, chance.getrandbits(8), lun, tag, (*words, *words_of(tail)), data))
         if chance.random() < 0.1:

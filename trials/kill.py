@@ -134,7 +134,7 @@ def tails_told(library):
         if re.fullmatch(r"vtl: \S+\.tap: a tail of \d+ bytes that was cut off is lost", line):
             count += 1
         else:
-            assert line.startswith("vtl: took "), f"told: {line}"
+            assert line.startswith("vtl: removed "), f"told: {line}"
     return count
 
 

@@ -50,7 +50,7 @@ from recorded_files import STRACE, Connection, File, Record, contents_of, lay_ou
 KNOWN = [
     r"vtl: \S+\.tap: a tail of \d+ bytes that was cut off is lost",
     r"vtl: \S+\.tap: \d+ bytes that were not known to be on the disk when the machine stopped were moved to \S+\.tail\.\d+",
-    r"vtl: took \S+ away: nobody listened there",
+    r"vtl: removed \S+: nobody listened there",
 ]
 # How many failures keep their folders.
 KEPT = 20

@@ -119,7 +119,7 @@ TOLD = {name: re.compile(form) for name, form in {
     "not accepted": r"vtl: a connection could not be accepted",
     "kept": r"vtl: lines of records could not be written, and are kept",
     "written": r"vtl: the lines of records that were kept are written",
-    "busy": rf"vtl: BUSY for {NEXUS} at logical unit [0-2]: want of memory, of a slot or of a record number",
+    "busy": rf"vtl: BUSY for {NEXUS} at logical unit [0-2]: (?:want of memory or of a record number|all slots are taken there)",
 }.items()}
 
 

@@ -151,7 +151,8 @@ def write_protected(folder: Folder) -> typing.Iterator[Host]:
     """A host at a volume of "hi" whose file nobody may write by its mode: that is reported, a WRITE is refused, and the file stays."""
     os.chmod(folder.path_of(FIRST), 0o400)
     with loaded(folder) as (server, host):
-        same("what is reported", server.reported_lines(), [f"vtl: {folder.path_of(FIRST)}: it can't be written, so the volume is write-protected"])
+        words = f"vtl: {folder.path_of(FIRST)}: it can't be written, so the volume is write-protected"
+        same("what is reported", server.reported_lines(), [words])
         host.asks(DRIVE, write(1), WRITE_PROTECTED, b"\1")
         yield host
         ended(server)

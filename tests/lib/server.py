@@ -116,7 +116,7 @@ class Server:
 
     def portal(self, address: str = "127.0.0.1") -> tuple[str, int]:
         """Where its portal of this address is."""
-        return address.strip("[]"), int(re.search(re.escape(address) + ":([0-9]+)", self.reported.text)[1])
+        return address.strip("[]"), int(re.search(re.escape(address) + ":([0-9]+)", self.reported.text.partition(SERVING)[2])[1])
 
     def client(self, script: str, sas: int) -> tuple[int, str, str]:
         """The program as a host that sends a script by target port 1: its status, its replies, and what it reports."""

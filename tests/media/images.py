@@ -98,12 +98,12 @@ class Faulty(typing.NamedTuple):
 UNKNOWN = b"\x02\0\0\x80"
 FAULTY = {
     "unknown-class": Faulty(
-        "an image with a fault is left as it is", MARK + UNKNOWN, "record of an unknown class, at offset 4, behind 1 objects"),
+        "an image with a fault is left as it is", MARK + UNKNOWN, "record of an unknown class, at offset 4, after 1 objects"),
     "fault-behind-three": Faulty(
         "an index has each object before a fault, behind a gap", GAP + THREE + UNKNOWN + b"hi",
-        "record of an unknown class, at offset 30, behind 3 objects"),
+        "record of an unknown class, at offset 30, after 3 objects"),
     "too-many-filemarks": Faulty(
-        "more filemarks than a tape takes are refused", bytes(4_000_004), "more than a volume holds, behind 1000000 objects"),
+        "more filemarks than a tape takes are refused", bytes(4_000_004), "more than a volume holds, after 1000000 objects"),
 }
 
 
@@ -228,7 +228,7 @@ def checked(tried: Tried) -> None:
     away = b'[[volume]]\ntag = "G"\nstorage = 1\n[[missing]]\ntag = "H"\nstorage = 1\n'
     folder.put("library.toml", folder.bytes_of("library.toml") + away)
     faulty = (
-        f"{whole}C: record of an unknown class, at offset 14, behind 1 objects\nD: more than a volume holds, behind 1000000 objects\n"
+        f"{whole}C: record of an unknown class, at offset 14, after 1 objects\nD: more than a volume holds, after 1000000 objects\n"
         "E: it is also another volume's file\nF: it is not a regular file\nG: its file is missing\nH: its file is missing\n")
     there = {name: folder.bytes_of(name) for name in folder.names() if name != "F.tap"}
     same("what is printed of faults", folder.checked(), (2, faulty, f"vtl: {folder.path}: volumes with a fault: 6\n"))

@@ -239,8 +239,8 @@ def left_out(tried: Tried) -> None:
     folder = Folder(tried, A=HI, B=MARK + b"\x02\0\0\x80", C=struct.pack("<I", 2) + b"hi" + struct.pack("<I", 3))
     folder.put(NAME, BOTH.encode())
     faults = {
-        "B": "record of an unknown class, at offset 4, behind 1 objects",
-        "C": "the lengths before and after a block differ, at offset 0, behind 0 objects"}
+        "B": "record of an unknown class, at offset 4, after 1 objects",
+        "C": "the lengths before and after a block differ, at offset 0, after 0 objects"}
     reported = [f"vtl: {folder.path_of(f'{name}.tap')}: {fault}: the volume is left out" for name, fault in faults.items()]
     for _ in range(2):
         lies_so(folder, reported, {DRIVE_0: "A"}, "--volumes", "3")

@@ -25,7 +25,7 @@ const REPLIES: &[u8] = b"\0\0\0\x02\x81\0\
 const LINES: &[u8] = b"02 700006000000000a00000000290000000000 -\n00 - -\n";
 
 /// How a session of A by the script ends, with the replies byte by byte and so many reads at most, where each write fails or none.
-fn conversed(
+fn sent_script(
     alloc: Global,
     fails: bool,
     out: &mut Vec<u8>,
@@ -48,11 +48,11 @@ fn conversed(
 }
 
 #[test]
-fn converse_ends_by_one_read_too_few_and_by_its_first_write(rt: HostRuntime) {
+fn session_ends_by_one_read_too_few_and_by_its_first_write(rt: HostRuntime) {
     let mut out = Vec::new(rt.alloc());
-    let ended = conversed(rt.alloc(), false, &mut out, 58);
+    let ended = sent_script(rt.alloc(), false, &mut out, 58);
     let expected = (Some(ClientSessionFault::Read), LINES);
     assert_same(&rt, (ended, out.as_slice()), expected, "one read too few");
-    let ended = conversed(rt.alloc(), true, &mut out, 99);
+    let ended = sent_script(rt.alloc(), true, &mut out, 99);
     assert_same(&rt, ended, Some(ClientSessionFault::Write), "a write fails");
 }
