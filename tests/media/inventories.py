@@ -103,14 +103,14 @@ WRONG = {
     "256-drives": ("256 drives", "version = 1\ndrives = 256\nslots = 1\nportals = 0\n", "drives is missing, or has a bad value"),
     "no-volumes": ("volumes that are none", f"{SIZE}volume = 1\n", "volume is missing, or has a bad value"),
     "no-tag": ("a blank in a tag", second("A B", "storage = 0\n"), NO_TAG),
-    "no-element": ("no element", second("B"), f"{NTH} say one of data_transfer, storage and import_export"),
-    "element-twice": ("an element twice", second("B", "storage = 3\n"), f"{NTH} another volume lies in its element"),
+    "no-element": ("no element", second("B"), f"{NTH} it needs exactly one of data_transfer, storage and import_export, with a number"),
+    "element-twice": ("an element twice", second("B", "storage = 3\n"), f"{NTH} another volume is in its element"),
     "no-missing": ("missing volumes that are none", f"{SIZE}missing = 1\n", "missing is missing, or has a bad value"),
     "missing-twice": (
         "a tag of a volume that is missing, too", missing_second("A", "storage = 0\n"), f"{OF_THE_MISSING} another volume has its tag"),
     "missing-nowhere": (
         "a missing volume without an element", missing_second("B"),
-        f"{OF_THE_MISSING} say one of data_transfer, storage and import_export"),
+        f"{OF_THE_MISSING} it needs exactly one of data_transfer, storage and import_export, with a number"),
     "missing-beyond": (
         "a missing volume whose element there isn't", missing_second("B", "storage = 4\n"), f"{OF_THE_MISSING} no such element"),
     "tag-twice": ("a tag twice", second("A", "storage = 2\n"), f"{NTH} another volume has its tag"),

@@ -222,9 +222,11 @@ fn volume_words(fault: VolumeFault) -> &'static str {
     match fault {
         VolumeFault::NoTable => "no table",
         VolumeFault::NoTag => "no tag of 1 to 32 letters, digits, _ and -",
-        VolumeFault::NoElement => "say one of data_transfer, storage and import_export",
+        VolumeFault::NoElement => {
+            "it needs exactly one of data_transfer, storage and import_export, with a number"
+        }
         VolumeFault::Refused(AddFault::NoElement) => "no such element",
-        VolumeFault::Refused(AddFault::ElementTwice) => "another volume lies in its element",
+        VolumeFault::Refused(AddFault::ElementTwice) => "another volume is in its element",
         VolumeFault::Refused(AddFault::TagTwice) => "another volume has its tag",
         VolumeFault::Refused(AddFault::NoMemory) => "want of memory",
     }
