@@ -244,7 +244,7 @@ pub(crate) const ISCSI: [OptionRow; 8] = [
         excludes: None,
         needs: None,
         help: "Where iSCSI initiators connect, up to 4 times: the k-th is portal group k and target port k; =HOST:PORT after it is the address \
-            that initiators are told instead, if a port is forwarded, for example",
+            that is sent to initiators instead, for example if a port is forwarded",
     },
     OptionRow {
         name: "target-name",
@@ -321,7 +321,8 @@ pub(crate) const RECORDS: [OptionRow; 3] = [
         excludes: Some("spans"),
         needs: None,
         help: "Prints records while it serves: after each session, and whenever a unit has 4,096 of them; without it all are kept to the \
-            end, some 255 bytes a command. With --iscsi this is the default, unless --keep-records, --spans or --sessions is given",
+            end, or with --sessions until the last session has ended, some 255 bytes a command. With --iscsi this is the default, \
+            unless --keep-records or --spans is given",
     },
     OptionRow {
         name: "keep-records",
@@ -341,7 +342,7 @@ pub(crate) const TIMES: [OptionRow; 5] = [
         presence: Presence::Default("10"),
         excludes: None,
         needs: None,
-        help: "How many seconds sessions go on after the server is told to end",
+        help: "How many seconds sessions go on after the server is asked to end",
     },
     OptionRow {
         name: "login-timeout",
@@ -384,7 +385,8 @@ pub(crate) const LOG: [OptionRow; 1] = [OptionRow {
     presence: Presence::Optional,
     excludes: None,
     needs: None,
-    help: "Prints a line on standard error for each session that begins or ends, and for each command that ended in BUSY",
+    help: "Prints a line on standard error for each session that begins, ends or takes the place of another, for each iSCSI initiator that \
+        logs in, for each iSCSI command number that did not come, and for each command that ended in BUSY",
 }];
 
 /// A command with the options of a table, in its order.
