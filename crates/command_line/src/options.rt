@@ -1,4 +1,4 @@
-//! The options of the program's commands, in tables, and how `clap` is told of them.
+//! The options of the program's commands, in tables, and how `clap` is given them.
 
 use clap::{Arg, ArgAction, Command, value_parser};
 use program_options::{LibraryOptions, ServeTimes};
@@ -10,11 +10,11 @@ use std::alloc::{AllocError, Global};
 enum OptionValue {
     /// A text without the option's name, by what the help calls it.
     Operand(&'static str),
-    /// Nothing: it is said, or it isn't.
+    /// Nothing: the option is given, or it isn't.
     Switch,
     /// A text, by what the help calls it.
     Text(&'static str),
-    /// The same, as often as it is said.
+    /// The same, as often as the option is given.
     Texts(&'static str),
     /// A number of 8 bits, by what the help calls it, with the least and the greatest.
     Number8(&'static str, u8, u8),
@@ -30,19 +30,19 @@ pub(crate) struct OptionRow {
     name: &'static str,
     value: OptionValue,
     presence: Presence,
-    /// The option beside which it can't be said.
+    /// The option together with which it can't be given.
     excludes: Option<&'static str>,
-    /// The option without which it can't be said.
+    /// The option without which it can't be given.
     needs: Option<&'static str>,
     help: &'static str,
 }
 
-/// Whether an option has to be said.
+/// Whether an option has to be given.
 #[derive(Clone, Copy)]
 enum Presence {
     Required,
     Optional,
-    /// It has this value where it isn't said.
+    /// It has this value where it isn't given.
     Default(&'static str),
 }
 

@@ -140,7 +140,7 @@ fn given_library_of(command: &ArgMatches) -> GivenLibrary
     }
 }
 
-/// A number that was said. `clap` sees to it that it is in its range: the clamp says that to the prover alone.
+/// A number that was given. `clap` sees to it that it is in its range: the clamp says that to the prover alone.
 fn said_number8(command: &ArgMatches, name: &str, least: u8, most: u8) -> Option<u8>
     requires { least ≤ most }
     ensures { IsWithin least most result }
@@ -164,7 +164,7 @@ fn said_number16(command: &ArgMatches, name: &str, least: u16, most: u16) -> Opt
     Some(number.clamp(least, most))
 }
 
-/// Whether an option was said. Where it wasn't, `clap` may have a value in its place.
+/// Whether an option was given. Where it wasn't, `clap` may have a value in its place.
 fn is_said(command: &ArgMatches, name: &str) -> bool {
     matches!(command.value_source(name), Some(ValueSource::CommandLine))
 }
@@ -192,7 +192,7 @@ fn without_library_of(command: &ArgMatches) -> WithoutLibrary {
     }
 }
 
-/// The folder that is to be looked over.
+/// The folder that is to be checked.
 fn checked_folder_of(alloc: Global, media: &ArgMatches) -> Result<String, AllocError> {
     // `clap` asks for the subcommand, of which there is no other, and for the folder.
     let folder = match media.subcommand_matches("check") {
@@ -244,7 +244,7 @@ fn records_of(command: &ArgMatches) -> Audit {
 
 /// How long a command has a library wait for its hosts.
 fn times_of(command: &ArgMatches) -> ServeTimes {
-    // `clap` sees to it that no value is absent: what stands behind each `get_one` says that to the prover alone.
+    // `clap` sees to it that no value is absent: what comes after each `get_one` says that to the prover alone.
     ServeTimes::of_seconds(
         command
             .get_one::<u32>("grace")
@@ -288,8 +288,7 @@ fn serve_options_of(
     if socket.is_none() && iscsi.is_none() {
         return Err(CommandLineFault::Options(OptionFault::NoPlace));
     }
-    // `clap` sees to it that no value is out of its range: what stands behind the getter of the sessions says that to the
-    // prover alone.
+    // `clap` sees to it that no value is out of its range: what comes after the getter of the sessions says that to the prover alone.
     let until = match command.get_one::<u8>("sessions") {
         Some(sessions) => ServeUntil::Sessions(sessions.clamp(1, 64)),
         None => {
@@ -309,7 +308,7 @@ fn serve_options_of(
     })
 }
 
-/// Whether records are handed out while a library is served. A server with portals serves for long, and would keep them for ever.
+/// Whether records are handed out while a library is served. A server with portals serves for a long time, and would keep all of them.
 fn is_drained(command: &ArgMatches, has_portals: bool) -> bool {
     let is_kept = command.get_flag("keep-records")
         || command.get_flag("spans")
@@ -317,7 +316,7 @@ fn is_drained(command: &ArgMatches, has_portals: bool) -> bool {
     command.get_flag("drain") || has_portals && !is_kept
 }
 
-/// What initiators of iSCSI come to, if they are to.
+/// What iSCSI initiators connect to, if any may.
 fn iscsi_options_of(
     alloc: Global,
     command: &ArgMatches,
@@ -375,7 +374,7 @@ fn portals_of(
     Ok(portals)
 }
 
-/// Whom a command lets in by name.
+/// The hosts that a command lets in by name.
 fn hosts_of(alloc: Global, command: &ArgMatches) -> Result<Vec<NamedHost>, CommandLineFault> {
     let mut hosts = Vec::new(alloc);
     let Some(words) = command.get_strs("host") else {
@@ -393,7 +392,7 @@ fn hosts_of(alloc: Global, command: &ArgMatches) -> Result<Vec<NamedHost>, Comma
     Ok(hosts)
 }
 
-/// By which digests initiators may show who they are.
+/// By which digests initiators may prove that a name is theirs.
 fn digests_of(alloc: Global, command: &ArgMatches) -> Result<ChapDigests, CommandLineFault> {
     let Some(text) = command.get_str("chap-digests") else {
         return Ok(ChapDigests::Sha256AndMd5);
@@ -424,7 +423,7 @@ fn refused_word(alloc: Global, fault: OptionFault, word: &str) -> CommandLineFau
     }
 }
 
-/// Where the library of a client's command is met, and as which host.
+/// Where a client's command connects to its library, and as which host.
 fn client_options_of(alloc: Global, command: &ArgMatches) -> Result<ClientOptions, CommandLineFault>
     ensures { IfOk result IsClientOptions }
 {

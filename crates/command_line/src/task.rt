@@ -23,12 +23,12 @@ pub enum Task {
     CheckMedia(String),
 }
 
-/// Where a library is served and kept, for how long, when its records are printed, and what is told of its sessions.
+/// Where a library is served and kept, for how long, when its records are printed, and what is logged of its sessions.
 #[derive(Drop)]
 pub struct ServeOptions {
     /// The path of the socket's file, if there is to be one.
     pub socket: Option<String>,
-    /// What initiators of iSCSI come to, if they are to.
+    /// What iSCSI initiators connect to, if any may.
     pub iscsi: Option<IscsiOptions>,
     /// Where the library is kept, if it is to be.
     pub media: Option<MediaOptions>,
@@ -39,7 +39,8 @@ pub struct ServeOptions {
     pub drain: bool,
     /// How long it waits for its hosts.
     pub times: ServeTimes,
-    /// Whether a line tells of each session that begins or ends, and of what a host was refused for want of memory or of a slot.
+    /// Whether what goes on in sessions is logged too: those that begin, end or take the place of others, initiators that log in, command
+    /// numbers that did not come, and commands that ended in BUSY.
     pub log: bool,
 }
 
@@ -50,18 +51,18 @@ pub struct MediaOptions {
     pub folder: String,
     /// What is done where it has no library.
     pub without: WithoutLibrary,
-    /// What was said of the library.
+    /// What the command line says of the library.
     pub given: GivenLibrary,
 }
 
-/// Where initiators of iSCSI come in, and who they may be.
+/// Where iSCSI initiators connect, and which of them may log in.
 #[derive(Drop)]
 pub struct IscsiOptions {
     /// The portals: the first is portal group 1 and target port 1, and so on.
     pub portals: Vec<PortalOptions>,
     /// The target's iSCSI name.
     pub target_name: String,
-    /// Who is let in by name.
+    /// The hosts that are let in by name.
     pub hosts: Vec<NamedHost>,
     /// Whether every other name is let in too.
     pub any_host: bool,
@@ -69,13 +70,13 @@ pub struct IscsiOptions {
     pub most_strangers: u8,
     /// Whether sessions of one name may come from different addresses.
     pub multipath: bool,
-    /// The path of the file with the secrets by which initiators show who they are. `None`: they need show nothing.
+    /// The path of the file with the secrets by which initiators prove that a name is theirs. `None`: they need prove nothing.
     pub chap: Option<String>,
-    /// By which digests they may show it.
+    /// By which digests they may prove it.
     pub chap_digests: ChapDigests,
 }
 
-/// Where a library is met, and as which host.
+/// Where a client connects to a library, and as which host.
 #[derive(Drop)]
 pub struct ClientOptions {
     /// The path of the socket's file.

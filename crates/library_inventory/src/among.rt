@@ -19,7 +19,7 @@ pub(crate) fn is_named(volumes: &[PlacedVolume], tag: VolumeTag) -> bool
     volumes.iter().any(|volume| volume.tag == tag)
 }
 
-/// Whether one of the volumes lies in an element.
+/// Whether one of the volumes is in an element.
 pub(crate) fn is_full(volumes: &[PlacedVolume], element: Element) -> bool
     ensures { result ≡ is_full volumes.now element }
 {

@@ -10,7 +10,7 @@ pub enum Element {
     ImportExport(u16),
 }
 
-/// How many elements of each type a library has, beside its medium transport element.
+/// How many elements of each type a library has, apart from its medium transport element.
 #[derive(Clone, Copy, Debug)]
 pub struct LibrarySize {
     /// Data transfer elements.

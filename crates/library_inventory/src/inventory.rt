@@ -8,7 +8,7 @@ use crate::placed::PlacedVolume;
 use std::alloc::Global;
 use std::marker::Model;
 
-/// Looks whether a volume may be added behind others.
+/// Looks whether a volume may be added after others.
 fn look(
     size: LibrarySize,
     volumes: &[PlacedVolume],
@@ -49,7 +49,7 @@ fn look_missing(
     Ok(())
 }
 
-/// What a library is made of, where its volumes lie, and where those lay that are missing: no two have one tag, no two lie in one element,
+/// What a library is made of, where its volumes are, and where those were that are missing: no two have one tag, no two are in one element,
 /// and each element is one of the library.
 #[derive(Drop)]
 pub struct Inventory {
@@ -69,7 +69,7 @@ impl Model for Inventory {
 }
 
 impl Inventory {
-    /// Of a library in which no volume lies.
+    /// Of a library in which no volume is.
     pub fn new(alloc: Global, size: LibrarySize) -> Inventory
         ensures { result ≡ record { size = size; volumes = []; missing = [] } }
     {
@@ -94,7 +94,7 @@ impl Inventory {
         &self.volumes
     }
 
-    /// The volumes that are missing, each with the element in which it lay, in the order in which they were added.
+    /// The volumes that are missing, each with the element in which it was, in the order in which they were added.
     pub fn missing(&self) -> &[PlacedVolume]
         ensures value { result.now ≡ self.now.missing }
         ensures kept { AreKept self.now.size self.now.volumes self.now.missing }
@@ -102,7 +102,7 @@ impl Inventory {
         &self.missing
     }
 
-    /// Adds a volume behind the others; where it is refused nothing changes.
+    /// Adds a volume after the others; where it is refused nothing changes.
     pub fn add(&mut self, volume: PlacedVolume) -> Result<(), AddFault>
         ensures ok { OnOk result (self.new ≡ record { size = self.old.size; volumes = self.old.volumes ++ volume ∷ []; missing = self.old.missing }) }
         ensures fault { IfErr result (IsAddFault self.old.size self.old.volumes self.old.missing volume) }
@@ -113,7 +113,7 @@ impl Inventory {
         Ok(())
     }
 
-    /// Adds a volume that is missing, with the element in which it lay, behind the others that are; where it is refused nothing changes.
+    /// Adds a volume that is missing, with the element in which it was, after the others that are; where it is refused nothing changes.
     pub fn add_missing(&mut self, volume: PlacedVolume) -> Result<(), AddFault>
         ensures ok { OnOk result (self.new ≡ record { size = self.old.size; volumes = self.old.volumes; missing = self.old.missing ++ volume ∷ [] }) }
         ensures fault { IfErr result (IsMissFault self.old.size self.old.volumes self.old.missing volume) }

@@ -5,14 +5,14 @@ ghost use Rattle.library_inventory.specs.declared.placing.Start.{Start};
 ghost use Rattle.library_inventory.specs.Starts.{IsStart};
 ghost use Rattle.library_inventory.specs.Tests.{has_tag, is_named};
 
-/// Law: at a start each image that can be read and each volume that is made lies somewhere, and nothing else does.
+/// Law: at a start each image that can be read and each volume that is made is in an element, and nothing else is.
 pub fn starts_hold_all_images()
     ensures { (slots least : ℕ) (named missing : List PlacedVolume) (images left_out : List VolumeTag) (start : Start) (tag : VolumeTag)
         → IsStart slots least named missing images left_out start
         → is_named start.volumes.items tag ≡ (has_tag images tag || has_tag start.made.items tag) }
 {}
 
-/// Law: a start forgets no volume: each that the inventory names, or has as missing, lies somewhere or is missing.
+/// Law: a start forgets no volume: each that the inventory names, or has as missing, is in an element or is missing.
 pub fn starts_forget_no_volume()
     ensures { (slots least : ℕ) (named missing : List PlacedVolume) (images left_out : List VolumeTag) (start : Start) (tag : VolumeTag)
         → IsStart slots least named missing images left_out start

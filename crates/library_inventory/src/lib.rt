@@ -1,4 +1,4 @@
-//! The inventory of a library: what it is made of, and which volume lies in which element; and where each volume lies at a start.
+//! The inventory of a library: what it is made of, and which volume is in which element; and where each volume is at a start.
 #![tactic(auto)]
 
 mod among;

@@ -7,7 +7,7 @@ use tape_medium::VolumeTag;
 /// The most bytes of a name, as a tag has.
 const MOST: usize = 32;
 
-/// Whether a byte may stand in a name: a letter, a digit, `_` or `-`, of ASCII.
+/// Whether a byte may be in a name: a letter, a digit, `_` or `-`, of ASCII.
 fn is_name_byte(byte: u8) -> bool
     ensures { result ≡ is_name_byte byte }
 {

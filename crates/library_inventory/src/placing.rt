@@ -11,13 +11,13 @@ use crate::placed::PlacedVolume;
 use std::alloc::{AllocError, Global};
 use tape_medium::VolumeTag;
 
-/// Where each volume lies.
+/// Where each volume is.
 #[derive(Drop)]
 pub struct Start {
     pub volumes: Vec<PlacedVolume>,
     /// The tags of those that are made, empty.
     pub made: Vec<VolumeTag>,
-    /// Those of the inventory whose images can't be read, with the elements in which they lay.
+    /// Those of the inventory whose images can't be read, with the elements in which they were.
     pub missing: Vec<PlacedVolume>,
 }
 
@@ -36,7 +36,7 @@ fn kept_volumes(
         .collect(alloc)
 }
 
-/// Puts a volume that was missing back into its element, if its image can be read again and none of the others lies there.
+/// Puts a volume that was missing back into its element, if its image can be read again and none of the others is there.
 fn put_back(
     images: &[VolumeTag],
     others: &mut Vec<PlacedVolume>,
@@ -50,7 +50,7 @@ fn put_back(
     Ok(())
 }
 
-/// The volumes that lie where they lay.
+/// The volumes that are where they were.
 fn lying_volumes(
     alloc: Global,
     named: &[PlacedVolume],
@@ -115,7 +115,7 @@ fn count_to_make(
         .saturating_sub(unlisted)
 }
 
-/// The images of volumes that don't lie where they lay.
+/// The images of volumes that aren't where they were.
 fn other_images(
     alloc: Global,
     lying: &[PlacedVolume],
@@ -130,7 +130,7 @@ fn other_images(
         .collect(alloc)
 }
 
-/// The numbers of the storage elements in which no volume lies.
+/// The numbers of the storage elements in which no volume is.
 fn free_storage(alloc: Global, slots: u16, volumes: &[PlacedVolume]) -> Result<Vec<u16>, AllocError>
     ensures { IfOk result (λ free. free.items ≡ free_storage slots volumes.now) }
 {
@@ -157,7 +157,7 @@ fn stored_volumes(
         .collect(alloc)
 }
 
-/// The tags of volumes that don't lie where they lay, and of those that are made, in order.
+/// The tags of volumes that aren't where they were, and of those that are made, in order.
 fn other_tags(
     alloc: Global,
     lying: &[PlacedVolume],
@@ -173,8 +173,8 @@ fn other_tags(
     Ok(others)
 }
 
-/// Where volumes lie in a library of so many storage elements: those that its inventory names where they lay, if their images can be read;
-/// then those that it has as missing, and whose images can be read again, where they lay, if nothing lies there; then other images, and
+/// Where volumes are in a library of so many storage elements: those that its inventory names where they were, if their images can be read;
+/// then those that it has as missing, and whose images can be read again, where they were, if no volume is there; then other images, and
 /// volumes that are made so that there are `least` at least, in the first free storage elements. Volumes of the inventory whose images
 /// can't be read are missing. They count among the least, and so do volumes that are left out since their files can't be served.
 pub fn place(

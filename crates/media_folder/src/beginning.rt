@@ -1,4 +1,4 @@
-//! A volume's file, once it is written on: what may have come back behind what was on the disk is moved away, and its record begins.
+//! A volume's file, once it is written on: what may have come back after what was on the disk is moved away, and its record begins.
 ghost use Rattle.std.specs.Prelude.{◌≡◌};
 
 use crate::boot::BootId;
@@ -21,7 +21,7 @@ const MOST_TAILS: u32 = 1_000_000;
 /// How many bytes of a tail are copied at once.
 const AT_ONCE: usize = 131_072;
 
-/// Begins to write a volume's file: bytes that it has behind those that may be read are moved away, and its record says which are on the
+/// Begins to write a volume's file: bytes that it has after those that may be read are moved away, and its record says which are on the
 /// disk. How many these are. A protected file stays as it is.
 pub(crate) fn begin_writing<'a, R: AllocGlobal + Files<File = File>, E: Write>(
     rt: &R,
@@ -55,7 +55,7 @@ pub(crate) fn begin_writing<'a, R: AllocGlobal + Files<File = File>, E: Write>(
     Ok(trust.synced)
 }
 
-/// What may be read behind the bytes that are known to be on the disk was written by a program that ended since, in this run of the machine.
+/// What may be read after the bytes that are known to be on the disk was written by a program that ended since, in this run of the machine.
 /// A sync that failed there may have made it count as written, so it is written once more where it is, and then the next sync brings it to
 /// the disk. Where that fails the volume's tape is written again from the bytes on that are known to be there.
 fn with_tail(alloc: Global, file: &File, trust: Trust) -> Trust {
@@ -92,7 +92,7 @@ fn write_again(alloc: Global, file: &File, from: u64, to: u64) -> io::Result<()>
     Ok(())
 }
 
-/// Moves what a file has behind so many bytes into a file of its own.
+/// Moves what a file has after so many bytes into a file of its own.
 fn move_tail<'a, R: AllocGlobal + Files<File = File>, E: Write>(
     rt: &R,
     folder: &LibraryFolder,
@@ -127,7 +127,7 @@ fn cut(file: &File, size: u64) -> io::Result<()> {
     file.sync_data()
 }
 
-/// Copies what a file has behind so many bytes into the first file of a tail that isn't there yet, and brings it to the disk. Its path.
+/// Copies what a file has after so many bytes into the first file of a tail that isn't there yet, and brings it to the disk. Its path.
 fn copy_tail<'a, R: AllocGlobal + Files<File = File>>(
     rt: &R,
     store: &FileStore<'a, R>,

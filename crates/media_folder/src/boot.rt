@@ -12,7 +12,7 @@ const SIZE: usize = 36;
 #[derive(Clone, Copy, PartialEq, Eq)]
 pub(crate) enum BootId {
     Known([u8; SIZE]),
-    /// The system doesn't say. Then nobody knows whether it was booted since.
+    /// The system doesn't say. Then it isn't known whether it was booted since.
     Unknown,
 }
 

@@ -1,4 +1,4 @@
-//! A folder that is looked over, while nothing in it is changed.
+//! A folder that is checked, while nothing in it is changed.
 use crate::check_fault::CheckFault;
 use crate::fault::FolderFault;
 use crate::inventory_file::read_inventory_file;
@@ -14,7 +14,7 @@ use std::io::{BufReader, Write};
 use tape_image::index_image;
 use tape_medium::VolumeTag;
 
-/// How many volumes aren't well.
+/// How many volumes have something wrong.
 #[derive(Clone, Copy)]
 struct Findings {
     /// Their images have a fault, or they have none of their own.
@@ -24,7 +24,7 @@ struct Findings {
 }
 
 /// Reads the images of the volumes in a folder, and writes to `out` for each a line that says what it holds, or why it can't be served. No
-/// lock is taken and nothing is changed, so that it also goes beside a server.
+/// lock is taken and nothing is changed, so that it also works while a server has the folder.
 pub fn check_folder<R: AllocGlobal + Files, W: Write, E: Write>(
     rt: &R,
     path: String,

@@ -6,10 +6,10 @@ use std::alloc::AllocError;
 use std::fmt;
 use thiserror::Error;
 
-/// Why a folder that was looked over isn't well.
+/// What is wrong with a folder that was checked.
 #[derive(Debug, Drop, Error)]
 pub enum CheckFault {
-    /// It couldn't be looked over.
+    /// It couldn't be checked.
     Folder(#[from] FolderFault),
     /// So many of its volumes have faulty images, or none of their own.
     Faulty { path: String, count: usize },

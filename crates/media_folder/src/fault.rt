@@ -68,7 +68,7 @@ impl FolderFault {
         }
     }
 
-    /// The exit status of a program that ends by it: 2 where something is to be put right before, 3 for want of memory, else 4
+    /// The exit status of a program that ends by it: 2 where something is to be corrected first, 3 where memory is refused, else 4
     /// (profile).
     pub fn status(&self) -> u8
         ensures { result ≡ folder_status self.now }

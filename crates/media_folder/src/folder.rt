@@ -20,8 +20,8 @@ use std::fs::{File, Files};
 use std::io::Write;
 use tape_medium::{MemoryLimit, VolumeTag};
 
-/// A folder that is opened: what its library is made of, its volumes, and those that are missing, with the elements in which they lay.
-/// Nobody else has it as long as `folder` lives.
+/// A folder that is opened: what its library is made of, its volumes, and those that are missing, with the elements in which they were. No
+/// other program has it as long as `folder` exists.
 #[derive(Drop)]
 pub struct OpenedFolder<'a, R: Files<File = File>> {
     pub folder: LibraryFolder,
@@ -41,7 +41,7 @@ struct ReadLibrary<'a, R: Files<File = File>> {
 /// Opens the folder of a library. First everything in it is read: a volume whose file can't be served is left out, and one whose file isn't
 /// there is missing. Then blank volumes are made, until there are as many as were asked for. Each volume takes `volume_size` bytes of
 /// blocks, or as many as it has where these are more, and all take no more memory together than the limit says. What is lost, left or
-/// missing is told on `errors`. The inventory is read and not written.
+/// missing is reported on `errors`. The inventory is read and not written.
 pub fn open_folder<'a, R: AllocGlobal + Files<File = File>, E: Write>(
     rt: &'a R,
     path: String,
@@ -88,7 +88,7 @@ pub fn open_folder<'a, R: AllocGlobal + Files<File = File>, E: Write>(
     })
 }
 
-/// Reads what is in a folder beside its inventory, and decides what its library is made of and where its volumes lie.
+/// Reads what is in a folder next to its inventory, and decides what its library is made of and where its volumes are.
 fn read_library<'a, R: AllocGlobal + Files<File = File>, E: Write>(
     rt: &'a R,
     folder: &LibraryFolder,
@@ -127,7 +127,7 @@ fn read_library<'a, R: AllocGlobal + Files<File = File>, E: Write>(
     Ok(ReadLibrary { size, found, start })
 }
 
-/// Where the volumes of a library lie, by its inventory and the files that are there.
+/// Where the volumes of a library are, by its inventory and the files that are there.
 fn start_of<'a, R: Files<File = File>>(
     alloc: Global,
     size: LibrarySize,
@@ -154,7 +154,7 @@ fn start_of<'a, R: Files<File = File>>(
     }
 }
 
-/// Tells of missing volumes whose files aren't there. Of those that are left out it was told why.
+/// Reports missing volumes whose files aren't there. Why a volume is left out was reported before.
 fn tell_missing<R: AllocGlobal, E: Write>(
     rt: &R,
     folder: &str,

@@ -1,7 +1,7 @@
 use std::fs::Metadata;
 use std::os::unix::fs::MetadataExt;
 
-/// Which file it is, whatever it is called: the device on which it lies, and its number there.
+/// Which file it is, whatever it is called: the device on which it is, and its number there.
 #[derive(Clone, Copy, PartialEq, Eq)]
 pub(crate) struct FileIdentity {
     device: u64,

@@ -25,7 +25,7 @@ use std::os::unix::fs::OpenOptionsExt;
 use tape_flush::{SavedImage, open_image};
 use tape_medium::{MemoryLimit, Volume, VolumeTag};
 
-/// A volume that is kept in a file, and the element in which it lies. It is protected where its file can't be written.
+/// A volume that is kept in a file, and the element in which it is. It is protected where its file can't be written.
 #[derive(Drop)]
 pub struct KeptVolume<'a, R: Files<File = File>> {
     pub element: Element,
@@ -39,7 +39,7 @@ pub(crate) struct FoundVolumes<'a, R: Files<File = File>> {
     pub volumes: Vec<ReadVolume<'a, R>>,
     /// The tags of those that are left out, since their files can't be served.
     pub left_out: Vec<VolumeTag>,
-    /// Whether others than the owner of one of the files may read or write it.
+    /// Whether users other than the owner of one of the files may read or write it.
     pub is_open: bool,
     seen: SeenFiles,
     /// The run of the machine in which they were read.
@@ -74,7 +74,7 @@ impl<'a, R: Files<File = File>> FoundVolumes<'a, R> {
 }
 
 /// Reads the files of a folder's volumes, each for `volume_size` bytes of blocks, or for those that it has where these are more, which take
-/// no more memory together than the limit says. A volume whose file can't be served is told and left out.
+/// no more memory together than the limit says. A volume whose file can't be served is reported and left out.
 pub(crate) fn read_volumes<'a, R: AllocGlobal + Files<File = File>, E: Write>(
     rt: &'a R,
     folder: &str,
@@ -92,7 +92,7 @@ pub(crate) fn read_volumes<'a, R: AllocGlobal + Files<File = File>, E: Write>(
     Ok(found)
 }
 
-/// Reads the files of volumes, behind others that were found.
+/// Reads the files of volumes, after others that were found.
 pub(crate) fn find_volumes<'a, R: AllocGlobal + Files<File = File>, E: Write>(
     rt: &'a R,
     folder: &str,
@@ -112,7 +112,7 @@ pub(crate) fn find_volumes<'a, R: AllocGlobal + Files<File = File>, E: Write>(
     Ok(())
 }
 
-/// Reads the file of one volume, behind others that were found.
+/// Reads the file of one volume, after others that were found.
 fn find_volume<'a, R: AllocGlobal + Files<File = File>, E: Write>(
     rt: &'a R,
     folder: &str,
@@ -190,8 +190,8 @@ fn make_file<R: Files<File = File>>(rt: &R, path: &str) -> io::Result<()> {
     Ok(())
 }
 
-/// The volumes that were found, each in the element in which it lies from now on, and kept in its file. What a file has that may not be
-/// read is moved away.
+/// The volumes that were found, each in the element in which it is from now on, and kept in its file. What a file has that may not be read
+/// is moved away.
 pub(crate) fn keep_volumes<'a, R: AllocGlobal + Files<File = File>, E: Write>(
     rt: &R,
     folder: &LibraryFolder,
@@ -204,7 +204,7 @@ pub(crate) fn keep_volumes<'a, R: AllocGlobal + Files<File = File>, E: Write>(
     let FoundVolumes { volumes, boot, .. } = found;
     let mut kept = Vec::with_capacity(rt.alloc(), volumes.len())?;
     'volumes: for read in volumes {
-        // Each volume that was read lies somewhere.
+        // Each volume that was read has an element.
         if let Some(element) = element_of(placed, read.volume.tag) {
             let volume = keep_volume(rt, folder, read, element, boot, errors)?;
             kept.push(volume).map_err(AllocError::from)?;
@@ -240,7 +240,7 @@ fn keep_volume<'a, R: AllocGlobal + Files<File = File>, E: Write>(
     })
 }
 
-/// The element in which the volume with a tag lies.
+/// The element in which the volume with a tag is.
 fn element_of(placed: &[PlacedVolume], tag: VolumeTag) -> Option<Element> {
     placed
         .iter()

@@ -56,7 +56,7 @@ pub(crate) fn kept_inventory<R: AllocGlobal + Files>(
     }
 }
 
-/// Whether a folder has an inventory that others than its owner may read or write.
+/// Whether a folder has an inventory that users other than its owner may read or write.
 pub(crate) fn is_inventory_open<R: AllocGlobal + Files>(
     rt: &R,
     folder: &str,

@@ -127,7 +127,7 @@ fn add_missing(inventory: &mut Inventory, volumes: &[Value]) -> Result<(), ReadF
     Ok(())
 }
 
-/// The volumes that stand under a key, none where it isn't there.
+/// The volumes that a text has under a key, none where it isn't there.
 fn volumes_at(table: &Table, key: InventoryKey) -> Result<&[Value], ReadFault> {
     match table.get(key_text(key)) {
         Some(Value::Array(volumes)) => Ok(volumes),
@@ -173,7 +173,7 @@ fn write_volume(
     Ok(())
 }
 
-/// The text of an inventory with the volumes that are missing, each with the element in which it lay, in TOML 1.0.
+/// The text of an inventory with the volumes that are missing, each with the element in which it was, in TOML 1.0.
 pub fn write_inventory(
     alloc: Global,
     inventory: &Inventory,

@@ -1,5 +1,5 @@
-//! The folder in which a library is kept: one program has it at a time; each volume is a file there, `TAG.tap`, and `library.toml`
-//! says what the library is made of and where its volumes lie.
+//! The folder in which a library is kept: one program has it at a time; each volume is a file there, `TAG.tap`, and `library.toml` says
+//! what the library is made of and where its volumes are.
 #![tactic(auto)]
 
 mod beginning;

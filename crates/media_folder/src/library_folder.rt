@@ -10,7 +10,7 @@ use std::io::{self, ErrorKind};
 use std::marker::Model;
 use std::os::unix::fs::{DirBuilderExt, MetadataExt};
 
-/// The folder of a library, which no other program has as long as this lives: the lock is on the folder itself, and the system gives it
+/// The folder of a library, which no other program has as long as this exists: the lock is on the folder itself, and the system gives it
 /// back however the program ends.
 #[derive(Drop)]
 pub struct LibraryFolder {
@@ -49,7 +49,7 @@ impl LibraryFolder {
         }
     }
 
-    /// Whether others than its owner may read or write it.
+    /// Whether users other than its owner may read or write it.
     pub(crate) fn is_open_to_others(&self) -> bool {
         match self.folder.metadata() {
             Ok(metadata) => is_open_to_others(metadata.mode()),

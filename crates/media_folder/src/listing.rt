@@ -7,8 +7,8 @@ use std::fs::{self, Files};
 use std::io::{self, ErrorKind, Write};
 use tape_medium::VolumeTag;
 
-/// The tags of the volumes whose files are in a folder, in their order. What has the ending of such a file and no volume's name is
-/// told and left.
+/// The tags of the volumes whose files are in a folder, in their order. What has the ending of such a file and no volume's name is reported
+/// and left alone.
 pub(crate) fn list_volumes<R: AllocGlobal + Files, E: Write>(
     rt: &R,
     folder: &str,

@@ -12,7 +12,7 @@ use tape_medium::VolumeTag;
 pub(crate) enum FileKind {
     /// `TAG.tap`: the volume with that tag.
     Volume(VolumeTag),
-    /// It ends in `.tap`, and what stands before is no tag.
+    /// It ends in `.tap`, and what is before that is no tag.
     NoTag,
     Other,
 }

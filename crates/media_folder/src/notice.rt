@@ -14,7 +14,7 @@ pub(crate) enum RecordFault {
     Longer { recorded: u64, length: u64 },
 }
 
-/// What is told of a folder that is opened.
+/// What is reported of a folder that is opened.
 #[derive(Clone, Copy)]
 pub(crate) enum Notice<'a> {
     /// The name of a file in the folder ends in `.tap`, and is that of no volume.
@@ -31,7 +31,7 @@ pub(crate) enum Notice<'a> {
         path: &'a str,
         refusal: ImageRefusal,
     },
-    /// Others than the owner of the folder, or of a file in it, may read or write that.
+    /// Users other than the owner of the folder, or of a file in it, may read or write that.
     OpenToOthers {
         folder: &'a str,
     },
@@ -45,7 +45,7 @@ pub(crate) enum Notice<'a> {
         path: &'a str,
         fault: RecordFault,
     },
-    /// So many bytes behind those of a volume's file that were on the disk were moved away.
+    /// So many bytes after those of a volume's file that were on the disk were moved away.
     TailMoved {
         path: &'a str,
         count: u64,
@@ -55,14 +55,14 @@ pub(crate) enum Notice<'a> {
     Protected {
         path: &'a str,
     },
-    /// A volume's file isn't there; by the inventory it lay in that element.
+    /// A volume's file isn't there; by the inventory the volume was in that element.
     Missing {
         path: &'a str,
         element: Element,
     },
 }
 
-/// Tells a notice. Where its line can't be written there is nobody to tell.
+/// Reports a notice. If its line can't be written, it is lost.
 pub(crate) fn tell<E: Write>(errors: &mut E, notice: &Notice<'_>) {
     let _ = writeln!(errors, "{notice}");
 }
@@ -136,7 +136,7 @@ impl fmt::Display for RecordFault {
     }
 }
 
-/// An element's type, as it is told, and its number within that.
+/// An element's type, as it is reported, and its number within that.
 fn words_of(element: Element) -> (&'static str, u16) {
     match element {
         Element::DataTransfer(number) => ("drive", number),

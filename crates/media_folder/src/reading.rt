@@ -38,8 +38,8 @@ pub(crate) struct VolumeFile<'a> {
     pub mode: u32,
 }
 
-/// Reads the file of a volume, as far as its record lets it be read in this run of the machine, for `volume_size` bytes of blocks, or for those that it has where these are more, which
-/// take no more memory than the limit says.
+/// Reads the file of a volume, as far as its record lets it be read in this run of the machine, for `volume_size` bytes of blocks, or for
+/// those that it has where these are more, which take no more memory than the limit says.
 pub(crate) fn read_volume<'a, R: AllocGlobal + Files<File = File>, E: Write>(
     rt: &'a R,
     file: VolumeFile<'_>,
@@ -88,7 +88,7 @@ fn tell_volume<E: Write>(path: &str, access: FileAccess, lost: u64, errors: &mut
     }
 }
 
-/// Opens a volume's file, to be read alone where it can't be written, or where by its mode nobody may, whoever the program runs as.
+/// Opens a volume's file. It is only read if it can't be written, or if its mode lets no user write it, whichever user runs the program.
 fn open_file<'a, R: AllocGlobal + Files<File = File>>(
     rt: &'a R,
     path: &str,

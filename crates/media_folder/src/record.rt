@@ -14,7 +14,7 @@ const VERSION: i64 = 1;
 /// What the record of a file says.
 #[derive(Clone, Copy, PartialEq, Eq)]
 pub(crate) struct SyncedRecord {
-    /// So many bytes of the file in front are on the disk.
+    /// So many of the file's first bytes are on the disk.
     pub length: u64,
     /// The number of the file on its device.
     pub inode: u64,
@@ -84,7 +84,7 @@ pub(crate) fn record_path(alloc: Global, image: &str) -> Result<String, AllocErr
     format!(in alloc; "{stem}.synced")
 }
 
-/// Which file a record tells of, and in which run of the machine.
+/// Which file a record is about, and in which run of the machine.
 #[derive(Clone, Copy)]
 pub(crate) struct RecordOf {
     pub alloc: Global,

@@ -16,14 +16,14 @@ pub(crate) enum ImageRefusal {
     Doubled,
     #[error("it can't be read")]
     CannotRead,
-    /// By a fault at the offset `whole`, in bytes, behind so many objects.
+    /// By a fault at the offset `whole`, in bytes, after so many objects.
     #[error("{fault}, at offset {whole}, after {objects} objects")]
     Faulty {
         fault: ImageFault,
         objects: u64,
         whole: u64,
     },
-    /// The object behind so many is more than a tape takes.
+    /// The object after so many others is more than a tape takes.
     #[error("more than a volume holds, after {objects} objects")]
     TooLarge {
         objects: u32,

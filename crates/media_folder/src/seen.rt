@@ -17,7 +17,7 @@ impl SeenFiles {
         }
     }
 
-    /// The mode of the file at a path, which isn't opened yet: it is refused if it is not a regular file, also behind links, and if it was
+    /// The mode of the file at a path, which isn't opened yet. Links are followed. It is refused if it is not a regular file, or if it was
     /// seen already, under another name.
     pub fn look<R: Files>(&mut self, rt: &R, path: &str) -> Result<u32, ImageRefusal> {
         let metadata = fs::metadata(rt, path)?;

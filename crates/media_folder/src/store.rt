@@ -15,7 +15,7 @@ use tape_flush::{ImageStore, StoreFault};
 #[derive(Clone, Copy)]
 pub enum FileAccess {
     ReadWrite,
-    /// The file is read alone, and stays as it is: its volume is protected.
+    /// The file is only read, and stays as it is: its volume is protected.
     ReadOnly,
 }
 
@@ -161,8 +161,8 @@ impl<'a, R: Files<File = File>> FileStore<'a, R> {
         }
     }
 
-    /// Notes how much is on the disk. A new file takes its place first, on the disk too, since the record before it was that of another file; by
-    /// a record of another file all of a file is read, and of this one all is on the disk.
+    /// Notes how much is on the disk. A new file takes its place first, on the disk too, since the record before it was that of another
+    /// file; by a record of another file all of a file is read, and of this one all is on the disk.
     fn note_length(&mut self, size: u64) -> io::Result<()> {
         if let Some(record) = &self.record {
             return record.write(size);

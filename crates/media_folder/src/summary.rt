@@ -14,7 +14,7 @@ pub(crate) struct ImageSummary {
     /// Of its blocks.
     bytes: u64,
     marks: usize,
-    /// How many bytes of an object stand behind the others, whose rest isn't there.
+    /// How many bytes after these objects are of one more whose rest isn't there.
     lost: u64,
 }
 

@@ -42,7 +42,7 @@ pub enum ReadFault {
     /// A key isn't there, or its value isn't one that it may have.
     #[error("bad value")]
     BadKey(InventoryKey),
-    /// Of the volumes one, counted from 0.
+    /// One of the volumes, counted from 0.
     #[error("bad volume")]
     Volume { nth: usize, fault: VolumeFault },
     /// The same of the volumes that are missing.

@@ -11,7 +11,7 @@ use std::io::{ErrorKind, Write};
 /// How much of a volume's file may be read, and how much of it is known to be on the disk.
 #[derive(Clone, Copy)]
 pub(crate) struct Trust {
-    /// So many bytes in front are read.
+    /// So many of its first bytes are read.
     pub read: u64,
     /// So many are known to be on the disk, as the record says.
     pub synced: u64,
@@ -29,7 +29,7 @@ impl Trust {
         }
     }
 
-    /// By a record of this file. If the machine was booted since, nobody knows what the power left behind the bytes that were on the disk.
+    /// By a record of this file. If the machine was booted since, it isn't known what the file has after the bytes that were on the disk.
     fn by(record: SyncedRecord, length: u64, boot: BootId) -> Trust {
         let read = if record.boot.is_same(&boot) {
             length
@@ -44,7 +44,7 @@ impl Trust {
     }
 }
 
-/// How much of a volume's file may be read. A record that isn't one of this file is told, and passed over.
+/// How much of a volume's file may be read. A record that isn't one of this file is reported, and passed over.
 pub(crate) fn trust_in<'a, R: AllocGlobal + Files<File = File>, E: Write>(
     rt: &R,
     store: &FileStore<'a, R>,

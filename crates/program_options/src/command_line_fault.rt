@@ -42,7 +42,7 @@ impl CommandLineFault {
     ghost use Rattle.std.specs.Prelude.{◌≡◌};
     ghost use Rattle.program_options.specs.CommandLineFaults.{command_line_status};
 
-    /// The exit status of a program that ends by it: 0 after help and the version, 3 for want of memory, else 2 (profile).
+    /// The exit status of a program that ends by it: 0 after help and the version, 3 where memory is refused, else 2 (profile).
     pub fn status(&self) -> u8
         ensures { result ≡ command_line_status self.now }
     {

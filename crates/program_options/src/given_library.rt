@@ -3,8 +3,7 @@ ghost use Rattle.program_options.specs.Options.{AreGivenInRange, AreInRange, opt
 
 use crate::library_options::LibraryOptions;
 
-/// What was said of a library on a command line; of the rest nothing was said, so that it is as usual, or as it is in a library that is
-/// kept.
+/// What a command line says of a library. What it says nothing of is as usual, or as it is in a library that is kept.
 #[derive(Clone, Copy)]
 pub struct GivenLibrary {
     pub drives: Option<u8>,
@@ -17,7 +16,7 @@ pub struct GivenLibrary {
 }
 
 impl GivenLibrary {
-    /// What a library is made of that is as usual in all of which nothing was said, with volumes for so many bytes of blocks.
+    /// What a library is made of that is as usual in all that the command line says nothing of, with volumes for so many bytes of blocks.
     pub fn options(&self, volume_size: u64) -> LibraryOptions
         requires range { AreGivenInRange self.now }
         requires least { 1048576 ≤ volume_size }

@@ -2,9 +2,9 @@
 
 ghost use Rattle.program_options.specs.Rows.{AddressesRead, DigestsRead, FaultsTold, HostsLetIn, LibrariesMade, LinesOfRefusals, PortalsTold, SessionsServed, SizesRead, StatusesOfRefusals, StrangersLetIn, TimesWaited};
 
-/// Addresses of hosts, who is let in, what is said of each fault, how the program ends where its command line names no task, who
-/// serves, how long hosts are waited for, what libraries and volumes are made of, what initiators are told of portals, by which digests
-/// they answer, and how many come in whom no name lets in.
+/// Addresses of hosts, which hosts are let in, what is reported of each fault, how the program ends where its command line names no task,
+/// how many workers serve, how long the server waits for hosts, what libraries and volumes are made of, which addresses of portals are sent
+/// to initiators, by which digests they answer, and how many hosts come in that no name lets in.
 pub fn worked_rows()
     ensures addresses { AddressesRead }
     ensures hosts { HostsLetIn }

@@ -1,5 +1,6 @@
 //! What the options of the program's commands mean: what a library is made of, where and how long it is served and waits for its hosts,
-//! whom it lets in, and which host a client is; and why a command line names nothing to do, or names a place where nobody can listen.
+//! which hosts it lets in, and which host a client is; and why a command line names nothing to do, or names a place where no server can
+//! listen.
 #![tactic(auto)]
 
 mod chap_digests;

@@ -2,14 +2,14 @@ use std::fmt;
 use std::io::ErrorKind;
 use thiserror::Error;
 
-/// Why nobody listens at a place where a library is to be served.
+/// Why the server can't listen at a place where a library is to be served.
 #[derive(Debug, Drop, Error)]
 pub enum ListenFault {
     /// A file is at the path of the socket already.
     IsThere(String),
-    /// The socket can't be made at this path, or nobody can listen at this address.
+    /// The socket can't be made at this path, or no program can listen at this address.
     CannotListen(String),
-    /// Somebody listens at this address already.
+    /// Another program listens at this address already.
     IsTaken(String),
 }
 

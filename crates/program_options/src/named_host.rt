@@ -21,7 +21,7 @@ pub struct NamedHost {
     pub sas: u64,
 }
 
-/// The same, where its name lies.
+/// The same, with its name as a part of the text.
 #[derive(Clone, Copy)]
 pub struct HostText<'a> {
     pub name: &'a [u8],
@@ -40,7 +40,7 @@ impl<'a> HostText<'a> {
     }
 }
 
-/// The initiator that a text `NAME=SAS` lets in beside others, or why it doesn't (profile).
+/// The initiator that a text `NAME=SAS` lets in next to others, or why it doesn't (profile).
 pub fn host_beside<'a>(hosts: &[NamedHost], text: &'a [u8]) -> Result<HostText<'a>, OptionFault>
     ensures ok { IfOk result (λ host. judged hosts.now (host_in text.now) ≡ Ok (record { name = host.name.now; sas = host.sas })) }
     ensures err { IfErr result (λ fault. judged hosts.now (host_in text.now) ≡ Err fault) }

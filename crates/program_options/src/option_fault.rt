@@ -1,7 +1,7 @@
 use std::fmt;
 use thiserror::Error;
 
-/// Why options that are each within their range mean nothing, and what to say in their place.
+/// Why options that are each within their range mean nothing, and what to give in their place.
 #[derive(Clone, Copy, Debug, Error)]
 pub enum OptionFault {
     /// There are more volumes than storage elements.
@@ -18,11 +18,11 @@ pub enum OptionFault {
     ManyPortals,
     /// A portal that is no IP address with a port.
     BadAddress,
-    /// A portal that others than programs of this machine reach, where it wasn't said what initiators must show of themselves.
+    /// A portal that other machines can reach, where the command line doesn't say what initiators must prove.
     OpenAddress,
-    /// What stands behind a portal's address is no host with a port.
+    /// What comes after a portal's address is no host with a port.
     BadToldAddress,
-    /// Portals at which nobody is let in.
+    /// Portals at which no host is let in.
     NobodyLetIn,
     /// A host that is no name with a SAS address.
     BadHost,
@@ -32,9 +32,9 @@ pub enum OptionFault {
     BadName,
     /// More hosts than are let in by name.
     ManyHosts,
-    /// A host whose name has stood already.
+    /// A host whose name was given already.
     NameTwice,
-    /// A host whose SAS address has stood already.
+    /// A host whose SAS address was given already.
     SasTwice,
     /// Hosts that are let in by name have every slot of a unit, so that no other can be let in.
     NoSlotForOthers,

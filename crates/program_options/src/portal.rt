@@ -10,16 +10,16 @@ use crate::told_address::is_told_address;
 use std::alloc::{AllocError, Global};
 use std::net::SocketAddr;
 
-/// A portal of iSCSI.
+/// An iSCSI portal.
 #[derive(Drop)]
 pub struct PortalOptions {
-    /// Where it is listened at.
+    /// Where the server listens.
     pub address: SocketAddr,
-    /// The address that initiators are told for it, a host and a port. `None`: the one that it is listened at.
+    /// The address that is sent to initiators for it, a host and a port. `None`: the one where the server listens.
     pub told: Option<String>,
 }
 
-/// The same, where its text lies.
+/// The same, with the address for initiators as a part of the portal's text.
 #[derive(Clone, Copy)]
 pub struct PortalText<'a> {
     pub address: SocketAddr,
@@ -27,7 +27,7 @@ pub struct PortalText<'a> {
 }
 
 impl<'a> PortalText<'a> {
-    /// With a copy of what initiators are told.
+    /// With a copy of the address for initiators.
     pub fn to_portal(self, alloc: Global) -> Result<PortalOptions, AllocError>
         ensures address { IfOk result (λ portal. portal.address ≡ self.entry.address) }
         ensures told { IfOk result (λ portal. option_map string_bytes portal.told ≡ option_copied self.entry.told) }
@@ -43,9 +43,9 @@ impl<'a> PortalText<'a> {
     }
 }
 
-/// A portal by its text: an address and port, as `127.0.0.1:3260` or `[::1]:3260`, behind which may stand `=` and the address that
-/// initiators are told for it, as `127.0.0.1:3260=tapes.example:3260`. `is_said`: whether it was said what initiators must show of
-/// themselves, or that it is nothing. Without it the portal is to be one of the loopback (profile).
+/// A portal by its text: an address and port, as `127.0.0.1:3260` or `[::1]:3260`, after which there may be `=` and the address that is
+/// sent to initiators for it, as `127.0.0.1:3260=tapes.example:3260`. `is_said`: whether the command line says what initiators must prove,
+/// or that it is nothing. Without it the portal is to be one of the loopback (profile).
 pub fn portal_of(text: &str, is_said: bool) -> Result<PortalText<'_>, OptionFault>
     ensures ok { IfOk result (λ portal. IsSocketText (listened_in text.now) portal.address × IsGuarded is_said portal.address) }
     ensures told { IfOk result (λ portal. (option_copied portal.told ≡ told_in text.now) × IfSome (told_in text.now) IsToldAddress) }
@@ -68,7 +68,7 @@ pub fn portal_of(text: &str, is_said: bool) -> Result<PortalText<'_>, OptionFaul
     }
 }
 
-/// The address that is listened at, and the one that initiators are told.
+/// The address where the server listens, and the one that is sent to initiators.
 fn parts_of(text: &str) -> (&str, Option<&str>)
     ensures listened { result.0.now ≡ listened_in text.now }
     ensures told { option_copied result.1 ≡ told_in text.now }
@@ -79,7 +79,7 @@ fn parts_of(text: &str) -> (&str, Option<&str>)
     }
 }
 
-/// Whether initiators can be told what stands behind an address, if something does.
+/// Whether what comes after an address can be sent to initiators, if there is something.
 fn can_be_told(told: Option<&str>) -> bool
     ensures { (result ≡ true) ↔ IfSome (option_copied told.entry) IsToldAddress }
 {

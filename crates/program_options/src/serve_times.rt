@@ -16,7 +16,7 @@ pub struct ServeTimes {
     pub idle: Option<Duration>,
     /// After which a reply that can't be written ends its session. `None`: never.
     pub write: Option<Duration>,
-    /// After which an initiator of iSCSI from which nothing came is asked whether it is still there. `None`: never.
+    /// After which an iSCSI initiator from which nothing came is asked whether it is still there. `None`: never.
     pub ping: Option<Duration>,
 }
 

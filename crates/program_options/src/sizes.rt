@@ -34,7 +34,7 @@ pub fn memory_size_of(text: &str) -> Result<u64, OptionFault>
     }
 }
 
-/// The bytes that a text tells, where they have 64 bits.
+/// The number of bytes that a text gives, where it has 64 bits.
 fn size_in(text: &[u8]) -> Option<u64>
     ensures { result ≡ size_in text.now }
 {
@@ -48,7 +48,7 @@ fn size_in(text: &[u8]) -> Option<u64>
     }
 }
 
-/// How many bytes the letter behind a number stands for.
+/// How many bytes the letter after a number means.
 fn unit_of(letter: u8) -> Option<u64>
     ensures { result ≡ unit_of letter }
 {

@@ -12,7 +12,7 @@ const LONGEST_HOST_NAME: usize = 253;
 /// The greatest port.
 const LAST_PORT: u64 = 65_535;
 
-/// Whether a text is an address that initiators can be told: a host name, an IPv4 address or an IPv6 address in brackets, and behind a
+/// Whether a text is an address that can be sent to initiators: a host name, an IPv4 address or an IPv6 address in brackets, and after a
 /// colon a port (RFC 7143, "TargetAddress").
 pub(crate) fn is_told_address(text: &[u8]) -> bool
     ensures { (result ≡ true) ↔ IsToldAddress text.now }

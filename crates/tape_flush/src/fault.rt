@@ -13,7 +13,7 @@ pub enum FlushFault {
     PastLastOffset,
     #[error("the image could not be written")]
     Store(StoreFault),
-    /// Behind what was brought to the disk before, the file may have anything.
+    /// After what was brought to the disk before, the file may have anything.
     #[error("the image could not be brought to the disk")]
     Unsynced(StoreFault),
 }
@@ -41,7 +41,7 @@ impl From<StoreFault> for FlushFault {
 pub enum OpenFault {
     #[error("want of memory")]
     NoMemory,
-    /// By a fault at the offset `whole`, in bytes, behind so many objects. The file is left as it is.
+    /// By a fault at the offset `whole`, in bytes, after so many objects. The file is left as it is.
     #[error("the image is faulty")]
     Faulty {
         fault: ImageFault,

@@ -1,21 +1,21 @@
 //! What is known of a file by the calls that it answered.
 
-/// What is known of a file and of its record: how many bytes in front, and what lies behind those that are as they were written.
+/// What is known of a file and of its record: how many of its first bytes, and what is after those that are as they were written.
 #[derive(Clone, Copy)]
 pub struct Known {
     /// The record on the disk says at least this.
     pub least: u64,
     /// And at most this.
     pub most: u64,
-    /// So many bytes in front are on the disk.
+    /// So many of its first bytes are on the disk.
     pub synced: u64,
-    /// So many bytes in front are in the file as they were written.
+    /// So many of its first bytes are in the file as they were written.
     pub sound: u64,
-    /// What lies in the file behind these.
+    /// What is in the file after these.
     pub tail: FileTail,
 }
 
-/// What lies in a file behind the bytes that are as they were written.
+/// What is in a file after the bytes that are as they were written.
 #[derive(Clone, Copy)]
 pub enum FileTail {
     /// Anything.

@@ -22,8 +22,8 @@ pub fn held_images_are_read()
         → IsSomeAnd image.contents (λ bytes. HoldsFirst 0 bytes (known ++ others)) }
 {}
 
-/// Law: whatever becomes of a tape since a part of it was taken and it was settled up to the part's end, an image of its objects up to there,
-/// or of fewer where the part couldn't be written, follows it: so the next part can be taken.
+/// Law: whatever becomes of a tape since a part of it was taken and it was settled up to the part's end, an image of its objects up to
+/// there, or of fewer where the part couldn't be written, follows it: so the next part can be taken.
 pub fn images_follow_tapes()
     ensures { ImagesFollowTapes }
 {

@@ -1,4 +1,4 @@
-//! Tapes that are kept in files: an image is cut back to the objects that stay, what replaces the others is written behind them, part by
+//! Tapes that are kept in files: an image is cut back to the objects that stay, what replaces the others is written after them, part by
 //! part, and all of it is brought to the disk. Whatever fails, the image holds the first objects of one of the two tapes.
 #![tactic(auto)]
 

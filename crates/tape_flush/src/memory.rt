@@ -3,11 +3,11 @@ ghost use Rattle.std.specs.Vec.{vec_len};
 
 use crate::store::{ImageStore, StoreFault};
 
-/// A file in memory, whose calls fail only for want of memory, or where the file was changed by something else.
+/// A file in memory, whose calls fail only where memory is refused, or where the file was changed by something else.
 #[derive(Drop)]
 pub struct MemoryStore {
     pub bytes: Vec<u8>,
-    /// So many of these in front were brought to the disk.
+    /// So many of the first of these were brought to the disk.
     pub synced: usize,
     /// What its record says.
     pub noted: u64,

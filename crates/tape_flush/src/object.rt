@@ -7,7 +7,7 @@ use std::alloc::AllocError;
 use tape_image::{LENGTH_FIELD, write_block, write_mark};
 use tape_medium::{Tape, TapeObject};
 
-/// The object behind the first `at` of a tape.
+/// The object after the first `at` of a tape.
 pub(crate) fn object_at(tape: &Tape, at: u32) -> TapeObject<'_>
     requires { at < length tape.now.objects }
     ensures value { slice_get tape.now.objects at ≡ Some (lent_object result) }

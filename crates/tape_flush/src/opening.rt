@@ -14,7 +14,7 @@ use std::alloc::Global;
 use std::marker::Model;
 use tape_image::{ImageEnd, ImageIndex, IndexedObject, LENGTH_FIELD};
 
-/// Where the objects of an image end, and how many bytes of an object lie behind them whose rest isn't there.
+/// Where the objects of an image end, and how many bytes after them are of an object whose rest isn't there.
 #[derive(Drop)]
 pub struct ImageEnds {
     ends: Vec<u64>,
@@ -38,7 +38,7 @@ impl ImageEnds {
     }
 }
 
-/// Where an object of an index ends, in bytes; an object that ends behind the last offset is in no file.
+/// Where an object of an index ends, in bytes; an object that ends after the last offset is in no file.
 fn end_of(entry: &IndexedObject) -> Option<u64>
     ensures { IfSome result (λ end. end ≡ end_of_entry entry.now) }
 {
@@ -95,8 +95,8 @@ pub fn image_ends(alloc: Global, index: &ImageIndex) -> Result<ImageEnds, OpenFa
     Ok(ImageEnds { ends, lost })
 }
 
-/// Opens an image whose objects end there, and of which so many bytes are on the disk, as its record says: those objects count that lie
-/// within these. Nothing is changed: what lies behind is cut off before something is written.
+/// Opens an image whose objects end there, and of which so many bytes are on the disk, as its record says: the objects that are within
+/// these count. Nothing is changed: what is after them is cut off before something is written.
 pub fn open_image<S: ImageStore + Drop>(store: S, image: ImageEnds, trusted: u64) -> SavedImage<S>
     ensures store { result.store ≡ store }
     ensures known { result.known ≡ trusted_to trusted }

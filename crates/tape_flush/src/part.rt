@@ -65,7 +65,7 @@ impl TapePart {
         &self.ends
     }
 
-    /// Adds an object behind those that it has, which end at an offset, and answers where it ends.
+    /// Adds an object after those that it has, which end at an offset, and answers where it ends.
     fn push(&mut self, object: TapeObject<'_>, offset: u64) -> Result<u64, FlushFault>
         requires { IsKeepable (lent_object object) }
         ensures end { IfOk result (λ end. end ≡ offset + length (object_bytes (lent_object object.entry))) }

@@ -13,8 +13,8 @@ pub enum ReadTapeFault {
     Read,
     #[error("image of 2^64 bytes or more")]
     PastLastOffset,
-    /// Behind so many objects there is one that the tape doesn't take: its capacity in bytes of blocks would be passed, or the
-    /// count of objects that a tape has at most.
+    /// After so many objects there is one that the tape doesn't take: its capacity in bytes of blocks would be passed, or the count of
+    /// objects that a tape has at most.
     #[error("image of more than the tape takes")]
     TooLarge { objects: u32 },
 }

@@ -26,7 +26,7 @@ fn refusal(fault: TapeFault, objects: u32) -> ReadTapeFault {
     }
 }
 
-/// Writes the object that a part is, if it is one, behind the others of a tape.
+/// Writes the object that a part is, if it is one, after the others of a tape.
 fn put_part(tape: &mut Tape, part: &ImagePart<'_>) -> Result<(), ReadTapeFault>
     requires { tape.old ≡ tape_with tape.old.capacity tape.old.objects }
     ensures { OnOk result (tape.new ≡ tape_with tape.old.capacity (tape.old.objects ++ object_of (part_value part.now))) }
@@ -62,9 +62,9 @@ fn note_part(
     Ok(())
 }
 
-/// The tape that an image holds, for `capacity` bytes of blocks, and the index of the image, which a reader gives from its first byte
-/// on. The tape is at its beginning, and all of its objects count as unchanged. Of a faulty image it has the objects before the fault.
-/// A block is two reads, so a file should come behind a buffer. The tape takes no more memory than the limit leaves.
+/// The tape that an image holds, for `capacity` bytes of blocks, and the index of the image, which a reader gives from its first byte on.
+/// The tape is at its beginning, and all of its objects count as unchanged. Of a faulty image it has the objects before the fault. A block
+/// is two reads, so a file should be read through a buffer. The tape takes no more memory than the limit leaves.
 pub fn read_tape<R: Read>(
     alloc: Global,
     reader: &mut R,

@@ -61,7 +61,7 @@ fn append<S: ImageStore>(
     }
 }
 
-/// Cuts a file back to the first objects, which stay, and adds a part behind them. Where it fails none of the part's counts.
+/// Cuts a file back to the first objects, which stay, and adds a part after them. Where it fails none of the part's counts.
 fn try_replace<S: ImageStore>(
     file: &mut WatchedFile<S>,
     ends: &mut Vec<u64>,

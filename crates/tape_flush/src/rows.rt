@@ -29,8 +29,8 @@ pub fn store_rows()
     ensures either { Does (Note 5 false) (file_value (codes "hello") 5 (codes "hello") (2 ∷ [])) (file_value (codes "hello") 5 (codes "hello") (5 ∷ 2 ∷ [])) }
 {}
 
-/// Worked rows: what a power cut may leave of "hello", of which "he" was brought to the disk: all, nothing more, the first bytes only, zeros
-/// under the new length, other pages, or a cut that is undone; but not other bytes in front.
+/// Worked rows: what a power cut may leave of "hello", of which "he" was brought to the disk: all, nothing more, the first bytes only,
+/// zeros under the new length, other pages, or a cut that is undone; but not other first bytes.
 pub fn survival_rows()
     ensures all { Survives (file_value (codes "hello") 5 (codes "he") (2 ∷ [])) (codes "hello") 2 }
     ensures nothing_more { Survives (file_value (codes "hello") 5 (codes "he") (2 ∷ [])) (codes "he") 2 }

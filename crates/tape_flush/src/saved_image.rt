@@ -19,8 +19,8 @@ use std::alloc::Global;
 use std::marker::Model;
 use tape_medium::Tape;
 
-/// The image of a tape in a file: which of the tape's objects are in it for sure, where each ends, which takes 8 bytes an object, and what is
-/// known of the file.
+/// The image of a tape in a file: which of the tape's objects are in it for sure, where each ends, which takes 8 bytes an object, and what
+/// is known of the file.
 ///
 /// It is brought on part by part. A part is taken of the tape, which counts as unchanged up to the part's end from then on, and then it is
 /// written, while the tape may be written on.
@@ -51,7 +51,7 @@ impl<S: ImageStore> Model for SavedImage<S> {
 }
 
 impl<S: ImageStore> SavedImage<S> {
-    /// Of a file of which so many bytes are on the disk, as its record says, and whose objects end there, as far as they lie within these.
+    /// Of a file of which so many bytes are on the disk, as its record says, and whose objects end there, as far as they are within these.
     pub(crate) fn opened(store: S, trusted: u64, ends: Vec<u64>) -> SavedImage<S>
         ensures { result ≡ record { ends = ends_within trusted ends.items; known = trusted_to trusted; store = store; file = S.file store; untouched = length ends.items == length (ends_within trusted ends.items) } }
     {
@@ -78,7 +78,7 @@ impl<S: ImageStore> SavedImage<S> {
         self.file.store()
     }
 
-    /// Whether it has its objects and nothing behind them, and may be written on.
+    /// Whether it has its objects and nothing after them, and may be written on.
     pub fn is_whole(&self) -> bool
         ensures { IsTrue result ↔ IsWholeImage self.now }
     {
@@ -93,8 +93,8 @@ impl<S: ImageStore> SavedImage<S> {
         last_end(&self.ends) <= self.file.known().least
     }
 
-    /// Whether it is as it was found, and has just the objects of a tape of which a part was to be taken: then nothing is to be written, and
-    /// what else the file has, as an end mark, stays there.
+    /// Whether it is as it was found, and has just the objects of a tape of which a part was to be taken: then nothing is to be written,
+    /// and what else the file has, as an end mark, stays there.
     pub fn is_unchanged(&self, range: PartRange) -> bool
         ensures { IsTrue result ↔ IsUnchanged self.now range }
     {
@@ -113,8 +113,8 @@ impl<S: ImageStore> SavedImage<S> {
     }
 
     /// Writes the part that was taken last, whatever became of the tape since. Then the image is that of the tape's objects up to the
-    /// part's end, as they were when it was taken. Where it fails, the image has the first of those that stay, and where it wasn't a sync that
-    /// failed, the file has all of these, and behind them perhaps the first of those that it had, or of the part.
+    /// part's end, as they were when it was taken. Where it fails, the image has the first of those that stay, and where it wasn't a sync
+    /// that failed, the file has all of these, and after them perhaps the first of those that it had, or of the part.
     pub fn write_part(&mut self, range: PartRange, part: &TapePart) -> Result<(), FlushFault>
         ensures goes { GoesOn S.did self.old.store self.old.known self.new.store self.new.known }
         ensures touched { self.new.untouched ≡ true → self.new ≡ self.old }
@@ -135,8 +135,9 @@ impl<S: ImageStore> SavedImage<S> {
         replace(&mut self.file, &mut self.ends, stay, part)
     }
 
-    /// Brings all of it to the disk, where it isn't there already, and has its record say so. An image that has more behind its objects, or may
-    /// have, isn't brought there: a part is to be written first. Where the sync fails, the image has what an earlier one brought to the disk.
+    /// Brings all of it to the disk, where it isn't there already, and has its record say so. An image that has more after its objects, or
+    /// may have, isn't brought there: a part is to be written first. Where the sync fails, the image has what an earlier one brought to the
+    /// disk.
     pub fn sync(&mut self) -> Result<(), StoreFault>
         ensures goes { GoesOn S.did self.old.store self.old.known self.new.store self.new.known }
         ensures ends { OnOk result (self.new.ends ≡ self.old.ends) }
@@ -174,7 +175,8 @@ impl<S: ImageStore> SavedImage<S> {
         self.file.note(last_end(&self.ends))
     }
 
-    /// The image of the same tape in a new file, which has none of its objects yet. It takes the place of this one when it is brought to the disk.
+    /// The image of the same tape in a new file, which has none of its objects yet. It takes the place of this one when it is brought to
+    /// the disk.
     pub fn renewed(&self, alloc: Global) -> Result<SavedImage<S>, StoreFault>
         ensures new { IfOk result (λ image. (image.ends ≡ []) × (image.known ≡ trusted_to 0) × (image.untouched ≡ false) × IsNewFile image.file) }
         ensures has { IfOk result (λ image. IfSome image.file (λ file. Holds file image.known image.ends [] [])) }

@@ -13,8 +13,8 @@ pub enum StoreFault {
 /// A file that keeps an image, and next to it a record on the disk of how much of the file is known to be there. Each call may fail, and
 /// may be tried again.
 ///
-/// `did` says that a call led from one state of a store to another. A store need say nothing by it; but code that is generic over stores gets
-/// it from these calls alone, so a clause with it says which calls were made, in which order and with which result, of every store.
+/// `did` says that a call led from one state of a store to another. A store need say nothing by it; but code that is generic over stores
+/// gets it from these calls alone, so a clause with it says which calls were made, in which order and with which result, of every store.
 pub trait ImageStore {
     ghost use Rattle.std.specs.Prelude.{Option, None, is_ok, IfOk};
     ghost use Rattle.tape_flush.specs.Stores.{StoreCall, FileValue, DoesTo, IsNewFile, Truncate, Append, Sync, Note};
@@ -35,7 +35,7 @@ pub trait ImageStore {
         ensures { did self.old (Append offset bytes.now (is_ok result)) self.new };
 
     /// Brings the file to the disk, with its length, as fdatasync does. A system reports once that this failed, and forgets what it had to
-    /// write: then the file has on the disk what an earlier sync brought there, and anything behind it.
+    /// write: then the file has on the disk what an earlier sync brought there, and anything after it.
     fn sync(&mut self) -> Result<(), StoreFault>
         ensures { did self.old (Sync (is_ok result)) self.new };
 
@@ -43,8 +43,8 @@ pub trait ImageStore {
     fn note(&mut self, size: u64) -> Result<(), StoreFault>
         ensures { did self.old (Note size (is_ok result)) self.new };
 
-    /// A new file for the same image, without a byte. It takes the place of this file on the disk when its record is noted for the first time;
-    /// until then a power cut finds this one. Nothing is done with this one any more after the new one was written on.
+    /// A new file for the same image, without a byte. It takes the place of this file on the disk when its record is noted for the first
+    /// time; until then a power cut finds this one. Nothing is done with this one any more after the new one was written on.
     fn renewed(&self) -> Result<Self, StoreFault>
         ensures { IfOk result (λ store. IsNewFile (file store)) };
 

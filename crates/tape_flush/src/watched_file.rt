@@ -112,7 +112,7 @@ impl<S: ImageStore> WatchedFile<S> {
         self.note(size)
     }
 
-    /// Whether it may be written on, behind so many bytes.
+    /// Whether it may be written on, after so many bytes.
     pub(crate) fn ends_at(&self, size: u64) -> bool
         ensures { IsTrue result ↔ IsEmptyAt size self.now.known }
     {

@@ -7,13 +7,13 @@ pub enum ImageEnd {
     WholeEnd {
         whole: u64,
     },
-    /// With a tail that was cut: up to the offset `whole` it is whole and can be cut back, and the `lost` bytes behind it are a
-    /// piece of an object.
+    /// With a tail that was cut: up to the offset `whole` it is whole and can be cut back, and the `lost` bytes after it are a piece of an
+    /// object.
     CutTail {
         whole: u64,
         lost: u64,
     },
-    /// By a fault at the offset `whole`, behind so many objects.
+    /// By a fault at the offset `whole`, after so many objects.
     Faulty {
         fault: ImageFault,
         objects: u64,

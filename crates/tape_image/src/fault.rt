@@ -9,12 +9,12 @@ pub enum ImageFault {
     /// A block of more than `MAX_BLOCK` bytes.
     #[error("block too long")]
     TooLong,
-    /// The length behind a block isn't the one before it.
+    /// The length after a block isn't the one before it.
     #[error("the lengths before and after a block differ")]
     UnequalLengths,
 }
 
-/// An image goes on behind the last offset that there is, 2^64 - 1.
+/// An image goes on after the last offset that there is, 2^64 - 1.
 #[derive(Clone, Copy, Debug, Error)]
 #[error("image of 2^64 bytes or more")]
 pub struct PastLastOffset;

@@ -10,7 +10,7 @@ use crate::reader::ImageReader;
 use std::alloc::{AllocError, Global};
 use std::io::Read;
 
-/// Where a logical object of an image lies. Offsets and sizes are in bytes.
+/// Where a logical object of an image is. Offsets and sizes are in bytes.
 #[derive(Clone, Copy)]
 pub enum IndexedObject {
     /// A logical block of `size` bytes, whose part begins at `offset`.
@@ -45,8 +45,8 @@ fn add_part(
     Ok(())
 }
 
-/// The index of an image, that a reader gives from its first byte on. It takes memory for the longest part, and for the index.
-/// A block is two reads, so a file should come behind a buffer.
+/// The index of an image, that a reader gives from its first byte on. It takes memory for the longest part, and for the index. A block is
+/// two reads, so a file should be read through a buffer.
 pub fn index_image<R: Read>(alloc: Global, reader: &mut R) -> Result<ImageIndex, IndexFault>
     ensures read { IfOk result (λ index. IsReadIndex (R.remaining reader.old) (R.remaining reader.new) index.objects.items index.end) }
     ensures whole { IfOk result (λ index. IfSome (R.remaining reader.old) (λ bytes. IsIndexOf bytes index.objects.items index.end)) }

@@ -31,7 +31,7 @@ pub fn beginnings_are_read()
         → (others : List Placed) × (xs ≡ ys ++ others) }
 {}
 
-/// Law: objects that are written are read, each exactly and at its offset, and what lies behind them is read behind them.
+/// Law: objects that are written are read, each exactly and at its offset, and what is after them is read after them.
 pub fn objects_are_read()
     ensures part { (x : Object) (rest : List ℕ) → IsKeepable x → image_part (object_bytes x ++ rest) ≡ Complete x (length (object_bytes x)) }
     ensures image { (offset : ℕ) (xs : List Object) → AreKeepable xs → Reads offset (image_bytes xs) (placed offset xs) (Waiting (offset + length (image_bytes xs)) []) }
@@ -39,8 +39,8 @@ pub fn objects_are_read()
         → Reads (offset + length (image_bytes xs)) rest others stop → Reads offset (image_bytes xs ++ rest) (placed offset xs ++ others) stop }
 {}
 
-/// Law: of objects that were written and then cut, at whatever byte, those are read that lie whole before the cut. Reading stops
-/// where the last of them ends, and what is left is a tail that holds none.
+/// Law: of objects that were written and then cut, at whatever byte, those are read that are whole before the cut. Reading stops where the
+/// last of them ends, and what is left is a tail that holds none.
 pub fn cut_images_are_read()
     ensures objects { (offset count : ℕ) (xs : List Object) → AreKeepable xs
         → Reads offset (take count (image_bytes xs)) (placed offset (whole_within count xs)) (cut_stop offset count xs) }
@@ -57,8 +57,8 @@ pub fn images_are_cut_back()
         → Reads offset (take (whole_of stop - offset) bytes) xs (Waiting (whole_of stop) []) }
 {}
 
-/// Law: behind an image that is cut back to where it is whole more objects can be written. Whatever a crash leaves of these, at
-/// whatever byte, the objects before them are still read, and then those of them that lie whole before the cut.
+/// Law: after an image that is cut back to where it is whole, more objects can be written. Whatever a crash leaves of these, at whatever
+/// byte, the objects before them are still read, and then those of them that are whole before the cut.
 pub fn images_are_written_on()
     ensures { (offset count : ℕ) (bytes : List ℕ) (xs : List Placed) (stop : Stop) (ys : List Object) → Reads offset bytes xs stop → AreKeepable ys
         → Reads offset (take (whole_of stop - offset) bytes ++ take count (image_bytes ys))

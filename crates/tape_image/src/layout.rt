@@ -2,7 +2,7 @@
 
 use tape_medium::MAX_BLOCK;
 
-/// How many bytes tell the length of a block, before it and again behind it.
+/// How many bytes hold the length of a block, before it and again after it.
 pub const LENGTH_FIELD: usize = 4;
 
 /// The most bytes of a part: the longest block between its lengths.

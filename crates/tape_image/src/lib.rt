@@ -1,5 +1,5 @@
-//! Images of tapes, as SIMH keeps them: what an image begins with, read where it lies, and the bytes of each logical object.
-//! What is written is read back, and of an image that was cut the objects that are whole.
+//! Images of tapes, as SIMH keeps them: what an image begins with, read in place, and the bytes of each logical object. What is written is
+//! read back, and of an image that was cut the objects that are whole.
 #![tactic(auto)]
 
 mod ending;

@@ -12,13 +12,13 @@ use byteorder::{ByteOrder, LittleEndian};
 pub enum ImagePart<'a> {
     /// Less than a part, which has so many bytes at least.
     Partial(usize),
-    /// A logical block, where it lies, and how many bytes its part takes.
+    /// A logical block, where it is, and how many bytes its part takes.
     Block(&'a [u8], usize),
     /// A filemark, of four bytes.
     Mark,
     /// An erase gap, of four bytes, that is passed over.
     Gap,
-    /// The end of the medium, of four bytes: nothing behind it counts.
+    /// The end of the medium, of four bytes: nothing after it counts.
     End,
     Invalid(ImageFault),
 }
@@ -58,7 +58,7 @@ fn part_of(word: u32, bytes: &[u8]) -> ImagePart<'_>
     }
 }
 
-/// What an image begins with. Nothing is copied. Up to `MAX_PART` bytes tell any part.
+/// What an image begins with. Nothing is copied. At most `MAX_PART` bytes are needed to know any part.
 #[tactic(auto, unfolding(crate::specs::Parts::image_part))]
 pub fn parse_image(bytes: &[u8]) -> ImagePart<'_>
     ensures part { part_value result ≡ image_part bytes.now }

@@ -72,7 +72,7 @@ impl PartBuffer {
     }
 }
 
-/// One read, into what lies between two places of a buffer.
+/// One read, into what is between two places of a buffer.
 fn read_behind<R: Read>(
     reader: &mut R,
     buffer: &mut [u8],

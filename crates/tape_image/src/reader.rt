@@ -33,8 +33,8 @@ fn await_known<R: Read>(part: &mut PartBuffer, reader: &mut R) -> io::Result<()>
     }
 }
 
-/// Reads an image part by part, through a buffer of one part that is made once. Contracts see at which offset it stands, how many
-/// objects came before, and the bytes of the part there as far as they were read.
+/// Reads an image part by part, through a buffer of one part that is made once. Contracts see at which offset it is, how many objects came
+/// before, and the bytes of the part there as far as they were read.
 ///
 /// ```text
 /// let mut image = ImageReader::new(alloc)?;
@@ -67,7 +67,7 @@ impl Model for ImageReader {
 }
 
 impl ImageReader {
-    /// At the front of an image of which nothing was read.
+    /// At the beginning of an image of which nothing was read.
     pub fn new(alloc: Global) -> Result<ImageReader, AllocError>
         ensures { IfOk result (λ image. image ≡ record { offset = 0; objects = 0; pending = [] }) }
     {
@@ -99,9 +99,9 @@ impl ImageReader {
         parse_image(self.part.pending())
     }
 
-    /// Reads until more than a piece of the part is there, or the reader is at its end; never more than that part, if it is an
-    /// object, an erase gap or the end mark. After an error
-    /// of the reader, also an interrupted read, what was read before is kept, and it may be called again.
+    /// Reads until more than a piece of the part is there, or the reader is at its end; never more than that part, if it is an object, an
+    /// erase gap or the end mark. After an error of the reader, also an interrupted read, what was read before is kept, and it may be
+    /// called again.
     pub fn await_part<R: Read>(&mut self, reader: &mut R) -> io::Result<()>
         ensures read { Awaits self.old self.new (R.remaining reader.old) (R.remaining reader.new) }
         ensures most { HasNoMore (length self.new.pending) (image_part self.new.pending) }

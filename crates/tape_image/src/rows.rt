@@ -35,7 +35,7 @@ pub fn fault_rows()
     ensures half_gap { image_part (0xFF ∷ 0xFF ∷ 0xFE ∷ 0xFF ∷ []) ≡ Invalid UnknownClass }
 {}
 
-/// Worked rows: each place at which a block of three bytes may be cut, and that it is whole behind the last.
+/// Worked rows: each place at which a block of three bytes may be cut, and that it is whole after the last.
 #[tactic(auto, unfolding(crate::specs::Parts::image_part))]
 pub fn cut_rows()
     ensures nothing { image_part [] ≡ Partial 4 }
@@ -66,7 +66,7 @@ pub fn image_rows()
     ensures fault { image_end 1 (Broken 10 UnknownClass) ≡ Faulty UnknownClass 1 10 }
 {}
 
-/// Worked rows: how an image ends whose third object, behind two that take 14 bytes, is cut at each place.
+/// Worked rows: how an image ends whose third object, after two that take 14 bytes, is cut at each place.
 pub fn tail_rows()
     ensures at_1 { image_end 2 (Waiting 14 (take 1 odd)) ≡ CutTail 14 1 }
     ensures at_2 { image_end 2 (Waiting 14 (take 2 odd)) ≡ CutTail 14 2 }
