@@ -35,7 +35,7 @@ LOST_OF_THE_CHANGER = "vtl: 2 records of logical unit 0 were not written, number
 CANNOT_WRITE = "the lines of the records could not be written"
 
 # The most records that a unit keeps, with the one that waits.
-MOST = 8193
+MOST = 6145
 # More than it keeps, and as many more as are being written.
 MANY = 24_000
 GOOD, CONFLICT = 0x00, 0x18
@@ -241,7 +241,7 @@ KEEPS = "a write that fails, at first or within a line, loses no line, repeats n
 LOSES = "while lines can't be written the units keep their records, and at the end it is told which have no line"
 
 ROWS = [
-    Row("slow", "a command whose unit has 8,192 records waits for who reads slowly, so that no more of them are ever kept", slow),
+    Row("slow", "a command whose unit has 6,144 records waits for who reads slowly, so that no more of them are ever kept", slow),
     Row("stalled", "a reader that stalls holds up no session; once it reads on, all lines are there, once and in order", stalled),
     Row("long", "a unit with 4,096 records hands them out within a session; its lines stand in the order of their numbers", long),
     Row("drained", TWO_SESSIONS, drained),

@@ -8,8 +8,9 @@ use tickets::RecordTicket;
 /// A unit with so many records hands them out within a session.
 const MANY: u64 = 4096;
 
-/// Where a unit has so many, its hosts wait for the thread that writes.
-const MOST: u64 = 8192;
+/// Where a unit has so many, its hosts wait for the thread that writes. With what eight sessions may leave besides, they are fewer than 8,192:
+/// a trail's room is doubled as it grows, and needn't be doubled again.
+const MOST: u64 = 6144;
 
 /// What the thread that writes is at.
 #[derive(Clone, Copy)]

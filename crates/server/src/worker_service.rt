@@ -51,6 +51,8 @@ fn finish_with<S: SeatService, R: Wait>(rt: &R, service: &mut S, drain: &RecordD
 }
 
 /// Settles the seat by what was handed out so far. Where that finds no room, it is tried again later.
+#[cold]
+#[inline(never)]
 fn settle_with<S: SeatService>(service: &mut S, drain: &RecordDrain)
     ensures { MaySettle S.settles service.old service.new }
 {
@@ -80,7 +82,7 @@ pub(crate) enum Replies {
 #[derive(Clone, Copy)]
 pub(crate) struct SessionSoFar {
     pub replies: Replies,
-    /// Who asked last to be let in.
+    /// The nexus that asked last to be let in.
     pub nexus: Option<Nexus>,
     /// How many commands it has sent.
     pub commands: u64,
@@ -138,7 +140,9 @@ impl<'a, S: SeatService, C: TapeService, R: Wait, E: Write> WorkerService<'a, S,
     ghost use Rattle.std.specs.Prelude.{◌≡◌};
     ghost use Rattle.server.specs.Keeping.{KeepsWhereSaid};
 
-    /// Tells of a command that was BUSY, and whether for want of a slot.
+    /// Reports a command that was BUSY, and whether because no slot was free.
+    #[cold]
+    #[inline(never)]
     fn tell_busy(&self, nexus: Nexus, lun: u8) {
         let event = if self.seat_service.has_room(nexus, lun) {
             Event::Busy(nexus, lun)
@@ -183,11 +187,15 @@ impl<'a, S: SeatService, C: TapeService, R: Wait, E: Write> WorkerService<'a, S,
     fn keep_in_place(&self, done: &Done<'_>, length: usize) {
         match self.session.replies {
             Replies::Held => {}
-            Replies::InPlace => {
-                if let Some(ticket) = self.begin_to_keep(done, length) {
-                    self.await_kept(ticket);
-                }
-            }
+            Replies::InPlace => self.keep_and_wait(done, length),
+        }
+    }
+
+    /// Keeps what a command left that was GOOD, and waits for that.
+    #[inline(never)]
+    fn keep_and_wait(&self, done: &Done<'_>, length: usize) {
+        if let Some(ticket) = self.begin_to_keep(done, length) {
+            self.await_kept(ticket);
         }
     }
 
@@ -196,6 +204,25 @@ impl<'a, S: SeatService, C: TapeService, R: Wait, E: Write> WorkerService<'a, S,
         match self.tape_service.await_outcome(self.rt, ticket) {
             Outcome::Kept => {}
             Outcome::Lost => self.flags.lose(),
+        }
+    }
+
+    /// Does what a command needs next, with which so many bytes were sent: keeps it or reports it, and notes its record. Where that isn't
+    /// inlined, the answer is copied as a whole, and not field by field.
+    #[inline(never)]
+    fn note_command(&mut self, nexus: Nexus, done: &Done<'_>, length: usize)
+        ensures { MaySettle S.settles self.old self.new }
+    {
+        self.session.commands = self.session.commands.saturating_add(1);
+        match done.receipt().reply.status {
+            Status::Busy => self.tell_busy(nexus, done.lun()),
+            Status::Good => self.keep_in_place(done, length),
+            Status::CheckCondition | Status::ReservationConflict => {}
+        }
+        let record = record_of(done);
+        self.session.is_full = self.note_record(record);
+        if self.session.is_full {
+            self.pace(record);
         }
     }
 
@@ -218,8 +245,10 @@ impl<'a, S: SeatService, C: TapeService, R: Wait, E: Write> WorkerService<'a, S,
         }
     }
 
-    /// Behind a record by which a unit is full a session of frames waits. One of iSCSI goes on, and its reply waits: but task management drops
+    /// After a record by which a unit is full a session of frames waits. One of iSCSI goes on, and its reply waits: but task management drops
     /// replies, and a reset and a loss have none. So that their records have a bound too, it waits once it has left many.
+    #[cold]
+    #[inline(never)]
     fn pace(&mut self, record: RecordTicket)
         ensures { self.new ≡ self.old }
     {
@@ -236,7 +265,7 @@ impl<'a, S: SeatService, C: TapeService, R: Wait, E: Write> WorkerService<'a, S,
         }
     }
 
-    /// Behind the loss of its nexus a session of frames waits too. One of iSCSI doesn't: others may wait for its end.
+    /// After the loss of its nexus a session of frames waits too. One of iSCSI doesn't: others may wait for its end.
     fn end_behind(&mut self, record: RecordTicket)
         ensures { self.new ≡ self.old }
     {
@@ -247,7 +276,7 @@ impl<'a, S: SeatService, C: TapeService, R: Wait, E: Write> WorkerService<'a, S,
         }
     }
 
-    /// Asks behind a session that all records be handed out, and settles the seat. Where it has left records at a unit that is full, it waits
+    /// Asks after a session that all records be handed out, and settles the seat. Where it has left records at a unit that is full, it waits
     /// before the next session.
     pub fn finish(&mut self)
         ensures { MaySettle S.settles self.old self.new }
@@ -296,18 +325,7 @@ impl<'a, S: SeatService, C: TapeService, R: Wait, E: Write> Service
         bytes: &'b [u8],
     ) -> Done<'b> {
         let done = self.seat_service.submit(alloc, nexus, lun, cdb, bytes);
-        self.session.commands = self.session.commands.saturating_add(1);
-        let reply = &done.receipt().reply;
-        match reply.status {
-            Status::Busy => self.tell_busy(nexus, lun),
-            Status::Good => self.keep_in_place(&done, bytes.len()),
-            Status::CheckCondition | Status::ReservationConflict => {}
-        }
-        let record = record_of(&done);
-        self.session.is_full = self.note_record(record);
-        if self.session.is_full {
-            self.pace(record);
-        }
+        self.note_command(nexus, &done, bytes.len());
         done
     }
 
