@@ -18,7 +18,7 @@ const PAUSE: u64 = 500;
 pub enum ServeTerm {
     /// So many, whose faults are the server's.
     Sessions(u64),
-    /// As many as come until no more may begin. Their faults are told, and are none of the server's.
+    /// As many as come until no more may begin. Their faults are reported, and are none of the server's.
     UntilClosed,
 }
 
@@ -35,17 +35,17 @@ pub struct WaitTimes {
     pub ping: Option<Duration>,
 }
 
-/// Who is served: by how many workers, how many sessions in all, and for how long.
+/// How hosts are served: by how many workers, in how many sessions in all, and for how long.
 #[derive(Clone, Copy, Drop)]
 pub struct ServeLimits<'a> {
     /// So many at each door. Each has a seat of its own, and serves one session at a time.
     pub workers: u8,
-    /// So many more, which serve nobody but at portals.
+    /// So many more, which serve sessions at portals only.
     pub spare: u8,
     pub term: ServeTerm,
     pub times: WaitTimes,
-    /// Once these are closed no session begins. Who waits for a connection then waits on until one comes or the door is
-    /// shut down.
+    /// Once these are closed no session begins. A worker that waits for a connection then waits on until one comes or the
+    /// door is shut down.
     pub sessions: &'a LiveSessions,
 }
 
@@ -89,7 +89,7 @@ impl<'a> Acceptor<'a> {
     }
 
     /// The door of the worker with this place among all, if it has one: each door has as many workers, and the last ones of a socket serve
-    /// nobody.
+    /// no session.
     pub(crate) fn door_of(&self, place: usize) -> Option<&'a Door<'a>> {
         let count = self.doors.len();
         let door = self.doors.get(place.checked_rem(count)?)?;

@@ -20,11 +20,11 @@ enum Listener<'a> {
 #[derive(Clone, Copy)]
 pub(crate) struct PortalDoor<'a> {
     pub target: &'a LoginTarget,
-    /// Its portal group, and the target port of those who come in there.
+    /// Its portal group, and the target port of the initiators that come in there.
     pub group: u16,
     /// Where it listens.
     pub address: SocketAddr,
-    /// Where initiators are told that it is found, if it is by another address than they have come to.
+    /// The address that initiators are sent as the one where it is found, if that is another one than they have come to.
     pub told: Option<&'a str>,
 }
 
@@ -34,7 +34,7 @@ pub struct Door<'a> {
     listener: Listener<'a>,
     /// A second descriptor of the listener, as a stream, which can be shut down.
     second: UnixStream,
-    /// Held by who waits for the next connection.
+    /// Held by the worker that waits for the next connection.
     pub(crate) turn: Mutex<()>,
 }
 
@@ -58,7 +58,7 @@ impl<'a> Door<'a> {
     }
 
     /// Where initiators of iSCSI come in to a target, as to its portal group of this number. All portals of a library that is served
-    /// are of one target. They are told that it is found at this address, or else at the one that they have come to.
+    /// are of one target. Initiators are sent this address as the one where it is found, or else the one that they have come to.
     pub fn of_portal(
         listener: TcpListener,
         target: &'a LoginTarget,
@@ -84,7 +84,7 @@ impl<'a> Door<'a> {
         Some(self.portal()?.address)
     }
 
-    /// From now on nobody comes in, and who waits for a connection waits no longer.
+    /// From now on no host comes in, and a worker that waits for a connection waits no longer.
     pub fn shut_down(&self) {
         // A listener can always be shut down.
         let _ = self.second.shutdown(Shutdown::Both);
@@ -123,7 +123,7 @@ impl<'a> Door<'a> {
                     peer,
                     group: portal.group,
                 };
-                // Without these a reply comes later, and an address that is only seen from here is told.
+                // Without these a reply comes later, and an address that is only seen from here is sent.
                 let _ = stream.set_nodelay(true);
                 let came_to = stream.local_addr().unwrap_or(portal.address);
                 Ok(NewConnection {

@@ -22,7 +22,7 @@ pub struct EndedSession {
     pub seconds: u64,
 }
 
-/// What happens while a library is served, and is told at once.
+/// What happens while a library is served, and is reported at once.
 #[derive(Clone, Copy)]
 pub enum Event {
     /// A connection was accepted, as the session of this number.
@@ -31,7 +31,7 @@ pub enum Event {
     Fails(FaultySession),
     /// A connection of this address is closed, since as many of it as may be there haven't logged in.
     Crowded(IpAddr),
-    /// A session was let in beside others of its nexus, which has so many now.
+    /// A session was let in and joined others of its nexus, which has so many now.
     Joins {
         number: u64,
         nexus: Nexus,
@@ -65,7 +65,7 @@ pub enum Event {
 }
 
 impl Event {
-    /// Whether it is told only to who asks for more than faults.
+    /// Whether it is reported only where more than faults is asked for.
     pub fn is_detail(&self) -> bool
         ensures { result ≡ is_detail self.now }
     {

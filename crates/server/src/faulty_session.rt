@@ -28,7 +28,7 @@ impl Cause {
         }
     }
 
-    /// By which words it is told.
+    /// By which words it is reported.
     pub(crate) fn words(self) -> &'static str
         ensures { result.now ≡ cause_words self }
     {
@@ -50,13 +50,13 @@ pub struct FaultySession {
     pub cause: Cause,
 }
 
-/// What stands in an order, by which one of several is told.
+/// What is in an order, by which one of several is reported.
 pub trait InOrder: Copy {
     ghost use Rattle.std.specs.Prelude.{◌≡◌, Bool};
 
     ghost comes_before: { Self → Self → Bool };
 
-    /// Whether it is told in place of another.
+    /// Whether it is reported in place of another.
     fn is_before(&self, other: &Self) -> bool
         ensures { result ≡ comes_before self.now other.now };
 }
@@ -69,7 +69,7 @@ impl InOrder for FaultySession {
     }
 }
 
-/// The one of two that is told, where either may have happened.
+/// The one of two that is reported, where either may have happened.
 pub fn first_by<T: InOrder>(one: Option<T>, other: Option<T>) -> Option<T>
     ensures { result ≡ first_by T.comes_before one other }
 {

@@ -1,6 +1,6 @@
 use std::sync::atomic::{AtomicU64, Ordering};
 
-/// Up to which number each unit's records were handed out, by LUN. Whoever asks may see a number that isn't the last any more.
+/// Up to which number each unit's records were handed out, by LUN. A thread that asks may see a number that isn't the last any more.
 #[derive(Drop)]
 pub(crate) struct HandedOut {
     zero: AtomicU64,

@@ -4,7 +4,7 @@ ghost use Rattle.server.specs.IscsiFaults.{iscsi_words, refusal_words};
 use iscsi_pdu::LoginStatus;
 use iscsi_session::IscsiFault;
 
-/// What is told of the fault of a session of iSCSI.
+/// What is reported of the fault of a session of iSCSI.
 pub(crate) fn iscsi_words(fault: IscsiFault) -> &'static str
     ensures { result.now ≡ iscsi_words fault }
 {
@@ -19,7 +19,7 @@ pub(crate) fn iscsi_words(fault: IscsiFault) -> &'static str
     }
 }
 
-/// What is told of a login that was refused with a status (RFC 7143, "Login Response").
+/// What is reported of a login that was refused with a status (RFC 7143, "Login Response").
 fn refusal_words(status: LoginStatus) -> &'static str
     ensures { result.now ≡ refusal_words status }
 {

@@ -12,7 +12,7 @@ use std::thread::{self, Threads};
 use std::time::Clock;
 use tape_keeper::{KeepEvent, KeepListener, KeepPlace};
 
-/// Tells how keeping tapes goes as a server tells what happens, and wakes the sessions that hold replies.
+/// Reports how keeping tapes goes as a server reports what happens, and wakes the sessions that hold replies.
 #[derive(Drop)]
 pub struct KeepTeller<'a, R: Wait, E: Write> {
     pub(crate) rt: &'a R,

@@ -1,4 +1,5 @@
-//! Sessions of a library by many workers, at a Unix socket and at portals of iSCSI, whichever library that is, and what is told meanwhile.
+//! Sessions of a library by many workers, at a Unix socket and at portals of iSCSI, whichever library that is, and what is reported
+//! meanwhile.
 #![tactic(auto)]
 
 mod acceptor;

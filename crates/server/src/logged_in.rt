@@ -1,7 +1,7 @@
 use scsi_nexus::Nexus;
 use std::{fmt, str};
 
-/// What is told in the place of a name that has other than graphic characters: those could make lines of their own.
+/// What is reported in the place of a name that has other than graphic characters: those could make lines of their own.
 const NO_TEXT: &str = "a name that can't be shown";
 
 /// An initiator of iSCSI that has logged in.
@@ -11,7 +11,7 @@ pub(crate) struct LoggedIn<'a> {
     pub number: u64,
     /// The nexus that it has become.
     pub nexus: Nexus,
-    /// Its name, as that is told.
+    /// Its name, as that is reported.
     pub name: &'a str,
 }
 
@@ -29,10 +29,10 @@ impl<'a> fmt::Display for LoggedIn<'a> {
     }
 }
 
-/// What is told in the place of the name of an initiator that has given none.
+/// What is reported in the place of the name of an initiator that has given none.
 const NO_NAME: &str = "an initiator without a name";
 
-/// A name that an initiator has given, as it is told.
+/// A name that an initiator has given, as it is reported.
 pub(crate) fn shown_name(name: &[u8]) -> &str {
     if name.is_empty() {
         return NO_NAME;

@@ -8,8 +8,8 @@ use tickets::RecordTicket;
 /// A unit with so many records hands them out within a session.
 const MANY: u64 = 4096;
 
-/// Where a unit has so many, its hosts wait for the thread that writes. With what eight sessions may leave besides, they are fewer than 8,192:
-/// a trail's room is doubled as it grows, and needn't be doubled again.
+/// Where a unit has so many, its hosts wait for the thread that writes. With what eight sessions may leave in addition, they are
+/// fewer than 8,192: a trail's room is doubled as it grows, and needn't be doubled again.
 const MOST: u64 = 6144;
 
 /// What the thread that writes is at.
@@ -29,7 +29,7 @@ struct DrainState {
     phase: Phase,
     /// Whether it was asked since it began to take records the last time.
     is_due: bool,
-    /// Whether nobody will ask any more.
+    /// Whether no worker will ask any more.
     is_over: bool,
 }
 
@@ -44,17 +44,17 @@ impl DrainState {
     }
 }
 
-/// Where workers ask that records be handed out, and one thread does it: no worker writes, and so none is held up by who reads,
-/// but where a unit has very many records. Then a session of frames waits, and one of iSCSI holds its replies.
+/// Where workers ask that records be handed out, and one thread does it: no worker writes, and so none is held up by the reader of
+/// the lines, but where a unit has very many records. Then a session of frames waits, and one of iSCSI holds its replies.
 #[derive(Drop)]
 pub struct RecordDrain {
     handed_out: HandedOut,
     /// Whether lines couldn't be written the last time.
     is_failing: AtomicBool,
     state: Mutex<DrainState>,
-    /// Told when handing out is due, and when nobody will ask any more.
+    /// Notified when handing out is due, and when no worker will ask any more.
     asked: Condvar,
-    /// Told when a unit's records were taken, and when the thread is done with all.
+    /// Notified when a unit's records were taken, and when the thread is done with all.
     went_on: Condvar,
 }
 
@@ -82,7 +82,7 @@ impl RecordDrain {
     /// Notes that a unit's records up to a number were taken, so that commands which wait for that go on.
     pub fn note<R: Wait>(&self, rt: &R, lun: u8, last: u64) {
         self.handed_out.note(lun, last);
-        // Who has looked at the numbers and is about to wait has the lock until it does.
+        // A thread that has looked at the numbers and is about to wait has the lock until it does.
         drop(self.state.lock(rt));
         self.went_on.notify_all();
     }
@@ -123,13 +123,13 @@ impl RecordDrain {
         });
     }
 
-    /// Nobody will ask any more: what is due is still handed out.
+    /// No worker will ask any more: what is due is still handed out.
     pub(crate) fn end<R: Wait>(&self, rt: &R) {
         self.state.lock(rt).is_over = true;
         self.asked.notify_all();
     }
 
-    /// Waits until records are to be handed out, or nobody will ask any more. Whether they are.
+    /// Waits until records are to be handed out, or no worker will ask any more. Whether they are.
     pub fn await_turn<R: Wait>(&self, rt: &R) -> bool {
         let mut state = self.state.lock(rt);
         state.phase = Phase::Waiting;

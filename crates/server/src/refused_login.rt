@@ -9,7 +9,7 @@ use std::net::SocketAddr;
 pub(crate) struct RefusedLogin<'a> {
     pub session: FaultySession,
     pub peer: SocketAddr,
-    /// The name of its initiator, as that is told.
+    /// The name of its initiator, as that is reported.
     pub name: &'a str,
     /// Why there was no room, where its login was as it should be.
     pub no_room: Option<NoRoom>,

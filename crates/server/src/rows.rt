@@ -3,7 +3,7 @@ ghost use Rattle.logical_unit.specs.Answers.{DoneValue};
 ghost use Rattle.iscsi_session.specs.declared.register.NexusEnd.TheVariants.{Lost, GoesOn};
 ghost use Rattle.server.specs.Rows.{Gives, IsCommandOf, IsLossOf, a, b};
 
-/// Worked rows: what sessions leave of two nexuses, and of nobody; and that a session makes no call of another nexus, and ends with the
+/// Worked rows: what sessions leave of two nexuses, and of none; and that a session makes no call of another nexus, and ends with the
 /// loss of its own, unless that goes on.
 pub fn session_rows()
     ensures nobody { Gives (None ∷ []) [] }

@@ -88,8 +88,8 @@ pub(crate) fn serve_connection<
     }
 }
 
-/// How long the hosts of a door are waited for: nobody is pinged whose session is of frames, and nobody there is told that sessions are
-/// to end.
+/// How long the hosts of a door are waited for: a host whose session is of frames isn't pinged, and isn't notified that sessions are to
+/// end.
 fn patience_at(door: &Door<'_>, times: WaitTimes) -> Patience {
     Patience {
         login: times.login,
@@ -229,7 +229,7 @@ fn serve_iscsi<
     })
 }
 
-/// Where the portals among doors are found by who has come to an address.
+/// Where the portals among doors are found by an initiator that has come to an address.
 fn addresses_from(
     alloc: Global,
     doors: &[Door<'_>],
@@ -247,8 +247,9 @@ fn addresses_from(
     Ok(addresses)
 }
 
-/// Where a portal is found by who has come to an address: where initiators are to be told that it is, or else where it listens, and at that
-/// address where it listens at all. An address of IPv4 that a portal of IPv6 sees is told as one of IPv4.
+/// Where a portal is found by an initiator that has come to an address: at the address that initiators are to be sent, or else where
+/// it listens, and where it listens at all addresses, at the one that the initiator has come to. An address of IPv4 that a portal of
+/// IPv6 sees is sent as one of IPv4.
 fn told_address(
     alloc: Global,
     portal: &PortalDoor<'_>,
@@ -274,7 +275,7 @@ fn challenge_for<R: RandomSource>(rt: &R, authentication: &Authentication) -> Op
     }
 }
 
-/// An identifier and a challenge that nobody can foretell.
+/// An identifier and a challenge that no host can foretell.
 fn new_challenge<R: RandomSource>(rt: &R) -> Option<Challenge> {
     let mut identifier = [0u8; 1];
     let mut bytes = [0u8; 32];

@@ -6,7 +6,7 @@ use std::sync::{Mutex, Wait};
 ///
 /// No held reply stays asleep, by the order in which both sides go. A session notes that it holds a reply, then asks how its ticket
 /// ended, then waits. A keeper notes how a ticket ended, then looks whether a session holds something, then wakes it. So either the session
-/// is told as it asks, or the keeper sees that it holds; and a wake that comes before the wait ends that wait.
+/// learns that as it asks, or the keeper sees that it holds; and a wake that comes before the wait ends that wait.
 #[derive(Drop)]
 pub(crate) struct SessionFlags {
     is_in: AtomicBool,
@@ -43,7 +43,7 @@ impl SessionFlags {
         self.unpaced.store(0, Ordering::SeqCst);
     }
 
-    /// The session has ended: it holds nothing any more, and nobody wakes it.
+    /// The session has ended: it holds nothing any more, and no thread wakes it.
     pub fn end<R: Wait>(&self, rt: &R) {
         self.is_holding.store(false, Ordering::SeqCst);
         *self.waker.lock(rt) = None;

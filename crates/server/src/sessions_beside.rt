@@ -14,7 +14,7 @@ use std::sync::Wait;
 use std::time::Clock;
 use tickets::{Outcome, ReplyTicket};
 
-/// The sessions that go on, as one of them sees them, by its key, and who is told when it has logged in.
+/// The sessions that go on, as one of them sees them, by its key, and the teller that reports when it has logged in.
 #[derive(Drop)]
 pub(crate) struct SessionsBeside<'a, C: TapeService, R: Clock + Wait, E: Write> {
     pub rt: &'a R,
@@ -29,14 +29,14 @@ pub(crate) struct SessionsBeside<'a, C: TapeService, R: Clock + Wait, E: Write> 
     pub number: u64,
     pub origin: Option<Origin>,
     pub teller: &'a Teller<E>,
-    /// The command number that was told last to be missing.
+    /// The command number that was last reported to be missing.
     pub missing: Cell<Option<u32>>,
     /// The resets that it has made or seen: of those that all sessions have made, each one that isn't among these is another's.
     pub seen: ResetCounts,
 }
 
 impl<'a, C: TapeService, R: Clock + Wait, E: Write> SessionsBeside<'a, C, R, E> {
-    /// Tells that the session was let in beside others of its nexus.
+    /// Reports that the session was let in and joined others of its nexus.
     fn tell_joined(&self, nexus: Nexus) {
         let count = self.sessions.count_of(self.rt, nexus);
         if let Some(origin) = self.origin {

@@ -39,7 +39,7 @@ pub(crate) struct WorkerMeans<'a, C: TapeService, R: Wait, E: Write> {
     pub sessions: &'a [SessionFlags],
 }
 
-/// A worker who has served nobody.
+/// A worker that has served no session.
 fn worker_for<'a, S: SeatService, C: TapeService, R: Wait, E: Write>(
     means: &WorkerMeans<'a, C, R, E>,
     seat_service: S,
@@ -64,7 +64,7 @@ fn worker_for<'a, S: SeatService, C: TapeService, R: Wait, E: Write>(
     }
 }
 
-/// Workers who serve by these, in their order, each with the flags at its place.
+/// Workers that serve by these, in their order, each with the flags at its place.
 pub(crate) fn workers_of<'a, S: SeatService, C: TapeService, R: Wait, E: Write>(
     means: &WorkerMeans<'a, C, R, E>,
     alloc: Global,
@@ -82,7 +82,7 @@ pub(crate) fn workers_of<'a, S: SeatService, C: TapeService, R: Wait, E: Write>(
     Ok(workers)
 }
 
-/// Puts the services of workers behind those that are there, in their order, and answers the fault of the session that was accepted first
+/// Puts the services of workers after those that are there, in their order, and answers the fault of the session that was accepted first
 /// of those that had one.
 pub(crate) fn give_back<'a, S: SeatService, C: TapeService, R: Wait, E: Write>(
     workers: Vec<Worker<'a, S, C, R, E>>,

@@ -141,8 +141,8 @@ fn serve_and_stop<
     served
 }
 
-/// Serves sessions with a worker at each seat, to whom its service goes and from whom it comes back: the fault of the session that was
-/// accepted first of those that had one.
+/// Serves sessions with a worker at each seat. The worker takes the seat's service, and gives it back. Answers the fault of the
+/// session that was accepted first of those that had one.
 fn serve_sessions<
     'x,
     S: SeatService + Send,

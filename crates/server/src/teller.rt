@@ -11,7 +11,7 @@ use std::io::{self, Write};
 use std::sync::{Mutex, Wait};
 use tape_keeper::KeepEvent;
 
-/// How much is told of what happens while a library is served.
+/// How much is reported of what happens while a library is served.
 #[derive(Clone, Copy)]
 pub enum Telling {
     /// Faults alone.
@@ -20,7 +20,7 @@ pub enum Telling {
     Everything,
 }
 
-/// Where what happens is told, a line for each event, by whichever thread it happens to.
+/// Where what happens is reported, a line for each event, by whichever thread it happens to.
 #[derive(Drop)]
 pub struct Teller<E: Write> {
     telling: Telling,
@@ -28,7 +28,7 @@ pub struct Teller<E: Write> {
 }
 
 impl<E: Write> Teller<E> {
-    /// Tells so much there.
+    /// Reports so much there.
     pub fn new(telling: Telling, errors: E) -> Teller<E> {
         Teller {
             telling,
@@ -36,7 +36,7 @@ impl<E: Write> Teller<E> {
         }
     }
 
-    /// Tells that an initiator has logged in, if that is to be told.
+    /// Reports that an initiator has logged in, if that is to be reported.
     pub(crate) fn tell_login<R: Wait>(&self, rt: &R, login: &LoggedIn<'_>) {
         match self.telling {
             Telling::Faults => {}
@@ -47,19 +47,19 @@ impl<E: Write> Teller<E> {
         }
     }
 
-    /// Tells of a login that was refused.
+    /// Reports a login that was refused.
     pub(crate) fn tell_refused<R: Wait>(&self, rt: &R, login: &RefusedLogin<'_>) {
         let mut errors = self.errors.lock(rt);
         let _ = write_refused(&mut *errors, login);
     }
 
-    /// Tells how keeping tapes goes. Where its line can't be written there is nobody to tell.
+    /// Reports how keeping tapes goes. Where its line can't be written there is nowhere to report that.
     pub(crate) fn tell_keeping<R: Wait>(&self, rt: &R, event: &KeepEvent) {
         let mut errors = self.errors.lock(rt);
         let _ = writeln!(&mut *errors, "{event}");
     }
 
-    /// Tells an event, if it is to be told. Where its line can't be written there is nobody to tell.
+    /// Reports an event, if it is to be reported. Where its line can't be written there is nowhere to report that.
     pub fn tell<R: Wait>(&self, rt: &R, event: &Event) {
         match self.telling {
             Telling::Faults if event.is_detail() => {}

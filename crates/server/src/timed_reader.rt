@@ -205,7 +205,7 @@ impl<'a, R: Clock + PollSource + Wait> TimedReader<'a, R> {
     fn read_while_holding(&mut self, buffer: &mut [u8]) -> io::Result<usize>
         ensures { ReadsAtMost result buffer.new }
     {
-        // A reply may be settled already that was held a moment ago: its session has to ask once behind that, before it waits.
+        // A reply may be settled already that was held a moment ago: its session has to ask once after that, before it waits.
         if self.flags.take_new() {
             self.become_wakeable();
             return Err(io::Error::from(ErrorKind::Interrupted));
@@ -227,8 +227,8 @@ impl<'a, R: Clock + PollSource + Wait> TimedReader<'a, R> {
         }
     }
 
-    /// After how long a session looks around that waits for records to be handed out: nobody wakes it for that, since who writes them knows
-    /// no sessions. `None`: it needn't.
+    /// After how long a session looks around that waits for records to be handed out: no thread wakes it for that, since the thread
+    /// that writes them knows no sessions. `None`: it needn't.
     fn glance(&self) -> Option<Duration> {
         if self.flags.unpaced() > 0 {
             Some(Duration::from_millis(GLANCE))
@@ -267,7 +267,7 @@ impl<'a, R: Clock + PollSource + Wait> TimedReader<'a, R> {
     }
 }
 
-/// What is left of a time, behind so much of it. `None`: it is for ever.
+/// What is left of a time, after so much of it. `None`: it is for ever.
 fn left_of(time: Option<Duration>, gone: Duration) -> Option<Duration> {
     match time {
         Some(time) => Some(time.saturating_sub(gone)),
@@ -275,7 +275,7 @@ fn left_of(time: Option<Duration>, gone: Duration) -> Option<Duration> {
     }
 }
 
-/// Whether a time is over, behind so much of it.
+/// Whether a time is over, after so much of it.
 fn is_over(time: Option<Duration>, gone: Duration) -> bool {
     match time {
         Some(time) => gone >= time,

@@ -24,7 +24,7 @@ pub(crate) struct Waited {
     pub is_woken: bool,
 }
 
-/// Who gives sessions what they wait by, and is shared among their threads, as a handle of the bound `Net` can't be.
+/// A source of what sessions wait by, which is shared among their threads, as a handle of the bound `Net` can't be.
 pub trait PollSource {
     /// A poll of nothing. Fails where there are no descriptors.
     fn new_poll(&self) -> io::Result<Poll>;

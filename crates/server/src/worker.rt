@@ -48,7 +48,7 @@ impl<
     R: Clock + PollSource + RandomSource + Wait,
     E: Write,
 > Worker<'a, S, C, R, E> {
-    /// Serves one connection of its door after another, until no more are to be. Behind each it asks that the records so far be
+    /// Serves one connection of its door after another, until no more are to be. After each it asks that the records so far be
     /// handed out, where they are while the library is served. Its place among the workers says which door is its own.
     pub fn work(&mut self, alloc: Global, acceptor: &Acceptor<'_>, place: usize)
         ensures { ComesBySessions S.notes S.settles S.count self.old.service self.new.service }
@@ -70,7 +70,7 @@ impl<
         }
     }
 
-    /// Serves one connection, unless no session may begin any more, and tells what came of it.
+    /// Serves one connection, unless no session may begin any more, and reports what came of it.
     fn serve_one(
         &mut self,
         alloc: Global,
@@ -104,7 +104,7 @@ impl<
         }
     }
 
-    /// Serves a session, tells when it begins and ends, and answers its fault, if it had one.
+    /// Serves a session, reports when it begins and ends, and answers its fault, if it had one.
     fn serve_and_tell(
         &mut self,
         alloc: Global,
@@ -141,8 +141,8 @@ impl<
     }
 }
 
-/// Tells of a session that had a fault; of a login that was refused at a portal with where it came from, its name, and why there was no room
-/// for it.
+/// Reports a session that had a fault; a login that was refused at a portal with where it came from, its name, and why there was no
+/// room for it.
 fn tell_failure<R: Wait, E: Write>(
     rt: &R,
     sessions: &LiveSessions,

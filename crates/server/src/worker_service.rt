@@ -111,8 +111,8 @@ impl SessionSoFar {
     }
 }
 
-/// What a worker serves its sessions by, one after another: a library's service, beside which it asks that records be handed out
-/// where a unit has many of them, settles its seat, has tapes kept, tells of commands that were BUSY, and counts resets.
+/// What a worker serves its sessions by, one after another. It has a library's service, and also asks that records be handed out
+/// where a unit has many of them, settles its seat, has tapes kept, reports commands that were BUSY, and counts resets.
 #[derive(Drop)]
 pub(crate) struct WorkerService<'a, S: SeatService, C: TapeService, R: Wait, E: Write> {
     pub seat_service: S,
