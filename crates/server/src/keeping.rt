@@ -3,14 +3,13 @@
 ghost use Rattle.std.specs.Prelude.{◌≡◌, ◌+◌, IfOk, vec_len};
 
 use crate::session_flags::SessionFlags;
-use crate::tape_service::TapeService;
 use crate::teller::Teller;
 use std::alloc::{AllocError, Global};
 use std::io::Write;
 use std::sync::Wait;
 use std::thread::{self, Threads};
 use std::time::Clock;
-use tape_keeper::{KeepEvent, KeepListener, KeepPlace};
+use tape_keeper::{KeepEvent, KeepListener, KeepPlace, TapeKeeper};
 
 /// Reports how keeping tapes goes as a server reports what happens, and wakes the sessions that hold replies.
 #[derive(Drop)]
@@ -58,9 +57,9 @@ pub(crate) fn places_of(alloc: Global, drives: u8) -> Result<Vec<KeepPlace>, All
 }
 
 /// Has a thread work at each place, until the library ends.
-pub(crate) fn work_at_all<C: TapeService + Sync, R: Clock + Threads + Wait + Sync, E: Write + Send>(
+pub(crate) fn work_at_all<K: TapeKeeper + Sync, R: Clock + Threads + Wait + Sync, E: Write + Send>(
     alloc: Global,
-    tape_service: &C,
+    keeper: &K,
     listener: &KeepTeller<'_, R, E>,
     places: &mut [KeepPlace],
 ) {
@@ -70,6 +69,6 @@ pub(crate) fn work_at_all<C: TapeService + Sync, R: Clock + Threads + Wait + Syn
         rt,
         places,
         count.max(1),
-        &|_place: usize, place: &mut KeepPlace| tape_service.work(rt, alloc, listener, *place),
+        &|_place: usize, place: &mut KeepPlace| keeper.work(rt, alloc, listener, *place),
     );
 }

@@ -11,7 +11,6 @@ use crate::door::{Door, PortalDoor};
 use crate::faulty_session::{Cause, FaultySession};
 use crate::reply_writer::ReplyWriter;
 use crate::sessions_beside::SessionsBeside;
-use crate::tape_service::TapeService;
 use crate::timed_reader::{Patience, TimedReader};
 use crate::waiting::PollSource;
 use crate::worker::NewSession;
@@ -26,6 +25,7 @@ use std::net::SocketAddr;
 use std::random::RandomSource;
 use std::sync::Wait;
 use std::time::{Clock, Duration};
+use tape_keeper::TapeKeeper;
 
 /// After how many seconds at most a session of iSCSI looks whether all sessions are to end.
 const LOOK: u64 = 1;
@@ -35,12 +35,12 @@ const LOOK: u64 = 1;
 pub(crate) fn serve_connection<
     'a,
     S: SeatService,
-    C: TapeService,
+    K: TapeKeeper,
     R: Clock + PollSource + RandomSource + Wait,
     E: Write,
 >(
     alloc: Global,
-    service: &mut WorkerService<'a, S, C, R, E>,
+    service: &mut WorkerService<'a, S, K, R, E>,
     acceptor: &Acceptor<'_>,
     new_session: NewSession<'_, '_>,
 ) -> Result<End, FaultySession>
@@ -110,14 +110,14 @@ fn patience_at(door: &Door<'_>, times: WaitTimes) -> Patience {
 fn serve_session<
     'a,
     S: SeatService,
-    C: TapeService,
+    K: TapeKeeper,
     R: Clock + PollSource + RandomSource + Wait,
     E: Write,
     I: Read,
     O: Write,
 >(
     alloc: Global,
-    service: &mut WorkerService<'a, S, C, R, E>,
+    service: &mut WorkerService<'a, S, K, R, E>,
     acceptor: &Acceptor<'_>,
     new_session: NewSession<'_, '_>,
     reader: &mut I,
@@ -139,7 +139,7 @@ fn serve_session<
             let beside = SessionsBeside {
                 rt: service.rt,
                 sessions,
-                tape_service: service.tape_service,
+                keeper: service.keeper,
                 drain: service.drain,
                 flags: service.flags,
                 key: new_session.key,
@@ -163,9 +163,9 @@ fn serve_session<
 }
 
 /// Serves one session of frames.
-fn serve_frames<'a, S: SeatService, C: TapeService, R: Wait, E: Write, I: Read, O: Write>(
+fn serve_frames<'a, S: SeatService, K: TapeKeeper, R: Wait, E: Write, I: Read, O: Write>(
     alloc: Global,
-    service: &mut WorkerService<'a, S, C, R, E>,
+    service: &mut WorkerService<'a, S, K, R, E>,
     reader: &mut I,
     writer: &mut O,
 ) -> Result<End, SessionFault>
@@ -193,7 +193,7 @@ struct PortalPlace<'d> {
 /// Serves one session of iSCSI, at a portal whose address is the one that it has come to.
 fn serve_iscsi<
     S: KeepingService,
-    C: TapeService,
+    K: TapeKeeper,
     R: Clock + RandomSource + Wait,
     E: Write,
     I: Read,
@@ -201,7 +201,7 @@ fn serve_iscsi<
 >(
     alloc: Global,
     service: &mut S,
-    beside: &SessionsBeside<'_, C, R, E>,
+    beside: &SessionsBeside<'_, K, R, E>,
     place: PortalPlace<'_>,
     reader: &mut I,
     writer: &mut O,

@@ -2,7 +2,6 @@ use crate::event::Event;
 use crate::logged_in::{LoggedIn, shown_name};
 use crate::record_drain::RecordDrain;
 use crate::session_flags::SessionFlags;
-use crate::tape_service::TapeService;
 use crate::teller::Teller;
 use iscsi_pdu::{LoginStatus, SerialNumber};
 use iscsi_session::{Entrant, Joined, NexusEnd, SessionIdentity, SessionRegister};
@@ -12,14 +11,15 @@ use std::cell::Cell;
 use std::io::Write;
 use std::sync::Wait;
 use std::time::Clock;
+use tape_keeper::TapeKeeper;
 use tickets::{Outcome, ReplyTicket};
 
 /// The sessions that go on, as one of them sees them, by its key, and the teller that reports when it has logged in.
 #[derive(Drop)]
-pub(crate) struct SessionsBeside<'a, C: TapeService, R: Clock + Wait, E: Write> {
+pub(crate) struct SessionsBeside<'a, K: TapeKeeper, R: Clock + Wait, E: Write> {
     pub rt: &'a R,
     pub sessions: &'a LiveSessions,
-    pub tape_service: &'a C,
+    pub keeper: &'a K,
     /// Where records are handed out, if they are.
     pub drain: Option<&'a RecordDrain>,
     /// Those of the session that sees them so.
@@ -35,7 +35,7 @@ pub(crate) struct SessionsBeside<'a, C: TapeService, R: Clock + Wait, E: Write> 
     pub seen: ResetCounts,
 }
 
-impl<'a, C: TapeService, R: Clock + Wait, E: Write> SessionsBeside<'a, C, R, E> {
+impl<'a, K: TapeKeeper, R: Clock + Wait, E: Write> SessionsBeside<'a, K, R, E> {
     /// Reports that the session was let in and joined others of its nexus.
     fn tell_joined(&self, nexus: Nexus) {
         let count = self.sessions.count_of(self.rt, nexus);
@@ -51,8 +51,7 @@ impl<'a, C: TapeService, R: Clock + Wait, E: Write> SessionsBeside<'a, C, R, E> 
     }
 }
 
-impl<'a, C: TapeService, R: Clock + Wait, E: Write> SessionRegister
-    for SessionsBeside<'a, C, R, E> {
+impl<'a, K: TapeKeeper, R: Clock + Wait, E: Write> SessionRegister for SessionsBeside<'a, K, R, E> {
     fn living(&self, nexus: Nexus, isid: u64) -> Option<SessionIdentity> {
         self.sessions.living(self.rt, nexus, isid)
     }
@@ -160,7 +159,7 @@ impl<'a, C: TapeService, R: Clock + Wait, E: Write> SessionRegister
             }
         }
         let outcome = match ticket.kept {
-            Some(kept) => self.tape_service.outcome_of(self.rt, kept)?,
+            Some(kept) => self.keeper.outcome_of(self.rt, kept)?,
             None => Outcome::Kept,
         };
         if ticket.handed_out.is_some() {

@@ -6,7 +6,6 @@ ghost use Rattle.server.specs.Faults.{first_among};
 use crate::faulty_session::{FaultySession, first_accepted};
 use crate::record_drain::RecordDrain;
 use crate::session_flags::SessionFlags;
-use crate::tape_service::TapeService;
 use crate::teller::Teller;
 use crate::worker::Worker;
 use crate::worker_service::{Replies, SessionSoFar, WorkerService};
@@ -15,6 +14,7 @@ use session::SeatService;
 use std::alloc::{AllocError, Global};
 use std::io::Write;
 use std::sync::Wait;
+use tape_keeper::TapeKeeper;
 
 /// The flags of so many workers' sessions.
 pub(crate) fn flags_of(alloc: Global, count: usize) -> Result<Vec<SessionFlags>, AllocError>
@@ -29,9 +29,9 @@ pub(crate) fn flags_of(alloc: Global, count: usize) -> Result<Vec<SessionFlags>,
 
 /// What all workers of a library work with.
 #[derive(Drop)]
-pub(crate) struct WorkerMeans<'a, C: TapeService, R: Wait, E: Write> {
+pub(crate) struct WorkerMeans<'a, K: TapeKeeper, R: Wait, E: Write> {
     pub rt: &'a R,
-    pub tape_service: &'a C,
+    pub keeper: &'a K,
     pub resets: &'a ResetCounts,
     pub drain: Option<&'a RecordDrain>,
     pub teller: &'a Teller<E>,
@@ -40,16 +40,16 @@ pub(crate) struct WorkerMeans<'a, C: TapeService, R: Wait, E: Write> {
 }
 
 /// A worker that has served no session.
-fn worker_for<'a, S: SeatService, C: TapeService, R: Wait, E: Write>(
-    means: &WorkerMeans<'a, C, R, E>,
+fn worker_for<'a, S: SeatService, K: TapeKeeper, R: Wait, E: Write>(
+    means: &WorkerMeans<'a, K, R, E>,
     seat_service: S,
     flags: &'a SessionFlags,
-) -> Worker<'a, S, C, R, E>
+) -> Worker<'a, S, K, R, E>
     ensures { result.service ≡ seat_service }
 {
     let service = WorkerService {
         seat_service,
-        tape_service: means.tape_service,
+        keeper: means.keeper,
         rt: means.rt,
         drain: means.drain,
         teller: means.teller,
@@ -65,11 +65,11 @@ fn worker_for<'a, S: SeatService, C: TapeService, R: Wait, E: Write>(
 }
 
 /// Workers that serve by these, in their order, each with the flags at its place.
-pub(crate) fn workers_of<'a, S: SeatService, C: TapeService, R: Wait, E: Write>(
-    means: &WorkerMeans<'a, C, R, E>,
+pub(crate) fn workers_of<'a, S: SeatService, K: TapeKeeper, R: Wait, E: Write>(
+    means: &WorkerMeans<'a, K, R, E>,
     alloc: Global,
     services: Vec<S>,
-) -> Result<Vec<Worker<'a, S, C, R, E>>, AllocError>
+) -> Result<Vec<Worker<'a, S, K, R, E>>, AllocError>
     requires { length means.now.sessions.now ≡ vec_len services }
     ensures { IfOk result (λ workers. map (λ w. w.service) workers.items ≡ services.items) }
 {
@@ -84,8 +84,8 @@ pub(crate) fn workers_of<'a, S: SeatService, C: TapeService, R: Wait, E: Write>(
 
 /// Puts the services of workers after those that are there, in their order, and answers the fault of the session that was accepted first
 /// of those that had one.
-pub(crate) fn give_back<'a, S: SeatService, C: TapeService, R: Wait, E: Write>(
-    workers: Vec<Worker<'a, S, C, R, E>>,
+pub(crate) fn give_back<'a, S: SeatService, K: TapeKeeper, R: Wait, E: Write>(
+    workers: Vec<Worker<'a, S, K, R, E>>,
     services: &mut Vec<S>,
 ) -> Option<FaultySession>
     requires { vec_len services.old + vec_len workers ≤ vec_capacity services.old }

@@ -9,7 +9,6 @@ use crate::faulty_session::FaultySession;
 use crate::keeping::{KeepTeller, places_of, work_at_all};
 use crate::record_drain::RecordDrain;
 use crate::staff::{WorkerMeans, flags_of, give_back, workers_of};
-use crate::tape_service::TapeService;
 use crate::teller::Teller;
 use crate::waiting::PollSource;
 use crate::worker::Worker;
@@ -21,35 +20,27 @@ use std::random::RandomSource;
 use std::sync::Wait;
 use std::thread::{self, Threads};
 use std::time::Clock;
-use tape_keeper::KeepPlace;
+use tape_keeper::{KeepPlace, TapeKeeper};
 
 /// Serves sessions with a worker at each seat. Then none asks any more that records be handed out.
 pub fn serve_and_end<
     'x,
     S: SeatService + Send,
-    C: TapeService + Sync,
+    K: TapeKeeper + Sync,
     R: Clock + PollSource + RandomSource + Threads + Wait + Sync,
     E: Write + Send,
 >(
     rt: &'x R,
     alloc: Global,
     services: &mut Vec<S>,
-    tape_service: &'x C,
+    keeper: &'x K,
     acceptor: &Acceptor<'_>,
     drain: &'x RecordDrain,
     teller: &'x Teller<E>,
 ) -> Result<Option<FaultySession>, AllocError>
     ensures { OnOk result (AllZip (ComesBySessions S.notes S.settles S.count) services.old.items services.new.items) }
 {
-    let served = serve_all(
-        rt,
-        alloc,
-        services,
-        tape_service,
-        acceptor,
-        Some(drain),
-        teller,
-    );
+    let served = serve_all(rt, alloc, services, keeper, acceptor, Some(drain), teller);
     drain.end(rt);
     served
 }
@@ -59,14 +50,14 @@ pub fn serve_and_end<
 pub fn serve_all<
     'x,
     S: SeatService + Send,
-    C: TapeService + Sync,
+    K: TapeKeeper + Sync,
     R: Clock + PollSource + RandomSource + Threads + Wait + Sync,
     E: Write + Send,
 >(
     rt: &'x R,
     alloc: Global,
     services: &mut Vec<S>,
-    tape_service: &'x C,
+    keeper: &'x K,
     acceptor: &Acceptor<'_>,
     drain: Option<&'x RecordDrain>,
     teller: &'x Teller<E>,
@@ -74,10 +65,10 @@ pub fn serve_all<
     ensures { OnOk result (AllZip (ComesBySessions S.notes S.settles S.count) services.old.items services.new.items) }
 {
     let flags = flags_of(alloc, services.len())?;
-    let mut places = places_of(alloc, tape_service.drives())?;
+    let mut places = places_of(alloc, keeper.drives())?;
     let means = WorkerMeans {
         rt,
-        tape_service,
+        keeper,
         resets: acceptor.limits.sessions.resets(),
         drain,
         teller,
@@ -90,11 +81,11 @@ pub fn serve_all<
 fn serve_while_kept<
     'x,
     S: SeatService + Send,
-    C: TapeService + Sync,
+    K: TapeKeeper + Sync,
     R: Clock + PollSource + RandomSource + Threads + Wait + Sync,
     E: Write + Send,
 >(
-    means: &WorkerMeans<'x, C, R, E>,
+    means: &WorkerMeans<'x, K, R, E>,
     alloc: Global,
     services: &mut Vec<S>,
     acceptor: &Acceptor<'_>,
@@ -108,11 +99,11 @@ fn serve_while_kept<
         teller: means.teller,
         sessions: means.sessions,
     };
-    let tape_service = means.tape_service;
+    let keeper = means.keeper;
     let alloc_of_workers = alloc;
     let ((), served) = thread::join_mut(
         means.rt,
-        &mut || work_at_all(alloc, tape_service, &listener, places),
+        &mut || work_at_all(alloc, keeper, &listener, places),
         &mut || -> Result<Option<FaultySession>, AllocError>
             requires { length means.now.sessions.now ≡ vec_len services.now }
         { serve_and_stop(means, alloc_of_workers, services, acceptor) },
@@ -124,11 +115,11 @@ fn serve_while_kept<
 fn serve_and_stop<
     'x,
     S: SeatService + Send,
-    C: TapeService + Sync,
+    K: TapeKeeper + Sync,
     R: Clock + PollSource + RandomSource + Threads + Wait + Sync,
     E: Write + Send,
 >(
-    means: &WorkerMeans<'x, C, R, E>,
+    means: &WorkerMeans<'x, K, R, E>,
     alloc: Global,
     services: &mut Vec<S>,
     acceptor: &Acceptor<'_>,
@@ -137,7 +128,7 @@ fn serve_and_stop<
     ensures { OnOk result (AllZip (ComesBySessions S.notes S.settles S.count) services.old.items services.new.items) }
 {
     let served = serve_sessions(means, alloc, services, acceptor);
-    means.tape_service.end(means.rt);
+    means.keeper.end(means.rt);
     served
 }
 
@@ -146,11 +137,11 @@ fn serve_and_stop<
 fn serve_sessions<
     'x,
     S: SeatService + Send,
-    C: TapeService + Sync,
+    K: TapeKeeper + Sync,
     R: Clock + PollSource + RandomSource + Threads + Wait + Sync,
     E: Write + Send,
 >(
-    means: &WorkerMeans<'x, C, R, E>,
+    means: &WorkerMeans<'x, K, R, E>,
     alloc: Global,
     services: &mut Vec<S>,
     acceptor: &Acceptor<'_>,
@@ -172,10 +163,10 @@ fn serve_sessions<
 fn work_all<
     'a,
     S: SeatService + Send,
-    C: TapeService + Sync,
+    K: TapeKeeper + Sync,
     R: Clock + PollSource + RandomSource + Threads + Wait + Sync,
     E: Write + Send,
->(rt: &R, alloc: Global, workers: &mut [Worker<'a, S, C, R, E>], acceptor: &Acceptor<'_>)
+>(rt: &R, alloc: Global, workers: &mut [Worker<'a, S, K, R, E>], acceptor: &Acceptor<'_>)
     ensures { AllZip (λ v w. ComesBySessions S.notes S.settles S.count v.service w.service) workers.old workers.new }
 {
     let count = workers.len();
@@ -183,7 +174,7 @@ fn work_all<
         rt,
         workers,
         count.max(1),
-        &|place: usize, worker: &mut Worker<'_, S, C, R, E>|
+        &|place: usize, worker: &mut Worker<'_, S, K, R, E>|
             ensures { ComesBySessions S.notes S.settles S.count worker.entry.now.service worker.exit.now.service }
         { worker.work(alloc, acceptor, place) },
     );

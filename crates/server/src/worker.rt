@@ -8,7 +8,6 @@ use crate::faulty_session::{Cause, FaultySession, first_accepted};
 use crate::logged_in::shown_name;
 use crate::refused_login::RefusedLogin;
 use crate::serving::serve_connection;
-use crate::tape_service::TapeService;
 use crate::teller::Teller;
 use crate::waiting::PollSource;
 use crate::worker_service::{SessionSoFar, WorkerService};
@@ -20,11 +19,12 @@ use std::io::Write;
 use std::random::RandomSource;
 use std::sync::Wait;
 use std::time::{Clock, Duration, Instant};
+use tape_keeper::TapeKeeper;
 
 /// A worker's service, and the fault of the session that was accepted first of those that it served.
 #[derive(Drop)]
-pub(crate) struct Worker<'a, S: SeatService, C: TapeService, R: Wait, E: Write> {
-    pub service: WorkerService<'a, S, C, R, E>,
+pub(crate) struct Worker<'a, S: SeatService, K: TapeKeeper, R: Wait, E: Write> {
+    pub service: WorkerService<'a, S, K, R, E>,
     pub fault: Option<FaultySession>,
 }
 
@@ -44,10 +44,10 @@ pub(crate) struct NewSession<'v, 'd> {
 impl<
     'a,
     S: SeatService,
-    C: TapeService,
+    K: TapeKeeper,
     R: Clock + PollSource + RandomSource + Wait,
     E: Write,
-> Worker<'a, S, C, R, E> {
+> Worker<'a, S, K, R, E> {
     /// Serves one connection of its door after another, until no more are to be. After each it asks that the records so far be
     /// handed out, where they are while the library is served. Its place among the workers says which door is its own.
     pub fn work(&mut self, alloc: Global, acceptor: &Acceptor<'_>, place: usize)

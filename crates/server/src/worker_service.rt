@@ -4,7 +4,6 @@ use crate::event::Event;
 use crate::keeping::KeepTeller;
 use crate::record_drain::RecordDrain;
 use crate::session_flags::SessionFlags;
-use crate::tape_service::TapeService;
 use crate::teller::Teller;
 use iscsi_session::KeepingService;
 use live_sessions::ResetCounts;
@@ -16,7 +15,7 @@ use std::alloc::Global;
 use std::io::Write;
 use std::marker::Model;
 use std::sync::Wait;
-use tape_keeper::GoodCommand;
+use tape_keeper::{GoodCommand, TapeKeeper};
 use tickets::{Outcome, RecordTicket, ReplyTicket, Ticket};
 
 /// A seat that has noted so many calls since they were settled is settled again.
@@ -114,9 +113,9 @@ impl SessionSoFar {
 /// What a worker serves its sessions by, one after another. It has a library's service, and also asks that records be handed out
 /// where a unit has many of them, settles its seat, has tapes kept, reports commands that were BUSY, and counts resets.
 #[derive(Drop)]
-pub(crate) struct WorkerService<'a, S: SeatService, C: TapeService, R: Wait, E: Write> {
+pub(crate) struct WorkerService<'a, S: SeatService, K: TapeKeeper, R: Wait, E: Write> {
     pub seat_service: S,
-    pub tape_service: &'a C,
+    pub keeper: &'a K,
     pub rt: &'a R,
     /// Where records are handed out, if they are.
     pub drain: Option<&'a RecordDrain>,
@@ -129,14 +128,13 @@ pub(crate) struct WorkerService<'a, S: SeatService, C: TapeService, R: Wait, E: 
     pub session: SessionSoFar,
 }
 
-impl<'a, S: SeatService, C: TapeService, R: Wait, E: Write> Model
-    for WorkerService<'a, S, C, R, E> {
+impl<'a, S: SeatService, K: TapeKeeper, R: Wait, E: Write> Model for WorkerService<'a, S, K, R, E> {
     ghost Value = { S };
 
     ghost view = { λ p. p.seat_service };
 }
 
-impl<'a, S: SeatService, C: TapeService, R: Wait, E: Write> WorkerService<'a, S, C, R, E> {
+impl<'a, S: SeatService, K: TapeKeeper, R: Wait, E: Write> WorkerService<'a, S, K, R, E> {
     ghost use Rattle.std.specs.Prelude.{◌≡◌};
     ghost use Rattle.server.specs.Keeping.{KeepsWhereSaid};
 
@@ -155,7 +153,7 @@ impl<'a, S: SeatService, C: TapeService, R: Wait, E: Write> WorkerService<'a, S,
     /// Begins to keep what a command left, if it was GOOD, and with which so many bytes were sent, and gives the ticket that its reply
     /// has to wait for.
     fn begin_to_keep(&self, done: &Done<'_>, length: usize) -> Option<Ticket>
-        ensures { KeepsWhereSaid C.says_kept done.now result }
+        ensures { KeepsWhereSaid K.says_kept done.now result }
     {
         if done.receipt().reply.status != Status::Good {
             return None;
@@ -180,7 +178,7 @@ impl<'a, S: SeatService, C: TapeService, R: Wait, E: Write> WorkerService<'a, S,
             teller: self.teller,
             sessions: self.sessions,
         };
-        self.tape_service.begin(self.rt, &listener, command)
+        self.keeper.begin(self.rt, &listener, command)
     }
 
     /// Keeps what a command left that was GOOD, where its session waits for that. Where it is lost the session's replies are sent no more.
@@ -201,7 +199,7 @@ impl<'a, S: SeatService, C: TapeService, R: Wait, E: Write> WorkerService<'a, S,
 
     /// Waits until what a ticket is for is kept. Where it is lost the session's replies are sent no more.
     fn await_kept(&self, ticket: Ticket) {
-        match self.tape_service.await_outcome(self.rt, ticket) {
+        match self.keeper.await_outcome(self.rt, ticket) {
             Outcome::Kept => {}
             Outcome::Lost => self.flags.lose(),
         }
@@ -308,8 +306,8 @@ impl<'a, S: SeatService, C: TapeService, R: Wait, E: Write> WorkerService<'a, S,
     }
 }
 
-impl<'a, S: SeatService, C: TapeService, R: Wait, E: Write> Service
-    for WorkerService<'a, S, C, R, E> {
+impl<'a, S: SeatService, K: TapeKeeper, R: Wait, E: Write> Service
+    for WorkerService<'a, S, K, R, E> {
     ghost use Rattle.server.specs.SeatService.{DoesForWorker};
 
     ghost notes = { DoesForWorker S.notes S.settles };
@@ -371,11 +369,11 @@ impl<'a, S: SeatService, C: TapeService, R: Wait, E: Write> Service
     }
 }
 
-impl<'a, S: SeatService, C: TapeService, R: Wait, E: Write> KeepingService
-    for WorkerService<'a, S, C, R, E> {
+impl<'a, S: SeatService, K: TapeKeeper, R: Wait, E: Write> KeepingService
+    for WorkerService<'a, S, K, R, E> {
     ghost use Rattle.server.specs.Keeping.{WaitsWhereKept};
 
-    ghost waits = { WaitsWhereKept C.says_kept };
+    ghost waits = { WaitsWhereKept K.says_kept };
 
     fn ticket_for(&self, done: &Done<'_>, length: usize) -> Option<ReplyTicket> {
         let kept = self.begin_to_keep(done, length);

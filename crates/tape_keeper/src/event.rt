@@ -6,7 +6,7 @@ use tape_medium::VolumeTag;
 pub enum SavedThing {
     /// The tape of a volume, in its image.
     Volume(VolumeTag),
-    /// Where the volumes lie.
+    /// Where the volumes are.
     Inventory,
 }
 

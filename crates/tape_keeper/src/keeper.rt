@@ -1,6 +1,4 @@
 use crate::event::KeepEvent;
-use crate::source::TapeSource;
-use device_server::DeviceServer;
 use scsi_cdb::Class;
 use std::alloc::Global;
 use std::sync::Wait;
@@ -8,11 +6,11 @@ use std::time::Clock;
 use tape_medium::VolumeTag;
 use tickets::{Outcome, Ticket};
 
-/// Who is told how keeping tapes goes.
+/// What is told how keeping tapes goes.
 pub trait KeepListener {
     fn tell(&self, event: &KeepEvent);
 
-    /// Something is settled that replies wait for: whoever holds such a reply may ask how that ended.
+    /// Something is settled that replies wait for: a session that holds such a reply may ask how that ended.
     fn settled(&self);
 }
 
@@ -29,10 +27,10 @@ pub struct GoodCommand {
     pub length: usize,
 }
 
-/// Where a keeper works. Each place has a thread of its own, so that a disk that is slow with one volume holds up none in another drive.
+/// Where a keeper works. Each place has a thread of its own, so that a disk that is slow with one volume doesn't hold up another drive's.
 #[derive(Clone, Copy)]
 pub enum KeepPlace {
-    /// Volumes that were moved, and where all of them lie.
+    /// Volumes that were moved, and where all of them are.
     Changer,
     /// The volume in the drive with this LUN, 1 to 4.
     Drive(u8),
@@ -40,16 +38,19 @@ pub enum KeepPlace {
     Upkeep,
 }
 
-/// Who keeps copies of the tapes of a library that is served, and notes where its volumes lie. What replies wait for has tickets: whoever is to
-/// send such a reply holds it until its ticket is settled, while no unit's lock is held, so that no answer of a unit depends on the copies.
-pub trait TapeKeeper<D: DeviceServer> {
+/// What keeps copies of the tapes of a library that is served, and notes where its volumes are. It names neither the library's devices nor its
+/// ledgers, so that the sessions that ask it don't either.
+///
+/// What replies wait for has tickets: a session that is to send such a reply holds it until its ticket is settled, while no unit's lock is held, so
+/// no answer of a unit depends on the copies.
+pub trait TapeKeeper {
     ghost use Rattle.std.specs.Prelude.{◌≡◌, Bool, true, false, is_some};
     ghost use Rattle.scsi_cdb.specs.declared.classes.Class.{Class};
 
     /// Whether the reply to a command of a class says that something is kept.
     ghost says_kept: { Class → Bool };
 
-    /// Takes what a command left, which is to be kept, and gives the ticket that its reply has to wait for, if it has to wait. This waits for
+    /// Begins to keep what a command left that ended GOOD, and gives the ticket that its reply has to wait for, if it has to wait. This waits for
     /// nothing but locks that are held for a moment.
     fn begin<R: Wait, H: KeepListener>(
         &self,
@@ -59,45 +60,38 @@ pub trait TapeKeeper<D: DeviceServer> {
     ) -> Option<Ticket>
         ensures { command.is_immediate ≡ false → says_kept command.class ≡ true → is_some result ≡ true };
 
-    /// How keeping what a ticket is for ended, if it has. Where that couldn't be kept the reply must not be sent.
+    /// How keeping what a ticket is for ended, if it has. If it is lost, the reply must not be sent.
     fn outcome_of<R: Wait>(&self, rt: &R, ticket: Ticket) -> Option<Outcome>;
 
     /// Waits until keeping what a ticket is for has ended, and says how.
     fn await_outcome<R: Wait>(&self, rt: &R, ticket: Ticket) -> Outcome;
 
-    /// Waits until something is to be done at a place, or the library ends. Whether it goes on.
-    fn await_turn<R: Clock + Wait>(&self, rt: &R, place: KeepPlace) -> bool;
+    /// At how many drives it keeps tapes: their LUNs are the numbers from 1 on.
+    fn drives(&self) -> u8;
 
-    /// Does what is to be done at a place: keeps what was asked for there, and settles it. At a drive it copies what was written to the volume in
-    /// it and isn't copied yet. As upkeep it tries again to keep what couldn't be kept, a volume wherever it is, and brings to the disk what was
-    /// copied a while ago; but nothing for a while after the last time.
-    fn work<R: Clock + Wait, T: TapeSource<D>, H: KeepListener>(
+    /// Does what is to be done at a place whenever there is something, until the library ends: keeps what was asked for there, and settles it. At a
+    /// drive it copies what was written to the volume in it and isn't copied yet. As upkeep it tries again to keep what couldn't be kept, a volume
+    /// wherever it is, and brings to the disk what was copied a while ago; but nothing for a while after the last time.
+    fn work<R: Clock + Wait, H: KeepListener>(
         &self,
         rt: &R,
         alloc: Global,
-        source: &T,
         listener: &H,
         place: KeepPlace,
     );
 
-    /// The library ends: nobody waits for a turn any more.
+    /// The library ends: each thread that works at a place stops.
     fn end<R: Wait>(&self, rt: &R);
 
-    /// Keeps all volumes and where they lie. Whether all of it is kept; what isn't was told.
-    fn keep_all<R: Wait, T: TapeSource<D>, H: KeepListener>(
-        &self,
-        rt: &R,
-        alloc: Global,
-        source: &T,
-        listener: &H,
-    ) -> bool;
+    /// Keeps all volumes and where they are. Whether all of it is kept; what isn't was told.
+    fn keep_all<R: Wait, H: KeepListener>(&self, rt: &R, alloc: Global, listener: &H) -> bool;
 }
 
-/// Nobody keeps them: they are gone with the library.
+/// Keeps nothing: the tapes are gone with the library.
 #[derive(Clone, Copy)]
 pub struct NoKeeper;
 
-impl<D: DeviceServer> TapeKeeper<D> for NoKeeper {
+impl TapeKeeper for NoKeeper {
     ghost use Rattle.std.specs.Prelude.{false};
 
     ghost says_kept = { λ _. false };
@@ -119,28 +113,21 @@ impl<D: DeviceServer> TapeKeeper<D> for NoKeeper {
         Outcome::Kept
     }
 
-    fn await_turn<R: Clock + Wait>(&self, _rt: &R, _place: KeepPlace) -> bool {
-        false
+    fn drives(&self) -> u8 {
+        0
     }
 
-    fn work<R: Clock + Wait, T: TapeSource<D>, H: KeepListener>(
+    fn work<R: Clock + Wait, H: KeepListener>(
         &self,
         _rt: &R,
         _alloc: Global,
-        _source: &T,
         _listener: &H,
         _place: KeepPlace,
     ) {}
 
     fn end<R: Wait>(&self, _rt: &R) {}
 
-    fn keep_all<R: Wait, T: TapeSource<D>, H: KeepListener>(
-        &self,
-        _rt: &R,
-        _alloc: Global,
-        _source: &T,
-        _listener: &H,
-    ) -> bool {
+    fn keep_all<R: Wait, H: KeepListener>(&self, _rt: &R, _alloc: Global, _listener: &H) -> bool {
         true
     }
 }

@@ -1,4 +1,4 @@
-//! Who keeps copies of the tapes of a library that is served, if somebody does, and what is told of it.
+//! What keeps copies of the tapes of a library that is served, if anything does, and what is told of it.
 #![tactic(auto)]
 
 mod event;
