@@ -13,7 +13,7 @@ pub trait TapeSource<D: DeviceServer> {
     /// How many units there are.
     fn units(&self) -> u8;
 
-    /// Lets an attendant look after the volumes of a unit's device while nobody else is at it. May wait for who is.
+    /// Lets an attendant look after the volumes of a unit's device while nobody else is at it. This may wait until nobody is.
     fn attend<R: Wait, A: Attendant<D>>(&self, rt: &R, lun: u8, attendant: &mut A)
         ensures { (kind : Kind) → has_unit self.now lun kind → WasAsked A.looks_after lun kind attendant.old attendant.new };
 }
