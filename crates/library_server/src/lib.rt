@@ -1,5 +1,5 @@
 //! A library that is served at a socket whose file is made for it, at portals of iSCSI, or at both: for a number of sessions, or until
-//! standard input ends. What opens a library and has it closed stands here, with what keeps its tapes and writes the lines of its records meanwhile.
+//! standard input ends. What opens a library and has it closed is here, with what writes the lines of its records meanwhile.
 #![tactic(auto)]
 
 mod batch;
@@ -22,6 +22,7 @@ mod unwritten_teller;
 
 pub use laws::{fault_rows, worked_rows};
 pub use library_service::LibraryService;
+pub use saved_library::{FolderInventory, FolderKeeper};
 pub use server_fault::{ServerFault, earlier};
 pub use serving::{ServiceMeans, serve_library};
 pub use socket::serve;

@@ -17,9 +17,9 @@ use tape_flush::StoreFault;
 use tape_medium::MemoryLimit;
 use target_core::TargetCore;
 
-/// The inventory's file in a folder, which nobody else has as long as this lives, with the volumes that are missing, as at the start.
+/// The inventory's file in a folder, which no other process has as long as this lives, with the volumes that are missing, as at the start.
 #[derive(Drop)]
-pub(crate) struct FolderInventory<'a> {
+pub struct FolderInventory<'a> {
     files: &'a HostRuntime,
     folder: LibraryFolder,
     missing: Vec<PlacedVolume>,
@@ -34,14 +34,17 @@ impl<'a> InventoryStore for FolderInventory<'a> {
     }
 }
 
-/// A library whose volumes were read from a folder, and who keeps them there.
+/// Keeps the volumes of a library, and where they are, in a folder.
+pub type FolderKeeper<'a> = MediaKeeper<FileStore<'a, HostRuntime>, FolderInventory<'a>>;
+
+/// A library whose volumes were read from a folder, and what keeps them there.
 #[derive(Drop)]
 pub(crate) struct SavedLibrary<'a> {
     pub core: TargetCore<Device>,
-    pub keeper: MediaKeeper<FileStore<'a, HostRuntime>, FolderInventory<'a>>,
+    pub keeper: FolderKeeper<'a>,
 }
 
-/// Reads a library from its folder, whose volumes take no more memory together than the limit says, and writes where they lie from now
+/// Reads a library from its folder, whose volumes take no more memory together than the limit says, and writes where they are from now
 /// on. What is lost, left or missing there is told on `errors`.
 pub(crate) fn saved_library<'a, E: Write>(
     alloc: Global,
@@ -80,7 +83,7 @@ pub(crate) fn saved_library<'a, E: Write>(
     })
 }
 
-/// Where volumes lie.
+/// Where volumes are.
 fn inventory_of<'a>(
     alloc: Global,
     size: LibrarySize,
@@ -124,7 +127,7 @@ fn parted<'a>(
     Ok((started, images))
 }
 
-/// Why no library was made of volumes: what was read lies in elements that are there, each in one.
+/// Why no library was made of volumes: what was read is in elements that are there, each in one.
 fn fault_of(fault: LibraryFault) -> SocketFault {
     match fault {
         LibraryFault::NoMemory | LibraryFault::BadElement => SocketFault::from(AllocError),

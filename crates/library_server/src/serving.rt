@@ -1,4 +1,4 @@
-ghost use Rattle.std.specs.Prelude.{◌≡◌, ◌+◌, ◌*◌, ◌<◌, ◌≤◌, ◌⊎◌, [], None, length, IfErr, IfSome, OnOk};
+ghost use Rattle.std.specs.Prelude.{◌≡◌, ◌+◌, ◌*◌, ◌<◌, ◌≤◌, ◌⊎◌, [], None, length, IfErr, IfOk, IfSome, OnOk};
 ghost use Rattle.std.specs.List.{AllZip};
 ghost use Rattle.logical_unit.specs.UnitView.{units_of};
 ghost use Rattle.lun_router.specs.Blanks.{AreBlanks};
@@ -13,9 +13,10 @@ ghost use Rattle.library_server.specs.declared.server_fault.ServerFault.TheVaria
 
 use crate::batch::Batch;
 use crate::handing_out::hand_out_as_asked;
-use crate::keeping::{SavedTapes, keep_at_the_end};
+use crate::keeping::keep_at_the_end;
 use crate::library_tapes::LibraryTapes;
 use crate::record_source::RecordSource;
+use crate::saved_library::FolderKeeper;
 use crate::server_fault::{ServerFault, closing_fault, earlier, own_fault, told_of};
 use crate::unwritten_teller::UnwrittenTeller;
 use kept_unit::Ledgers;
@@ -23,9 +24,10 @@ use library_service::{close_and_write, give_back, services_of};
 use library_start::Device;
 use lun_router::{Blanks, Library, Pass, Seat};
 use output_lines::RecordOutput;
+use saved_media::SavedTapes;
 use server::{
-    Acceptor, Door, Event, FaultySession, PollSource, RecordDrain, ServeLimits, TapeService,
-    Teller, serve_all, serve_and_end,
+    Acceptor, Door, Event, FaultySession, PollSource, RecordDrain, ServeLimits, Teller, serve_all,
+    serve_and_end,
 };
 use session::{Directory, SeatService};
 use std::alloc::{AllocError, Global};
@@ -37,21 +39,22 @@ use std::sync::ledger::Blank;
 use std::sync::{Mutex, Wait};
 use std::thread::{self, Threads};
 use std::time::Clock;
-use tape_keeper::TapeKeeper;
+use tape_keeper::{NoKeeper, TapeKeeper};
 use target_core::TargetCore;
 
 /// What a library is served with: where its records go, what keeps its tapes, and what is told.
 #[derive(Drop)]
-pub struct ServiceMeans<'a, R: Wait, K: TapeKeeper<Device>, E: Write> {
+pub struct ServiceMeans<'a, 'f, R: Wait, E: Write> {
     pub rt: &'a R,
     pub alloc: Global,
     pub records: RecordOutput,
-    pub keeper: &'a K,
+    /// None if the tapes are gone with the library.
+    pub keeper: Option<&'a FolderKeeper<'f>>,
     pub teller: &'a Teller<E>,
 }
 
 /// Serves a target to connections of doors, each by a worker and as the nexus that its LOGIN names or its initiator is let in as, and
-/// tells what happens. A keeper keeps its tapes meanwhile, and all of them once the last has ended. Then the library is closed, and what
+/// tells what happens. Its keeper, if it has one, keeps its tapes meanwhile, and all of them once the last has ended. Then the library is closed, and what
 /// is wanted of the records is written, LUN 0 first, also where a session had a fault. Lines that can't be written are kept and tried
 /// again; those that never can be are told.
 ///
@@ -59,11 +62,10 @@ pub struct ServiceMeans<'a, R: Wait, K: TapeKeeper<Device>, E: Write> {
 /// at the end.
 pub fn serve_library<
     R: Clock + PollSource + RandomSource + Threads + Wait + Sync,
-    K: TapeKeeper<Device> + Sync,
     E: Write + Send,
     W: Write + Send,
 >(
-    means: &ServiceMeans<'_, R, K, E>,
+    means: &ServiceMeans<'_, '_, R, E>,
     core: TargetCore<Device>,
     doors: &[Door<'_>],
     limits: ServeLimits<'_>,
@@ -85,7 +87,7 @@ pub fn serve_library<
         four: Blank::new(parts),
     };
     let acceptor = Acceptor::new(doors, limits);
-    serve_with_ledgers::<Brand, R, K, E, W>(means, core, seats, blanks, &acceptor, writer)
+    serve_with_ledgers::<Brand, R, E, W>(means, core, seats, blanks, &acceptor, writer)
 }
 
 /// How many seats there are at so many doors, each with so many workers and so many more.
@@ -103,11 +105,10 @@ fn seats_at(workers: u8, spare: u8, doors: usize) -> usize
 fn serve_with_ledgers<
     B: Ledgers + Send + Sync,
     R: Clock + PollSource + RandomSource + Threads + Wait + Sync,
-    K: TapeKeeper<Device> + Sync,
     E: Write + Send,
     W: Write + Send,
 >(
-    means: &ServiceMeans<'_, R, K, E>,
+    means: &ServiceMeans<'_, '_, R, E>,
     core: TargetCore<Device>,
     workers: usize,
     blanks: Blanks,
@@ -128,28 +129,81 @@ fn serve_with_ledgers<
         Err((refused, _)) => return Err(refused.into()),
     };
     let mut batch = Batch::new(alloc);
-    let served = serve_seats(means, &library, &mut seats, acceptor, &mut batch, writer)?;
-    let tapes = LibraryTapes { library: &library };
-    let kept = keep_at_the_end(rt, alloc, means.keeper, &tapes, teller);
+    let served = serve_kept(means, &library, &mut seats, acceptor, &mut batch, writer)?;
     let left = write_rest(means, batch, writer);
     let audit = means.records.of_the_rest();
     let listener = UnwrittenTeller { rt, teller };
     let closed = close_and_write(rt, alloc, library, seats, audit, writer, &listener);
-    told_of(earlier(
-        earlier(own_fault(acceptor.limits.term, served), kept),
-        earlier(left, closing_fault(closed)),
-    ))
+    told_of(earlier(served, earlier(left, closing_fault(closed))))
+}
+
+/// Serves sessions with a worker at each seat, while the keeper of the library's tapes, if it has one, keeps them. Then the seats are back. The
+/// fault of a session, or of a library of which not all is kept.
+fn serve_kept<
+    B: Ledgers + Send + Sync,
+    R: Clock + PollSource + RandomSource + Threads + Wait + Sync,
+    E: Write + Send,
+    W: Write + Send,
+>(
+    means: &ServiceMeans<'_, '_, R, E>,
+    library: &Library<B, Device, Pass>,
+    seats: &mut Vec<Seat<B>>,
+    acceptor: &Acceptor<'_>,
+    batch: &mut Batch,
+    writer: &mut W,
+) -> Result<Option<ServerFault>, AllocError>
+    ensures lines { WritesOut means.now.records (W.contents writer.old) (W.contents writer.new) (left_in batch.old) (left_in batch.new) }
+    ensures served { OnOk result (SeatsCome library.now.units seats.old.items seats.new.items) }
+    ensures fault { IfOk result (λ fault. IfSome fault (MayTell acceptor.now.limits.term)) }
+{
+    let tapes = LibraryTapes { library };
+    match means.keeper {
+        Some(keeper) => {
+            let saved = SavedTapes {
+                keeper,
+                tapes: &tapes,
+            };
+            serve_with_keeper(means, &saved, library, seats, acceptor, batch, writer)
+        }
+        None => serve_with_keeper(means, &NoKeeper, library, seats, acceptor, batch, writer),
+    }
+}
+
+/// The same, generic over the keeper.
+fn serve_with_keeper<
+    B: Ledgers + Send + Sync,
+    K: TapeKeeper + Sync,
+    R: Clock + PollSource + RandomSource + Threads + Wait + Sync,
+    E: Write + Send,
+    W: Write + Send,
+>(
+    means: &ServiceMeans<'_, '_, R, E>,
+    keeper: &K,
+    library: &Library<B, Device, Pass>,
+    seats: &mut Vec<Seat<B>>,
+    acceptor: &Acceptor<'_>,
+    batch: &mut Batch,
+    writer: &mut W,
+) -> Result<Option<ServerFault>, AllocError>
+    ensures lines { WritesOut means.now.records (W.contents writer.old) (W.contents writer.new) (left_in batch.old) (left_in batch.new) }
+    ensures served { OnOk result (SeatsCome library.now.units seats.old.items seats.new.items) }
+    ensures fault { IfOk result (λ fault. IfSome fault (MayTell acceptor.now.limits.term)) }
+{
+    let served = serve_seats(means, keeper, library, seats, acceptor, batch, writer)?;
+    let kept = keep_at_the_end(means.rt, means.alloc, keeper, means.teller);
+    Ok(earlier(own_fault(acceptor.limits.term, served), kept))
 }
 
 /// Serves sessions with a worker at each seat. Then the seats are back.
 fn serve_seats<
     B: Ledgers + Send + Sync,
+    K: TapeKeeper + Sync,
     R: Clock + PollSource + RandomSource + Threads + Wait + Sync,
-    K: TapeKeeper<Device> + Sync,
     E: Write + Send,
     W: Write + Send,
 >(
-    means: &ServiceMeans<'_, R, K, E>,
+    means: &ServiceMeans<'_, '_, R, E>,
+    keeper: &K,
     library: &Library<B, Device, Pass>,
     seats: &mut Vec<Seat<B>>,
     acceptor: &Acceptor<'_>,
@@ -165,15 +219,10 @@ fn serve_seats<
     let taken = mem::replace(seats, Vec::new(alloc));
     let directory = Mutex::new(Directory::new(alloc));
     let mut services = services_of(means.rt, alloc, library, &directory, taken)?;
-    let tapes = LibraryTapes { library };
-    let tape_service = SavedTapes {
-        keeper: means.keeper,
-        tapes: &tapes,
-    };
     let served = serve_services(
         means,
         &mut services,
-        &tape_service,
+        keeper,
         library,
         acceptor,
         batch,
@@ -186,16 +235,15 @@ fn serve_seats<
 /// Serves sessions with a worker at each service, and writes meanwhile what is wanted of the records that units hand out.
 fn serve_services<
     S: SeatService + Send,
-    C: TapeService + Sync,
+    K: TapeKeeper + Sync,
     D: RecordSource + Sync,
     R: Clock + PollSource + RandomSource + Threads + Wait + Sync,
-    K: TapeKeeper<Device> + Sync,
     E: Write + Send,
     W: Write + Send,
 >(
-    means: &ServiceMeans<'_, R, K, E>,
+    means: &ServiceMeans<'_, '_, R, E>,
     services: &mut Vec<S>,
-    tape_service: &C,
+    keeper: &K,
     units: &D,
     acceptor: &Acceptor<'_>,
     batch: &mut Batch,
@@ -206,23 +254,9 @@ fn serve_services<
 {
     let (rt, alloc, teller) = (means.rt, means.alloc, means.teller);
     match means.records {
-        RecordOutput::AtTheEnd(_) => serve_all(
-            rt,
-            alloc,
-            services,
-            tape_service,
-            acceptor,
-            None,
-            teller,
-        ),
+        RecordOutput::AtTheEnd(_) => serve_all(rt, alloc, services, keeper, acceptor, None, teller),
         RecordOutput::AsTheyCome => serve_and_write(
-            means,
-            services,
-            tape_service,
-            units,
-            acceptor,
-            batch,
-            writer,
+            means, services, keeper, units, acceptor, batch, writer,
         ),
     }
 }
@@ -230,16 +264,15 @@ fn serve_services<
 /// Serves sessions with a worker at each service, while a thread of its own hands their records out as they come.
 fn serve_and_write<
     S: SeatService + Send,
-    C: TapeService + Sync,
+    K: TapeKeeper + Sync,
     D: RecordSource + Sync,
     R: Clock + PollSource + RandomSource + Threads + Wait + Sync,
-    K: TapeKeeper<Device> + Sync,
     E: Write + Send,
     W: Write + Send,
 >(
-    means: &ServiceMeans<'_, R, K, E>,
+    means: &ServiceMeans<'_, '_, R, E>,
     services: &mut Vec<S>,
-    tape_service: &C,
+    keeper: &K,
     units: &D,
     acceptor: &Acceptor<'_>,
     batch: &mut Batch,
@@ -258,7 +291,7 @@ fn serve_and_write<
             rt,
             alloc_of_workers,
             services,
-            tape_service,
+            keeper,
             acceptor,
             &drain,
             teller,
@@ -268,8 +301,8 @@ fn serve_and_write<
 }
 
 /// Writes the lines that are left of the records that were taken last, where some were, or tells which have none.
-fn write_rest<R: Wait, K: TapeKeeper<Device>, E: Write, W: Write>(
-    means: &ServiceMeans<'_, R, K, E>,
+fn write_rest<R: Wait, E: Write, W: Write>(
+    means: &ServiceMeans<'_, '_, R, E>,
     batch: Batch,
     writer: &mut W,
 ) -> Option<ServerFault>
@@ -283,8 +316,8 @@ fn write_rest<R: Wait, K: TapeKeeper<Device>, E: Write, W: Write>(
 }
 
 /// Writes the lines that are left of a batch, or tells which of its records have none.
-fn write_batch<R: Wait, K: TapeKeeper<Device>, E: Write, W: Write>(
-    means: &ServiceMeans<'_, R, K, E>,
+fn write_batch<R: Wait, E: Write, W: Write>(
+    means: &ServiceMeans<'_, '_, R, E>,
     mut batch: Batch,
     writer: &mut W,
 ) -> Option<ServerFault>

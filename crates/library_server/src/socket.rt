@@ -1,4 +1,4 @@
-//! The library behind a Unix socket and portals of iSCSI.
+//! The library at a Unix socket and portals of iSCSI.
 
 ghost use Rattle.std.specs.Prelude.{◌≡◌, ◌+◌, ◌<◌, ◌≤◌, vec_len};
 ghost use Rattle.tape_medium.specs.Limits.{capacity_limit};
@@ -10,7 +10,7 @@ ghost use Rattle.library_server.specs.Serving.{telling_of, term_of};
 use crate::iscsi_target::{PortalTarget, target_of};
 use crate::notice::{Notice, tell};
 use crate::places::{Places, open_places};
-use crate::saved_library::{SavedLibrary, saved_library};
+use crate::saved_library::{FolderKeeper, SavedLibrary, saved_library};
 use crate::server_fault::ServerFault;
 use crate::serving::{ServiceMeans, serve_library};
 use crate::socket_fault::SocketFault;
@@ -29,13 +29,12 @@ use std::random::RandomSource;
 use std::sync::Wait;
 use std::thread::{self, Threads};
 use std::time::Clock;
-use tape_keeper::{NoKeeper, TapeKeeper};
 use tape_medium::MemoryLimit;
 use target_core::TargetCore;
 
 /// Serves a library at a socket whose file it makes, at portals of iSCSI, or at both, writes the lines that are wanted of the
-/// records to standard output, and tells on `errors` what happens. The file is removed at the end, if it is still its own. Where
-/// somebody listens at one of the places already, or another file is there, nothing is served and that stays; a socket's file where nobody
+/// records to standard output, and tells on `errors` what happens. The file is removed at the end, if it is still its own. If
+/// a process listens at one of the places already, or another file is there, nothing is served and that stays; a socket's file at which none
 /// listens is taken away. A library that is kept is read from its folder by `files`, and written there, which threads share: a bound can't be.
 #[tactic(auto, using(crate::proofs::PlaceLemmas::some_places, crate::proofs::PlaceLemmas::few_places))]
 pub fn serve<
@@ -85,11 +84,11 @@ pub fn serve<
             let size = options.volume_size;
             let kept = saved_library(rt.alloc(), files, media, size, &memory, errors)?;
             let SavedLibrary { core, keeper } = kept;
-            serve_at(rt, core, &keeper, socket, &made, service, errors)
+            serve_at(rt, core, Some(&keeper), socket, &made, service, errors)
         }
         None => {
             let core = library_within(rt.alloc(), &options, &memory)?;
-            serve_at(rt, core, &NoKeeper, socket, &made, service, errors)
+            serve_at(rt, core, None, socket, &made, service, errors)
         }
     }
 }
@@ -138,11 +137,10 @@ fn serve_at<
         + Threads
         + Wait,
     E: Write + Send,
-    K: TapeKeeper<Device> + Sync,
 >(
     rt: &R,
     core: TargetCore<Device>,
-    keeper: &K,
+    keeper: Option<&FolderKeeper<'_>>,
     socket: Option<String>,
     made: &PortalTarget,
     service: ServiceOptions,
@@ -209,11 +207,10 @@ fn serve_until<
         + Threads
         + Wait,
     E: Write + Send,
-    K: TapeKeeper<Device> + Sync,
 >(
     rt: &R,
     core: TargetCore<Device>,
-    keeper: &K,
+    keeper: Option<&FolderKeeper<'_>>,
     places: &Places<'_>,
     service: ServiceOptions,
     teller: &Teller<E>,

@@ -1,4 +1,4 @@
-//! Who keeps the tapes of a library.
+//! What keeps the tapes of a library.
 
 ghost use Rattle.std.specs.Prelude.{◌≡◌, IfOk};
 ghost use Rattle.saved_media.specs.Saving.{IsOfMove, IsOfVolume, is_protected_at, place_of};
@@ -20,13 +20,12 @@ use std::sync::{Mutex, Wait};
 use std::time::{Clock, Instant};
 use tape_flush::ImageStore;
 use tape_keeper::{
-    GoodCommand, KeepChange, KeepEvent, KeepFault, KeepListener, KeepPlace, SavedThing, TapeKeeper,
-    TapeSource,
+    GoodCommand, KeepChange, KeepEvent, KeepFault, KeepListener, KeepPlace, SavedThing, TapeSource,
 };
 use tape_medium::VolumeTag;
 use tickets::{Outcome, Ticket};
 
-/// Keeps the tapes of a library, each in its image, and the inventory of where they lie. Contracts see the images.
+/// Keeps the tapes of a library, each in its image, and the inventory of where they are. Contracts see the images.
 #[derive(Drop)]
 pub struct MediaKeeper<S: ImageStore + Drop, N: InventoryStore + Drop> {
     size: LibrarySize,
@@ -68,7 +67,7 @@ impl<S: ImageStore + Drop, N: InventoryStore + Drop> MediaKeeper<S, N> {
         })
     }
 
-    /// Who copies volumes for a purpose.
+    /// What copies volumes for a purpose.
     fn copying<'a, R: Wait, T: TapeSource<Device>, H: KeepListener>(
         &'a self,
         rt: &'a R,
@@ -139,7 +138,7 @@ impl<S: ImageStore + Drop, N: InventoryStore + Drop> MediaKeeper<S, N> {
         }
     }
 
-    /// Asks that the volume be kept that a MOVE MEDIUM moved, and no other, and where the volumes lie.
+    /// Asks that the volume be kept that a MOVE MEDIUM moved, and no other, and where the volumes are.
     fn begin_move<R: Wait, H: KeepListener>(
         &self,
         rt: &R,
@@ -161,7 +160,7 @@ impl<S: ImageStore + Drop, N: InventoryStore + Drop> MediaKeeper<S, N> {
                 .requests
                 .ask(rt, KeptItem::Moved(image), KeepPlace::Changer),
             None => {
-                // Where the volumes lie is written all the same, and nobody waits for it.
+                // Where the volumes are is written all the same, and nobody waits for it.
                 let _ = self
                     .requests
                     .ask(rt, KeptItem::Inventory, KeepPlace::Changer);
@@ -222,12 +221,12 @@ impl<S: ImageStore + Drop, N: InventoryStore + Drop> MediaKeeper<S, N> {
                 self.keep_inventory(rt, alloc, source, listener) && is_copied
             }
             KeptItem::Inventory => self.keep_inventory(rt, alloc, source, listener),
-            // Nobody queues it: what is behind is copied by itself.
+            // Nobody queues it: what isn't copied yet is copied by itself.
             KeptItem::Backlog(_) => true,
         }
     }
 
-    /// Writes where the volumes lie. One thread at a time does, from what it reads of the changer then, so that the last that is
+    /// Writes where the volumes are. One thread at a time does, from what it reads of the changer then, so that the last that is
     /// written is the last that was so.
     fn keep_inventory<R: Wait, T: TapeSource<Device>, H: KeepListener>(
         &self,
@@ -268,7 +267,7 @@ impl<S: ImageStore + Drop, N: InventoryStore + Drop> MediaKeeper<S, N> {
         is_whole
     }
 
-    /// Copies what is behind at the drives that a thread at a place looks after.
+    /// Copies what isn't copied yet at the drives that a thread at a place looks after.
     fn copy_behind<R: Wait, T: TapeSource<Device>, H: KeepListener>(
         &self,
         rt: &R,
@@ -311,30 +310,15 @@ impl<S: ImageStore + Drop, N: InventoryStore + Drop> MediaKeeper<S, N> {
     }
 }
 
-/// The place of the first image with a tag.
-fn place_of<S: ImageStore + Drop>(images: &[VolumeImage<S>], tag: VolumeTag) -> Option<usize>
-    ensures { result ≡ place_of images.now tag }
-{
-    images.iter().position(|image| image.tag == tag)
-}
-
-/// Where the volume in the drive with a LUN is kept. The changer's thread looks for what is in no drive.
-fn place_at(lun: u8) -> KeepPlace {
-    match lun {
-        1 | 2 | 3 | 4 => KeepPlace::Drive(lun),
-        _ => KeepPlace::Changer,
-    }
-}
-
-impl<S: ImageStore + Drop, N: InventoryStore + Drop> TapeKeeper<Device> for MediaKeeper<S, N> {
+impl<S: ImageStore + Drop, N: InventoryStore + Drop> MediaKeeper<S, N> {
     ghost use Rattle.std.specs.Prelude.{◌≡◌, Some, false, is_some, true};
     ghost use Rattle.saved_media.specs.Saving.{WaitsFor, kept_ticket, lost_ticket};
     ghost use Rattle.tickets.specs.declared.ticket.Outcome.TheVariants as outcome;
     ghost use Rattle.saved_media.specs.Wishes.{wish_of, is_waited_for};
 
-    ghost says_kept = { λ class. is_waited_for (wish_of class false) };
-
-    fn begin<R: Wait, H: KeepListener>(
+    /// Begins to keep what a command left that ended GOOD, and gives the ticket that its reply has to wait for, if it has to wait. This waits for
+    /// nothing but locks that are held for a moment.
+    pub fn begin<R: Wait, H: KeepListener>(
         &self,
         rt: &R,
         listener: &H,
@@ -355,25 +339,31 @@ impl<S: ImageStore + Drop, N: InventoryStore + Drop> TapeKeeper<Device> for Medi
         }
     }
 
-    fn outcome_of<R: Wait>(&self, rt: &R, ticket: Ticket) -> Option<Outcome>
+    /// How keeping what a ticket is for ended, if it has. If it is lost, the reply must not be sent.
+    pub fn outcome_of<R: Wait>(&self, rt: &R, ticket: Ticket) -> Option<Outcome>
         ensures kept { ticket ≡ kept_ticket → result ≡ Some outcome.Kept }
         ensures lost { ticket ≡ lost_ticket → result ≡ Some outcome.Lost }
     {
         self.requests.outcome_of(rt, ticket)
     }
 
-    fn await_outcome<R: Wait>(&self, rt: &R, ticket: Ticket) -> Outcome
+    /// Waits until keeping what a ticket is for has ended, and says how.
+    pub fn await_outcome<R: Wait>(&self, rt: &R, ticket: Ticket) -> Outcome
         ensures kept { ticket ≡ kept_ticket → result ≡ outcome.Kept }
         ensures lost { ticket ≡ lost_ticket → result ≡ outcome.Lost }
     {
         self.requests.await_outcome(rt, ticket)
     }
 
-    fn await_turn<R: Clock + Wait>(&self, rt: &R, place: KeepPlace) -> bool {
+    /// Waits until something is to be done at a place, or the library ends. Whether it goes on.
+    pub fn await_turn<R: Clock + Wait>(&self, rt: &R, place: KeepPlace) -> bool {
         self.requests.await_turn(rt, place)
     }
 
-    fn work<R: Clock + Wait, T: TapeSource<Device>, H: KeepListener>(
+    /// Does what is to be done at a place: keeps what was asked for there, and settles it. At a drive it copies what was written to the volume in
+    /// it and isn't copied yet. As upkeep it tries again to keep what couldn't be kept, a volume wherever it is, and brings to the disk what was
+    /// copied a while ago; but nothing for a while after the last time.
+    pub fn take_turn<R: Clock + Wait, T: TapeSource<Device>, H: KeepListener>(
         &self,
         rt: &R,
         alloc: Global,
@@ -393,11 +383,13 @@ impl<S: ImageStore + Drop, N: InventoryStore + Drop> TapeKeeper<Device> for Medi
         }
     }
 
-    fn end<R: Wait>(&self, rt: &R) {
+    /// The library ends: no thread waits for a turn any more.
+    pub fn end<R: Wait>(&self, rt: &R) {
         self.requests.end(rt);
     }
 
-    fn keep_all<R: Wait, T: TapeSource<Device>, H: KeepListener>(
+    /// Keeps all volumes and where they are. Whether all of it is kept; what isn't was told.
+    pub fn keep_all<R: Wait, T: TapeSource<Device>, H: KeepListener>(
         &self,
         rt: &R,
         alloc: Global,
@@ -412,5 +404,20 @@ impl<S: ImageStore + Drop, N: InventoryStore + Drop> TapeKeeper<Device> for Medi
         let is_noted = self.keep_inventory(rt, alloc, source, listener);
         let is_whole = self.tell_lost(listener);
         is_noted && is_whole
+    }
+}
+
+/// The place of the first image with a tag.
+fn place_of<S: ImageStore + Drop>(images: &[VolumeImage<S>], tag: VolumeTag) -> Option<usize>
+    ensures { result ≡ place_of images.now tag }
+{
+    images.iter().position(|image| image.tag == tag)
+}
+
+/// Where the volume in the drive with a LUN is kept. The changer's thread looks for what is in no drive.
+fn place_at(lun: u8) -> KeepPlace {
+    match lun {
+        1 | 2 | 3 | 4 => KeepPlace::Drive(lun),
+        _ => KeepPlace::Changer,
     }
 }

@@ -11,7 +11,7 @@ use std::process::Abort;
 use std::sync::{Mutex, Wait};
 use std::time::Clock;
 use tape_flush::{ImageStore, StoreFault};
-use tape_keeper::{GoodCommand, KeepEvent, KeepListener, KeepPlace, TapeKeeper};
+use tape_keeper::{GoodCommand, KeepEvent, KeepListener, KeepPlace};
 use tape_medium::VolumeTag;
 
 const TAG: VolumeTag = VolumeTag([b'A'; 32]);
@@ -151,9 +151,9 @@ fn is_done<R: Clock + Wait>(
     match act {
         Act::Write => units.performs(rt, alloc, 1, &WRITE_HI, b"hi"),
         // Its reply waits for nothing.
-        Act::Keep => TapeKeeper::begin(keeper, rt, &NoListener, WRITE).is_none(),
+        Act::Keep => keeper.begin(rt, &NoListener, WRITE).is_none(),
         Act::WriteBehind => {
-            keeper.work(rt, alloc, units, &NoListener, KeepPlace::Drive(1));
+            keeper.take_turn(rt, alloc, units, &NoListener, KeepPlace::Drive(1));
             true
         }
     }

@@ -10,7 +10,7 @@ use std::process::Abort;
 use std::sync::atomic::{AtomicU32, Ordering};
 use std::sync::{Mutex, Wait};
 use std::time::Clock;
-use tape_keeper::{GoodCommand, KeepChange, KeepEvent, KeepListener, KeepPlace, TapeKeeper};
+use tape_keeper::{GoodCommand, KeepChange, KeepEvent, KeepListener, KeepPlace};
 use tape_medium::VolumeTag;
 use tickets::Ticket;
 
@@ -92,19 +92,19 @@ impl<'a, R: Abort + Clock + Wait> Library<'a, R> {
 
     /// Asks that what a command left be kept.
     pub(super) fn begin(&self, command: GoodCommand) -> Option<Ticket> {
-        TapeKeeper::begin(&self.keeper, self.rt, &self.told, command)
+        self.keeper.begin(self.rt, &self.told, command)
     }
 
     /// Does what is to be done at a place.
     pub(super) fn work(&self, place: KeepPlace) {
         self.keeper
-            .work(self.rt, self.alloc, &self.units, &self.told, place);
+            .take_turn(self.rt, self.alloc, &self.units, &self.told, place);
     }
 
     /// How keeping what a ticket is for ended.
     pub(super) fn ended(&self, ticket: Option<Ticket>) -> Ended {
         match ticket {
-            Some(ticket) => ended_by(TapeKeeper::outcome_of(&self.keeper, self.rt, ticket)),
+            Some(ticket) => ended_by(self.keeper.outcome_of(self.rt, ticket)),
             None => Ended::NoTicket,
         }
     }
@@ -118,7 +118,7 @@ impl<'a, R: Abort + Clock + Wait> Library<'a, R> {
 
     /// A thread of its own comes to a place where something is to be done already, and does nothing yet.
     pub(super) fn serve(&self, place: KeepPlace) -> bool {
-        TapeKeeper::await_turn(&self.keeper, self.rt, place)
+        self.keeper.await_turn(self.rt, place)
     }
 
     /// How often it was told that something is settled.

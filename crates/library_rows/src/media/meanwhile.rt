@@ -14,7 +14,7 @@ use std::alloc::Global;
 use std::process::Abort;
 use std::sync::atomic::{AtomicBool, AtomicU32, Ordering};
 use std::sync::{Mutex, Wait};
-use tape_keeper::{KeepEvent, KeepListener, KeepPlace, TapeKeeper, TapeSource};
+use tape_keeper::{KeepEvent, KeepListener, KeepPlace, TapeSource};
 use tickets::Ticket;
 
 /// Nobody, whom nothing is told.
@@ -45,12 +45,12 @@ struct Host<'v, 'a, R: Abort + Wait> {
 impl<'v, 'a, R: Abort + Wait> Host<'v, 'a, R> {
     /// Asks that what is on B be kept.
     fn begin(&self) -> Option<Ticket> {
-        TapeKeeper::begin(self.keeper, self.rt, &Nobody, marked(B))
+        self.keeper.begin(self.rt, &Nobody, marked(B))
     }
 
     fn ended(&self, ticket: Option<Ticket>) -> Ended {
         match ticket {
-            Some(ticket) => ended_by(TapeKeeper::outcome_of(self.keeper, self.rt, ticket)),
+            Some(ticket) => ended_by(self.keeper.outcome_of(self.rt, ticket)),
             None => Ended::NoTicket,
         }
     }
@@ -109,7 +109,7 @@ fn what_comes_meanwhile_is_kept_anew(rt: HostRuntime) {
     };
     let is_written = units.performs(&rt, alloc, 1, &WRITE_HI, b"hi");
     host.tickets.lock(&rt)[0] = host.begin();
-    keeper.work(&rt, alloc, &host, &host, KeepPlace::Drive(1));
+    keeper.take_turn(&rt, alloc, &host, &host, KeepPlace::Drive(1));
     let seen = *host.seen.lock(&rt);
     let expected = [[Ended::Kept, Ended::NotYet], [Ended::Kept, Ended::Kept]];
     assert_same(&rt, (is_written, seen), (true, expected), "one by one");

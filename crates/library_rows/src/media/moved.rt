@@ -8,7 +8,7 @@ use crate::comparing::{assert_list, assert_same};
 use std::sync::atomic::Ordering;
 use std::thread;
 use std::time::Duration;
-use tape_keeper::{KeepPlace, TapeKeeper};
+use tape_keeper::KeepPlace;
 
 const DRIVE: KeepPlace = KeepPlace::Drive(1);
 

@@ -6,7 +6,7 @@ use super::memory_disk::MemoryDisk;
 use super::units::{BLOCK, BLOCK_AND_MARK, WRITE_HI, WRITE_MARK};
 use crate::comparing::{assert_list, assert_same};
 use std::sync::atomic::Ordering;
-use tape_keeper::{KeepPlace, TapeKeeper};
+use tape_keeper::KeepPlace;
 use tape_medium::VolumeTag;
 use tickets::Ticket;
 
@@ -238,7 +238,7 @@ fn nobody_waits_at_the_end(rt: HostRuntime) {
     let most = library.begin(written(B, MOST));
     let mark = library.begin(marked(B));
     let goes_on = library.serve(DRIVE);
-    TapeKeeper::end(&library.keeper, &rt);
+    library.keeper.end(&rt);
     let found = (
         goes_on,
         library.serve(DRIVE),

@@ -8,7 +8,7 @@ use std::process::Abort;
 use std::sync::Wait;
 use std::thread::{self, Threads};
 use std::time::{Clock, Duration};
-use tape_keeper::{GoodCommand, KeepPlace, TapeKeeper};
+use tape_keeper::{GoodCommand, KeepPlace};
 
 const DRIVE: KeepPlace = KeepPlace::Drive(1);
 
@@ -50,7 +50,7 @@ fn awaited<R: Abort + AllocGlobal + Clock + Threads + Wait + Sync>(rt: &R) -> En
             pause(rt);
             library.work(DRIVE);
         },
-        || TapeKeeper::await_outcome(&library.keeper, rt, ticket),
+        || library.keeper.await_outcome(rt, ticket),
     );
     ended_by(Some(outcome))
 }
@@ -69,7 +69,7 @@ fn awaited_write<R: Abort + AllocGlobal + Clock + Threads + Wait + Sync>(rt: &R)
             pause(rt);
             library.work(DRIVE);
         },
-        || TapeKeeper::await_outcome(&library.keeper, rt, ticket),
+        || library.keeper.await_outcome(rt, ticket),
     );
     ended_by(Some(outcome))
 }
@@ -86,13 +86,13 @@ fn ended_waits<R: Abort + AllocGlobal + Clock + Threads + Wait + Sync>(rt: &R) -
         rt,
         || {
             pause(rt);
-            TapeKeeper::end(&library.keeper, rt);
+            library.keeper.end(rt);
         },
         || {
             thread::join(
                 rt,
                 || library.serve(KeepPlace::Changer),
-                || ticket.map(|ticket| TapeKeeper::await_outcome(&library.keeper, rt, ticket)),
+                || ticket.map(|ticket| library.keeper.await_outcome(rt, ticket)),
             )
         },
     );
