@@ -54,9 +54,9 @@ pub struct ServiceMeans<'a, 'f, R: Wait, E: Write> {
 }
 
 /// Serves a target to connections of doors, each by a worker and as the nexus that its LOGIN names or its initiator is let in as, and
-/// tells what happens. Its keeper, if it has one, keeps its tapes meanwhile, and all of them once the last has ended. Then the library is closed, and what
-/// is wanted of the records is written, LUN 0 first, also where a session had a fault. Lines that can't be written are kept and tried
-/// again; those that never can be are told.
+/// tells what happens. Its keeper, if it has one, keeps its tapes meanwhile, and all of them once the last has ended. Then the library is
+/// closed, and what is wanted of the records is written, LUN 0 first, also where a session had a fault. Lines that can't be written are kept
+/// and tried again; those that never can be are told.
 ///
 /// Of the faults that happened the first in the order of `ServerFault` is told; no clause says which of them happened. No seat is missing
 /// at the end.

@@ -33,8 +33,8 @@ use tape_medium::MemoryLimit;
 use target_core::TargetCore;
 
 /// Serves a library at a socket whose file it makes, at portals of iSCSI, or at both, writes the lines that are wanted of the
-/// records to standard output, and tells on `errors` what happens. The file is removed at the end, if it is still its own. If
-/// a process listens at one of the places already, or another file is there, nothing is served and that stays; a socket's file at which none
+/// records to standard output, and tells on `errors` what happens. The file is removed at the end, if it is still its own. If a process
+/// listens at one of the places already, or another file is there, nothing is served and that stays; a socket's file at which no process
 /// listens is taken away. A library that is kept is read from its folder by `files`, and written there, which threads share: a bound can't be.
 #[tactic(auto, using(crate::proofs::PlaceLemmas::some_places, crate::proofs::PlaceLemmas::few_places))]
 pub fn serve<
@@ -256,7 +256,7 @@ fn serve_until<
     served
 }
 
-/// Who is served for a term, and how long hosts are waited for.
+/// How many sessions are served, for which term, and how long hosts are waited for.
 fn limits_of(until: ServeUntil, times: ServeTimes, sessions: &LiveSessions) -> ServeLimits<'_>
     ensures workers { result.workers ≡ workers_of until }
     ensures term { result.term ≡ term_of until }

@@ -1,4 +1,4 @@
-//! The volumes of a library, copied into their images part by part: the unit where one lies waits while a part is taken, and goes on while it is
+//! The volumes of a library, copied into their images part by part: the unit that one is in waits while a part is taken, and goes on while that is
 //! written.
 
 use crate::looking::{BayLook, PartLook, VolumeLook, VolumePlace};
@@ -19,8 +19,8 @@ pub(crate) enum Purpose {
     Answer,
     /// The end of the library: the same, and for the last time.
     End,
-    /// What is to be copied behind: so many parts of a volume are at once. They are brought to the disk where they are much or have waited, or
-    /// where the volume couldn't be written.
+    /// What is copied in the background: so many parts of a volume are at once. They are brought to the disk if they are much or have waited, or
+    /// if the volume couldn't be written.
     Behind,
 }
 
@@ -41,10 +41,10 @@ struct Copied {
     bytes: u64,
 }
 
-/// So many parts of a volume are copied behind before others have their turn.
+/// So many parts of a volume are copied in the background before others have their turn.
 const MOST_PARTS: u8 = 16;
 
-/// Copies what volumes have that isn't in their images yet. A volume's image is locked before its unit, and never behind it.
+/// Copies what volumes have that isn't in their images yet. A volume's image is locked before its unit, and never after it.
 #[derive(Drop)]
 pub(crate) struct Copying<
     'a,
@@ -69,7 +69,7 @@ impl<'a, S: ImageStore + Drop, R: Wait, T: TapeSource<Device>, H: KeepListener> 
     T,
     H,
 > {
-    /// Copies the volume in a drive, where so many bytes are behind. Where there is none, or a protected one, they were written to one that
+    /// Copies the volume in a drive, at which so many bytes aren't copied yet. If there is none, or a protected one, they were written to one that
     /// was moved, and was kept then.
     pub fn copy_drive(&self, lun: u8, behind: u64) {
         let mut look = BayLook { found: None };
@@ -183,8 +183,8 @@ impl<'a, S: ImageStore + Drop, R: Wait, T: TapeSource<Device>, H: KeepListener> 
         Ok(copied)
     }
 
-    /// Copies what a volume has by now, wherever it is moved meanwhile; behind what hosts write only so many parts at once, so that the volumes
-    /// of other drives have their turn. What is written on behind that isn't waited for, and what was cut off meanwhile isn't needed any
+    /// Copies what a volume has by now, wherever it is moved meanwhile; in the background only so many parts at once, so that the volumes
+    /// of other drives have their turn. What is written on after that isn't waited for, and what was cut off meanwhile isn't needed any
     /// more.
     fn copy(
         &self,
@@ -223,7 +223,7 @@ impl<'a, S: ImageStore + Drop, R: Wait, T: TapeSource<Device>, H: KeepListener> 
         Ok(Copied { extent, bytes })
     }
 
-    /// Notes what isn't behind any more: the part, or where the volume has no more, all that was behind before it was taken.
+    /// Notes what is copied now: the part, or if the volume has no more, all that wasn't copied before it was taken.
     fn note_copied(&self, lun: u8, range: PartRange, part: &TapePart, before: u64) {
         let copied = if range.end >= range.count {
             before
@@ -233,15 +233,15 @@ impl<'a, S: ImageStore + Drop, R: Wait, T: TapeSource<Device>, H: KeepListener> 
         self.take_off(lun, copied);
     }
 
-    /// So many bytes fewer are behind at a drive, for which replies to WRITEs may wait. A volume's image is held here, as where a change is
-    /// told: who is told locks none.
+    /// So many bytes fewer aren't copied yet at a drive, for which replies to WRITEs may wait. A volume's image is held here, as where a change is
+    /// told: a listener locks none.
     fn take_off(&self, lun: u8, bytes: u64) {
         if self.requests.take(self.rt, lun, bytes) {
             self.listener.settled();
         }
     }
 
-    /// What is behind at a drive couldn't be copied: no reply waits for it.
+    /// What isn't copied yet at a drive couldn't be: no reply waits for it.
     fn stick(&self, lun: u8) {
         if self.requests.stick(self.rt, lun) {
             self.listener.settled();

@@ -11,11 +11,11 @@ const MOST_IMAGES: u32 = 1_000_000;
 pub(crate) enum KeptItem {
     /// The tape of a volume, by the place of its image among all.
     Tape(u32),
-    /// Such a tape, and where the volumes lie.
+    /// Such a tape, and where the volumes are.
     Moved(u32),
-    /// Where the volumes lie.
+    /// Where the volumes are.
     Inventory,
-    /// That not too much is behind of the volume in the drive with this LUN, 1 to 4.
+    /// That not too much of the volume in the drive with this LUN, 1 to 4, isn't copied yet.
     Backlog(u8),
 }
 
@@ -27,7 +27,7 @@ pub(crate) struct ItemNumbers {
 }
 
 impl ItemNumbers {
-    /// Of a library with so many images; those behind `MOST_IMAGES` have no items.
+    /// Of a library with so many images; those after the first `MOST_IMAGES` have no items.
     pub fn new(images: usize) -> ItemNumbers
         ensures { result.images ≡ numbered images }
     {

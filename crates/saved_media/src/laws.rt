@@ -26,7 +26,7 @@ pub fn item_rows()
     ensures of_eleven { item_at 3 11 ≡ None }
 {}
 
-/// Worked rows: what is behind is many from 8 MiB on, and too much from 64 MiB on; nothing is that couldn't be copied.
+/// Worked rows: what isn't copied yet is many from 8 MiB on, and too much from 64 MiB on; nothing is that couldn't be copied.
 pub fn backlog_rows()
     ensures none { is_some_behind (backlog 0 false) ≡ false }
     ensures some { is_some_behind (backlog 1 true) ≡ true }

@@ -1,4 +1,4 @@
-//! The tapes of a library that is served, each kept in an image, and where they are: what is written is copied after it, and what a
+//! The tapes of a library that is served, each kept in an image, and where they are: what is written is copied in the background, and what a
 //! reply says to be kept is on the disk before it goes out.
 #![tactic(auto)]
 

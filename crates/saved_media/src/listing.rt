@@ -1,4 +1,4 @@
-//! Where the volumes of a library lie, as its changer notes it.
+//! Where the volumes of a library are, as its changer notes it.
 
 ghost use Rattle.std.specs.Prelude.{◌≡◌};
 ghost use Rattle.device_server.specs.Settled.{SameButSettled};
@@ -9,7 +9,7 @@ use library_start::Device;
 use std::alloc::Global;
 use tape_medium::{FIRST_DATA_TRANSFER, FIRST_IMPORT_EXPORT, FIRST_STORAGE};
 
-/// Notes where the volumes of a changer lie, those in drives by their marks. Nothing of the changer changes.
+/// Notes where the volumes of a changer are, those in drives by their marks. Nothing of the changer changes.
 #[derive(Drop)]
 pub(crate) struct Listing {
     pub alloc: Global,

@@ -17,7 +17,7 @@ const MOST_IMPORT_EXPORTS: u16 = 16;
 
 const MOST_SLOTS: u16 = 1024;
 
-/// Where a volume lies: in which unit's device, and where in that.
+/// Where a volume is: in which unit's device, and where in that.
 #[derive(Clone, Copy)]
 pub(crate) struct VolumePlace {
     pub lun: u8,

@@ -166,12 +166,12 @@ impl Requests {
         }
     }
 
-    /// How many bytes are behind at a drive.
+    /// How many bytes aren't copied yet at a drive.
     pub fn behind(&self, lun: u8) -> u64 {
         self.backlogs.at(lun).bytes()
     }
 
-    /// So many bytes more were written to the volume in a drive. Whether its thread has to know: something is behind now, or many are.
+    /// So many bytes more were written to the volume in a drive. Whether its thread has to know: something isn't copied now, or many bytes aren't.
     pub fn add(&mut self, lun: u8, bytes: u64) -> bool {
         let before = self.backlogs.at(lun);
         let mut backlog = before;
@@ -180,7 +180,7 @@ impl Requests {
         before.is_some() != backlog.is_some() || before.is_many() != backlog.is_many()
     }
 
-    /// So many bytes of what was behind at a drive were copied. Whether that settles what waited for it.
+    /// So many bytes of what wasn't copied at a drive were. Whether that settles what waited for it.
     pub fn take(&mut self, numbers: ItemNumbers, lun: u8, bytes: u64) -> bool {
         let mut backlog = self.backlogs.at(lun);
         backlog.take(bytes);
@@ -188,7 +188,7 @@ impl Requests {
         self.settle_backlog(numbers, lun)
     }
 
-    /// What is behind at a drive couldn't be copied. Whether that settles what waited for it.
+    /// What isn't copied yet at a drive couldn't be. Whether that settles what waited for it.
     pub fn stick(&mut self, numbers: ItemNumbers, lun: u8) -> bool {
         let mut backlog = self.backlogs.at(lun);
         backlog.stick();
@@ -238,7 +238,7 @@ impl Requests {
         self.queues.serve(place);
     }
 
-    /// Whether a thread at a place copies what is behind at a drive: it is its own, or no thread has come there.
+    /// Whether a thread at a place copies what isn't copied yet at a drive: it is its own, or no thread has come there.
     pub fn looks_after(&self, place: KeepPlace, lun: u8) -> bool {
         match place {
             KeepPlace::Drive(own) if own == lun => true,

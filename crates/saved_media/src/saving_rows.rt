@@ -51,7 +51,7 @@ pub fn volume_rows()
 {}
 
 /// Worked rows: the reply to a MOVE MEDIUM waits until the volume that was moved is kept, also one that can't be written, and where the
-/// volumes lie.
+/// volumes are.
 pub fn move_rows()
     ensures moved { Waits class.MoveMedium (Some (tag_of 3)) (Some (ticket 7 1)) }
     ensures protected { Waits class.MoveMedium (Some (tag_of 2)) (Some (ticket 3 1)) }

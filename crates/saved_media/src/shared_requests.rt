@@ -99,7 +99,7 @@ impl SharedRequests {
         requests.wait_for_backlog(self.numbers, lun)
     }
 
-    /// How many bytes are behind at a drive.
+    /// How many bytes aren't copied yet at a drive.
     pub fn behind<R: Wait>(&self, rt: &R, lun: u8) -> u64 {
         self.requests.lock(rt).behind(lun)
     }
@@ -124,7 +124,7 @@ impl SharedRequests {
         is_settled
     }
 
-    /// Whether a thread at a place copies what is behind at a drive.
+    /// Whether a thread at a place copies what isn't copied yet at a drive.
     pub fn looks_after<R: Wait>(&self, rt: &R, place: KeepPlace, lun: u8) -> bool {
         self.requests.lock(rt).looks_after(place, lun)
     }

@@ -14,7 +14,7 @@ const MOST_IN_PLACE: u32 = 2;
 /// Once in so many tries at the latest a tape is written to a new file again.
 const AT_THE_LATEST: u32 = 128;
 
-/// So many bytes that were copied behind are brought to the disk at once.
+/// So many bytes that were copied in the background are brought to the disk at once.
 const MANY_UNSYNCED: u64 = 64 * 1024 * 1024;
 
 /// Fewer are when they have waited for so many milliseconds.
@@ -78,7 +78,7 @@ impl<S: ImageStore + Drop> ImageInUse<S> {
     }
 }
 
-/// What was copied into an image behind and isn't brought to the disk yet.
+/// What was copied into an image in the background and isn't brought to the disk yet.
 #[derive(Clone, Copy, Default)]
 struct Unsynced {
     bytes: u64,
@@ -135,13 +135,13 @@ impl<S: ImageStore + Drop> VolumeImage<S> {
         *self.unsynced.lock(rt) = Unsynced::default();
     }
 
-    /// Whether what was copied behind is to be brought to the disk: it is much, or has waited.
+    /// Whether what was copied in the background is to be brought to the disk: it is much, or has waited.
     pub(crate) fn is_sync_due<R: Wait>(&self, rt: &R) -> bool {
         let unsynced = self.unsynced.lock(rt);
         unsynced.bytes >= MANY_UNSYNCED || unsynced.has_waited
     }
 
-    /// Whether what was copied behind has waited, as is seen now. Where no clock says when that is, it has.
+    /// Whether what was copied in the background has waited, as is seen now. If no clock says when that is, it has.
     pub(crate) fn has_waited<R: Wait>(&self, rt: &R, now: Option<Instant>) -> bool {
         let mut unsynced = self.unsynced.lock(rt);
         if unsynced.bytes == 0 {

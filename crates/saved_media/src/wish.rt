@@ -7,19 +7,19 @@ use scsi_cdb::Class;
 #[derive(Clone, Copy)]
 pub(crate) enum Wish {
     Nothing,
-    /// Objects were written, which are copied behind.
+    /// Objects were written, which are copied in the background.
     Behind,
     /// All of the volume in the drive, before the reply goes out.
     Volume,
     /// The same, but the reply doesn't wait for it.
     VolumeBehind,
-    /// All of the volume that was moved, and where the volumes lie, before the reply goes out.
+    /// All of the volume that was moved, and where the volumes are, before the reply goes out.
     Move,
 }
 
-/// WRITE(6) is copied behind (SSC-4, "WRITE(6) command"). WRITE FILEMARKS(6), also of none, ERASE(6), LOAD UNLOAD and MOVE MEDIUM
-/// are kept before they are answered: a host takes what lies before them for written (SSC-4, "WRITE FILEMARKS(6) command", and
-/// profile). With IMMED a WRITE FILEMARKS(6) is kept as soon, but not waited for. No other changes a tape, or where a volume lies.
+/// WRITE(6) is copied in the background (SSC-4, "WRITE(6) command"). WRITE FILEMARKS(6), also of none, ERASE(6), LOAD UNLOAD and MOVE MEDIUM
+/// are kept before they are answered: a host takes what is before them for written (SSC-4, "WRITE FILEMARKS(6) command", and
+/// profile). With IMMED a WRITE FILEMARKS(6) is kept as soon, but not waited for. No other changes a tape, or where a volume is.
 pub(crate) fn wish_of(class: Class, is_immediate: bool) -> Wish
     ensures { result ≡ wish_of class is_immediate }
 {

@@ -113,7 +113,7 @@ enum Act {
     Write,
     /// What that left is kept.
     Keep,
-    /// What is behind is copied.
+    /// What isn't copied yet is copied.
     WriteBehind,
 }
 

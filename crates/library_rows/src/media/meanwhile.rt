@@ -17,7 +17,7 @@ use std::sync::{Mutex, Wait};
 use tape_keeper::{KeepEvent, KeepListener, KeepPlace, TapeSource};
 use tickets::Ticket;
 
-/// Nobody, whom nothing is told.
+/// A listener that nothing is told.
 #[derive(Clone, Copy)]
 struct Nobody;
 
@@ -73,7 +73,7 @@ impl<'v, 'a, R: Abort + Wait> KeepListener for Host<'v, 'a, R> {
 }
 
 impl<'v, 'a, R: Abort + Wait> TapeSource<Device> for Host<'v, 'a, R> {
-    // of what lies under their locks nothing is known
+    // of what is under their locks nothing is known
     ghost has_unit = { λ _ _ _. ⊥ };
 
     fn units(&self) -> u8 {

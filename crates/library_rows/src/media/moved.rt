@@ -12,7 +12,7 @@ use tape_keeper::KeepPlace;
 
 const DRIVE: KeepPlace = KeepPlace::Drive(1);
 
-/// What was copied behind is brought to the disk once, when it has waited for more than a second.
+/// What was copied in the background is brought to the disk once, when it has waited for more than a second.
 #[test]
 fn what_was_copied_behind_is_brought_to_the_disk(rt: HostRuntime) {
     let alloc = rt.alloc();

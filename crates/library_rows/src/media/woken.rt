@@ -1,4 +1,4 @@
-//! Threads that wait for something to be done at a place, or to be settled, and who wakes them.
+//! Threads that wait for something to be done at a place, or to be settled, and what wakes them.
 
 use super::commands::{A, B, Ended, ended_by, marked, written};
 use super::library::Library;
@@ -55,7 +55,7 @@ fn awaited<R: Abort + AllocGlobal + Clock + Threads + Wait + Sync>(rt: &R) -> En
     ended_by(Some(outcome))
 }
 
-/// Too much is behind, and is copied while another thread waits for that: how it ended.
+/// Too much isn't copied yet, and is copied while another thread waits for that: how it ended.
 fn awaited_write<R: Abort + AllocGlobal + Clock + Threads + Wait + Sync>(rt: &R) -> Ended {
     let alloc = rt.alloc();
     let disk = MemoryDisk::new(alloc);
