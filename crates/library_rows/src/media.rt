@@ -6,6 +6,7 @@ mod commands;
 mod failing_store;
 mod image_bytes;
 mod images;
+mod keepers;
 mod keeping;
 mod library;
 mod meanwhile;
