@@ -1,0 +1,6 @@
+pub mod Counters
+pub mod Parameters
+pub mod Pages
+pub mod LogSense
+pub mod LogSelect
+pub mod Rows
