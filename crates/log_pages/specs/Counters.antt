@@ -15,15 +15,17 @@ at_power_on =
 -- after a WRITE of so many bytes
 abbrev pub wrote : LogCounters → (bytes : ℕ) → LogCounters
 wrote c bytes = record c {
-    write_bytes_processed = counted c.write_bytes_processed bytes;
-    data_bytes_received = counted c.data_bytes_received bytes }
+  write_bytes_processed = counted c.write_bytes_processed bytes;
+  data_bytes_received = counted c.data_bytes_received bytes;
+}
 
 -- after a READ that passed blocks of so many bytes and sent so many
 abbrev pub read : LogCounters → (passed sent : ℕ) → LogCounters
 read c passed sent = record c {
-    read_bytes_processed = counted c.read_bytes_processed passed;
-    data_bytes_read = counted c.data_bytes_read passed;
-    data_bytes_sent = counted c.data_bytes_sent sent }
+  read_bytes_processed = counted c.read_bytes_processed passed;
+  data_bytes_read = counted c.data_bytes_read passed;
+  data_bytes_sent = counted c.data_bytes_sent sent;
+}
 
 -- after a LOG SELECT: the counters of the pages that it resets are 0, and all others stay
 abbrev pub after : LogCounters → LogChange → LogCounters

@@ -1,5 +1,5 @@
 -- The log pages of each kind of unit, by their codes, and the parameters of each (SPC-4, "Log parameters"; SSC-4, "Log parameters").
-use Rattle.std.specs.Prelude.{ℕ, zero, suc, ◌+◌, ◌-◌, ◌/◌, ◌^◌, ◌==◌, min, Bool, ◌&&◌, List, [], ◌∷◌, ◌++◌, Option, Some, None, if◌then◌else◌}
+use Rattle.std.specs.Prelude.{ℕ, zero, suc, ◌-◌, ◌/◌, ◌^◌, ◌==◌, min, ◌&&◌, List, [], ◌∷◌, ◌++◌, Option, Some, None, if◌then◌else◌}
 use Rattle.log_pages.specs.declared.counters.LogCounters.{LogCounters}
 use Rattle.log_pages.specs.declared.drive_log.VolumeLog.{VolumeLog}
 use Rattle.log_pages.specs.declared.page.CommonLogPage.{CommonLogPage}

@@ -1,6 +1,6 @@
 //! Page codes, lengths and bits of log pages (SPC-4, "Log parameters"; SSC-4, "Log parameters").
 
-/// No log page is longer, in bytes.
+/// No data of LOG SENSE is longer, in bytes.
 pub const LONGEST_LOG_DATA: usize = 1_024;
 
 /// What a number of megabytes of the volume is while no volume is loaded (profile).
@@ -36,16 +36,62 @@ pub const ALL_SUBPAGES: u8 = 0xFF;
 /// SPF, in the byte of the page code: the next byte is a subpage code.
 pub const SUBPAGE_FORMAT: u8 = 0x40;
 
-// The last parameter codes of the pages.
-pub const LAST_OF_NONE: u16 = 0x0000;
+/// What stands for the last parameter code of a page that has no parameters (profile).
+pub const NO_PARAMETER: u16 = 0x0000;
 
-pub const LAST_ERROR_COUNTER: u16 = 0x0006;
+// Parameter codes of the Write Error Counter and the Read Error Counter page.
+pub const ERRORS_CORRECTED_WITHOUT_SUBSTANTIAL_DELAY: u16 = 0x0000;
+
+pub const ERRORS_CORRECTED_WITH_POSSIBLE_DELAYS: u16 = 0x0001;
+
+pub const TOTAL_REWRITES_OR_REREADS: u16 = 0x0002;
+
+pub const TOTAL_ERRORS_CORRECTED: u16 = 0x0003;
+
+pub const TOTAL_TIMES_CORRECTION_ALGORITHM_PROCESSED: u16 = 0x0004;
+
+pub const TOTAL_BYTES_PROCESSED: u16 = 0x0005;
+
+pub const TOTAL_UNCORRECTED_ERRORS: u16 = 0x0006;
+
+// Parameter codes of the Sequential-Access Device page.
+pub const DATA_BYTES_RECEIVED: u16 = 0x0000;
+
+pub const DATA_BYTES_WRITTEN: u16 = 0x0001;
+
+pub const DATA_BYTES_READ: u16 = 0x0002;
+
+pub const DATA_BYTES_SENT: u16 = 0x0003;
+
+pub const CAPACITY_TO_END_OF_DATA: u16 = 0x0004;
+
+pub const CAPACITY_TO_EARLY_WARNING: u16 = 0x0005;
+
+pub const CAPACITY_FROM_EARLY_WARNING: u16 = 0x0006;
+
+pub const CAPACITY_TO_POSITION: u16 = 0x0007;
+
+pub const CAPACITY_IN_OBJECT_BUFFER: u16 = 0x0008;
 
 pub const CLEANING_REQUIRED: u16 = 0x0100;
 
+/// The last flag of the TapeAlert page, which has flags from 1 on.
 pub const LAST_TAPE_ALERT_FLAG: u16 = 0x0040;
 
-pub const LAST_TAPE_CAPACITY: u16 = 0x0004;
+// Parameter codes of the Tape Capacity page.
+pub const REMAINING_CAPACITY_OF_PARTITION_0: u16 = 0x0001;
+
+pub const REMAINING_CAPACITY_OF_PARTITION_1: u16 = 0x0002;
+
+pub const MAXIMUM_CAPACITY_OF_PARTITION_0: u16 = 0x0003;
+
+pub const MAXIMUM_CAPACITY_OF_PARTITION_1: u16 = 0x0004;
+
+/// No page has more parameters.
+pub const MOST_PARAMETERS: usize = 64;
+
+/// No parameter is longer, in bytes.
+pub const LONGEST_PARAMETER: usize = 12;
 
 /// FORMAT AND LINKING of a control byte: binary format list, for parameters that are numbers.
 pub const BINARY_FORMAT_LIST: u8 = 0x03;

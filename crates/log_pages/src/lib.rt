@@ -11,6 +11,8 @@ mod log_sense;
 mod page;
 mod parameter;
 mod parameter_lists;
+#[cfg(test)]
+mod tests;
 mod writing;
 
 pub use change::LogChange;
@@ -20,6 +22,6 @@ pub use laws::{
     rows_of_counters, rows_of_error_counters, rows_of_log_select, rows_of_refusals,
     rows_of_sequential_access, rows_of_supported_pages, rows_of_tape_alert, rows_of_tape_capacity,
 };
-pub use layout::{LONGEST_LOG_DATA, NO_VOLUME};
+pub use layout::LONGEST_LOG_DATA;
 pub use log_select::{LogSelect, selected};
 pub use log_sense::{LogSense, changer_log_data, drive_log_data};

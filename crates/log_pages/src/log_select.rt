@@ -22,11 +22,7 @@ pub struct LogSelect {
 
 /// What a LOG SELECT with data of so many bytes does at a unit of the kind, or why it is refused. Page 00h stands for all pages. No
 /// parameter can be set (profile).
-pub fn selected(
-    kind: Kind,
-    select: &LogSelect,
-    data_length: usize,
-) -> Result<LogChange, Condition>
+pub fn selected(kind: Kind, select: &LogSelect, data_length: usize) -> Result<LogChange, Condition>
     ensures { result ≡ selected kind select.now data_length }
 {
     let Some(pages) = pages_reset(kind, select.page_code, select.subpage_code) else {

@@ -97,7 +97,12 @@ fn drive_page(
         }
         DriveLogPage::SequentialAccessDevice => {
             let parameters = sequential_access(alloc, &log.counters, log.volume)?;
-            parameter_page(alloc, SEQUENTIAL_ACCESS_DEVICE, pointer, parameters.as_slice())
+            parameter_page(
+                alloc,
+                SEQUENTIAL_ACCESS_DEVICE,
+                pointer,
+                parameters.as_slice(),
+            )
         }
         DriveLogPage::TapeCapacity => {
             parameter_page(alloc, TAPE_CAPACITY, pointer, &tape_capacity(log.volume))
@@ -105,11 +110,7 @@ fn drive_page(
     }
 }
 
-fn changer_page(
-    alloc: Global,
-    page: CommonLogPage,
-    pointer: u16,
-) -> Result<Vec<u8>, AllocError>
+fn changer_page(alloc: Global, page: CommonLogPage, pointer: u16) -> Result<Vec<u8>, AllocError>
     ensures page { IfOk result (λ bytes. bytes.items ≡ changer_page page pointer) }
     ensures short { IfOk result (λ bytes. vec_len bytes ≤ LONGEST_LOG_DATA) }
 {

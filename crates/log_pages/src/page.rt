@@ -63,7 +63,7 @@ impl CommonLogPage {
     {
         match self {
             CommonLogPage::SupportedLogPages | CommonLogPage::SupportedLogPagesAndSubpages => {
-                LAST_OF_NONE
+                NO_PARAMETER
             }
             CommonLogPage::TapeAlert => LAST_TAPE_ALERT_FLAG,
         }
@@ -78,10 +78,10 @@ impl DriveLogPage {
         match self {
             DriveLogPage::Common(page) => page.last_code(),
             DriveLogPage::WriteErrorCounters | DriveLogPage::ReadErrorCounters => {
-                LAST_ERROR_COUNTER
+                TOTAL_UNCORRECTED_ERRORS
             }
             DriveLogPage::SequentialAccessDevice => CLEANING_REQUIRED,
-            DriveLogPage::TapeCapacity => LAST_TAPE_CAPACITY,
+            DriveLogPage::TapeCapacity => MAXIMUM_CAPACITY_OF_PARTITION_1,
         }
     }
 }

@@ -48,7 +48,7 @@ pub(crate) fn write_parameter_from(
     parameter: &LogParameter,
 ) -> Result<(), AllocError>
     ensures bytes { OnOk result (out.new.items ≡ out.old.items ++ parameter_from pointer parameter.now) }
-    ensures short { OnOk result (vec_len out.new ≤ vec_len out.old + 12) }
+    ensures short { OnOk result (vec_len out.new ≤ vec_len out.old + LONGEST_PARAMETER) }
 {
     if parameter.code < pointer {
         return Ok(());
@@ -59,7 +59,7 @@ pub(crate) fn write_parameter_from(
 /// Adds a parameter: its code, its control byte, its length and its value.
 fn write_parameter(out: &mut Vec<u8>, parameter: &LogParameter) -> Result<(), AllocError>
     ensures bytes { OnOk result (out.new.items ≡ out.old.items ++ parameter_bytes parameter.now) }
-    ensures short { OnOk result (vec_len out.new ≤ vec_len out.old + 12) }
+    ensures short { OnOk result (vec_len out.new ≤ vec_len out.old + LONGEST_PARAMETER) }
 {
     let [c1, c0] = parameter.code.to_be_bytes();
     match parameter.value {
@@ -76,7 +76,7 @@ fn write_parameter(out: &mut Vec<u8>, parameter: &LogParameter) -> Result<(), Al
 
 fn write_counter(out: &mut Vec<u8>, code: u16, value: u64) -> Result<(), AllocError>
     ensures bytes { OnOk result (out.new.items ≡ out.old.items ++ parameter_bytes (counter code value)) }
-    ensures short { OnOk result (vec_len out.new ≤ vec_len out.old + 12) }
+    ensures short { OnOk result (vec_len out.new ≤ vec_len out.old + LONGEST_PARAMETER) }
 {
     let [c1, c0] = code.to_be_bytes();
     out.extend_from_slice(&[c1, c0, BINARY_FORMAT_LIST, EIGHT_BYTES])?;

@@ -12,13 +12,13 @@ pub(crate) fn error_counters(total_bytes_processed: u64) -> [LogParameter; 7]
     ensures { result ≡ error_counters total_bytes_processed }
 {
     [
-        LogParameter::number(0x0000, 0),
-        LogParameter::number(0x0001, 0),
-        LogParameter::number(0x0002, 0),
-        LogParameter::number(0x0003, 0),
-        LogParameter::number(0x0004, 0),
-        LogParameter::counter(0x0005, total_bytes_processed),
-        LogParameter::number(LAST_ERROR_COUNTER, 0),
+        LogParameter::number(ERRORS_CORRECTED_WITHOUT_SUBSTANTIAL_DELAY, 0),
+        LogParameter::number(ERRORS_CORRECTED_WITH_POSSIBLE_DELAYS, 0),
+        LogParameter::number(TOTAL_REWRITES_OR_REREADS, 0),
+        LogParameter::number(TOTAL_ERRORS_CORRECTED, 0),
+        LogParameter::number(TOTAL_TIMES_CORRECTION_ALGORITHM_PROCESSED, 0),
+        LogParameter::counter(TOTAL_BYTES_PROCESSED, total_bytes_processed),
+        LogParameter::number(TOTAL_UNCORRECTED_ERRORS, 0),
     ]
 }
 
@@ -34,15 +34,15 @@ pub(crate) fn sequential_access(
     let mut parameters = Vec::from_slice(
         alloc,
         &[
-            LogParameter::counter(0x0000, counters.data_bytes_received),
-            LogParameter::counter(0x0001, counters.data_bytes_received),
-            LogParameter::counter(0x0002, counters.data_bytes_read),
-            LogParameter::counter(0x0003, counters.data_bytes_sent),
+            LogParameter::counter(DATA_BYTES_RECEIVED, counters.data_bytes_received),
+            LogParameter::counter(DATA_BYTES_WRITTEN, counters.data_bytes_received),
+            LogParameter::counter(DATA_BYTES_READ, counters.data_bytes_read),
+            LogParameter::counter(DATA_BYTES_SENT, counters.data_bytes_sent),
         ],
     )?;
     parameters.extend_from_slice(&volume_parameters(volume))?;
     parameters.extend_from_slice(&[
-        LogParameter::number(0x0008, 0),
+        LogParameter::number(CAPACITY_IN_OBJECT_BUFFER, 0),
         LogParameter::number(CLEANING_REQUIRED, 0),
     ])?;
     Ok(parameters)
@@ -54,19 +54,19 @@ fn volume_parameters(volume: Option<VolumeLog>) -> [LogParameter; 4]
 {
     match volume {
         None => [
-            LogParameter::number(0x0004, NO_VOLUME),
-            LogParameter::number(0x0005, NO_VOLUME),
-            LogParameter::number(0x0006, NO_VOLUME),
-            LogParameter::number(0x0007, NO_VOLUME),
+            LogParameter::number(CAPACITY_TO_END_OF_DATA, NO_VOLUME),
+            LogParameter::number(CAPACITY_TO_EARLY_WARNING, NO_VOLUME),
+            LogParameter::number(CAPACITY_FROM_EARLY_WARNING, NO_VOLUME),
+            LogParameter::number(CAPACITY_TO_POSITION, NO_VOLUME),
         ],
         Some(volume) => [
-            LogParameter::number(0x0004, megabytes(volume.to_end_of_data)),
+            LogParameter::number(CAPACITY_TO_END_OF_DATA, megabytes(volume.to_end_of_data)),
             LogParameter::number(
-                0x0005,
+                CAPACITY_TO_EARLY_WARNING,
                 megabytes(volume.capacity.saturating_sub(volume.early_warning)),
             ),
-            LogParameter::number(0x0006, megabytes(volume.early_warning)),
-            LogParameter::number(0x0007, megabytes(volume.position)),
+            LogParameter::number(CAPACITY_FROM_EARLY_WARNING, megabytes(volume.early_warning)),
+            LogParameter::number(CAPACITY_TO_POSITION, megabytes(volume.position)),
         ],
     }
 }
@@ -83,10 +83,10 @@ pub(crate) fn tape_capacity(volume: Option<VolumeLog>) -> [LogParameter; 4]
         ),
     };
     [
-        LogParameter::number(0x0001, left),
-        LogParameter::number(0x0002, 0),
-        LogParameter::number(0x0003, capacity),
-        LogParameter::number(LAST_TAPE_CAPACITY, 0),
+        LogParameter::number(REMAINING_CAPACITY_OF_PARTITION_0, left),
+        LogParameter::number(REMAINING_CAPACITY_OF_PARTITION_1, 0),
+        LogParameter::number(MAXIMUM_CAPACITY_OF_PARTITION_0, capacity),
+        LogParameter::number(MAXIMUM_CAPACITY_OF_PARTITION_1, 0),
     ]
 }
 
@@ -94,7 +94,7 @@ pub(crate) fn tape_capacity(volume: Option<VolumeLog>) -> [LogParameter; 4]
 #[tactic(auto, unfolding(crate::specs::Pages::tape_alert_flags))]
 pub(crate) fn tape_alert_flags(alloc: Global) -> Result<Vec<LogParameter>, AllocError>
     ensures flags { IfOk result (λ list. list.items ≡ tape_alert_flags) }
-    ensures count { IfOk result (λ list. vec_len list ≡ 64) }
+    ensures count { IfOk result (λ list. vec_len list ≡ MOST_PARAMETERS) }
 {
     let mut flags = Vec::new(alloc);
     for before in 0..LAST_TAPE_ALERT_FLAG {

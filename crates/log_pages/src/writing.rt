@@ -1,7 +1,7 @@
 ghost use Rattle.std.specs.Prelude.{◌≡◌, ◌≤◌, ◌+◌, ◌*◌, length, vec_len, IfOk};
 ghost use Rattle.log_pages.specs.Parameters.{parameters_from, parameter_page};
 
-use crate::layout::NO_SUBPAGE;
+use crate::layout::{LONGEST_LOG_DATA, LONGEST_PARAMETER, MOST_PARAMETERS, NO_SUBPAGE};
 use crate::parameter::{LogParameter, write_parameter_from};
 use std::alloc::{AllocError, Global};
 
@@ -12,9 +12,9 @@ pub(crate) fn parameter_page(
     pointer: u16,
     parameters: &[LogParameter],
 ) -> Result<Vec<u8>, AllocError>
-    requires { length parameters.now ≤ 64 }
+    requires { length parameters.now ≤ MOST_PARAMETERS }
     ensures page { IfOk result (λ bytes. bytes.items ≡ parameter_page page_code pointer parameters.now) }
-    ensures short { IfOk result (λ bytes. vec_len bytes ≤ 772) }
+    ensures short { IfOk result (λ bytes. vec_len bytes ≤ LONGEST_LOG_DATA) }
 {
     let list = parameters_from(alloc, pointer, parameters)?;
     let [l1, l0] = (list.len() as u16).to_be_bytes();
@@ -31,7 +31,7 @@ fn parameters_from(
     parameters: &[LogParameter],
 ) -> Result<Vec<u8>, AllocError>
     ensures bytes { IfOk result (λ bytes. bytes.items ≡ parameters_from pointer parameters.now) }
-    ensures short { IfOk result (λ bytes. vec_len bytes ≤ 12 * length parameters.now) }
+    ensures short { IfOk result (λ bytes. vec_len bytes ≤ LONGEST_PARAMETER * length parameters.now) }
 {
     let mut list = Vec::new(alloc);
     for parameter in parameters {
