@@ -1,0 +1,9 @@
+pub mod Values
+pub mod Lists
+pub mod Asked
+pub mod DrivePages
+pub mod DriveData
+pub mod ChangerPages
+pub mod ChangerData
+pub mod Select
+pub mod Laws
