@@ -1,10 +1,6 @@
 -- The pages that are shown, put together, and their lengths.
-use Rattle.std.proofs.Common.{◌≡◌, ℕ, ◌≤◌, Bool, List, [], ◌∷◌, ◌++◌, length, Option, Some, None, refl, sym, ap, ◌∙◌, arith, lit≤, append_assoc}
+use Rattle.std.proofs.Common.{◌≡◌, ℕ, ◌≤◌, Bool, List, [], ◌∷◌, ◌++◌, length, sym, ap, ◌∙◌, arith, lit≤, append_assoc}
 use Rattle.std.proofs.lemmas.List.{append-nil}
-use Rattle.std.specs.Option.{option_to_list}
-use Rattle.std.specs.List.{flat_map}
-use Rattle.mode_pages.specs.declared.asked.PagesAsked.{PagesAsked}
-use Rattle.mode_pages.specs.declared.asked.PagesAsked.TheVariants.{NoPage, AllPages, PageOfCode, PageOfSubpage}
 use Rattle.mode_pages.specs.declared.request.PageControl.{PageControl}
 use Rattle.mode_pages.specs.declared.request.PageControl.TheVariants as control
 use Rattle.mode_pages.specs.declared.drive_page.DrivePage.{DrivePage}
@@ -13,7 +9,6 @@ use Rattle.mode_pages.specs.declared.changer_page.ChangerPage.{ChangerPage}
 use Rattle.mode_pages.specs.declared.changer_page.ChangerPage.TheVariants as changer_page
 use Rattle.mode_pages.specs.declared.elements.ElementAddresses.{ElementAddresses}
 use Rattle.mode_pages.specs.declared.values.ModeValues.{ModeValues}
-use Rattle.mode_pages.specs.Asked.{those_asked}
 use Rattle.mode_pages.specs.DrivePages as drives
 use Rattle.mode_pages.specs.DriveData as drive_data
 use Rattle.mode_pages.specs.ChangerPages as changers

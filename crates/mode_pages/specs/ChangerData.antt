@@ -1,5 +1,5 @@
 -- The data of MODE SENSE of a medium changer (SMC-3, "Mode parameters").
-use Rattle.std.specs.Prelude.{ℕ, List, [], ◌++◌, flat_map, Option, Some, None, is_some, Result}
+use Rattle.std.specs.Prelude.{ℕ, List, [], flat_map, Option, is_some, Result}
 use Rattle.scsi_sense.specs.declared.condition.Condition.{Condition}
 use Rattle.mode_pages.specs.Lists.{mode_data}
 use Rattle.mode_pages.specs.Asked.{asked, asked_fault, those_asked}

@@ -1,5 +1,5 @@
 -- The data of MODE SENSE of a drive (SSC-4, "Mode parameters").
-use Rattle.std.specs.Prelude.{ℕ, Bool, true, false, if◌then◌else◌, List, [], ◌∷◌, flat_map, Option, Some, None, is_some, Result, Ok, Err}
+use Rattle.std.specs.Prelude.{ℕ, Bool, true, false, List, [], ◌∷◌, flat_map, Option, Some, None, is_some, Result, Ok, Err}
 use Rattle.scsi_cdb.specs.Encoding.{three}
 use Rattle.scsi_sense.specs.declared.condition.Condition.{Condition}
 use Rattle.mode_pages.specs.Values.{default_values}

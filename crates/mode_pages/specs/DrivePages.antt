@@ -1,5 +1,5 @@
 -- The mode pages of a drive (SPC-4 and SSC-4, "Mode parameters"), each to the byte.
-use Rattle.std.specs.Prelude.{ℕ, ◌+◌, ◌==◌, Bool, true, false, if◌then◌else◌, List, [], ◌∷◌, ◌++◌, replicate, Option, Some, None}
+use Rattle.std.specs.Prelude.{ℕ, ◌==◌, Bool, true, false, if◌then◌else◌, List, [], ◌∷◌, ◌++◌, replicate, Option, Some, None}
 use Rattle.mode_pages.specs.declared.drive_page.DrivePage.{DrivePage}
 use Rattle.mode_pages.specs.declared.drive_page.DrivePage.TheVariants.{ReadWriteErrorRecovery, DisconnectReconnect, Control, DataCompression, DeviceConfiguration, MediumPartition, InformationalExceptionsControl, MediumConfiguration}
 

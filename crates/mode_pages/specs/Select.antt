@@ -1,5 +1,5 @@
 -- What a MODE SELECT of a drive says (SPC-4, "MODE SELECT(6) command", "Mode parameter list formats"; SSC-4, "Mode parameters").
-use Rattle.std.specs.Prelude.{ℕ, ◌+◌, ◌==◌, nat_lt, Bool, true, false, not, ◌&&◌, ◌||◌, if◌then◌else◌, List, [], ◌∷◌, length, drop, zero, suc, Option, Some, None, Result, Ok, Err}
+use Rattle.std.specs.Prelude.{ℕ, ◌+◌, ◌==◌, nat_lt, Bool, false, not, ◌||◌, if◌then◌else◌, List, [], ◌∷◌, length, drop, zero, suc, Option, Some, None, Result, Ok, Err}
 use Rattle.scsi_cdb.specs.Bits.{bit, bits, byte, two_bytes, three_bytes}
 use Rattle.scsi_sense.specs.declared.condition.Condition.{Condition}
 use Rattle.scsi_sense.specs.declared.condition.Condition.TheVariants.{InvalidFieldInCdb, InvalidFieldInParameterList, ParameterListLengthError}

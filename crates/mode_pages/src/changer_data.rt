@@ -19,7 +19,11 @@ pub fn changer_mode_fault(sense: &ModeSense) -> Option<Condition>
     ensures { result ≡ changer_fault sense.now }
 {
     let has_page = ChangerPage::of(sense.page_code).is_some();
-    sense_fault(sense.page_control, asked(sense.page_code, sense.subpage_code), has_page)
+    sense_fault(
+        sense.page_control,
+        asked(sense.page_code, sense.subpage_code),
+        has_page,
+    )
 }
 
 /// The data of MODE SENSE of a changer, not cut at the allocation length: header and pages. Where the MODE SENSE is refused, why.
@@ -79,16 +83,40 @@ fn one_page(
 }
 
 /// All pages, ascending by page code.
-fn all_pages(alloc: Global, control: PageControl, elements: &ElementAddresses) -> Result<Vec<u8>, AllocError>
+fn all_pages(
+    alloc: Global,
+    control: PageControl,
+    elements: &ElementAddresses,
+) -> Result<Vec<u8>, AllocError>
     ensures value { IfOk result (λ list. list.items ≡ pages_shown control elements.now changer_pages) }
     ensures short { IfOk result (λ list. length list.items ≤ 68) }
 {
     let mut list = Vec::new(alloc);
     extend_by_shown(&mut list, ChangerPage::Control, control, elements)?;
-    extend_by_shown(&mut list, ChangerPage::InformationalExceptionsControl, control, elements)?;
-    extend_by_shown(&mut list, ChangerPage::ElementAddressAssignment, control, elements)?;
-    extend_by_shown(&mut list, ChangerPage::TransportGeometryParameters, control, elements)?;
-    extend_by_shown(&mut list, ChangerPage::DeviceCapabilities, control, elements)?;
+    extend_by_shown(
+        &mut list,
+        ChangerPage::InformationalExceptionsControl,
+        control,
+        elements,
+    )?;
+    extend_by_shown(
+        &mut list,
+        ChangerPage::ElementAddressAssignment,
+        control,
+        elements,
+    )?;
+    extend_by_shown(
+        &mut list,
+        ChangerPage::TransportGeometryParameters,
+        control,
+        elements,
+    )?;
+    extend_by_shown(
+        &mut list,
+        ChangerPage::DeviceCapabilities,
+        control,
+        elements,
+    )?;
     Ok(list)
 }
 
@@ -119,7 +147,11 @@ fn extend_by_values(
     match page {
         ChangerPage::Control => extend(list, page, &[GLOBAL_LOGGING_DISABLED]),
         ChangerPage::InformationalExceptionsControl => {
-            extend(list, page, &[EXCEPTIONS_DISABLED, CONDITIONAL_RECOVERED_ERROR])
+            extend(
+                list,
+                page,
+                &[EXCEPTIONS_DISABLED, CONDITIONAL_RECOVERED_ERROR],
+            )
         }
         ChangerPage::ElementAddressAssignment => extend_by_addresses(list, elements),
         ChangerPage::TransportGeometryParameters => extend(list, page, &[]),
@@ -130,17 +162,16 @@ fn extend_by_values(
 }
 
 /// Appends the element address assignment page.
-fn extend_by_addresses(
-    list: &mut Vec<u8>,
-    elements: &ElementAddresses,
-) -> Result<(), AllocError>
+fn extend_by_addresses(list: &mut Vec<u8>, elements: &ElementAddresses) -> Result<(), AllocError>
     ensures { OnOk result (list.new.items ≡ list.old.items ++ address_assignment elements.now) }
 {
     let [t3, t2, t1, t0] = elements.medium_transport.bytes();
     let [s3, s2, s1, s0] = elements.storage.bytes();
     let [p3, p2, p1, p0] = elements.import_export.bytes();
     let [d3, d2, d1, d0] = elements.data_transfer.bytes();
-    let fields = [t3, t2, t1, t0, s3, s2, s1, s0, p3, p2, p1, p0, d3, d2, d1, d0];
+    let fields = [
+        t3, t2, t1, t0, s3, s2, s1, s0, p3, p2, p1, p0, d3, d2, d1, d0,
+    ];
     extend(list, ChangerPage::ElementAddressAssignment, &fields)
 }
 
@@ -151,10 +182,27 @@ fn extend_by_capabilities(list: &mut Vec<u8>, import_export: bool) -> Result<(),
     let reader = READER_AND_CAPABILITIES;
     let fields = if import_export {
         let (all, exchanged) = (DRIVES_AND_PORTS_AND_STORAGE, PORTS_AND_STORAGE);
-        [all, reader, 0, all, all, all, 0, 0, 0, 0, 0, all, all, exchanged]
+        [
+            all, reader, 0, all, all, all, 0, 0, 0, 0, 0, all, all, exchanged,
+        ]
     } else {
         let (all, exchanged) = (DRIVES_AND_STORAGE, STORAGE);
-        [all, reader, 0, all, NO_ELEMENTS, all, 0, 0, 0, 0, 0, all, NO_ELEMENTS, exchanged]
+        [
+            all,
+            reader,
+            0,
+            all,
+            NO_ELEMENTS,
+            all,
+            0,
+            0,
+            0,
+            0,
+            0,
+            all,
+            NO_ELEMENTS,
+            exchanged,
+        ]
     };
     extend(list, ChangerPage::DeviceCapabilities, &fields)
 }

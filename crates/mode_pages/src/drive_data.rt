@@ -20,7 +20,11 @@ pub fn drive_mode_fault(sense: &ModeSense) -> Option<Condition>
     ensures { result ≡ drive_fault sense.now }
 {
     let has_page = DrivePage::of(sense.page_code).is_some();
-    sense_fault(sense.page_control, asked(sense.page_code, sense.subpage_code), has_page)
+    sense_fault(
+        sense.page_control,
+        asked(sense.page_code, sense.subpage_code),
+        has_page,
+    )
 }
 
 /// The data of MODE SENSE of a drive, not cut at the allocation length: header, block descriptor, pages. Where the MODE SENSE is refused, why.
@@ -35,14 +39,29 @@ pub fn drive_mode_data(
     if let Some(fault) = drive_mode_fault(sense) {
         return Ok(Err(fault));
     }
-    let medium_type = if state.has_volume { VOLUME_MEDIUM } else { NO_MEDIUM };
-    let device_specific = if state.write_protected { BUFFERED_AND_PROTECTED } else { BUFFERED };
+    let medium_type = if state.has_volume {
+        VOLUME_MEDIUM
+    } else {
+        NO_MEDIUM
+    };
+    let device_specific = if state.write_protected {
+        BUFFERED_AND_PROTECTED
+    } else {
+        BUFFERED
+    };
     let block_length = block_length_shown(sense.page_control, state.values);
     let descriptors = descriptors(alloc, sense.disable_block_descriptors, block_length)?;
     let asked = asked(sense.page_code, sense.subpage_code);
     let of_code = DrivePage::of(sense.page_code);
     let pages = pages_asked(alloc, asked, of_code, sense.page_control, state.values)?;
-    let list = mode_data(alloc, sense.form, medium_type, device_specific, &descriptors, &pages)?;
+    let list = mode_data(
+        alloc,
+        sense.form,
+        medium_type,
+        device_specific,
+        &descriptors,
+        &pages,
+    )?;
     Ok(Ok(list))
 }
 
@@ -111,13 +130,23 @@ fn all_pages(alloc: Global, control: PageControl, values: ModeValues) -> Result<
     ensures short { IfOk result (λ list. length list.items ≤ 124) }
 {
     let mut list = Vec::new(alloc);
-    extend_by_shown(&mut list, DrivePage::ReadWriteErrorRecovery, control, values)?;
+    extend_by_shown(
+        &mut list,
+        DrivePage::ReadWriteErrorRecovery,
+        control,
+        values,
+    )?;
     extend_by_shown(&mut list, DrivePage::DisconnectReconnect, control, values)?;
     extend_by_shown(&mut list, DrivePage::Control, control, values)?;
     extend_by_shown(&mut list, DrivePage::DataCompression, control, values)?;
     extend_by_shown(&mut list, DrivePage::DeviceConfiguration, control, values)?;
     extend_by_shown(&mut list, DrivePage::MediumPartition, control, values)?;
-    extend_by_shown(&mut list, DrivePage::InformationalExceptionsControl, control, values)?;
+    extend_by_shown(
+        &mut list,
+        DrivePage::InformationalExceptionsControl,
+        control,
+        values,
+    )?;
     extend_by_shown(&mut list, DrivePage::MediumConfiguration, control, values)?;
     Ok(list)
 }
@@ -152,14 +181,26 @@ fn extend_by_values(
         DrivePage::DisconnectReconnect | DrivePage::MediumConfiguration => extend(list, page, &[]),
         DrivePage::Control => extend(list, page, &[GLOBAL_LOGGING_DISABLED]),
         DrivePage::DataCompression => {
-            let flags = if compression { COMPRESSION_ON } else { COMPRESSION_OFF };
+            let flags = if compression {
+                COMPRESSION_ON
+            } else {
+                COMPRESSION_OFF
+            };
             let dde = DECOMPRESSION_ENABLED;
-            extend(list, page, &[flags, dde, 0, 0, 0, ALGORITHM, 0, 0, 0, ALGORITHM])
+            extend(
+                list,
+                page,
+                &[flags, dde, 0, 0, 0, ALGORITHM, 0, 0, 0, ALGORITHM],
+            )
         }
         DrivePage::DeviceConfiguration => extend_by_configuration(list, compression),
         DrivePage::MediumPartition => extend(list, page, &[0, 0, MEGABYTES, FORMAT_AND_PARTITION]),
         DrivePage::InformationalExceptionsControl => {
-            extend(list, page, &[EXCEPTIONS_DISABLED, CONDITIONAL_RECOVERED_ERROR])
+            extend(
+                list,
+                page,
+                &[EXCEPTIONS_DISABLED, CONDITIONAL_RECOVERED_ERROR],
+            )
         }
     }
 }
@@ -168,10 +209,29 @@ fn extend_by_values(
 fn extend_by_configuration(list: &mut Vec<u8>, compression: bool) -> Result<(), AllocError>
     ensures { OnOk result (list.new.items ≡ list.old.items ++ page_values DeviceConfiguration compression) }
 {
-    let algorithm = if compression { SOME_ALGORITHM } else { NO_ALGORITHM };
+    let algorithm = if compression {
+        SOME_ALGORITHM
+    } else {
+        NO_ALGORITHM
+    };
     let identifiers = OBJECT_IDENTIFIERS;
     let ends = END_OF_DATA_AND_SYNCHRONIZATION;
-    let fields = [0, 0, 0, 0, 0, 0, identifiers, 0, ends, 0, 0, 0, algorithm, REWIND_ON_RESET];
+    let fields = [
+        0,
+        0,
+        0,
+        0,
+        0,
+        0,
+        identifiers,
+        0,
+        ends,
+        0,
+        0,
+        0,
+        algorithm,
+        REWIND_ON_RESET,
+    ];
     extend(list, DrivePage::DeviceConfiguration, &fields)
 }
 

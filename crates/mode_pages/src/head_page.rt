@@ -66,7 +66,11 @@ pub fn head_page(bytes: &[u8]) -> Result<DrivePage, Condition>
     ensures whole { IfOk result (λ _. page_header_length bytes.now ≤ length bytes.now) }
     ensures within { IfOk result (λ _. page_size bytes.now ≤ length bytes.now) }
 {
-    let header = if has_subpage(bytes) { SUBPAGE_HEADER } else { PAGE_HEADER };
+    let header = if has_subpage(bytes) {
+        SUBPAGE_HEADER
+    } else {
+        PAGE_HEADER
+    };
     if bytes.len() < header || bytes.len() < page_size(bytes) {
         return Err(Condition::ParameterListLengthError);
     }
